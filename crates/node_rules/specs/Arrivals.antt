@@ -1,0 +1,92 @@
+-- Which arrivals a node drops, and what it keeps of the others.
+use Rattle.std.specs.Prelude.{ℕ, ◌+◌, ◌==◌, nat_lt, nat_le, Bool, false, not, ◌&&◌, ◌||◌, List, [], ◌∷◌, ◌++◌, if◌then◌else◌, Option, Some, None}
+use Rattle.std.specs.List.{list_any}
+use Rattle.smart_base.specs.Lists.{or_else}
+use Rattle.smart_base.specs.Views.{is_member, leader}
+use Rattle.smart_messages.specs.Equality.{same_slot, same_kind}
+use Rattle.smart_messages.specs.declared.message.Request.{Request}
+use Rattle.smart_messages.specs.declared.message.Slot.{Slot}
+use Rattle.smart_messages.specs.declared.message.Message.{Message}
+use Rattle.smart_messages.specs.declared.message.Message.TheVariants.{Ask, Propose, Vote, Reply}
+use Rattle.smart_messages.specs.declared.message.Proposal.{Proposal}
+use Rattle.smart_messages.specs.declared.message.Ballot.{Ballot}
+use Rattle.smart_service.specs.Tables.{last_seq}
+use Rattle.node_rules.specs.Replicas.{is_next}
+use Rattle.node_rules.specs.Nodes.{Node, view_of, regency_of, decided_place, fits}
+use Rattle.node_rules.specs.declared.node.Why.{Why}
+use Rattle.node_rules.specs.declared.node.Why.TheVariants.{NotMember, Stranger, OldView, NewView, OldPlace, FarPlace, NewRegency, OldSeq, FarSeq, NotLeader, InvalidBatch, Unasked, Repeated}
+
+-- the first reason that a slot gives
+unfoldable pub slot_why : {S : Type 0} → Node S → Slot → Option Why
+slot_why n slot =
+    if nat_lt slot.view (view_of n).number then Some OldView
+    else if nat_lt (view_of n).number slot.view then Some NewView
+    else if nat_le slot.place (decided_place n) then Some OldPlace
+    else if nat_lt (decided_place n + 2) slot.place then Some FarPlace
+    else if nat_lt (regency_of n + 1) slot.regency then Some NewRegency
+    else None
+
+-- the first reason that the node's own membership and a member's signature give
+unfoldable pub signer_why : {S : Type 0} → Node S → ℕ → Option Why
+signer_why n signer =
+    if not (is_member (view_of n) n.id) then Some NotMember
+    else if not (is_member (view_of n) signer) then Some Stranger
+    else None
+
+abbrev pub is_same_proposal : Proposal → Message → Bool
+is_same_proposal p (Ask q) = false
+is_same_proposal p (Propose o) = (o.signer == p.signer) && same_slot o.slot p.slot
+is_same_proposal p (Vote b) = false
+is_same_proposal p (Reply a) = false
+
+abbrev pub is_same_vote : Ballot → Message → Bool
+is_same_vote b (Ask q) = false
+is_same_vote b (Propose o) = false
+is_same_vote b (Vote o) = same_kind o.kind b.kind && (o.signer == b.signer) && same_slot o.slot b.slot
+is_same_vote b (Reply a) = false
+
+-- the first reason that drops an arrival, message kind by message kind
+
+unfoldable pub why_ask : {S : Type 0} → Node S → Request → Option Why
+why_ask n q =
+    if not (is_member (view_of n) n.id) then Some NotMember
+    else if (q.client == 0) || nat_lt 1024 q.client then Some Stranger
+    else if nat_lt q.seq (last_seq n.replica.table q.client) then Some OldSeq
+    else if nat_lt (last_seq n.replica.table q.client + 1) q.seq then Some FarSeq
+    else None
+
+unfoldable pub why_propose : {S : Type 0} → Node S → Proposal → Option Why
+why_propose n p =
+    or_else (signer_why n p.signer)
+    (or_else (slot_why n p.slot)
+    (if not (p.signer == leader (view_of n) p.slot.regency) then Some NotLeader
+    else if not (fits p.batch p.slot.place) then Some InvalidBatch
+    else if list_any (is_same_proposal p) n.arrivals then Some Repeated
+    else None))
+
+unfoldable pub why_vote : {S : Type 0} → Node S → Ballot → Option Why
+why_vote n b =
+    or_else (signer_why n b.signer)
+    (or_else (slot_why n b.slot)
+    (if list_any (is_same_vote b) n.arrivals then Some Repeated else None))
+
+unfoldable pub why_reply : {S : Type 0} → Node S → ℕ → Option Why
+why_reply n signer = or_else (signer_why n signer) (Some Unasked)
+
+abbrev pub why_dropped : {S : Type 0} → Node S → Message → Option Why
+why_dropped n (Ask q) = why_ask n q
+why_dropped n (Propose p) = why_propose n p
+why_dropped n (Vote b) = why_vote n b
+why_dropped n (Reply a) = why_reply n a.signer
+
+-- the pool has one request for each client, which keeps its position
+abbrev pub offered : List Request → Request → List Request
+offered [] q = q ∷ []
+offered (old ∷ olds) q = if old.client == q.client then q ∷ olds else old ∷ offered olds q
+
+-- the node with an arrival that is not dropped
+unfoldable pub kept : {S : Type 0} → Node S → Message → Node S
+kept n (Ask q) = if is_next n.replica.table q then record n { pool = offered n.pool q } else n
+kept n (Propose p) = record n { arrivals = n.arrivals ++ Propose p ∷ [] }
+kept n (Vote b) = record n { arrivals = n.arrivals ++ Vote b ∷ [] }
+kept n (Reply a) = n

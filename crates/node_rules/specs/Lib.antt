@@ -1,0 +1,5 @@
+pub mod Replicas
+pub mod Nodes
+pub mod Arrivals
+pub mod Rules
+pub mod Steps

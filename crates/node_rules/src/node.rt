@@ -1,0 +1,56 @@
+//! What a node tells and sends.
+use smart_base::name::ClientId;
+use smart_base::number::Place;
+use smart_messages::message::{Batch, Message};
+
+/// Why an arrival is dropped: the first reason that applies.
+#[derive(Clone, Copy, Debug, PartialEq, Eq)]
+pub enum Why {
+    NotMember,
+    Stranger,
+    OldView,
+    NewView,
+    OldPlace,
+    FarPlace,
+    NewRegency,
+    OldSeq,
+    FarSeq,
+    NotLeader,
+    InvalidBatch,
+    Unasked,
+    Repeated,
+}
+
+/// Whom a message is for.
+#[derive(Clone, Copy, Debug, PartialEq, Eq)]
+pub enum Target {
+    /// All members of the sender's view, the sender among them.
+    View,
+    Client(ClientId),
+}
+
+/// A message that leaves once so many entries of its node's book are firm.
+#[derive(Drop)]
+pub struct Held {
+    pub to: Target,
+    pub message: Message,
+    pub needs: u64,
+}
+
+/// A batch that was delivered at a place, and how many of its requests were executed.
+#[derive(Drop)]
+pub struct Delivery {
+    pub place: Place,
+    pub batch: Batch,
+    pub executed: u64,
+}
+
+/// A rule that fired in a step.
+#[derive(Drop)]
+pub enum Fired {
+    Delivered(Delivery),
+    Proposed,
+    Wrote,
+    Accepted,
+    Decided(Place),
+}

@@ -1,0 +1,11 @@
+-- The view in force is the last.
+use Rattle.std.proofs.Common.{◌≡◌, ℕ, ◌+◌, List, [], ◌∷◌, length, get_or, zero, suc, refl, arith, ap}
+use Rattle.smart_base.specs.Views.{present}
+use Rattle.smart_base.specs.declared.view.View.{View}
+
+pub present-last : (views : List View) (i : ℕ) (d : View) → i + 1 ≡ length views → get_or views i d ≡ present views
+present-last [] i d last = absurd (omega arith)
+present-last (v ∷ []) zero d last = refl
+present-last (v ∷ []) (suc i) d last = absurd (omega arith)
+present-last (v ∷ w ∷ views) zero d last = absurd (omega arith)
+present-last (v ∷ w ∷ views) (suc i) d last = present-last (w ∷ views) i d (omega arith)

@@ -1,0 +1,31 @@
+//! What a member writes into its log before the message that rests on it leaves.
+use crate::message::{Batch, Digest, Message, Slot};
+use smart_base::name::MemberId;
+use smart_base::sequence::Sequence;
+
+/// An entry of a member's book. Logging batches and replies is Dura-SMaRt's (USENIX ATC 2013);
+/// that votes are logged before they leave is this project's own rule.
+#[derive(Drop)]
+pub enum LogEntry {
+    /// The book begins.
+    Opened,
+    /// The member has written for a batch in a slot.
+    Wrote(Slot, Digest),
+    /// The member has accepted a batch in a slot, since these members wrote for it.
+    Accepted(Slot, Sequence<MemberId>, Batch),
+    /// A batch is decided in a slot, since these members accepted it.
+    Decided(Slot, Sequence<MemberId>, Batch),
+}
+
+/// What happens to a member's node.
+#[derive(Drop)]
+pub enum NodeEvent {
+    /// A message comes.
+    Arrive(Message),
+    /// Time passes.
+    Tick,
+    /// The batch that waits, if one does, is to be delivered.
+    Deliver,
+    /// So many entries that were made in this life are firm: no crash loses them.
+    Firm(u64),
+}

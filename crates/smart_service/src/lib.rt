@@ -1,0 +1,6 @@
+//! What is replicated: a sequential service, and what a member keeps of it and its clients.
+#![tactic(auto)]
+
+pub mod replica;
+pub mod service;
+pub mod table;
