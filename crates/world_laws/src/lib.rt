@@ -1,0 +1,3 @@
+//! The laws of a play: one list, for every script. They speak of the definitions alone, and stand
+//! on functions with empty bodies.
+#![tactic(auto)]

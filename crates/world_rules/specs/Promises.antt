@@ -1,0 +1,59 @@
+-- What is promised of a play: one list.
+use Rattle.std.specs.Prelude.{ℕ, ◌≡◌, ◌<◌, ◌≤◌, ◌⊎◌, List, [], ◌∷◌, length, take, Some}
+use Rattle.smart_base.specs.Lists.{Each}
+use Rattle.smart_base.specs.declared.view.View.{View}
+use Rattle.smart_messages.specs.declared.message.Request.{Request}
+use Rattle.smart_messages.specs.declared.message.Message.TheVariants.{Ask}
+use Rattle.smart_service.specs.Services.{Meaning}
+use Rattle.node_rules.specs.Replicas.{state, answer, place_of, batch_at, request_at, view_at}
+use Rattle.node_rules.specs.Steps.{step_of}
+use Rattle.node_rules.specs.declared.node.Target.TheVariants as targets
+use Rattle.world_rules.specs.Worlds.{Host, World, begun}
+use Rattle.world_rules.specs.Plays.{world_after}
+use Rattle.world_rules.specs.declared.client.Acceptance.{Acceptance}
+use Rattle.world_rules.specs.declared.line.Line.{Line}
+use Rattle.world_rules.specs.declared.message.Sent.{Sent}
+use Rattle.world_rules.specs.declared.message.Origin.TheVariants as origins
+
+-- a host has delivered a front of the list: its replica is the state of that front, and each batch that it ever delivered at a place is
+-- the list's batch there
+pub record IsPrefix {S : Type 0} (m : Meaning S) (view : View) (chosen : List (List Request)) (h : Host S) : Type 0 where
+  pub within : h.node.replica.place ≤ length chosen
+  pub replica : h.node.replica ≡ state m view (take h.node.replica.place chosen)
+  pub delivered : Each (λ d. batch_at chosen d.place ≡ Some d.batch) h.delivered
+
+-- the client that a request names has sent it
+abbrev pub HasAsked : List Sent → Request → Type 0
+HasAsked [] q = ⊥
+HasAsked (s ∷ sent) q = (s ≡ record { origin = origins.Client q.client; to = targets.View; message = Ask q }) ⊎ HasAsked sent q
+
+-- a reply that was accepted names the one place of its request in the list, the request there is the one that the client asked, the
+-- reply is the service's answer there, it states the view in force there, and the place is above every place that the client knew
+pub record IsRight {S : Type 0} (m : Meaning S) (view : View) (sent : List Sent) (chosen : List (List Request)) (a : Acceptance) : Type 0 where
+  pub asked : HasAsked sent a.request
+  pub place_is : place_of m view chosen a.request.client a.request.seq ≡ Some (a.place, a.index)
+  pub request_is : request_at chosen a.place a.index ≡ Some a.request
+  pub reply_is : answer m view chosen a.place a.index ≡ Some a.reply
+  pub view_is : a.view ≡ (view_at m view chosen a.place).number
+  pub above : a.request.after < a.place
+
+-- what a client accepts stands above all that it accepted before
+abbrev pub Rises : List Acceptance → Type 0
+Rises [] = Unit {0}
+Rises (a ∷ later) = Each (λ b. b.request.client ≡ a.request.client → a.place ≤ b.request.after) later × Rises later
+
+-- all nodes deliver fronts of one list, and each reply that a client accepted is the service's answer at its request's one place there,
+-- past every place that its client knew
+pub record OneList {S : Type 0} (m : Meaning S) (w : World S) : Type 0 where
+  pub hosts : Each (IsPrefix m w.view w.chosen) w.hosts
+  pub accepted : Each (IsRight m w.view w.sent w.chosen) w.accepted
+  pub rising : Rises w.accepted
+
+-- the world after the first lines of a script over a group
+abbrev pub world_at : {S : Type 0} → Meaning S → View → List Line → ℕ → World S
+world_at m view ls k = world_after (step_of m) (begun m view) (take k ls)
+
+-- one list holds after each line, and the list only grows
+pub record OneListThroughout {S : Type 0} (m : Meaning S) (view : View) (ls : List Line) : Type 0 where
+  pub one_list : (k : ℕ) → OneList m (world_at m view ls k)
+  pub grows : (j k : ℕ) → j ≤ k → take (length (world_at m view ls j).chosen) (world_at m view ls k).chosen ≡ (world_at m view ls j).chosen

@@ -1,0 +1,47 @@
+//! What a client keeps and hears.
+use smart_base::name::ClientId;
+use smart_base::number::{Place, ViewNo};
+use smart_base::sequence::{Bytes, Sequence};
+use smart_messages::message::{Answer, Request};
+
+/// A client: the number of its last request, the request that waits for its reply, the greatest
+/// place that it has seen, and the replies to the waiting request, one of each member.
+#[derive(Drop)]
+pub struct Client {
+    pub id: ClientId,
+    pub last: u64,
+    pub waiting: Option<Request>,
+    pub seen: Place,
+    pub replies: Sequence<Answer>,
+}
+
+/// A reply that a client accepted for its request: where the request stands in the list, the view
+/// in force there, and what the service answered.
+#[derive(Drop)]
+pub struct Acceptance {
+    pub request: Request,
+    pub view: ViewNo,
+    pub place: Place,
+    /// The request's index in its batch, from 0.
+    pub index: u64,
+    pub reply: Bytes,
+}
+
+/// Why a client ignores a message: the first reason that applies.
+#[derive(Clone, Copy, Debug, PartialEq, Eq)]
+pub enum Ignored {
+    Unread,
+    Settled,
+    UnknownView,
+    Stranger,
+    Repeated,
+}
+
+/// What a client makes of a message.
+#[derive(Drop)]
+pub enum Heard {
+    /// So many members gave this reply, of the so many that are needed.
+    Counted(u64, u64),
+    Accepted(Acceptance),
+    Ignored(Ignored),
+}

@@ -1,0 +1,8 @@
+//! What a script plays: clients, hosts, the world of both, the lines of a script and of its
+//! transcript, and what is promised of a play. The definitions stand in `specs/`; here are the
+//! types that they speak of.
+#![tactic(auto)]
+
+pub mod client;
+pub mod line;
+pub mod message;
