@@ -1,0 +1,82 @@
+-- The lines of a transcript, as text.
+use Rattle.std.specs.Prelude.{ℕ, List, [], ◌∷◌, ◌++◌, codes, nat_lt, nat_le, ◌&&◌, ◌==◌, not, ◌+◌, ◌/◌, ◌%◌, length, if◌then◌else◌}
+use Rattle.std.specs.List.{flat_map}
+use Rattle.std.specs.Fmt.{decimal}
+use Rattle.smart_base.specs.declared.view.View.{View}
+use Rattle.node_rules.specs.declared.node.Why.{Why}
+use Rattle.node_rules.specs.declared.node.Why.TheVariants as whys
+use Rattle.world_rules.specs.declared.client.Ignored.{Ignored}
+use Rattle.world_rules.specs.declared.client.Ignored.TheVariants as reasons
+use Rattle.world_rules.specs.declared.message.Origin.{Origin}
+use Rattle.world_rules.specs.declared.message.Origin.TheVariants as origins
+use Rattle.world_rules.specs.declared.line.Summary.{Summary}
+use Rattle.world_rules.specs.declared.line.Summary.TheVariants as summaries
+use Rattle.world_rules.specs.declared.line.OutLine.{OutLine}
+use Rattle.world_rules.specs.declared.line.OutLine.TheVariants as outs
+
+abbrev pub why_text : Why → List ℕ
+why_text whys.NotMember = codes "NotMember"
+why_text whys.Stranger = codes "Stranger"
+why_text whys.OldView = codes "OldView"
+why_text whys.NewView = codes "NewView"
+why_text whys.OldPlace = codes "OldPlace"
+why_text whys.FarPlace = codes "FarPlace"
+why_text whys.NewRegency = codes "NewRegency"
+why_text whys.OldSeq = codes "OldSeq"
+why_text whys.FarSeq = codes "FarSeq"
+why_text whys.NotLeader = codes "NotLeader"
+why_text whys.InvalidBatch = codes "InvalidBatch"
+why_text whys.Unasked = codes "Unasked"
+why_text whys.Repeated = codes "Repeated"
+
+abbrev pub ignored_text : Ignored → List ℕ
+ignored_text reasons.Unread = codes "Unread"
+ignored_text reasons.Settled = codes "Settled"
+ignored_text reasons.UnknownView = codes "UnknownView"
+ignored_text reasons.Stranger = codes "Stranger"
+ignored_text reasons.Repeated = codes "Repeated"
+
+-- a number behind a space
+abbrev pub after_space : ℕ → List ℕ
+after_space n = 32 ∷ decimal n
+
+abbrev pub origin_text : Origin → List ℕ
+origin_text (origins.Node id) = 110 ∷ decimal id
+origin_text (origins.Client id) = 99 ∷ decimal id
+
+abbrev pub summary_text : Summary → List ℕ
+summary_text (summaries.Ask c s after) = codes "ask" ++ (after_space c ++ (after_space s ++ after_space after))
+summary_text (summaries.Propose v k r count) = codes "propose" ++ (after_space v ++ (after_space k ++ (after_space r ++ after_space count)))
+summary_text (summaries.Write v k r) = codes "write" ++ (after_space v ++ (after_space k ++ after_space r))
+summary_text (summaries.Accept v k r) = codes "accept" ++ (after_space v ++ (after_space k ++ after_space r))
+summary_text (summaries.Reply c s k i) = codes "reply" ++ (after_space c ++ (after_space s ++ (after_space k ++ after_space i)))
+
+abbrev pub hex_digit : ℕ → ℕ
+hex_digit n = if nat_lt n 10 then 48 + n else 87 + n
+
+-- a byte of a reply: itself where it prints and is no backslash, else \x and two digits
+abbrev pub shown : ℕ → List ℕ
+shown b = if nat_le 32 b && nat_le b 126 && not (b == 92) then b ∷ [] else 92 ∷ 120 ∷ hex_digit (b / 16) ∷ hex_digit (b % 16) ∷ []
+
+abbrev pub words_of : OutLine → List ℕ
+words_of (outs.Group n f) = codes "group" ++ (after_space n ++ (after_space f ++ codes " count 1024"))
+words_of (outs.Sent number origin summary) = codes "sent" ++ (after_space number ++ (32 ∷ origin_text origin ++ (32 ∷ summary_text summary)))
+words_of (outs.Decided id k) = codes "decided n" ++ (decimal id ++ after_space k)
+words_of (outs.Delivered id k count) = codes "delivered n" ++ (decimal id ++ (after_space k ++ after_space count))
+words_of (outs.Dropped id why) = codes "dropped n" ++ (decimal id ++ (32 ∷ why_text why))
+words_of (outs.Counted id have need) = codes "counted c" ++ (decimal id ++ (after_space have ++ after_space need))
+words_of (outs.Accepted id s k i text) = codes "accepted c" ++ (decimal id ++ (after_space s ++ (after_space k ++ (after_space i ++ (32 ∷ flat_map shown text)))))
+words_of (outs.Ignored id why) = codes "ignored c" ++ (decimal id ++ (32 ∷ ignored_text why))
+words_of (outs.Busy id s) = codes "busy c" ++ (decimal id ++ after_space s)
+words_of (outs.End lines messages) = codes "end" ++ (after_space lines ++ after_space messages)
+
+-- each line ends with a line feed
+abbrev pub line_text : OutLine → List ℕ
+line_text line = words_of line ++ 10 ∷ []
+
+abbrev pub text_of : List OutLine → List ℕ
+text_of lines = flat_map line_text lines
+
+-- the line that tells the header of a script
+abbrev pub header_line : View → OutLine
+header_line view = outs.Group (length view.members) view.f

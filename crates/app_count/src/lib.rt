@@ -1,0 +1,36 @@
+//! A service that adds: its state is a sum, and an operation is a number in decimal.
+#![tactic(auto)]
+
+ghost use Rattle.std.specs.Prelude.{◌≡◌};
+
+use smart_base::decimal::number_of;
+use smart_base::sequence::{Bytes, Sequence};
+use smart_service::service::Service;
+use std::alloc::{AllocError, Global};
+
+/// A sum, which stays at 2^64 - 1.
+#[derive(Drop)]
+pub struct Count {
+    pub sum: u64,
+}
+
+impl Service for Count {
+    ghost use Rattle.app_count.specs.Counts.{counting};
+
+    ghost meaning = { counting };
+
+    fn first(_alloc: Global) -> Result<Count, AllocError> {
+        Ok(Count { sum: 0 })
+    }
+
+    fn run(&mut self, alloc: Global, op: &[u8]) -> Result<Bytes, AllocError> {
+        match number_of(op) {
+            None => Sequence::from_slice(alloc, b"?"),
+            Some(amount) => {
+                self.sum = self.sum.saturating_add(amount);
+                let text = self.sum.to_string(alloc)?;
+                Sequence::from_slice(alloc, text.as_bytes())
+            }
+        }
+    }
+}

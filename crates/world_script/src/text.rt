@@ -1,0 +1,187 @@
+//! The lines of a transcript, as text.
+ghost use Rattle.std.specs.Prelude.{◌≡◌, ◌++◌, ◌<◌, IfOk, OnOk, string_bytes};
+ghost use Rattle.std.specs.List.{flat_map};
+ghost use Rattle.world_rules.specs.Texts.{why_text, ignored_text, origin_text, summary_text, hex_digit, shown, words_of, line_text, text_of};
+
+use node_rules::node::Why;
+use std::alloc::{AllocError, Global};
+use std::fmt::{self, Write};
+use world_rules::client::Ignored;
+use world_rules::line::{OutLine, Summary};
+use world_rules::message::Origin;
+
+/// The name of a reason.
+pub fn why_text(why: Why) -> &'static str
+    ensures { result.now ≡ why_text why }
+{
+    match why {
+        Why::NotMember => "NotMember",
+        Why::Stranger => "Stranger",
+        Why::OldView => "OldView",
+        Why::NewView => "NewView",
+        Why::OldPlace => "OldPlace",
+        Why::FarPlace => "FarPlace",
+        Why::NewRegency => "NewRegency",
+        Why::OldSeq => "OldSeq",
+        Why::FarSeq => "FarSeq",
+        Why::NotLeader => "NotLeader",
+        Why::InvalidBatch => "InvalidBatch",
+        Why::Unasked => "Unasked",
+        Why::Repeated => "Repeated",
+    }
+}
+
+/// The name of a reason of a client's.
+pub fn ignored_text(why: Ignored) -> &'static str
+    ensures { result.now ≡ ignored_text why }
+{
+    match why {
+        Ignored::Unread => "Unread",
+        Ignored::Settled => "Settled",
+        Ignored::UnknownView => "UnknownView",
+        Ignored::Stranger => "Stranger",
+        Ignored::Repeated => "Repeated",
+    }
+}
+
+fn push_origin(out: &mut String, origin: Origin) -> Result<(), AllocError>
+    ensures { OnOk result (string_bytes out.new ≡ string_bytes out.old ++ origin_text origin) }
+{
+    match origin {
+        Origin::Node(id) => {
+            let id = id.get();
+            write!(out, "n{id}")
+        }
+        Origin::Client(id) => {
+            let id = id.get();
+            write!(out, "c{id}")
+        }
+    }
+}
+
+fn push_summary(out: &mut String, summary: Summary) -> Result<(), AllocError>
+    ensures { OnOk result (string_bytes out.new ≡ string_bytes out.old ++ summary_text summary) }
+{
+    match summary {
+        Summary::Ask(client, seq, after) => {
+            let client = client.get();
+            write!(out, "ask {client} {seq} {after}")
+        }
+        Summary::Propose(view, place, regency, count) => {
+            let (view, place, regency) = (view.get(), place.get(), regency.get());
+            write!(out, "propose {view} {place} {regency} {count}")
+        }
+        Summary::Write(view, place, regency) => {
+            let (view, place, regency) = (view.get(), place.get(), regency.get());
+            write!(out, "write {view} {place} {regency}")
+        }
+        Summary::Accept(view, place, regency) => {
+            let (view, place, regency) = (view.get(), place.get(), regency.get());
+            write!(out, "accept {view} {place} {regency}")
+        }
+        Summary::Reply(client, seq, place, index) => {
+            let (client, place) = (client.get(), place.get());
+            write!(out, "reply {client} {seq} {place} {index}")
+        }
+    }
+}
+
+fn hex_digit(n: u8) -> char
+    requires { n < 16 }
+    ensures { result ≡ hex_digit n }
+{
+    if n < 10 {
+        (48 + n) as char
+    } else {
+        (87 + n) as char
+    }
+}
+
+fn push_byte(out: &mut String, byte: u8) -> Result<(), AllocError>
+    ensures { OnOk result (string_bytes out.new ≡ string_bytes out.old ++ shown byte) }
+{
+    if 32 <= byte && byte <= 126 && byte != 92 {
+        out.push(byte as char)?;
+        return Ok(());
+    }
+    out.push_str("\\x")?;
+    out.push(hex_digit(byte / 16))?;
+    out.push(hex_digit(byte % 16))?;
+    Ok(())
+}
+
+/// A reply, where only bytes that print stand for themselves.
+fn push_reply(out: &mut String, reply: &[u8]) -> Result<(), AllocError>
+    ensures { OnOk result (string_bytes out.new ≡ string_bytes out.old ++ flat_map shown reply.now) }
+{
+    for byte in reply {
+        push_byte(out, *byte)?;
+    }
+    Ok(())
+}
+
+fn push_decided(out: &mut String, id: u16, place: u64) -> Result<(), AllocError>
+    ensures { OnOk result (string_bytes out.new ≡ string_bytes out.old ++ words_of (OutLine.Decided id place)) }
+{
+    write!(out, "decided n{id} {place}")
+}
+
+fn push_delivered(out: &mut String, id: u16, place: u64, count: u64) -> Result<(), AllocError>
+    ensures { OnOk result (string_bytes out.new ≡ string_bytes out.old ++ words_of (OutLine.Delivered id place count)) }
+{
+    out.push_str("delivered n")?;
+    write!(out, "{id} {place} {count}")?;
+    Ok(())
+}
+
+fn push_words(out: &mut String, line: &OutLine) -> Result<(), AllocError>
+    ensures { OnOk result (string_bytes out.new ≡ string_bytes out.old ++ words_of line.now) }
+{
+    match line {
+        OutLine::Group(members, faulty) => write!(out, "group {members} {faulty} count 1024"),
+        OutLine::Sent(number, origin, summary) => {
+            write!(out, "sent {number} ")?;
+            push_origin(out, *origin)?;
+            write!(out, " ")?;
+            push_summary(out, *summary)
+        }
+        OutLine::Decided(id, place) => push_decided(out, id.get(), place.get()),
+        OutLine::Delivered(id, place, count) => push_delivered(out, id.get(), place.get(), *count),
+        OutLine::Dropped(id, why) => {
+            let id = id.get();
+            let why = why_text(*why);
+            write!(out, "dropped n{id} {why}")
+        }
+        OutLine::Counted(id, have, need) => {
+            let id = id.get();
+            write!(out, "counted c{id} {have} {need}")
+        }
+        OutLine::Accepted(id, seq, place, index, reply) => {
+            let (id, place) = (id.get(), place.get());
+            write!(out, "accepted c{id} {seq} {place} {index} ")?;
+            push_reply(out, reply.as_slice())
+        }
+        OutLine::Ignored(id, why) => {
+            let id = id.get();
+            let why = ignored_text(*why);
+            write!(out, "ignored c{id} {why}")
+        }
+        OutLine::Busy(id, seq) => {
+            let id = id.get();
+            write!(out, "busy c{id} {seq}")
+        }
+        OutLine::End(lines, messages) => write!(out, "end {lines} {messages}"),
+    }
+}
+
+/// The text of lines.
+pub fn text_of(alloc: Global, lines: &[OutLine]) -> Result<String, AllocError>
+    ensures { IfOk result (λ text. string_bytes text ≡ text_of lines.now) }
+{
+    let mut out = String::new(alloc);
+    for line in lines {
+        push_words(&mut out, line)?;
+        out.push_str("\n")?;
+    }
+    Ok(out)
+}
