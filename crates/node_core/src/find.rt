@@ -1,0 +1,274 @@
+//! What a node looks up in what it keeps.
+ghost use Rattle.std.specs.Prelude.{◌≡◌, IfOk, OnOk, filter, length};
+ghost use Rattle.std.specs.List.{list_any, list_all};
+ghost use Rattle.std.specs.Option.{option_copied};
+ghost use Rattle.smart_messages.specs.Equality.{same_slot};
+ghost use Rattle.node_rules.specs.Nodes.{is_vote, has_vote, has_quorum, certificate, proposal_of, is_wrote, is_accepted, request_fits, fits};
+ghost use Rattle.node_rules.specs.Arrivals.{is_same_proposal, is_same_vote, offered};
+ghost use Rattle.node_rules.specs.Rules.{settled, gathered};
+
+use crate::replica::is_next;
+use smart_base::duplicate::Duplicate;
+use smart_base::name::MemberId;
+use smart_base::number::Place;
+use smart_base::sequence::Sequence;
+use smart_base::view::View;
+use smart_messages::entry::LogEntry;
+use smart_messages::equality::{same_digest, same_kind, same_slot};
+use smart_messages::message::{Ballot, Batch, Digest, Message, Proposal, Request, Slot, VoteKind};
+use smart_service::table::ClientTable;
+use std::alloc::{AllocError, Global};
+
+fn is_vote(
+    kind: VoteKind,
+    member: MemberId,
+    slot: &Slot,
+    digest: &Digest,
+    message: &Message,
+) -> bool
+    ensures { result ≡ is_vote kind member slot.now digest.now message.now }
+{
+    match message {
+        Message::Vote(ballot) => {
+            same_kind(ballot.kind, kind)
+                && ballot.signer == member
+                && same_slot(ballot.slot, *slot)
+                && same_digest(&ballot.digest, digest)
+        }
+        Message::Ask(_) | Message::Propose(_) | Message::Reply(_) => false,
+    }
+}
+
+fn has_vote(
+    arrivals: &[Message],
+    kind: VoteKind,
+    slot: &Slot,
+    digest: &Digest,
+    member: MemberId,
+) -> bool
+    ensures { result ≡ has_vote arrivals.now kind slot.now digest.now member }
+{
+    arrivals
+        .iter()
+        .any(|message| is_vote(kind, member, slot, digest, message))
+}
+
+fn count_voters(
+    arrivals: &[Message],
+    members: &[MemberId],
+    kind: VoteKind,
+    slot: &Slot,
+    digest: &Digest,
+) -> usize
+    ensures { result ≡ length (filter (λ member. list_any (is_vote kind member slot.now digest.now) arrivals.now) members.now) }
+{
+    let mut count = 0;
+    for member in members {
+        if has_vote(arrivals, kind, slot, digest, *member) {
+            count += 1;
+        }
+    }
+    count
+}
+
+/// Whether a quorum's votes were kept.
+pub fn has_quorum(
+    arrivals: &[Message],
+    view: &View,
+    kind: VoteKind,
+    slot: &Slot,
+    digest: &Digest,
+) -> bool
+    ensures { result ≡ has_quorum arrivals.now view.now kind slot.now digest.now }
+{
+    view.quorum() <= count_voters(arrivals, view.members.as_slice(), kind, slot, digest)
+}
+
+fn voters(
+    alloc: Global,
+    arrivals: &[Message],
+    view: &View,
+    kind: VoteKind,
+    slot: &Slot,
+    digest: &Digest,
+) -> Result<Sequence<MemberId>, AllocError>
+    ensures { IfOk result (λ found. found ≡ filter (λ member. list_any (is_vote kind member slot.now digest.now) arrivals.now) view.now.members) }
+{
+    let mut found = Sequence::new(alloc);
+    for member in view.members.as_slice() {
+        if has_vote(arrivals, kind, slot, digest, *member) {
+            found.push(*member)?;
+        }
+    }
+    Ok(found)
+}
+
+/// The first members, ascending, whose votes make a quorum.
+pub fn certificate(
+    alloc: Global,
+    arrivals: &[Message],
+    view: &View,
+    kind: VoteKind,
+    slot: &Slot,
+    digest: &Digest,
+) -> Result<Sequence<MemberId>, AllocError>
+    ensures { IfOk result (λ members. members ≡ certificate arrivals.now view.now kind slot.now digest.now) }
+{
+    let mut members = voters(alloc, arrivals, view, kind, slot, digest)?;
+    members.truncate(view.quorum());
+    Ok(members)
+}
+
+/// The batch that was proposed for a slot.
+pub fn proposal_of<'a>(arrivals: &'a [Message], slot: &Slot) -> Option<&'a Batch>
+    ensures { option_copied result ≡ proposal_of arrivals.now slot.now }
+{
+    for message in arrivals {
+        if let Message::Propose(proposal) = message {
+            if same_slot(proposal.slot, *slot) {
+                return Some(&proposal.batch);
+            }
+        }
+    }
+    None
+}
+
+fn is_wrote(slot: &Slot, entry: &LogEntry) -> bool
+    ensures { result ≡ is_wrote slot.now entry.now }
+{
+    match entry {
+        LogEntry::Wrote(made, _) => same_slot(*made, *slot),
+        LogEntry::Opened | LogEntry::Accepted(..) | LogEntry::Decided(..) => false,
+    }
+}
+
+fn is_accepted(slot: &Slot, entry: &LogEntry) -> bool
+    ensures { result ≡ is_accepted slot.now entry.now }
+{
+    match entry {
+        LogEntry::Accepted(made, _, _) => same_slot(*made, *slot),
+        LogEntry::Opened | LogEntry::Wrote(..) | LogEntry::Decided(..) => false,
+    }
+}
+
+/// Whether the book has a write for the slot.
+pub fn has_written(entries: &[LogEntry], slot: &Slot) -> bool
+    ensures { result ≡ list_any (is_wrote slot.now) entries.now }
+{
+    entries.iter().any(|entry| is_wrote(slot, entry))
+}
+
+/// Whether the book has an accept for the slot.
+pub fn has_accepted(entries: &[LogEntry], slot: &Slot) -> bool
+    ensures { result ≡ list_any (is_accepted slot.now) entries.now }
+{
+    entries.iter().any(|entry| is_accepted(slot, entry))
+}
+
+/// Whether a slot is among those proposed for.
+pub fn has_proposed(proposed: &[Slot], slot: &Slot) -> bool
+    ensures { result ≡ list_any (same_slot slot.now) proposed.now }
+{
+    proposed.iter().any(|made| same_slot(*slot, *made))
+}
+
+fn is_same_proposal(proposal: &Proposal, message: &Message) -> bool
+    ensures { result ≡ is_same_proposal proposal.now message.now }
+{
+    match message {
+        Message::Propose(other) => {
+            other.signer == proposal.signer && same_slot(other.slot, proposal.slot)
+        }
+        Message::Ask(_) | Message::Vote(_) | Message::Reply(_) => false,
+    }
+}
+
+/// Whether the signer's proposal for the slot was kept before.
+pub fn repeats_proposal(arrivals: &[Message], proposal: &Proposal) -> bool
+    ensures { result ≡ list_any (is_same_proposal proposal.now) arrivals.now }
+{
+    arrivals
+        .iter()
+        .any(|message| is_same_proposal(proposal, message))
+}
+
+fn is_same_vote(ballot: &Ballot, message: &Message) -> bool
+    ensures { result ≡ is_same_vote ballot.now message.now }
+{
+    match message {
+        Message::Vote(other) => {
+            same_kind(other.kind, ballot.kind)
+                && other.signer == ballot.signer
+                && same_slot(other.slot, ballot.slot)
+        }
+        Message::Ask(_) | Message::Propose(_) | Message::Reply(_) => false,
+    }
+}
+
+/// Whether the signer's vote of this kind for the slot was kept before.
+pub fn repeats_vote(arrivals: &[Message], ballot: &Ballot) -> bool
+    ensures { result ≡ list_any (is_same_vote ballot.now) arrivals.now }
+{
+    arrivals.iter().any(|message| is_same_vote(ballot, message))
+}
+
+fn request_fits(place: Place, request: &Request) -> bool
+    ensures { result ≡ request_fits place request.now }
+{
+    request.after < place.get() && 1 <= request.client.get() && request.client.get() <= 1024
+}
+
+fn all_fit(batch: &[Request], place: Place) -> bool
+    ensures { result ≡ list_all (request_fits place) batch.now }
+{
+    batch.iter().all(|request| request_fits(place, request))
+}
+
+/// Whether a batch may stand at a place.
+pub fn fits(batch: &[Request], place: Place) -> bool
+    ensures { result ≡ fits batch.now place }
+{
+    0 < batch.len() && batch.len() <= 64 && all_fit(batch, place)
+}
+
+fn put_request(pool: &mut Vec<Request>, request: Request) -> Result<(), AllocError>
+    ensures { OnOk result (pool.new.items ≡ offered pool.old.items request) }
+{
+    for i in 0..pool.len() {
+        if pool[i].client == request.client {
+            pool[i] = request;
+            return Ok(());
+        }
+    }
+    pool.push(request)?;
+    Ok(())
+}
+
+/// Puts a copy of a request in the position of its client, or at the end.
+pub fn offer(alloc: Global, pool: &mut Vec<Request>, request: &Request) -> Result<(), AllocError>
+    ensures { OnOk result (pool.new.items ≡ offered pool.old.items request.now) }
+{
+    put_request(pool, request.duplicate(alloc)?)?;
+    Ok(())
+}
+
+/// Keeps the requests that are still their client's next.
+pub fn settle(pool: &mut Vec<Request>, table: &ClientTable)
+    ensures { pool.new.items ≡ settled table.now pool.old.items }
+{
+    pool.retain(|request| is_next(table, request));
+}
+
+/// A batch of the first request that its client asked after earlier places alone.
+pub fn gathered(alloc: Global, pool: &[Request], place: Place) -> Result<Option<Batch>, AllocError>
+    ensures { IfOk result (λ batch. batch ≡ gathered pool.now place) }
+{
+    for request in pool {
+        if request.after < place.get() {
+            let mut batch = Sequence::new(alloc);
+            batch.push(request.duplicate(alloc)?)?;
+            return Ok(Some(batch));
+        }
+    }
+    Ok(None)
+}

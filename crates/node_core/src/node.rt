@@ -1,0 +1,286 @@
+//! The node itself.
+ghost use Rattle.std.specs.Prelude.{◌≡◌, ◌+◌, ◌^◌, ◌<◌, true, length, IfOk, OnOk, is_some};
+ghost use Rattle.std.specs.Option.{option_copied};
+ghost use Rattle.node_rules.specs.Nodes.{view_of, regency_of, decided_place, open_slot, is_free, is_open, holding, recording};
+ghost use Rattle.node_rules.specs.Arrivals.{why_dropped};
+ghost use Rattle.node_rules.specs.Steps.{step_of, outcome_from, arrival_outcome, first_leaving, after_first, leaving, released, opened};
+
+mod arrivals;
+mod rules;
+
+use node_rules::node::{Fired, Held, Target, Why};
+use smart_base::name::MemberId;
+use smart_base::number::{Place, Regency};
+use smart_base::sequence::Sequence;
+use smart_base::view::{View, Views};
+use smart_messages::entry::{LogEntry, NodeEvent};
+use smart_messages::message::{Batch, Message, Request, Slot};
+use smart_service::replica::Replica;
+use smart_service::service::Service;
+use smart_service::table::ClientTable;
+use std::alloc::{AllocError, Global};
+use std::marker::Model;
+
+/// A member's node: its copy of what is replicated, what it has heard and written down, and the
+/// messages that it holds until its book is firm.
+#[derive(Drop)]
+pub struct NodeCore<S> {
+    alloc: Global,
+    id: MemberId,
+    replica: Replica<S>,
+    waiting: Option<Batch>,
+    pool: Vec<Request>,
+    arrivals: Vec<Message>,
+    entries: Sequence<LogEntry>,
+    firm: u64,
+    held: Sequence<Held>,
+    proposed: Vec<Slot>,
+}
+
+impl<S> Model for NodeCore<S> {
+    ghost use Rattle.std.specs.Prelude.{◌+◌, ◌<◌, ◌^◌, IsSome};
+    ghost use Rattle.node_rules.specs.Nodes.{Node};
+
+    ghost Value = { Node S };
+
+    ghost view = { λ c. record {
+      id = c.id;
+      replica = c.replica;
+      waiting = c.waiting;
+      pool = c.pool.items;
+      arrivals = c.arrivals.items;
+      entries = c.entries;
+      firm = c.firm;
+      held = c.held;
+      proposed = c.proposed.items;
+    } };
+
+    ghost invariant = { λ c. IsSome c.waiting → c.replica.place + 1 < 2 ^ 63 };
+}
+
+/// What a step tells: the rules that fired, in order, and why an arrival was dropped.
+#[derive(Drop)]
+pub struct Outcome {
+    pub fired: Sequence<Fired>,
+    pub dropped: Option<Why>,
+}
+
+impl<S: Service> NodeCore<S> {
+    /// A node with an empty book.
+    pub fn begin(alloc: Global, id: MemberId, view: View) -> Result<Self, AllocError>
+        ensures { IfOk result (λ node. node ≡ opened S.meaning id view) }
+    {
+        let service = S::first(alloc)?;
+        let views = Views::new(alloc, view)?;
+        let mut entries = Sequence::new(alloc);
+        entries.push(LogEntry::Opened)?;
+        Ok(NodeCore {
+            alloc,
+            id,
+            replica: Replica {
+                service,
+                table: ClientTable::new(alloc),
+                views,
+                place: Place::zero(),
+            },
+            waiting: None,
+            pool: Vec::new(alloc),
+            arrivals: Vec::new(alloc),
+            entries,
+            firm: 0,
+            held: Sequence::new(alloc),
+            proposed: Vec::new(alloc),
+        })
+    }
+
+    /// The member that the node is.
+    pub fn id(&self) -> MemberId
+        ensures { result ≡ self.now.id }
+    {
+        self.id
+    }
+
+    /// The last place that was delivered.
+    pub fn place(&self) -> Place
+        ensures { result ≡ self.now.replica.place }
+    {
+        self.replica.place
+    }
+
+    /// The view in force.
+    pub fn view(&self) -> &View
+        ensures { result.now ≡ view_of self.now }
+    {
+        self.replica.views.present()
+    }
+
+    /// How many entries are firm.
+    pub fn firm(&self) -> u64
+        ensures { result ≡ self.now.firm }
+    {
+        self.firm
+    }
+
+    /// How many entries the book has.
+    pub fn made(&self) -> u64
+        ensures { result ≡ length self.now.entries }
+    {
+        self.entries.len() as u64
+    }
+
+    /// Whether a batch is decided and not yet delivered.
+    pub fn waits(&self) -> bool
+        ensures { result ≡ is_some self.now.waiting }
+    {
+        self.waiting.is_some()
+    }
+
+    /// The batch that is decided and not yet delivered.
+    pub fn waiting(&self) -> Option<&Batch>
+        ensures { option_copied result ≡ self.now.waiting }
+    {
+        self.waiting.as_ref()
+    }
+
+    /// The node's entries in the order in which they were made.
+    pub fn book(&self) -> &[LogEntry]
+        ensures { result.now ≡ self.now.entries }
+    {
+        self.entries.as_slice()
+    }
+
+    /// Takes one event: what happens to the node, and then one pass of its rules.
+    #[tactic(auto, unfolding(node_rules::specs::Steps::step_of))]
+    pub fn step(&mut self, event: &NodeEvent) -> Result<Outcome, AllocError>
+        ensures node { OnOk result (self.new ≡ (step_of S.meaning self.old event.now).node) }
+        ensures fired { IfOk result (λ o. o.fired ≡ (step_of S.meaning self.old event.now).fired) }
+        ensures dropped { IfOk result (λ o. o.dropped ≡ (step_of S.meaning self.old event.now).dropped) }
+    {
+        match event {
+            NodeEvent::Arrive(message) => self.arrival_outcome(message),
+            NodeEvent::Tick => self.outcome_from(Sequence::new(self.alloc)),
+            NodeEvent::Deliver => {
+                let fired = self.delivers()?;
+                self.outcome_from(fired)
+            }
+            NodeEvent::Firm(count) => {
+                self.firm = *count;
+                self.outcome_from(Sequence::new(self.alloc))
+            }
+        }
+    }
+
+    /// The first held message leaves, if its entries are firm.
+    pub fn release(&mut self) -> Option<Held>
+        ensures held { result ≡ first_leaving self.old.firm self.old.held }
+        ensures node { self.new ≡ record self.old { held = after_first self.old.firm self.old.held } }
+    {
+        let held = self.held.as_slice();
+        if held.is_empty() || held[0].needs > self.firm {
+            return None;
+        }
+        Some(self.held.take_first())
+    }
+
+    /// The held messages leave in order, up to the first whose entries are not firm.
+    pub fn release_all(&mut self) -> Result<Sequence<Held>, AllocError>
+        ensures held { IfOk result (λ left. left ≡ leaving self.old.firm self.old.held) }
+        ensures node { OnOk result (self.new ≡ released self.old) }
+    {
+        let mut left = Sequence::new(self.alloc);
+        while let Some(held) = self.release() {
+            left.push(held)?;
+        }
+        Ok(left)
+    }
+
+    /// Drops an arrival for its first reason, or keeps it and passes the rules.
+    fn arrival_outcome(&mut self, message: &Message) -> Result<Outcome, AllocError>
+        ensures node { OnOk result (self.new ≡ (arrival_outcome self.old message.now (why_dropped self.old message.now)).node) }
+        ensures fired { IfOk result (λ o. o.fired ≡ (arrival_outcome self.old message.now (why_dropped self.old message.now)).fired) }
+        ensures dropped { IfOk result (λ o. o.dropped ≡ (arrival_outcome self.old message.now (why_dropped self.old message.now)).dropped) }
+    {
+        let dropped = self.why_dropped(message);
+        if dropped.is_some() {
+            return Ok(Outcome {
+                fired: Sequence::new(self.alloc),
+                dropped,
+            });
+        }
+        self.keep(message)?;
+        self.outcome_from(Sequence::new(self.alloc))
+    }
+
+    /// One pass of the rules behind an event.
+    fn outcome_from(&mut self, fired: Sequence<Fired>) -> Result<Outcome, AllocError>
+        ensures node { OnOk result (self.new ≡ (outcome_from self.old fired).node) }
+        ensures fired { IfOk result (λ o. o.fired ≡ (outcome_from self.old fired).fired) }
+        ensures dropped { IfOk result (λ o. o.dropped ≡ (outcome_from self.old fired).dropped) }
+    {
+        let mut fired = fired;
+        self.passes(&mut fired)?;
+        Ok(Outcome {
+            fired,
+            dropped: None,
+        })
+    }
+
+    /// The regency in force.
+    fn regency(&self) -> Regency
+        ensures { result ≡ regency_of self.now }
+    {
+        Regency::new(0)
+    }
+
+    /// The last place that is delivered or decided.
+    fn decided_place(&self) -> Place
+        ensures { result ≡ decided_place self.now }
+    {
+        if self.waiting.is_some() {
+            self.replica.place.next()
+        } else {
+            self.replica.place
+        }
+    }
+
+    /// Whether no batch waits, and there is a next place.
+    fn is_free(&self) -> bool
+        ensures { result ≡ is_free self.now }
+    {
+        self.waiting.is_none() && self.replica.place.get() + 1 < 1 << 63
+    }
+
+    /// Whether a vote is open at the next place.
+    fn is_open(&self) -> bool
+        ensures { result ≡ is_open self.now }
+    {
+        self.view().is_member(self.id) && self.is_free()
+    }
+
+    /// The slot in which the node takes part.
+    fn open_slot(&self) -> Slot
+        requires { is_free self.now ≡ true }
+        ensures { result ≡ open_slot self.now }
+    {
+        Slot {
+            view: self.view().number,
+            place: self.replica.place.next(),
+            regency: self.regency(),
+        }
+    }
+
+    /// Holds a message until all entries made so far are firm.
+    fn hold(&mut self, to: Target, message: Message) -> Result<(), AllocError>
+        ensures { OnOk result (self.new ≡ holding self.old to message) }
+    {
+        let needs = self.made();
+        self.held.push(Held { to, message, needs })
+    }
+
+    /// Writes an entry down.
+    fn record(&mut self, entry: LogEntry) -> Result<(), AllocError>
+        ensures { OnOk result (self.new ≡ recording self.old entry) }
+    {
+        self.entries.push(entry)
+    }
+}
