@@ -1,0 +1,183 @@
+//! A member's host, and what it tells of its node's steps.
+ghost use Rattle.std.specs.Prelude.{◌≡◌, ◌+◌, ◌++◌, ◌==◌, [], IfOk, OnOk, length};
+ghost use Rattle.std.specs.List.{flat_map};
+ghost use Rattle.std.specs.Option.{option_copied};
+ghost use Rattle.node_rules.specs.Nodes.{next_place};
+ghost use Rattle.node_rules.specs.Steps.{step_of, leaving, released, opened};
+ghost use Rattle.world_rules.specs.Worlds.{due, told_drop, told_fired, delivery_in, chosen_with, host_after};
+
+use node_core::node::NodeCore;
+use node_rules::node::{Delivery, Fired, Held, Why};
+use smart_base::duplicate::Duplicate;
+use smart_base::name::MemberId;
+use smart_base::number::Place;
+use smart_base::sequence::Sequence;
+use smart_base::view::View;
+use smart_messages::entry::{LogEntry, NodeEvent};
+use smart_messages::message::Batch;
+use smart_service::service::Service;
+use std::alloc::{AllocError, Global};
+use std::marker::Model;
+use world_rules::line::OutLine;
+
+/// A member's host: its node, and the batches that it ever delivered.
+#[derive(Drop)]
+pub struct Host<S> {
+    node: NodeCore<S>,
+    delivered: Vec<Delivery>,
+}
+
+impl<S> Model for Host<S> {
+    ghost use Rattle.world_rules.specs.Worlds.{Host};
+
+    ghost Value = { Host S };
+
+    ghost view = { λ h. record { node = h.node; delivered = h.delivered.items } };
+}
+
+/// What a node's step tells: why an arrival was dropped, or the rules that a transcript names.
+fn tell_step(
+    told: &mut Vec<OutLine>,
+    id: MemberId,
+    dropped: Option<Why>,
+    fired: &[Fired],
+) -> Result<(), AllocError>
+    ensures { OnOk result (told.new.items ≡ told.old.items ++ (told_drop id dropped ++ flat_map (told_fired id) fired.now)) }
+{
+    if let Some(why) = dropped {
+        told.push(OutLine::Dropped(id, why))?;
+    }
+    tell_fired(told, id, fired)?;
+    Ok(())
+}
+
+fn tell_rule(told: &mut Vec<OutLine>, id: MemberId, rule: &Fired) -> Result<(), AllocError>
+    ensures { OnOk result (told.new.items ≡ told.old.items ++ told_fired id rule.now) }
+{
+    match rule {
+        Fired::Delivered(delivery) => {
+            let line = OutLine::Delivered(id, delivery.place, delivery.executed);
+            told.push(line)?;
+        }
+        Fired::Decided(place) => told.push(OutLine::Decided(id, *place))?,
+        Fired::Proposed | Fired::Wrote | Fired::Accepted => {}
+    }
+    Ok(())
+}
+
+fn tell_fired(told: &mut Vec<OutLine>, id: MemberId, fired: &[Fired]) -> Result<(), AllocError>
+    ensures { OnOk result (told.new.items ≡ told.old.items ++ flat_map (told_fired id) fired.now) }
+{
+    for rule in fired {
+        tell_rule(told, id, rule)?;
+    }
+    Ok(())
+}
+
+/// Keeps the batches that rules have delivered.
+fn keep_deliveries(
+    delivered: &mut Vec<Delivery>,
+    fired: Sequence<Fired>,
+) -> Result<(), AllocError>
+    ensures { OnOk result (delivered.new.items ≡ delivered.old.items ++ flat_map delivery_in fired) }
+{
+    let mut fired = fired;
+    while 0 < fired.len() {
+        if let Fired::Delivered(delivery) = fired.take_first() {
+            delivered.push(delivery)?;
+        }
+    }
+    Ok(())
+}
+
+/// Adds the batch that waits for a place to the list, if the list ends before that place.
+fn choose(
+    alloc: Global,
+    chosen: &mut Vec<Batch>,
+    place: u64,
+    waiting: Option<&Batch>,
+) -> Result<(), AllocError>
+    ensures { OnOk result (chosen.new.items ≡ chosen_with chosen.old.items place (option_copied waiting.entry)) }
+{
+    if let Some(batch) = waiting {
+        if place == chosen.len() as u64 + 1 {
+            chosen.push(batch.duplicate(alloc)?)?;
+        }
+    }
+    Ok(())
+}
+
+impl<S: Service> Host<S> {
+    /// A host whose node has an empty book.
+    pub fn begin(alloc: Global, id: MemberId, view: View) -> Result<Self, AllocError>
+        ensures { IfOk result (λ h. h ≡ record { node = opened S.meaning id view; delivered = [] }) }
+    {
+        Ok(Host {
+            node: NodeCore::begin(alloc, id, view)?,
+            delivered: Vec::new(alloc),
+        })
+    }
+
+    /// The member whose host this is.
+    pub fn id(&self) -> MemberId
+        ensures { result ≡ self.now.node.id }
+    {
+        self.node.id()
+    }
+
+    /// The book of its node.
+    pub fn book(&self) -> &[LogEntry]
+        ensures { result.now ≡ self.now.node.entries }
+    {
+        self.node.book()
+    }
+
+    /// The batches that it ever delivered.
+    pub fn delivered(&self) -> &[Delivery]
+        ensures { result.now ≡ self.now.delivered }
+    {
+        self.delivered.as_slice()
+    }
+
+    /// What is due without another message: firmness of what was made, or delivery of what waits.
+    pub fn due(&self) -> Option<NodeEvent>
+        ensures { result ≡ due self.now }
+    {
+        let made = self.node.made();
+        if self.node.firm() < made {
+            Some(NodeEvent::Firm(made))
+        } else if self.node.waits() {
+            Some(NodeEvent::Deliver)
+        } else {
+            None
+        }
+    }
+}
+
+/// A host's node takes an event. The messages that leave are given, what the step tells and the
+/// batch that it has chosen are added.
+pub fn step_host<S: Service>(
+    alloc: Global,
+    host: &mut Host<S>,
+    chosen: &mut Vec<Batch>,
+    told: &mut Vec<OutLine>,
+    event: &NodeEvent,
+) -> Result<Sequence<Held>, AllocError>
+    ensures host { OnOk result (host.new ≡ host_after host.old (step_of S.meaning host.old.node event.now)) }
+    ensures chosen { OnOk result (let after = (step_of S.meaning host.old.node event.now).node in chosen.new.items ≡ chosen_with chosen.old.items (next_place after) after.waiting) }
+    ensures told { OnOk result (let o = step_of S.meaning host.old.node event.now in told.new.items ≡ told.old.items ++ (told_drop host.old.node.id o.dropped ++ flat_map (told_fired host.old.node.id) o.fired)) }
+    ensures left { IfOk result (λ left. let after = (step_of S.meaning host.old.node event.now).node in left ≡ leaving after.firm after.held) }
+{
+    let id = host.node.id();
+    let outcome = host.node.step(event)?;
+    tell_step(told, id, outcome.dropped, outcome.fired.as_slice())?;
+    choose(
+        alloc,
+        chosen,
+        host.node.place().get() + 1,
+        host.node.waiting(),
+    )?;
+    keep_deliveries(&mut host.delivered, outcome.fired)?;
+    let left = host.node.release_all()?;
+    Ok(left)
+}
