@@ -1,3 +1,4 @@
 pub mod Lists
 pub mod Keeps
 pub mod Aligned
+pub mod OnePlace
