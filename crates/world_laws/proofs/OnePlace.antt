@@ -1,6 +1,6 @@
 -- A request is executed once: the lines of executions stand in order, and the numbers of each client rise.
-use Rattle.std.proofs.Common.{◌≡◌, ℕ, ◌+◌, ◌<◌, ◌≤◌, ◌==◌, ◌++◌, Bool, true, false, ◌&&◌, List, [], ◌∷◌, refl, ap, ◌∙◌, sym, cond, Option, Some, None, nat_lt, inl, inr, ◌⊎◌, ⊎_elim, subst, arith}
-use Rattle.std.proofs.lemmas.Bool.{eq-eqb, ne_eqb, eqb-true, eqb-false}
+use Rattle.std.proofs.Common.{◌≡◌, ℕ, ◌+◌, ◌<◌, ◌≤◌, ◌==◌, ◌++◌, Bool, true, false, ◌&&◌, List, [], ◌∷◌, refl, ap, ◌∙◌, sym, cond, Some, None, nat_lt, inl, inr, ◌⊎◌, subst, arith}
+use Rattle.std.proofs.lemmas.Bool.{eq-eqb, eqb-true}
 use Rattle.std.specs.Prelude.{option_map}
 use Rattle.std.specs.Option.{option_to_list}
 use Rattle.smart_base.specs.Lists.{Each}
@@ -222,3 +222,62 @@ order_of (x ∷ xs) order a b ha hb =
       inl here ↦ elim hb [ inl too ↦ inl (sym here ∙ too) | inr later ↦ inr (inl (before_first x a b here (each_line (Before x) xs b order.0 later))) ]
     | inr behind ↦ elim hb [ inl here ↦ inr (inr (before_first x b a here (each_line (Before x) xs a order.0 behind))) | inr later ↦ order_of xs order.1 a b behind later ]
     ]
+
+-- a request is executed once
+pub once-executions : {S : Type 0} (m : Meaning S) (v : View) (list : List (List Request)) (a b : TableLine) → HasLine (executions m v list) a → HasLine (executions m v list) b
+    → a.client ≡ b.client → a.seq ≡ b.seq → a ≡ b
+once-executions m v list a b ha hb client seq =
+    elim (order_of (executions m v list) (order-executions m v list) a b ha hb) [
+      inl same ↦ same
+    | inr apart ↦ elim apart [ inl before ↦ absurd (omega (arith, before.rises client, seq)) | inr before ↦ absurd (omega (arith, before.rises (sym client), seq)) ]
+    ]
+
+not_before : (a b : TableLine) → Before a b → a.place ≡ b.place → a.index ≡ b.index → ⊥
+not_before a b before place index = elim before.stands [ inl less ↦ omega (arith, less, place) | inr same ↦ omega (arith, same.1, index) ]
+
+-- at a place and an index, one request is executed
+pub one_there : {S : Type 0} (m : Meaning S) (v : View) (list : List (List Request)) (a b : TableLine) → HasLine (executions m v list) a → HasLine (executions m v list) b
+    → a.place ≡ b.place → a.index ≡ b.index → a ≡ b
+one_there m v list a b ha hb place index =
+    elim (order_of (executions m v list) (order-executions m v list) a b ha hb) [
+      inl same ↦ same
+    | inr apart ↦ elim apart [ inl before ↦ absurd (not_before a b before place index) | inr before ↦ absurd (not_before b a before (sym place) (sym index)) ]
+    ]
+
+first_step : (p : TableLine → Bool) (x : TableLine) (lines : List TableLine) (l : TableLine) (t : Bool) → p x ≡ t → (p x ≡ true → x ≡ l) → (p x ≡ false → first_line p lines ≡ Some l)
+    → first_line p (x ∷ lines) ≡ Some l
+first_step p x lines l true is here later = rw is (ap (λ (y : TableLine). Some y) (here is))
+first_step p x lines l false is here later = rw is (later is)
+
+is_there : (p : TableLine → Bool) (x : TableLine) (lines : List TableLine) (l : TableLine) → HasLine (x ∷ lines) l → p l ≡ true → p x ≡ false → HasLine lines l
+is_there p x lines l has passes fails =
+    elim has [
+      inl here ↦ let clash : true ≡ false = sym passes ∙ (ap p (sym here) ∙ fails) in absurd (cc)
+    | inr later ↦ later
+    ]
+
+-- the first line that passes a test that one line alone passes
+first_line-one : (p : TableLine → Bool) (lines : List TableLine) (l : TableLine) → HasLine lines l → p l ≡ true → ((x : TableLine) → HasLine lines x → p x ≡ true → x ≡ l) → first_line p lines ≡ Some l
+first_line-one p [] l has passes one = absurd has
+first_line-one p (x ∷ lines) l has passes one =
+    first_step p x lines l (p x) refl (one x (inl refl)) (λ fails. first_line-one p lines l (is_there p x lines l has passes fails) passes (λ y there. one y (inr there)))
+
+both_true : (a b c d : ℕ) → a ≡ c → b ≡ d → ((a == c) && (b == d)) ≡ true
+both_true a b c d first second = rw (eq-eqb a c first, eq-eqb b d second) refl
+
+both_equal : (a b c d : ℕ) → ((a == c) && (b == d)) ≡ true → (a ≡ c) × (b ≡ d)
+both_equal a b c d is = let parts = and_true (a == c) (b == d) is in (eqb-true a c parts.0, eqb-true b d parts.1)
+
+-- the place of a request is that of its line
+pub place_of-line : {S : Type 0} (m : Meaning S) (v : View) (list : List (List Request)) (l : TableLine) → HasLine (executions m v list) l → place_of m v list l.client l.seq ≡ Some (l.place, l.index)
+place_of-line m v list l has =
+    ap (option_map (λ (line : TableLine). (line.place, line.index)))
+    (first_line-one (λ line. (line.client == l.client) && (line.seq == l.seq)) (executions m v list) l has (both_true l.client l.seq l.client l.seq refl refl)
+    (λ x there is. let same = both_equal x.client x.seq l.client l.seq is in once-executions m v list x l there has same.0 same.1))
+
+-- the answer at the place of a line is its reply
+pub answer-line : {S : Type 0} (m : Meaning S) (v : View) (list : List (List Request)) (l : TableLine) → HasLine (executions m v list) l → answer m v list l.place l.index ≡ Some l.reply
+answer-line m v list l has =
+    ap (option_map (λ (line : TableLine). line.reply))
+    (first_line-one (λ line. (line.place == l.place) && (line.index == l.index)) (executions m v list) l has (both_true l.place l.index l.place l.index refl refl)
+    (λ x there is. let same = both_equal x.place x.index l.place l.index is in one_there m v list x l there has same.0 same.1))
