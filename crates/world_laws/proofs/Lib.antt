@@ -2,3 +2,4 @@ pub mod Lists
 pub mod Keeps
 pub mod Aligned
 pub mod OnePlace
+pub mod Executions
