@@ -3,3 +3,4 @@ pub mod Keeps
 pub mod Aligned
 pub mod OnePlace
 pub mod Executions
+pub mod Replies
