@@ -53,12 +53,14 @@ pub record RepliesRight {S : Type 0} (m : Meaning S) (w : World S) : Type 0 wher
 
 -- a list that grows
 
+-- what a reply tells of a list, it tells of a longer one
 right-more : {S : Type 0} (m : Meaning S) (v : View) (list more : List (List Request)) (x : Message) → ReplyRight m v list x → ReplyRight m v (list ++ more) x
 right-more m v list more (Ask q) right = tt
 right-more m v list more (Propose p) right = tt
 right-more m v list more (Vote b) right = tt
 right-more m v list more (Reply a) right = executions-more m v list more (line_told a) right
 
+-- what a reply tells stays told where a batch is chosen
 right-chosen : {S : Type 0} (m : Meaning S) (v : View) (chosen : List (List Request)) (place : ℕ) (waiting : Option (List Request)) (x : Message) → ReplyRight m v chosen x
     → ReplyRight m v (chosen_with chosen place waiting) x
 right-chosen m v chosen place None x right = right
@@ -67,10 +69,12 @@ right-chosen m v chosen place (Some batch) x right =
 
 -- rules of a node
 
+-- what holds of each line among lines, holds of each
 each_inside : (P : TableLine → Type 0) (lines : List TableLine) → ((l : TableLine) → HasLine lines l → P l) → Each P lines
 each_inside P [] inside = tt
 each_inside P (l ∷ ls) inside = (inside l (inl refl), each_inside P ls (λ x has. inside x (inr has)))
 
+-- a node that replies with executions holds right replies
 held-replying : {S : Type 0} (m : Meaning S) (v : View) (chosen : List (List Request)) (n : Node S) (lines : List TableLine) → HeldRight m v chosen n → Each (HasLine (executions m v chosen)) lines
     → HeldRight m v chosen (replying n lines)
 held-replying m v chosen n [] held each = held
@@ -87,6 +91,7 @@ answered_lines {S = S} m v chosen h batch aligned waits =
     (λ l has. executed-at m v chosen h.node.replica.place batch l (aligned.waiting batch waits) (subst (λ (r : Replica S). HasLine (executed_lines m r batch) l) aligned.replica has)))
     tt
 
+-- so a host that delivers holds right replies
 held-deliver_batch : {S : Type 0} (m : Meaning S) (v : View) (chosen : List (List Request)) (h : Host S) (waiting : Option (List Request)) → Aligned m v chosen h → h.node.waiting ≡ waiting
     → HeldRight m v chosen h.node → HeldRight m v chosen (deliver_batch m h.node waiting)
 unfolding deliver_batch
@@ -96,6 +101,7 @@ held-deliver_batch {S = S} m v chosen h (Some batch) aligned waits held =
     held-replying m v chosen (record h.node { replica = r; waiting = None; pool = settled r.table h.node.pool }) (lines_to_answer m h.node batch) held
     (answered_lines m v chosen h batch aligned waits)
 
+-- an arrival holds no reply
 held-kept : {S : Type 0} (m : Meaning S) (v : View) (chosen : List (List Request)) (n : Node S) (x : Message) → HeldRight m v chosen n → HeldRight m v chosen (kept n x)
 unfolding kept
 held-kept m v chosen n (Ask q) held = either (HeldRight m v chosen) (is_next n.replica.table q) (record n { pool = offered n.pool q }) n held held
@@ -103,21 +109,25 @@ held-kept m v chosen n (Propose p) held = held
 held-kept m v chosen n (Vote b) held = held
 held-kept m v chosen n (Reply a) held = held
 
+-- a proposal is no reply
 held-propose_batch : {S : Type 0} (m : Meaning S) (v : View) (chosen : List (List Request)) (n : Node S) (batch : Option (List Request)) → HeldRight m v chosen n → HeldRight m v chosen (propose_batch n batch)
 unfolding propose_batch
 held-propose_batch m v chosen n None held = held
 held-propose_batch m v chosen n (Some batch) held = each_end (λ (h : Held). ReplyRight m v chosen h.message) n.held _ held tt
 
+-- a vote to write is no reply
 held-write_batch : {S : Type 0} (m : Meaning S) (v : View) (chosen : List (List Request)) (n : Node S) (batch : Option (List Request)) → HeldRight m v chosen n → HeldRight m v chosen (write_batch n batch)
 unfolding write_batch
 held-write_batch m v chosen n None held = held
 held-write_batch m v chosen n (Some batch) held = each_end (λ (h : Held). ReplyRight m v chosen h.message) n.held _ held tt
 
+-- a vote to accept is no reply
 held-accept_batch : {S : Type 0} (m : Meaning S) (v : View) (chosen : List (List Request)) (n : Node S) (batch : Option (List Request)) → HeldRight m v chosen n → HeldRight m v chosen (accept_batch n batch)
 unfolding accept_batch
 held-accept_batch m v chosen n None held = held
 held-accept_batch m v chosen n (Some batch) held = each_end (λ (h : Held). ReplyRight m v chosen h.message) n.held _ held tt
 
+-- a decision holds nothing
 held-decide_batch : {S : Type 0} (m : Meaning S) (v : View) (chosen : List (List Request)) (n : Node S) (batch : Option (List Request)) → HeldRight m v chosen n → HeldRight m v chosen (decide_batch n batch)
 unfolding decide_batch
 held-decide_batch m v chosen n None held = held
@@ -132,12 +142,13 @@ held-passes m v chosen n held =
     let accepted : HeldRight m v chosen (votes n) = held-accept_batch m v chosen (writes (proposes n)) (accepting (writes (proposes n))) wrote in
     held-decide_batch m v chosen (votes n) (deciding (votes n)) accepted
 
+-- an arrival, kept or dropped, leaves held replies right
 held-arrival : {S : Type 0} (m : Meaning S) (v : View) (chosen : List (List Request)) (n : Node S) (x : Message) (why : Option Why) → HeldRight m v chosen n
     → HeldRight m v chosen (arrival_outcome n x why).node
 held-arrival m v chosen n x None held = held-passes m v chosen (kept n x) (held-kept m v chosen n x held)
 held-arrival m v chosen n x (Some why) held = held
 
--- a step of a host's node
+-- a step of a host's node leaves held replies right
 held-step : {S : Type 0} (m : Meaning S) (v : View) (chosen : List (List Request)) (h : Host S) (event : NodeEvent) → Aligned m v chosen h → HeldRight m v chosen h.node
     → HeldRight m v chosen (step_of m h.node event).node
 unfolding step_of delivers
@@ -148,14 +159,17 @@ held-step m v chosen h (Firm count) aligned held = held-passes m v chosen (recor
 
 -- messages that leave
 
+-- what holds of all that is held, holds of what leaves
 each-leaving : (P : Held → Type 0) (firm : ℕ) (held : List Held) → Each P held → Each P (leaving firm held)
 each-leaving P firm [] each = tt
 each-leaving P firm (h ∷ hs) each = either (Each P) (nat_le h.needs firm) (h ∷ leaving firm hs) [] (each.0, each-leaving P firm hs each.1) tt
 
+-- what holds of all that is held, holds of what stays
 each-staying : (P : Held → Type 0) (firm : ℕ) (held : List Held) → Each P held → Each P (staying firm held)
 each-staying P firm [] each = tt
 each-staying P firm (h ∷ hs) each = either (Each P) (nat_le h.needs firm) (staying firm hs) (h ∷ hs) (each-staying P firm hs each.1) each
 
+-- a right message leaves
 right-sends : {S : Type 0} (m : Meaning S) (w : World S) (origin : Origin) (to : Target) (x : Message) → ReplyRight m w.view w.chosen x → RepliesRight m w → RepliesRight m (sends w origin to x)
 unfolding sends
 right-sends m w origin to x right r =
@@ -169,6 +183,7 @@ same_list-sends : {S : Type 0} (m : Meaning S) (w : World S) (origin : Origin) (
 unfolding sends
 same_list-sends {S = S} m w origin to x y right = either (λ (v : World S). ReplyRight m v.view v.chosen y) (nat_lt (length w.sent) (2 ^ 24)) _ _ right right
 
+-- right messages leave
 right-sends_all : {S : Type 0} (m : Meaning S) (id : ℕ) (w : World S) (held : List Held) → Each (λ h. ReplyRight m w.view w.chosen h.message) held → RepliesRight m w → RepliesRight m (sends_all id w held)
 right-sends_all m id w [] each r = r
 right-sends_all {S = S} m id w (h ∷ hs) each r =
@@ -180,6 +195,7 @@ right-sends_all {S = S} m id w (h ∷ hs) each r =
 
 -- events of a world
 
+-- a node's step, whose held replies are right
 right-stepped : {S : Type 0} (m : Meaning S) (w : World S) (i : ℕ) (h : Host S) (o : Outcome S) → HeldRight m w.view w.chosen o.node → RepliesRight m w → RepliesRight m (stepped w i h o)
 unfolding stepped
 right-stepped {S = S} m w i h o held r =
@@ -196,6 +212,7 @@ right-stepped {S = S} m w i h o held r =
           (each-staying (λ x. ReplyRight m w.view chosen x.message) o.node.firm o.node.held all);
     })
 
+-- a client that hears sends nothing
 right-hearing : {S : Type 0} (m : Meaning S) (w : World S) (i : ℕ) (c : Client) (a : Answer) (h : Heard) → RepliesRight m w → RepliesRight m (hearing w i c a h)
 unfolding hearing
 right-hearing m w i c a h r = record { sent = r.sent; held = r.held }
@@ -207,18 +224,19 @@ keeps-replies {S = S} m P k aligned =
       event = λ w i h event at may p. (
         k.event w i h event at may p.0,
         right-stepped m w i h (step_of m h.node event)
-        (held-step m w.view w.chosen h event (each_get (Aligned m w.view w.chosen) w.hosts i h (aligned w p.0).hosts at)
-        (each_get (λ (g : Host S). HeldRight m w.view w.chosen g.node) w.hosts i h p.1.held at)) p.1
+            (held-step m w.view w.chosen h event (each_get (Aligned m w.view w.chosen) w.hosts i h (aligned w p.0).hosts at)
+            (each_get (λ (g : Host S). HeldRight m w.view w.chosen g.node) w.hosts i h p.1.held at)) p.1,
       );
       hear = λ w i c a at has p. (k.hear w i c a at has p.0, right-hearing m w i c a (heard w.view c a) p.1);
       ask = λ w i c op at free p. (
         k.ask w i c op at free p.0,
         right-sends m (record w { clients = slice_set w.clients i (asking c (request_of c op)) }) (origins.Client c.id) targets.View (Ask (request_of c op)) tt
-        (record { sent = p.1.sent; held = p.1.held })
+            (record { sent = p.1.sent; held = p.1.held }),
       );
       same = λ w mark told p. (k.same w mark told p.0, record { sent = p.1.sent; held = p.1.held });
     }
 
+-- opened nodes hold nothing
 held-hosts_from : {S : Type 0} (m : Meaning S) (view v : View) (chosen : List (List Request)) (ids : List ℕ) → Each (λ h. HeldRight m v chosen h.node) (hosts_from m view ids)
 held-hosts_from m view v chosen [] = tt
 held-hosts_from m view v chosen (id ∷ ids) = (tt, held-hosts_from m view v chosen ids)
@@ -229,6 +247,7 @@ replies-begun m view = record { sent = tt; held = held-hosts_from m view view []
 
 -- replies that were sent
 
+-- a message that was sent is right where all are
 message_right : {S : Type 0} (m : Meaning S) (v : View) (chosen : List (List Request)) (sent : List Sent) (x : Message) → Each (λ s. ReplyRight m v chosen s.message) sent → HasMessage sent x
     → ReplyRight m v chosen x
 message_right m v chosen [] x each has = absurd has
