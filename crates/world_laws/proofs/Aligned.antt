@@ -1,5 +1,5 @@
 -- Hosts that stand along one list, and the lines of its executions.
-use Rattle.std.proofs.Common.{◌≡◌, ◌+◌, ◌≤◌, List, [], ◌∷◌, length, Some, take, ◌⊎◌}
+use Rattle.std.proofs.Common.{◌≡◌, ◌+◌, ◌≤◌, List, length, Some, take}
 use Rattle.smart_base.specs.Lists.{Each}
 use Rattle.smart_base.specs.declared.view.View.{View}
 use Rattle.smart_messages.specs.declared.message.Request.{Request}
@@ -8,6 +8,7 @@ use Rattle.smart_service.specs.Services.{Meaning}
 use Rattle.smart_service.specs.declared.table.TableLine.{TableLine}
 use Rattle.node_rules.specs.Replicas.{state, batch_at, executions}
 use Rattle.world_rules.specs.Worlds.{Host, World}
+use Rattle.world_laws.specs.Lines.{HasLine}
 
 -- a host's replica is the state of a front of the list, and the batch that waits is the list's next
 pub record Aligned {S : Type 0} (m : Meaning S) (view : View) (chosen : List (List Request)) (h : Host S) : Type 0 where
@@ -17,11 +18,6 @@ pub record Aligned {S : Type 0} (m : Meaning S) (view : View) (chosen : List (Li
 
 pub record AllAligned {S : Type 0} (m : Meaning S) (w : World S) : Type 0 where
   pub hosts : Each (Aligned m w.view w.chosen) w.hosts
-
--- a line is among lines
-abbrev pub HasLine : List TableLine → TableLine → Type 0
-HasLine [] line = ⊥
-HasLine (l ∷ ls) line = (l ≡ line) ⊎ HasLine ls line
 
 -- the line of the execution that a reply tells
 abbrev pub line_told : Answer → TableLine
