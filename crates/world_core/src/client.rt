@@ -110,11 +110,7 @@ fn why_ignored(view: &View, client: &Client, answer: &Answer) -> Option<Ignored>
     }
 }
 
-fn acceptance(
-    alloc: Global,
-    request: Request,
-    answer: &Answer,
-) -> Result<Acceptance, AllocError>
+fn acceptance(alloc: Global, request: Request, answer: &Answer) -> Result<Acceptance, AllocError>
     ensures { IfOk result (λ a. a ≡ acceptance request answer.now) }
 {
     Ok(Acceptance {

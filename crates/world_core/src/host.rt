@@ -75,10 +75,7 @@ fn tell_fired(told: &mut Vec<OutLine>, id: MemberId, fired: &[Fired]) -> Result<
 }
 
 /// Keeps the batches that rules have delivered.
-fn keep_deliveries(
-    delivered: &mut Vec<Delivery>,
-    fired: Sequence<Fired>,
-) -> Result<(), AllocError>
+fn keep_deliveries(delivered: &mut Vec<Delivery>, fired: Sequence<Fired>) -> Result<(), AllocError>
     ensures { OnOk result (delivered.new.items ≡ delivered.old.items ++ flat_map delivery_in fired) }
 {
     let mut fired = fired;

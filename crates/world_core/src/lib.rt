@@ -4,4 +4,5 @@
 
 pub mod client;
 pub mod host;
-
+pub mod message;
+pub mod state;

@@ -1,0 +1,61 @@
+//! What a transcript tells of messages and of what clients hear.
+ghost use Rattle.std.specs.Prelude.{◌≡◌, IfOk, length};
+ghost use Rattle.world_rules.specs.Worlds.{vote_summary, summary_of, told_heard};
+
+use smart_base::duplicate::Duplicate;
+use smart_base::name::ClientId;
+use smart_messages::message::{Ballot, Message, VoteKind};
+use std::alloc::{AllocError, Global};
+use world_rules::client::Heard;
+use world_rules::line::{OutLine, Summary};
+use world_rules::message::Origin;
+
+fn vote_summary(ballot: &Ballot) -> Summary
+    ensures { result ≡ vote_summary ballot.now ballot.now.kind }
+{
+    let slot = ballot.slot;
+    match ballot.kind {
+        VoteKind::Write => Summary::Write(slot.view, slot.place, slot.regency),
+        VoteKind::Accept => Summary::Accept(slot.view, slot.place, slot.regency),
+    }
+}
+
+/// What a transcript tells of a message.
+pub fn summary_of(message: &Message) -> Summary
+    ensures { result ≡ summary_of message.now }
+{
+    match message {
+        Message::Ask(q) => Summary::Ask(q.client, q.seq, q.after),
+        Message::Propose(p) => {
+            Summary::Propose(
+                p.slot.view,
+                p.slot.place,
+                p.slot.regency,
+                p.batch.len() as u64,
+            )
+        }
+        Message::Vote(ballot) => vote_summary(ballot),
+        Message::Reply(a) => Summary::Reply(a.client, a.seq, a.place, a.index),
+    }
+}
+
+/// The line that tells that a message left.
+pub fn sent_line(number: u64, origin: &Origin, message: &Message) -> OutLine
+    ensures { result ≡ OutLine.Sent number origin.now (summary_of message.now) }
+{
+    OutLine::Sent(number, *origin, summary_of(message))
+}
+
+/// What a transcript tells of what a client heard.
+pub fn told_heard(alloc: Global, id: ClientId, heard: &Heard) -> Result<OutLine, AllocError>
+    ensures { IfOk result (λ line. line ≡ told_heard id heard.now) }
+{
+    match heard {
+        Heard::Counted(count, need) => Ok(OutLine::Counted(id, *count, *need)),
+        Heard::Accepted(a) => {
+            let reply = a.reply.duplicate(alloc)?;
+            Ok(OutLine::Accepted(id, a.request.seq, a.place, a.index, reply))
+        }
+        Heard::Ignored(why) => Ok(OutLine::Ignored(id, *why)),
+    }
+}

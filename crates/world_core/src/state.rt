@@ -1,0 +1,384 @@
+//! What happens in a world.
+ghost use Rattle.std.specs.Prelude.{◌≡◌, ◌+◌, ◌-◌, ◌^◌, ◌<◌, ◌++◌, [], ◌∷◌, IfOk, OnOk, None, Some, length, slice_get, slice_set, false};
+ghost use Rattle.node_rules.specs.Steps.{step_of};
+ghost use Rattle.world_rules.specs.Repeats.{repeated, turns, until_rest, each_from};
+ghost use Rattle.world_rules.specs.Clients.{heard, after_heard};
+ghost use Rattle.world_rules.specs.Worlds.{telling, sends, sends_all, summary_of, stepped, node_takes, settle_once, settle, settle_all, gives, give_all, acceptance_in, told_heard, hearing, client_takes, client_asks, asks, goes, flow_once, flows, hosts_from, clients_from, begun};
+ghost use Rattle.world_rules.specs.Plays.{line_played, rested};
+
+use crate::client::{ask, fresh, hear};
+use crate::host::{Host, step_host};
+use crate::message::{sent_line, told_heard};
+use node_rules::node::{Held, Target};
+use smart_base::duplicate::Duplicate;
+use smart_base::name::{ClientId, MemberId};
+use smart_base::sequence::{Bytes, Sequence};
+use smart_base::view::View;
+use smart_messages::entry::NodeEvent;
+use smart_messages::message::{Answer, Batch, Message};
+use smart_service::service::Service;
+use std::alloc::{AllocError, Global};
+use std::marker::Model;
+use std::mem;
+use world_rules::client::{Acceptance, Client, Heard, Ignored};
+use world_rules::line::{Line, OutLine};
+use world_rules::message::{Ending, Origin, Sent};
+
+/// The greatest number of a message.
+const MESSAGES: usize = 1 << 24;
+
+/// How many clients there are, the view manager among them.
+const CLIENTS: u16 = 1025;
+
+/// All hosts and clients, each message that was ever sent, the list of chosen batches, and what
+/// the present script line tells.
+#[derive(Drop)]
+pub struct WorldState<S> {
+    alloc: Global,
+    view: View,
+    hosts: Vec<Host<S>>,
+    clients: Vec<Client>,
+    sent: Vec<Sent>,
+    mark: u64,
+    chosen: Vec<Batch>,
+    accepted: Vec<Acceptance>,
+    told: Vec<OutLine>,
+    ending: Option<Ending>,
+}
+
+impl<S> Model for WorldState<S> {
+    ghost use Rattle.world_rules.specs.Worlds.{World};
+
+    ghost Value = { World S };
+
+    ghost view = { λ w. record {
+      view = w.view;
+      hosts = w.hosts.items;
+      clients = w.clients.items;
+      sent = w.sent.items;
+      mark = w.mark;
+      chosen = w.chosen.items;
+      accepted = w.accepted.items;
+      told = w.told.items;
+      ending = w.ending;
+    } };
+}
+
+fn keep_accepted(accepted: &mut Vec<Acceptance>, heard: Heard) -> Result<(), AllocError>
+    ensures { OnOk result (accepted.new.items ≡ accepted.old.items ++ acceptance_in heard) }
+{
+    if let Heard::Accepted(acceptance) = heard {
+        accepted.push(acceptance)?;
+    }
+    Ok(())
+}
+
+/// A client hears a reply: what it tells and accepts is added.
+fn hear_reply(
+    alloc: Global,
+    view: &View,
+    client: &mut Client,
+    accepted: &mut Vec<Acceptance>,
+    told: &mut Vec<OutLine>,
+    answer: &Answer,
+) -> Result<(), AllocError>
+    ensures client { OnOk result (client.new ≡ after_heard client.old answer.now (heard view.now client.old answer.now)) }
+    ensures accepted { OnOk result (accepted.new.items ≡ accepted.old.items ++ acceptance_in (heard view.now client.old answer.now)) }
+    ensures told { OnOk result (told.new.items ≡ told.old.items ++ told_heard client.old.id (heard view.now client.old answer.now) ∷ []) }
+{
+    let id = client.id;
+    let heard = hear(alloc, view, client, answer)?;
+    told.push(told_heard(alloc, id, &heard)?)?;
+    keep_accepted(accepted, heard)?;
+    Ok(())
+}
+
+fn first_hosts<S: Service>(alloc: Global, view: &View) -> Result<Vec<Host<S>>, AllocError>
+    ensures { IfOk result (λ hosts. hosts.items ≡ hosts_from S.meaning view.now view.now.members) }
+{
+    let mut hosts: Vec<Host<S>> = Vec::new(alloc);
+    for id in view.members.as_slice() {
+        hosts.push(Host::begin(alloc, *id, view.duplicate(alloc)?)?)?;
+    }
+    Ok(hosts)
+}
+
+fn first_clients(alloc: Global, count: u16) -> Result<Vec<Client>, AllocError>
+    ensures { IfOk result (λ clients. clients.items ≡ clients_from count 0) }
+{
+    let mut clients: Vec<Client> = Vec::new(alloc);
+    for i in 0..count {
+        clients.push(fresh(alloc, ClientId::new(i)))?;
+    }
+    Ok(clients)
+}
+
+impl<S: Service> WorldState<S> {
+    /// The world at the end of a header.
+    pub fn begin(alloc: Global, view: View) -> Result<Self, AllocError>
+        ensures { IfOk result (λ world. world ≡ begun S.meaning view) }
+    {
+        Ok(WorldState {
+            alloc,
+            hosts: first_hosts(alloc, &view)?,
+            clients: first_clients(alloc, CLIENTS)?,
+            view,
+            sent: Vec::new(alloc),
+            mark: 0,
+            chosen: Vec::new(alloc),
+            accepted: Vec::new(alloc),
+            told: Vec::new(alloc),
+            ending: None,
+        })
+    }
+
+    // Messages that leave.
+
+    fn tell(&mut self, line: OutLine) -> Result<(), AllocError>
+        ensures { OnOk result (self.new ≡ telling self.old line) }
+    {
+        self.told.push(line)?;
+        Ok(())
+    }
+
+    #[tactic(auto, unfolding(world_rules::specs::Worlds::sends))]
+    fn send(&mut self, origin: Origin, to: Target, message: Message) -> Result<(), AllocError>
+        ensures { OnOk result (self.new ≡ sends self.old origin to message) }
+    {
+        if self.sent.len() >= MESSAGES {
+            self.ending = Some(Ending::Limit);
+            return Ok(());
+        }
+        let number = self.sent.len() as u64 + 1;
+        self.told.push(sent_line(number, &origin, &message))?;
+        self.sent.push(Sent {
+            origin,
+            to,
+            message,
+        })?;
+        Ok(())
+    }
+
+    fn send_all(&mut self, id: MemberId, held: Sequence<Held>) -> Result<(), AllocError>
+        ensures { OnOk result (self.new ≡ sends_all id self.old held) }
+    {
+        let mut held = held;
+        'messages: while 0 < held.len() {
+            let first = held.take_first();
+            self.send(Origin::Node(id), first.to, first.message)?;
+        }
+        Ok(())
+    }
+
+    // Events of a node.
+
+    #[tactic(auto, unfolding(world_rules::specs::Worlds::node_takes, world_rules::specs::Worlds::stepped))]
+    fn node_takes(&mut self, i: usize, event: &NodeEvent) -> Result<(), AllocError>
+        ensures { OnOk result (self.new ≡ node_takes (step_of S.meaning) i event.now self.old) }
+    {
+        if self.ending.is_some() || i >= self.hosts.len() {
+            return Ok(());
+        }
+        let id = self.hosts[i].id();
+        let left = step_host(
+            self.alloc,
+            &mut self.hosts[i],
+            &mut self.chosen,
+            &mut self.told,
+            event,
+        )?;
+        self.send_all(id, left)?;
+        Ok(())
+    }
+
+    /// The node at an index takes what is due, if anything is.
+    #[tactic(auto, unfolding(world_rules::specs::Worlds::settle_once, world_rules::specs::Worlds::node_takes))]
+    fn settle_once(&mut self, i: usize) -> Result<bool, AllocError>
+        ensures world { OnOk result (self.new ≡ settle_once (step_of S.meaning) i self.old) }
+        ensures idle { IfOk result (λ more. more ≡ false → self.new ≡ self.old) }
+    {
+        if self.ending.is_some() || i >= self.hosts.len() {
+            return Ok(false);
+        }
+        match self.hosts[i].due() {
+            None => Ok(false),
+            Some(event) => {
+                self.node_takes(i, &event)?;
+                Ok(true)
+            }
+        }
+    }
+
+    /// The node at an index takes what is due until nothing is.
+    #[tactic(auto, using(crate::proofs::Turns::rest_begins, crate::proofs::Turns::rest_more, crate::proofs::Turns::rest_done, crate::proofs::Turns::rest_idle))]
+    fn settle(&mut self, i: usize) -> Result<(), AllocError>
+        ensures { OnOk result (self.new ≡ settle (step_of S.meaning) i self.old) }
+    {
+        for turn in 0..u64::MAX {
+            if !self.settle_once(i)? {
+                return Ok(());
+            }
+        }
+        Ok(())
+    }
+
+    /// Each node settles, ascending.
+    #[tactic(auto, using(crate::proofs::Turns::each_more, crate::proofs::Turns::each_done))]
+    fn settle_all(&mut self) -> Result<(), AllocError>
+        ensures { OnOk result (self.new ≡ settle_all (step_of S.meaning) self.old) }
+    {
+        let count = self.hosts.len();
+        for i in 0..count {
+            self.settle(i)?;
+        }
+        Ok(())
+    }
+
+    /// The node at an index takes an event, and settles.
+    fn give(&mut self, i: usize, event: &NodeEvent) -> Result<(), AllocError>
+        ensures { OnOk result (self.new ≡ settle (step_of S.meaning) i (node_takes (step_of S.meaning) i event.now self.old)) }
+    {
+        self.node_takes(i, event)?;
+        self.settle(i)?;
+        Ok(())
+    }
+
+    /// Each node takes a message and settles, ascending.
+    #[tactic(auto, using(crate::proofs::Turns::each_more, crate::proofs::Turns::each_done), unfolding(world_rules::specs::Worlds::gives))]
+    fn give_all(&mut self, message: Message) -> Result<(), AllocError>
+        ensures { OnOk result (self.new ≡ give_all (step_of S.meaning) message self.old) }
+    {
+        let count = self.hosts.len();
+        let arrival = NodeEvent::Arrive(message);
+        for i in 0..count {
+            self.give(i, &arrival)?;
+        }
+        Ok(())
+    }
+
+    // Clients.
+
+    /// The client at an index hears a message.
+    #[tactic(auto, unfolding(world_rules::specs::Worlds::client_takes, world_rules::specs::Worlds::hearing))]
+    fn client_takes(&mut self, i: usize, message: &Message) -> Result<(), AllocError>
+        ensures { OnOk result (self.new ≡ client_takes i message.now self.old) }
+    {
+        if self.ending.is_some() || i >= self.clients.len() {
+            return Ok(());
+        }
+        match message {
+            Message::Reply(answer) => {
+                hear_reply(
+                    self.alloc,
+                    &self.view,
+                    &mut self.clients[i],
+                    &mut self.accepted,
+                    &mut self.told,
+                    answer,
+                )?;
+            }
+            Message::Ask(_) | Message::Propose(_) | Message::Vote(_) => {
+                let id = self.clients[i].id;
+                self.tell(OutLine::Ignored(id, Ignored::Unread))?;
+            }
+        }
+        Ok(())
+    }
+
+    /// The client at an index asks, if none of its requests waits.
+    #[tactic(auto, unfolding(world_rules::specs::Worlds::asks))]
+    fn ask(&mut self, i: usize, op: &Bytes) -> Result<(), AllocError>
+        ensures { OnOk result (self.new ≡ asks i op.now self.old) }
+    {
+        if self.ending.is_some() || i >= self.clients.len() {
+            return Ok(());
+        }
+        let id = self.clients[i].id;
+        if let Some(waiting) = &self.clients[i].waiting {
+            let seq = waiting.seq;
+            self.tell(OutLine::Busy(id, seq))?;
+            return Ok(());
+        }
+        if self.clients[i].last >= (1 << 63) - 1 {
+            return Ok(());
+        }
+        let request = ask(self.alloc, &mut self.clients[i], op)?;
+        self.send(Origin::Client(id), Target::View, Message::Ask(request))?;
+        Ok(())
+    }
+
+    // Flow.
+
+    fn go(&mut self, message: Message, to: Target) -> Result<(), AllocError>
+        ensures { OnOk result (self.new ≡ goes (step_of S.meaning) self.old message to) }
+    {
+        match to {
+            Target::View => {
+                self.give_all(message)?;
+                Ok(())
+            }
+            Target::Client(id) => {
+                self.client_takes(id.get() as usize, &message)?;
+                Ok(())
+            }
+        }
+    }
+
+    /// The next message behind the mark, if there is one, is given to whom it is for.
+    #[tactic(auto, unfolding(world_rules::specs::Worlds::flow_once))]
+    fn flow_once(&mut self) -> Result<bool, AllocError>
+        ensures world { OnOk result (self.new ≡ flow_once (step_of S.meaning) self.old) }
+        ensures idle { IfOk result (λ more. more ≡ false → self.new ≡ self.old) }
+    {
+        let next = self.mark as usize;
+        if self.ending.is_some() || next >= self.sent.len() {
+            return Ok(false);
+        }
+        let to = self.sent[next].to;
+        let message = self.sent[next].message.duplicate(self.alloc)?;
+        self.mark += 1;
+        self.go(message, to)?;
+        Ok(true)
+    }
+
+    /// Each message behind the mark is given, until none is left.
+    #[tactic(auto, using(crate::proofs::Turns::rest_begins, crate::proofs::Turns::rest_more, crate::proofs::Turns::rest_done, crate::proofs::Turns::rest_idle))]
+    fn flow_rest(&mut self) -> Result<(), AllocError>
+        ensures { OnOk result (self.new ≡ until_rest (flow_once (step_of S.meaning)) self.old) }
+    {
+        for turn in 0..u64::MAX {
+            if !self.flow_once()? {
+                return Ok(());
+            }
+        }
+        Ok(())
+    }
+
+    fn flow(&mut self) -> Result<(), AllocError>
+        ensures { OnOk result (self.new ≡ flows (step_of S.meaning) self.old) }
+    {
+        self.settle_all()?;
+        self.flow_rest()?;
+        Ok(())
+    }
+
+    // Lines.
+
+    /// Plays a line of a script.
+    #[tactic(auto, unfolding(world_rules::specs::Plays::line_played))]
+    pub fn play(&mut self, line: &Line) -> Result<(), AllocError>
+        ensures { OnOk result (self.new ≡ line_played (step_of S.meaning) self.old line.now) }
+    {
+        match line {
+            Line::Nothing => Ok(()),
+            Line::Ask(client, op) => {
+                self.ask(client.get() as usize, op)?;
+                Ok(())
+            }
+            Line::Flow => {
+                self.flow()?;
+                Ok(())
+            }
+        }
+    }
+}
