@@ -1,3 +1,8 @@
 pub mod Lists
 pub mod Keeps
 pub mod Aligned
+pub mod Equal
+pub mod Quorums
+pub mod Once
+pub mod InOrder
+pub mod Certified
