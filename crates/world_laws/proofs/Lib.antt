@@ -6,3 +6,5 @@ pub mod Quorums
 pub mod Once
 pub mod InOrder
 pub mod Certified
+pub mod Said
+pub mod Sound
