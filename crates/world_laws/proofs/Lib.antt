@@ -8,3 +8,4 @@ pub mod InOrder
 pub mod Certified
 pub mod Said
 pub mod Sound
+pub mod Follows
