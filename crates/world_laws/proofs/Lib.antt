@@ -9,3 +9,5 @@ pub mod Certified
 pub mod Said
 pub mod Sound
 pub mod Follows
+pub mod Says
+pub mod Fronts
