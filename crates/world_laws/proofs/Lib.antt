@@ -11,3 +11,4 @@ pub mod Sound
 pub mod Follows
 pub mod Says
 pub mod Fronts
+pub mod Chosen
