@@ -12,3 +12,5 @@ pub mod Follows
 pub mod Says
 pub mod Fronts
 pub mod Chosen
+pub mod ChosenKept
+pub mod Grows
