@@ -44,9 +44,11 @@ certified-front T view place (x ∷ xs) (y ∷ ys) one cx cy le =
 
 -- what was so stays so
 
+-- a certificate holds of a saying that says more
 certified_weaker : (T U : ℕ → Slot → List Request → Type 0) → ((m : ℕ) (s : Slot) (b : List Request) → T m s b → U m s b) → (view : View) (place : ℕ) (batch : List Request) → Certified T view place batch → Certified U view place batch
 certified_weaker T U weaker view place batch c = record { test = c.test; enough = c.enough; said = λ member is. weaker member (slot_at view place) batch (c.said member is) }
 
+-- so do the certificates of a list
 pub all_certified_weaker : (T U : ℕ → Slot → List Request → Type 0) → ((m : ℕ) (s : Slot) (b : List Request) → T m s b → U m s b) → (view : View) (place : ℕ) (batches : List (List Request)) → AllCertified T view place batches → AllCertified U view place batches
 all_certified_weaker T U weaker view place [] all = tt
 all_certified_weaker T U weaker view place (b ∷ bs) all = (certified_weaker T U weaker view place b all.0, all_certified_weaker T U weaker view (suc place) bs all.1)

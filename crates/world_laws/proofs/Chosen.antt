@@ -39,11 +39,13 @@ pub record PartsRight {S : Type 0} (m : Meaning S) (view : View) (hosts : List (
   pub distinct : Distinct view.members
   pub certified : AllCertified (Says hosts) view 1 chosen
 
+-- a world whose parts are right
 abbrev pub ChosenRight : {S : Type 0} → Meaning S → World S → Type 0
 ChosenRight m w = PartsRight m w.view w.hosts w.sent w.chosen
 
 -- the list with the batch that waits at a node
 
+-- the list with that batch begins with the list
 pub chosen-front : (chosen : List (List Request)) (place : ℕ) (waiting : Option (List Request)) → take (length chosen) (chosen_with chosen place waiting) ≡ chosen
 chosen-front chosen place None = front-same chosen
 chosen-front chosen place (Some batch) =

@@ -13,7 +13,7 @@ use Rattle.smart_messages.specs.declared.entry.NodeEvent.{NodeEvent}
 use Rattle.smart_messages.specs.declared.entry.NodeEvent.TheVariants.{Arrive, Tick, Deliver, Firm}
 use Rattle.smart_service.specs.Services.{Meaning}
 use Rattle.node_rules.specs.Replicas.{state}
-use Rattle.node_rules.specs.Nodes.{Node, next_place}
+use Rattle.node_rules.specs.Nodes.{Node, view_of, next_place}
 use Rattle.node_rules.specs.Steps.{step_of, leaving, staying}
 use Rattle.node_rules.specs.declared.node.Held.{Held}
 use Rattle.node_rules.specs.declared.node.Target.{Target}
@@ -35,7 +35,7 @@ use Rattle.world_laws.proofs.Fronts.{front-same, front-take, front-batch_at}
 use Rattle.world_laws.proofs.Certified.{all_certified_weaker}
 use Rattle.world_laws.proofs.Said.{Said, EventSaid, OwnSaid, said_weaker}
 use Rattle.world_laws.proofs.Sound.{Sound, sound-step, sound-opened}
-use Rattle.world_laws.proofs.InOrder.{in_order-step, in_order-released, in_order-opened}
+use Rattle.world_laws.proofs.InOrder.{view-in_order, in_order-step, in_order-released, in_order-opened}
 use Rattle.world_laws.proofs.Follows.{Follows, follows-step, next-step, WasDue, due-step}
 use Rattle.world_laws.proofs.Says.{Says, Distinct, says-set, says-here, ids-set}
 use Rattle.world_laws.proofs.Chosen.{DeliveredIs, HostRight, PartsRight, ChosenRight, chosen-front, within-step, certified-step, host-front, waiting-at, due-agrees, host_weaker}
@@ -46,6 +46,7 @@ use Rattle.world_laws.proofs.Chosen.{DeliveredIs, HostRight, PartsRight, ChosenR
 abbrev AllSay : {S : Type 0} → List (Host S) → List Held → Type 0
 AllSay hosts held = Each (λ h. Said (Says hosts) h.message) held
 
+-- a message that says what is so leaves
 right-sends : {S : Type 0} (m : Meaning S) (w : World S) (origin : Origin) (to : Target) (message : Message) (later : List Held) → Said (Says w.hosts) message → AllSay w.hosts later → ChosenRight m w
     → ChosenRight m (sends w origin to message) × AllSay (sends w origin to message).hosts later
 unfolding sends
@@ -60,20 +61,24 @@ right-sends {S = S} m w origin to message later said all r =
     }, all)
     (r, all)
 
+-- so do held messages, in order
 right-sends_all : {S : Type 0} (m : Meaning S) (id : ℕ) (w : World S) (held : List Held) → AllSay w.hosts held → ChosenRight m w → ChosenRight m (sends_all id w held)
 right-sends_all m id w [] all r = r
 right-sends_all m id w (h ∷ hs) all r =
     let both = right-sends m w (origins.Node id) h.to h.message hs all.0 all.1 r in
     right-sends_all m id (sends w (origins.Node id) h.to h.message) hs both.1 both.0
 
+-- what holds of each value of both branches
 each_if : {A : Type 0} (P : A → Type 0) (b : Bool) (xs ys : List A) → Each P xs → Each P ys → Each P (cond b xs ys)
 each_if P true xs ys ex ey = ex
 each_if P false xs ys ex ey = ey
 
+-- what holds of all held messages holds of those that leave
 pub each-leaving : (P : Held → Type 0) (firm : ℕ) (held : List Held) → Each P held → Each P (leaving firm held)
 each-leaving P firm [] each = tt
 each-leaving P firm (h ∷ hs) each = each_if P _ (h ∷ leaving firm hs) [] (each.0, each-leaving P firm hs each.1) tt
 
+-- and of those that stay
 pub each-staying : (P : Held → Type 0) (firm : ℕ) (held : List Held) → Each P held → Each P (staying firm held)
 each-staying P firm [] each = tt
 each-staying P firm (h ∷ hs) each = each_if P _ (staying firm hs) (h ∷ hs) (each-staying P firm hs each.1) each
@@ -83,6 +88,7 @@ said-sent : (T : ℕ → Slot → List Request → Type 0) (sent : List Sent) (x
 said-sent T [] x each has = absurd has
 said-sent T (s ∷ sent) x each has = elim has [ inl here ↦ subst (λ (y : Message). Said T y) here each.0 | inr later ↦ said-sent T sent x each.1 later ]
 
+-- what may come to a node says what is so
 said-event : {S : Type 0} (m : Meaning S) (w : World S) (h : Host S) (event : NodeEvent) → MayCome w h event → ChosenRight m w → EventSaid (Says w.hosts) event
 said-event m w h (Arrive message) may r = said-sent (Says w.hosts) w.sent message r.said may
 said-event m w h Tick may r = tt
@@ -113,6 +119,7 @@ host-stepped {S = S} m w i h event at may r =
           (flat_map delivery_in (step_of m h.node event).fired) (due-step m h.node event));
     }
 
+-- the world behind it
 right-event : {S : Type 0} (m : Meaning S) (w : World S) (i : ℕ) (h : Host S) (event : NodeEvent) → slice_get w.hosts i ≡ Some h → MayCome w h event → ChosenRight m w → ChosenRight m (stepped w i h (step_of m h.node event))
 unfolding stepped
 right-event {S = S} m w i h event at may r =
@@ -144,10 +151,12 @@ right-event {S = S} m w i h event at may r =
 
 -- clients
 
+-- a client that hears changes no part
 right-hear : {S : Type 0} (m : Meaning S) (w : World S) (i : ℕ) (c : Client) (a : Answer) (h : Heard) → ChosenRight m w → ChosenRight m (hearing w i c a h)
 unfolding hearing
 right-hear m w i c a h r = r
 
+-- a request says nothing of what members accepted
 right-ask : {S : Type 0} (m : Meaning S) (w : World S) (i : ℕ) (c : Client) (op : List ℕ) → ChosenRight m w
     → ChosenRight m (sends (record w { clients = slice_set w.clients i (asking c (request_of c op)) }) (origins.Client c.id) targets.View (Ask (request_of c op)))
 right-ask m w i c op r =
@@ -165,10 +174,12 @@ chosen-kept m =
 
 -- the beginning
 
+-- opened hosts are right
 hosts_right : {S : Type 0} (T : ℕ → Slot → List Request → Type 0) (m : Meaning S) (view : View) (members : List ℕ) → Each (HostRight T m view []) (hosts_from m view members)
 hosts_right T m view [] = tt
 hosts_right T m view (id ∷ ids) = (record { sound = sound-opened T m id view; order = in_order-opened m id view; within = omega arith; agrees = tt }, hosts_right T m view ids)
 
+-- and are the members
 hosts_ids : {S : Type 0} (m : Meaning S) (view : View) (members : List ℕ) → map (λ h. h.node.id) (hosts_from m view members) ≡ members
 hosts_ids m view [] = refl
 hosts_ids m view (id ∷ ids) = ap (λ xs. id ∷ xs) (hosts_ids m view ids)
@@ -205,6 +216,7 @@ host-aligned {S = S} m view hosts sent chosen r h right =
         at_most true k = omega arith
         at_most false k = omega arith
 
+-- all hosts stand along the list
 pub chosen-aligned : {S : Type 0} (m : Meaning S) (w : World S) → ChosenRight m w → AllAligned m w
 chosen-aligned m w r =
     record { hosts = each_weaker (HostRight (Says w.hosts) m w.view w.chosen) (Aligned m w.view w.chosen) (λ h right. host-aligned m w.view w.hosts w.sent w.chosen r h right) w.hosts r.right }
@@ -217,9 +229,16 @@ chosen-prefix m w r =
 
 -- throughout a script
 
+-- the list is right after each line of a script
 pub chosen-at : {S : Type 0} (m : Meaning S) (view : View) → Distinct view.members → (ls : List Line) (k : ℕ) → ChosenRight m (world_at m view ls k)
 chosen-at m view distinct ls k = keeps-world_after (step_of m) (ChosenRight m) (chosen-kept m) (begun m view) (take k ls) (chosen-begun m view distinct)
 
+-- and each host has delivered a front of it
 pub prefix-at : {S : Type 0} (m : Meaning S) (view : View) → Distinct view.members → (ls : List Line) (k : ℕ)
     → Each (IsPrefix m (world_at m view ls k).view (world_at m view ls k).chosen) (world_at m view ls k).hosts
 prefix-at m view distinct ls k = chosen-prefix m (world_at m view ls k) (chosen-at m view distinct ls k)
+
+-- each node's view is the one that the world began with
+pub views-right : {S : Type 0} (m : Meaning S) (w : World S) → ChosenRight m w → Each (λ h. view_of h.node ≡ w.view) w.hosts
+views-right {S = S} m w r =
+    each_weaker (HostRight (Says w.hosts) m w.view w.chosen) (λ (h : Host S). view_of h.node ≡ w.view) (λ h right. view-in_order m w.view h.node right.order) w.hosts r.right

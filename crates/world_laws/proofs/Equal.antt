@@ -45,10 +45,12 @@ same_slot-equal a b same =
     let inner = and_true (a.view == b.view) (a.place == b.place) outer.0 in
     slots-equal a b (eqb-true a.view b.view inner.0) (eqb-true a.place b.place inner.1) (eqb-true a.regency b.regency outer.1)
 
+-- two tests that say yes
 and_intro : (a b : Bool) → a ≡ true → b ≡ true → (a && b) ≡ true
 and_intro true b ea eb = eb
 and_intro false b ea eb = absurd (cc)
 
+-- a slot is the same as itself
 slot-itself : (slot : Slot) → same_slot slot slot ≡ true
 slot-itself slot =
     and_intro ((slot.view == slot.view) && (slot.place == slot.place)) (slot.regency == slot.regency)

@@ -37,25 +37,31 @@ pub record Follows {S : Type 0} (n n' : Node S) : Type 0 where
   pub id : n'.id ≡ n.id
   pub grows : (slot : Slot) (batch : List Request) → HasAccepted n.entries slot batch → HasAccepted n'.entries slot batch
 
+-- a node follows itself
 follows-same : {S : Type 0} (n : Node S) → Follows n n
 follows-same n = record { id = refl; grows = λ slot batch has. has }
 
+-- a node that follows a follower follows
 follows-then : {S : Type 0} (a b c : Node S) → Follows a b → Follows b c → Follows a c
 follows-then a b c f g = record { id = g.id ∙ f.id; grows = λ slot batch has. g.grows slot batch (f.grows slot batch has) }
 
+-- an entry more
 follows-recording : {S : Type 0} (n : Node S) (e : LogEntry) → Follows n (recording n e)
 follows-recording n e = record { id = refl; grows = λ slot batch has. accepted_grows n.entries e slot batch has }
 
+-- held replies change neither name nor book
 follows-replying : {S : Type 0} (n : Node S) (lines : List TableLine) → Follows n (replying n lines)
 follows-replying n [] = follows-same n
 follows-replying n (l ∷ ls) =
     let f = follows-replying (holding n (targets.Client l.client) (reply_of n.id l)) ls in
     record { id = f.id; grows = f.grows }
 
+-- both branches follow
 follows-if : {S : Type 0} (b : Bool) (n x y : Node S) → Follows n x → Follows n y → Follows n (cond b x y)
 follows-if true n x y fx fy = fx
 follows-if false n x y fx fy = fy
 
+-- an arrival changes neither name nor book
 follows-kept : {S : Type 0} (n : Node S) (message : Message) → Follows n (kept n message)
 unfolding kept
 follows-kept n (Ask q) = follows-if _ n _ n (record { id = refl; grows = λ slot batch has. has }) (follows-same n)
@@ -63,6 +69,7 @@ follows-kept n (Propose p) = record { id = refl; grows = λ slot batch has. has 
 follows-kept n (Vote b) = record { id = refl; grows = λ slot batch has. has }
 follows-kept n (Reply a) = follows-same n
 
+-- nor does a delivery
 follows-deliver_batch : {S : Type 0} (m : Meaning S) (n : Node S) (batch : Option (List Request)) → Follows n (deliver_batch m n batch)
 unfolding deliver_batch
 follows-deliver_batch m n None = follows-same n
@@ -72,30 +79,36 @@ follows-deliver_batch m n (Some batch) =
     (lines_to_answer m n batch) in
     record { id = f.id; grows = f.grows }
 
+-- nor does the rule that delivers
 follows-delivers : {S : Type 0} (m : Meaning S) (n : Node S) → Follows n (delivers m n)
 unfolding delivers
 follows-delivers m n = follows-deliver_batch m n n.waiting
 
+-- nor does a proposal
 follows-propose_batch : {S : Type 0} (n : Node S) (batch : Option (List Request)) → Follows n (propose_batch n batch)
 unfolding propose_batch
 follows-propose_batch n None = follows-same n
 follows-propose_batch n (Some batch) = record { id = refl; grows = λ slot batch has. has }
 
+-- what is written stands at the end of the book
 follows-write_batch : {S : Type 0} (n : Node S) (batch : Option (List Request)) → Follows n (write_batch n batch)
 unfolding write_batch
 follows-write_batch n None = follows-same n
 follows-write_batch n (Some batch) = let f = follows-recording n (Wrote (open_slot n) (digest_of batch)) in record { id = refl; grows = f.grows }
 
+-- so does what is accepted
 follows-accept_batch : {S : Type 0} (n : Node S) (batch : Option (List Request)) → Follows n (accept_batch n batch)
 unfolding accept_batch
 follows-accept_batch n None = follows-same n
 follows-accept_batch n (Some batch) = let f = follows-recording n (Accepted (open_slot n) (backers n Write batch) batch) in record { id = refl; grows = f.grows }
 
+-- and what is decided
 follows-decide_batch : {S : Type 0} (n : Node S) (batch : Option (List Request)) → Follows n (decide_batch n batch)
 unfolding decide_batch
 follows-decide_batch n None = follows-same n
 follows-decide_batch n (Some batch) = let f = follows-recording n (Decided (open_slot n) (backers n Accept batch) batch) in record { id = refl; grows = f.grows }
 
+-- the voting rules
 follows-votes : {S : Type 0} (n : Node S) → Follows n (votes n)
 unfolding votes proposes writes accepts
 follows-votes n =
@@ -104,14 +117,17 @@ follows-votes n =
     let accepted : Follows (writes (proposes n)) (accepts (writes (proposes n))) = follows-accept_batch (writes (proposes n)) (accepting (writes (proposes n))) in
     follows-then n (proposes n) (votes n) proposed (follows-then (proposes n) (writes (proposes n)) (votes n) wrote accepted)
 
+-- a pass of the rules
 follows-passes : {S : Type 0} (n : Node S) → Follows n (passes n)
 unfolding passes decides
 follows-passes n = follows-then n (votes n) _ (follows-votes n) (follows-decide_batch (votes n) (deciding (votes n)))
 
+-- an arrival and its pass
 follows-arrival : {S : Type 0} (n : Node S) (message : Message) (why : Option Why) → Follows n (arrival_outcome n message why).node
 follows-arrival n message None = follows-then n (kept n message) _ (follows-kept n message) (follows-passes (kept n message))
 follows-arrival n message (Some why) = follows-same n
 
+-- a step
 pub follows-step : {S : Type 0} (m : Meaning S) (n : Node S) (event : NodeEvent) → Follows n (step_of m n event).node
 unfolding step_of
 follows-step m n (Arrive message) = follows-arrival n message (why_dropped n message)
@@ -124,25 +140,30 @@ pub record DecidesNext {S : Type 0} (n n' : Node S) : Type 0 where
   pub most : length (decided_of n'.entries) ≤ length (decided_of n.entries) + 1
   pub rest : n'.waiting ≡ None → length (decided_of n'.entries) ≤ length (decided_of n.entries)
 
+-- who writes decides nothing
 decided-write_batch : {S : Type 0} (n : Node S) (batch : Option (List Request)) → decided_of (write_batch n batch).entries ≡ decided_of n.entries
 unfolding write_batch
 decided-write_batch n None = refl
 decided-write_batch n (Some batch) = decided-none n.entries (Wrote (open_slot n) (digest_of batch)) refl
 
+-- who accepts decides nothing
 decided-accept_batch : {S : Type 0} (n : Node S) (batch : Option (List Request)) → decided_of (accept_batch n batch).entries ≡ decided_of n.entries
 unfolding accept_batch
 decided-accept_batch n None = refl
 decided-accept_batch n (Some batch) = decided-none n.entries (Accepted (open_slot n) (backers n Write batch) batch) refl
 
+-- who votes decides nothing
 decided-votes : {S : Type 0} (n : Node S) → decided_of (votes n).entries ≡ decided_of n.entries
 unfolding votes proposes writes accepts
 decided-votes n =
     decided-accept_batch (writes (proposes n)) (accepting (writes (proposes n)))
     ∙ (decided-write_batch (proposes n) (writing (proposes n)) ∙ ap decided_of (entries-propose_batch n (proposing n)))
 
+-- a node that decides nothing
 next-same : {S : Type 0} (n n' : Node S) → decided_of n'.entries ≡ decided_of n.entries → DecidesNext n n'
 next-same n n' same = let e = ap (λ (bs : List (List Request)). length bs) same in record { most = omega (arith, e); rest = λ is. omega (arith, e) }
 
+-- a node that decides has its batch wait
 next-decide_batch : {S : Type 0} (n : Node S) (batch : Option (List Request)) → DecidesNext n (decide_batch n batch)
 unfolding decide_batch
 next-decide_batch n None = next-same n n refl
@@ -157,14 +178,17 @@ next-after a b c same next =
     let e = ap (λ (bs : List (List Request)). length bs) same in
     record { most = omega (arith, e, next.most); rest = λ is. omega (arith, e, next.rest is) }
 
+-- a pass decides one batch at most
 next-passes : {S : Type 0} (n : Node S) → DecidesNext n (passes n)
 unfolding passes decides
 next-passes n = next-after n (votes n) (passes n) (decided-votes n) (next-decide_batch (votes n) (deciding (votes n)))
 
+-- so does an arrival
 next-arrival : {S : Type 0} (n : Node S) (message : Message) (why : Option Why) → DecidesNext n (arrival_outcome n message why).node
 next-arrival n message None = next-after n (kept n message) (passes (kept n message)) (ap decided_of (entries-kept n message)) (next-passes (kept n message))
 next-arrival n message (Some why) = next-same n n refl
 
+-- so does a step
 pub next-step : {S : Type 0} (m : Meaning S) (n : Node S) (event : NodeEvent) → DecidesNext n (step_of m n event).node
 unfolding step_of
 next-step m n (Arrive message) = next-arrival n message (why_dropped n message)
@@ -174,15 +198,19 @@ next-step m n (Firm count) = next-after n (record n { firm = count }) (passes (r
 
 -- what a step delivers is the batch that waited, at the next place
 
+-- a delivery of the batch that waited at a node
 abbrev pub WasDue : {S : Type 0} → Node S → Delivery → Type 0
 WasDue n d = (n.waiting ≡ Some d.batch) × (d.place ≡ next_place n)
 
+-- fired rules that deliver no other
 abbrev AllDue : {S : Type 0} → Node S → List Fired → Type 0
 AllDue n fired = Each (WasDue n) (flat_map delivery_in fired)
 
+-- rules that fire one after the other
 due-append : {S : Type 0} (n : Node S) (xs ys : List Fired) → AllDue n xs → AllDue n ys → AllDue n (xs ++ ys)
 due-append n xs ys dx dy = rw flat_map-append (each_append (WasDue n) (flat_map delivery_in xs) (flat_map delivery_in ys) dx dy)
 
+-- votes deliver nothing
 due-votes : {S : Type 0} (n x : Node S) → AllDue n (fired_votes x)
 unfolding fired_votes
 due-votes n x =
@@ -199,6 +227,7 @@ due-votes n x =
     accepted None = tt
     accepted (Some batch) = tt
 
+-- a pass delivers nothing
 due-pass : {S : Type 0} (n x : Node S) → AllDue n (fired_pass x)
 unfolding fired_pass
 due-pass n x = due-append n (fired_votes x) _ (due-votes n x) (decided (next_place (votes x)) (deciding (votes x)))
@@ -207,15 +236,18 @@ due-pass n x = due-append n (fired_votes x) _ (due-votes n x) (decided (next_pla
     decided place None = tt
     decided place (Some batch) = tt
 
+-- an arrival delivers nothing
 due-arrival : {S : Type 0} (n : Node S) (message : Message) (why : Option Why) → AllDue n (arrival_outcome n message why).fired
 due-arrival n message None = due-pass n (kept n message)
 due-arrival n message (Some why) = tt
 
+-- a delivery delivers what waited
 due-delivery : {S : Type 0} (m : Meaning S) (n : Node S) (batch : Option (List Request)) → n.waiting ≡ batch → AllDue n (delivery m n batch)
 unfolding delivery
 due-delivery m n None at = tt
 due-delivery m n (Some batch) at = ((at, refl), tt)
 
+-- a step delivers what waited at most
 pub due-step : {S : Type 0} (m : Meaning S) (n : Node S) (event : NodeEvent) → Each (WasDue n) (flat_map delivery_in (step_of m n event).fired)
 unfolding step_of
 due-step m n (Arrive message) = due-arrival n message (why_dropped n message)

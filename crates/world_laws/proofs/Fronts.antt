@@ -8,6 +8,7 @@ use Rattle.node_rules.specs.Replicas.{batch_at}
 abbrev pub IsFront : {A : Type 0} → List A → List A → Type 0
 IsFront xs ys = take (length xs) ys ≡ xs
 
+-- a list begins with itself
 pub front-same : {A : Type 0} (xs : List A) → take (length xs) xs ≡ xs
 front-same [] = refl
 front-same (x ∷ xs) = ap (λ ys. x ∷ ys) (front-same xs)
@@ -22,6 +23,7 @@ front-append {A = A} (x ∷ xs) (y ∷ ys) zs front =
     let head : y ≡ x = cc in
     cc
 
+-- a front is no longer than its list
 pub front-length : {A : Type 0} (xs ys : List A) → take (length xs) ys ≡ xs → length xs ≤ length ys
 front-length [] ys front = omega arith
 front-length (x ∷ xs) [] front = absurd (cc)
@@ -49,9 +51,11 @@ front-take (x ∷ xs) (y ∷ ys) (suc p) front le =
 
 -- batches by their places
 
+-- places count from 1
 pub batch_at-next : (list : List (List Request)) (k : ℕ) → batch_at list (k + 1) ≡ slice_get list k
 batch_at-next list k = rw add-one refl
 
+-- the batch at a place of the front is that of the list
 pub front-batch_at : (xs ys : List (List Request)) (place : ℕ) (batch : List Request) → take (length xs) ys ≡ xs → batch_at xs place ≡ Some batch → batch_at ys place ≡ Some batch
 front-batch_at xs ys zero batch front at = absurd (cc)
 front-batch_at xs ys (suc k) batch front at = front-get xs ys k batch front at

@@ -28,18 +28,22 @@ use Rattle.world_laws.proofs.Fronts.{IsFront, front-same, front-append}
 
 -- messages that leave change neither the list nor the view
 
+-- a message that leaves keeps the list
 pub chosen-sends : {S : Type 0} (w : World S) (origin : Origin) (to : Target) (message : Message) → (sends w origin to message).chosen ≡ w.chosen
 unfolding sends
 chosen-sends {S = S} w origin to message = either (λ (v : World S). v.chosen ≡ w.chosen) (nat_lt (length w.sent) (2 ^ 24)) _ _ refl refl
 
+-- so do held messages
 pub chosen-sends_all : {S : Type 0} (id : ℕ) (w : World S) (held : List Held) → (sends_all id w held).chosen ≡ w.chosen
 chosen-sends_all id w [] = refl
 chosen-sends_all id w (h ∷ hs) = chosen-sends_all id (sends w (origins.Node id) h.to h.message) hs ∙ chosen-sends w (origins.Node id) h.to h.message
 
+-- a message that leaves keeps the view
 pub view-sends : {S : Type 0} (w : World S) (origin : Origin) (to : Target) (message : Message) → (sends w origin to message).view ≡ w.view
 unfolding sends
 view-sends {S = S} w origin to message = either (λ (v : World S). v.view ≡ w.view) (nat_lt (length w.sent) (2 ^ 24)) _ _ refl refl
 
+-- so do held messages
 pub view-sends_all : {S : Type 0} (id : ℕ) (w : World S) (held : List Held) → (sends_all id w held).view ≡ w.view
 view-sends_all id w [] = refl
 view-sends_all id w (h ∷ hs) = view-sends_all id (sends w (origins.Node id) h.to h.message) hs ∙ view-sends w (origins.Node id) h.to h.message
@@ -52,18 +56,22 @@ front-chosen_with front chosen place None is = is
 front-chosen_with front chosen place (Some batch) is =
     either (λ (c : List (List Request)). take (length front) c ≡ front) (place == length chosen + 1) (chosen ++ batch ∷ []) chosen (front-append front chosen (batch ∷ []) is) is
 
+-- a step adds the batch that waits
 chosen-stepped : {S : Type 0} (w : World S) (i : ℕ) (h : Host S) (o : Outcome S) → (stepped w i h o).chosen ≡ chosen_with w.chosen (next_place o.node) o.node.waiting
 unfolding stepped
 chosen-stepped w i h o = chosen-sends_all h.node.id _ (leaving o.node.firm o.node.held)
 
+-- a step keeps the view
 view-stepped : {S : Type 0} (w : World S) (i : ℕ) (h : Host S) (o : Outcome S) → (stepped w i h o).view ≡ w.view
 unfolding stepped
 view-stepped w i h o = view-sends_all h.node.id _ (leaving o.node.firm o.node.held)
 
+-- a client that hears keeps the list
 chosen-hearing : {S : Type 0} (w : World S) (i : ℕ) (c : Client) (a : Answer) (h : Heard) → (hearing w i c a h).chosen ≡ w.chosen
 unfolding hearing
 chosen-hearing w i c a h = refl
 
+-- a client that hears keeps the view
 view-hearing : {S : Type 0} (w : World S) (i : ℕ) (c : Client) (a : Answer) (h : Heard) → (hearing w i c a h).view ≡ w.view
 unfolding hearing
 view-hearing w i c a h = refl
@@ -112,6 +120,7 @@ chosen-grows-between m w ls (suc j) zero le = absurd (omega (arith, le))
 chosen-grows-between m w [] (suc j) (suc k) le = front-same w.chosen
 chosen-grows-between m w (l ∷ ls) (suc j) (suc k) le = chosen-grows-between m (rested (line_played (step_of m) w l)) ls j k (omega (arith, le))
 
+-- so after a group's begin: the list after j lines is a front of the list after k
 pub list-grows : {S : Type 0} (m : Meaning S) (view : View) (ls : List Line) (j k : ℕ) → j ≤ k
     → take (length (world_at m view ls j).chosen) (world_at m view ls k).chosen ≡ (world_at m view ls j).chosen
 list-grows m view ls j k le = chosen-grows-between m (begun m view) ls j k le

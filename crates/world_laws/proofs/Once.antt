@@ -24,14 +24,17 @@ use Rattle.world_laws.proofs.Equal.{same_slot-equal}
 
 -- rules that record nothing
 
+-- held replies
 pub entries-replying : {S : Type 0} (n : Node S) (lines : List TableLine) → (replying n lines).entries ≡ n.entries
 entries-replying n [] = refl
 entries-replying n (l ∷ ls) = entries-replying _ ls
 
+-- both branches keep the book
 entries-if : {S : Type 0} (b : Bool) (x y : Node S) → x.entries ≡ y.entries → (cond b x y).entries ≡ y.entries
 entries-if true x y same = same
 entries-if false x y same = refl
 
+-- an arrival that is kept
 pub entries-kept : {S : Type 0} (n : Node S) (message : Message) → (kept n message).entries ≡ n.entries
 unfolding kept
 entries-kept n (Ask q) = entries-if _ _ n refl
@@ -39,6 +42,7 @@ entries-kept n (Propose p) = refl
 entries-kept n (Vote b) = refl
 entries-kept n (Reply a) = refl
 
+-- a delivery
 pub entries-deliver_batch : {S : Type 0} (m : Meaning S) (n : Node S) (batch : Option (List Request)) → (deliver_batch m n batch).entries ≡ n.entries
 unfolding deliver_batch
 entries-deliver_batch m n None = refl
@@ -47,10 +51,12 @@ entries-deliver_batch m n (Some batch) =
     (record n { replica = delivered m n.replica batch; waiting = None; pool = settled (delivered m n.replica batch).table n.pool })
     (lines_to_answer m n batch)
 
+-- the rule that delivers
 pub entries-delivers : {S : Type 0} (m : Meaning S) (n : Node S) → (delivers m n).entries ≡ n.entries
 unfolding delivers
 entries-delivers m n = entries-deliver_batch m n n.waiting
 
+-- a proposal
 pub entries-propose_batch : {S : Type 0} (n : Node S) (batch : Option (List Request)) → (propose_batch n batch).entries ≡ n.entries
 unfolding propose_batch
 entries-propose_batch n None = refl
@@ -58,10 +64,12 @@ entries-propose_batch n (Some batch) = refl
 
 -- rules that record an entry
 
+-- how many pass with one more at the end
 passing-end : {A : Type 0} (p : A → Bool) (xs : List A) (x : A) → passing p (xs ++ x ∷ []) ≡ passing p xs + passing p (x ∷ [])
 passing-end p [] x = omega arith
 passing-end p (y ∷ xs) x = omega (arith, passing-end p xs x)
 
+-- a test counted
 abbrev passed : Bool → ℕ
 passed b = cond b 1 0
 
@@ -69,6 +77,7 @@ passed b = cond b 1 0
 pub once_more : (entries : List LogEntry) (entry : LogEntry) → ((slot : Slot) → is_accepted slot entry ≡ false) → AcceptsOnce entries → AcceptsOnce (entries ++ entry ∷ [])
 once_more entries entry none once slot = omega (arith, passing-end (is_accepted slot) entries entry, ap (λ b. passed b) (none slot), once slot)
 
+-- where none passes, the count is 0
 none_passes : {A : Type 0} (p : A → Bool) (xs : List A) → list_any p xs ≡ false → passing p xs ≡ 0
 none_passes p [] none = refl
 none_passes p (x ∷ xs) none =
@@ -83,17 +92,21 @@ once_accepted entries slot voters batch none once other = rw passing-end (cases 
     cases true is = rw (← same_slot-equal slot other is) (omega (arith, none_passes (is_accepted slot) entries none))
     cases false is = omega (arith, once other)
 
+-- a node whose book accepts once for each slot
 abbrev pub Once : {S : Type 0} → Node S → Type 0
 Once n = AcceptsOnce n.entries
 
+-- a node with the same book
 pub once_as : {S : Type 0} (n n' : Node S) → n'.entries ≡ n.entries → Once n → Once n'
 once_as n n' same once slot = rw same (once slot)
 
+-- a batch that is written accepts nothing
 pub once-write_batch : {S : Type 0} (n : Node S) (batch : Option (List Request)) → Once n → Once (write_batch n batch)
 unfolding write_batch
 once-write_batch n None once = once
 once-write_batch n (Some batch) once = once_more n.entries (Wrote (open_slot n) batch) (λ slot. refl) once
 
+-- a batch that is decided accepts nothing
 pub once-decide_batch : {S : Type 0} (n : Node S) (batch : Option (List Request)) → Once n → Once (decide_batch n batch)
 unfolding decide_batch
 once-decide_batch n None once = once
@@ -105,15 +118,18 @@ unfolding accept_batch
 once-accept_batch n None none once = once
 once-accept_batch n (Some batch) none once = once_accepted n.entries (open_slot n) _ batch (none refl) once
 
+-- what is due behind a test passed it
 pub guard_passed : {A : Type 0} (test : Bool) (x : Option A) → is_some (cond test x None) ≡ true → test ≡ true
 guard_passed true x some = refl
 guard_passed false x some = absurd (cc)
 
+-- a node accepts where its book has not
 pub accepts_where_none : {S : Type 0} (n : Node S) → is_some (accepting n) ≡ true → list_any (is_accepted (open_slot n)) n.entries ≡ false
 unfolding accepting
 accepts_where_none n some =
     not_true _ (and_true (is_open n) (not (list_any (is_accepted (open_slot n)) n.entries)) (guard_passed _ _ some)).1
 
+-- the voting rules
 once-votes : {S : Type 0} (n : Node S) → Once n → Once (votes n)
 unfolding votes proposes writes accepts
 once-votes n once =
@@ -121,14 +137,17 @@ once-votes n once =
     let wrote : Once (writes (proposes n)) = once-write_batch (proposes n) (writing (proposes n)) proposed in
     once-accept_batch (writes (proposes n)) (accepting (writes (proposes n))) (accepts_where_none (writes (proposes n))) wrote
 
+-- a pass of the rules
 once-passes : {S : Type 0} (n : Node S) → Once n → Once (passes n)
 unfolding passes decides
 once-passes n once = once-decide_batch (votes n) (deciding (votes n)) (once-votes n once)
 
+-- an arrival and its pass
 once-arrival : {S : Type 0} (n : Node S) (message : Message) (why : Option Why) → Once n → Once (arrival_outcome n message why).node
 once-arrival n message None once = once-passes (kept n message) (once_as n (kept n message) (entries-kept n message) once)
 once-arrival n message (Some why) once = once
 
+-- a step
 pub once-step : {S : Type 0} (m : Meaning S) (n : Node S) (event : NodeEvent) → Once n → Once (step_of m n event).node
 unfolding step_of
 once-step m n (Arrive message) once = once-arrival n message (why_dropped n message) once

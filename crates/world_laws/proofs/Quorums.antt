@@ -39,6 +39,7 @@ split_one x ps fs cs true false le = omega (arith, le)
 split_one x ps fs cs false true le = omega (arith, le)
 split_one x ps fs cs false false le = omega (arith, le)
 
+-- those that pass are faulty or correct
 faulty_or_correct : {A : Type 0} (p faulty : A → Bool) (xs : List A) → length (filter p xs) ≤ length (filter faulty xs) + length (filter (λ x. p x && not (faulty x)) xs)
 faulty_or_correct p faulty [] = omega arith
 faulty_or_correct p faulty (x ∷ xs) =

@@ -51,10 +51,12 @@ OwnSaid entries id message = Said (λ member slot batch. (member ≡ id) × HasA
 
 -- what was so stays so
 
+-- a vote that says what is so, of a saying that says more
 ballot_weaker : (T U : ℕ → Slot → List Request → Type 0) → ((m : ℕ) (s : Slot) (b : List Request) → T m s b → U m s b) → (kind : VoteKind) (b : Ballot) → BallotSaid T kind b → BallotSaid U kind b
 ballot_weaker T U weaker Write b said = tt
 ballot_weaker T U weaker Accept b said = weaker b.signer b.slot b.digest said
 
+-- so does a message
 pub said_weaker : (T U : ℕ → Slot → List Request → Type 0) → ((m : ℕ) (s : Slot) (b : List Request) → T m s b → U m s b) → (message : Message) → Said T message → Said U message
 said_weaker T U weaker (Ask q) said = tt
 said_weaker T U weaker (Propose p) said = tt
@@ -63,6 +65,7 @@ said_weaker T U weaker (Reply a) said = tt
 
 -- books grow
 
+-- what a book has accepted it keeps
 pub accepted_grows : (es : List LogEntry) (e : LogEntry) (slot : Slot) (batch : List Request) → HasAccepted es slot batch → HasAccepted (es ++ e ∷ []) slot batch
 accepted_grows [] e slot batch has = absurd has
 accepted_grows (Opened ∷ es) e slot batch has = accepted_grows es e slot batch has
@@ -70,6 +73,7 @@ accepted_grows (Wrote s b ∷ es) e slot batch has = accepted_grows es e slot ba
 accepted_grows (Accepted s vs b ∷ es) e slot batch has = elim has [ inl here ↦ inl here | inr later ↦ inr (accepted_grows es e slot batch later) ]
 accepted_grows (Decided s vs b ∷ es) e slot batch has = accepted_grows es e slot batch has
 
+-- an accept entry at the end is accepted
 pub accepted_end : (es : List LogEntry) (voters : List ℕ) (slot : Slot) (batch : List Request) → HasAccepted (es ++ Accepted slot voters batch ∷ []) slot batch
 accepted_end [] voters slot batch = inl (refl, refl)
 accepted_end (Opened ∷ es) voters slot batch = accepted_end es voters slot batch
@@ -79,10 +83,12 @@ accepted_end (Decided s vs b ∷ es) voters slot batch = accepted_end es voters 
 
 -- a vote that came says what is so
 
+-- one of two tests says yes
 or_true : (a b : Bool) → (a || b) ≡ true → (a ≡ true) ⊎ (b ≡ true)
 or_true true b is = inl refl
 or_true false b is = inr is
 
+-- an accept vote that is kept says that its member accepted
 vote_said : (T : ℕ → Slot → List Request → Type 0) (member : ℕ) (slot : Slot) (digest : List Request) (message : Message) → Said T message → is_vote Accept member slot digest message ≡ true → T member slot digest
 vote_said T member slot digest (Ask q) said is = absurd (cc)
 vote_said T member slot digest (Propose p) said is = absurd (cc)

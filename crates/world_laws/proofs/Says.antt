@@ -29,6 +29,7 @@ Distinct (x ∷ xs) = (list_any (λ y. y == x) xs ≡ false) × Distinct xs
 
 -- a host in another's place
 
+-- what hosts say they say with a host that follows in its place
 pub says-set : {S : Type 0} (hs : List (Host S)) (i : ℕ) (h h' : Host S) → slice_get hs i ≡ Some h → Follows h.node h'.node → (member : ℕ) (slot : Slot) (batch : List Request) → Says hs member slot batch → Says (slice_set hs i h') member slot batch
 says-set [] i h h' at f member slot batch says = absurd says
 says-set {S = S} (x ∷ hs) zero h h' at f member slot batch says =
@@ -51,19 +52,23 @@ ids-set (x ∷ hs) (suc i) h h' at same = ap (λ ys. x.node.id ∷ ys) (ids-set 
 
 -- a book that accepts once for each slot has accepted one batch there
 
+-- a count with one here or later is not 0
 count_here : (t : Bool) (k : ℕ) → (t ≡ true) ⊎ (0 < k) → 0 < cond t 1 0 + k
 count_here true k either = omega arith
 count_here false k (inl is) = absurd (cc)
 count_here false k (inr lt) = omega (arith, lt)
 
+-- one here leaves none for later
 tail_zero : (t : Bool) (k : ℕ) → t ≡ true → cond t 1 0 + k ≤ 1 → k ≤ 0
 tail_zero true k is le = omega (arith, le)
 tail_zero false k is le = absurd (cc)
 
+-- no more are later than in all
 tail_less : (t : Bool) (k : ℕ) → cond t 1 0 + k ≤ 1 → k ≤ 1
 tail_less true k le = omega (arith, le)
 tail_less false k le = omega (arith, le)
 
+-- what is accepted counts
 accepted_counts : (es : List LogEntry) (slot : Slot) (batch : List Request) → HasAccepted es slot batch → 0 < passing (is_accepted slot) es
 accepted_counts [] slot batch has = absurd has
 accepted_counts (Opened ∷ es) slot batch has = omega (arith, accepted_counts es slot batch has)
@@ -72,6 +77,7 @@ accepted_counts (Accepted s vs b ∷ es) slot batch has =
     count_here (same_slot s slot) (passing (is_accepted slot) es) (elim has [ inl here ↦ inl (slot-same s slot here.0) | inr later ↦ inr (accepted_counts es slot batch later) ])
 accepted_counts (Decided s vs b ∷ es) slot batch has = omega (arith, accepted_counts es slot batch has)
 
+-- so both are the one that it accepted
 one_accepted : (es : List LogEntry) (slot : Slot) (a b : List Request) → passing (is_accepted slot) es ≤ 1 → HasAccepted es slot a → HasAccepted es slot b → a ≡ b
 one_accepted [] slot a b once has other = absurd has
 one_accepted (Opened ∷ es) slot a b once has other = one_accepted es slot a b (omega (arith, once)) has other
@@ -91,14 +97,17 @@ one_accepted (Decided s vs c ∷ es) slot a b once has other = one_accepted es s
 
 -- each member is one host
 
+-- the second of two tests
 or_right : (a b : Bool) → b ≡ true → (a || b) ≡ true
 or_right true b is = refl
 or_right false b is = is
 
+-- the first of two tests
 or_left : (a b : Bool) → a ≡ true → (a || b) ≡ true
 or_left true b is = refl
 or_left false b is = absurd (cc)
 
+-- who says is a member
 says_member : {S : Type 0} (hs : List (Host S)) (member : ℕ) (slot : Slot) (batch : List Request) → Says hs member slot batch → list_any (λ y. y == member) (map (λ h. h.node.id) hs) ≡ true
 says_member [] member slot batch says = absurd says
 says_member (h ∷ hs) member slot batch says =
@@ -107,11 +116,13 @@ says_member (h ∷ hs) member slot batch says =
       | inr later ↦ or_right (h.node.id == member) (list_any (λ y. y == member) (map (λ z. z.node.id) hs)) (says_member hs member slot batch later)
     ]
 
+-- a host and a later one are not one member
 not_both : {S : Type 0} (h : Host S) (hs : List (Host S)) (member : ℕ) (slot : Slot) (batch : List Request) → h.node.id ≡ member → list_any (λ y. y == h.node.id) (map (λ z. z.node.id) hs) ≡ false → Says hs member slot batch → ⊥
 not_both h hs member slot batch same none says =
     let found = subst (λ (x : ℕ). list_any (λ y. y == x) (map (λ z. z.node.id) hs) ≡ true) (sym same) (says_member hs member slot batch says) in
     cc
 
+-- a member says one batch for a slot
 says_one : {S : Type 0} (hs : List (Host S)) (member : ℕ) (slot : Slot) (a b : List Request) → Each (λ h. AcceptsOnce h.node.entries) hs → Distinct (map (λ h. h.node.id) hs) → Says hs member slot a → Says hs member slot b → a ≡ b
 says_one [] member slot a b each distinct sa sb = absurd sa
 says_one (h ∷ hs) member slot a b each distinct sa sb =

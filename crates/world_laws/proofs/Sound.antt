@@ -52,9 +52,11 @@ sound_weaker T U weaker view n s =
 
 -- holding and recording
 
+-- a held message that the book bears out
 sound-holding : {S : Type 0} (T : ℕ → Slot → List Request → Type 0) (view : View) (n : Node S) (to : Target) (message : Message) → OwnSaid n.entries n.id message → Sound T view n → Sound T view (holding n to message)
 sound-holding T view n to message said s = record { heard = s.heard; held = each_end (λ h. OwnSaid n.entries n.id h.message) n.held _ s.held said; once = s.once; decided = s.decided }
 
+-- held replies
 sound-replying : {S : Type 0} (T : ℕ → Slot → List Request → Type 0) (view : View) (n : Node S) (lines : List TableLine) → Sound T view n → Sound T view (replying n lines)
 sound-replying T view n [] s = s
 sound-replying T view n (l ∷ ls) s =
@@ -77,10 +79,12 @@ none-decided T view es e none all = subst (λ (bs : List (List Request)). AllCer
 
 -- rules
 
+-- both branches are sound
 sound-if : {S : Type 0} (T : ℕ → Slot → List Request → Type 0) (view : View) (b : Bool) (x y : Node S) → Sound T view x → Sound T view y → Sound T view (cond b x y)
 sound-if T view true x y sx sy = sx
 sound-if T view false x y sx sy = sy
 
+-- an arrival that is so
 sound-kept : {S : Type 0} (T : ℕ → Slot → List Request → Type 0) (view : View) (n : Node S) (message : Message) → Said T message → Sound T view n → Sound T view (kept n message)
 unfolding kept
 sound-kept T view n (Ask q) said s = sound-if T view (is_next n.replica.table q) (record n { pool = offered n.pool q }) n (record { heard = s.heard; held = s.held; once = s.once; decided = s.decided }) s
@@ -88,6 +92,7 @@ sound-kept T view n (Propose p) said s = record { heard = each_end (Said T) n.ar
 sound-kept T view n (Vote b) said s = record { heard = each_end (Said T) n.arrivals (Vote b) s.heard said; held = s.held; once = s.once; decided = s.decided }
 sound-kept T view n (Reply a) said s = s
 
+-- a delivery
 sound-deliver_batch : {S : Type 0} (T : ℕ → Slot → List Request → Type 0) (view : View) (m : Meaning S) (n : Node S) (batch : Option (List Request)) → Sound T view n → Sound T view (deliver_batch m n batch)
 unfolding deliver_batch
 sound-deliver_batch T view m n None s = s
@@ -97,10 +102,12 @@ sound-deliver_batch T view m n (Some batch) s =
     (lines_to_answer m n batch)
     (record { heard = s.heard; held = s.held; once = s.once; decided = s.decided })
 
+-- the rule that delivers
 sound-delivers : {S : Type 0} (T : ℕ → Slot → List Request → Type 0) (view : View) (m : Meaning S) (n : Node S) → Sound T view n → Sound T view (delivers m n)
 unfolding delivers
 sound-delivers T view m n s = sound-deliver_batch T view m n n.waiting s
 
+-- a proposal
 sound-propose_batch : {S : Type 0} (T : ℕ → Slot → List Request → Type 0) (view : View) (n : Node S) (batch : Option (List Request)) → Sound T view n → Sound T view (propose_batch n batch)
 unfolding propose_batch
 sound-propose_batch T view n None s = s
@@ -108,6 +115,7 @@ sound-propose_batch T view n (Some batch) s =
     sound-holding T view (record n { proposed = n.proposed ++ open_slot n ∷ [] }) targets.View (Propose (record { signer = n.id; slot = open_slot n; batch = batch })) tt
     (record { heard = s.heard; held = s.held; once = s.once; decided = s.decided })
 
+-- a batch that is written
 sound-write_batch : {S : Type 0} (T : ℕ → Slot → List Request → Type 0) (view : View) (n : Node S) (batch : Option (List Request)) → Sound T view n → Sound T view (write_batch n batch)
 unfolding write_batch
 sound-write_batch T view n None s = s
@@ -130,6 +138,7 @@ abbrev ForBatch : Option (List Request) → (List Request → Type 0) → Type 0
 ForBatch None P = Unit {0}
 ForBatch (Some batch) P = P batch
 
+-- what holds of the batch behind a test
 for_batch-if : (test : Bool) (x : Option (List Request)) (P : List Request → Type 0) → (test ≡ true → ForBatch x P) → ForBatch (cond test x None) P
 for_batch-if true x P h = h refl
 for_batch-if false x P h = tt
@@ -138,6 +147,7 @@ for_batch-if false x P h = tt
 abbrev DueCertified : {S : Type 0} → (ℕ → Slot → List Request → Type 0) → View → Node S → Option (List Request) → Type 0
 DueCertified T view n batch = ForBatch batch (Certified T view (length (decided_of n.entries) + 1))
 
+-- a batch that is certified is decided
 sound-decide_batch : {S : Type 0} (T : ℕ → Slot → List Request → Type 0) (view : View) (n : Node S) (batch : Option (List Request)) → DueCertified T view n batch → Sound T view n → Sound T view (decide_batch n batch)
 unfolding decide_batch
 sound-decide_batch T view n None certified s = s
@@ -166,17 +176,20 @@ quorum-certified T view v place slot arrivals batch same_view same_slot heard en
       said = λ member is. subst (λ (s : Slot). T member s batch) same_slot (any_said T member slot batch arrivals heard is);
     }
 
+-- a batch that a quorum accepted is certified
 certified-backed : {S : Type 0} (T : ℕ → Slot → List Request → Type 0) (m : Meaning S) (view : View) (n : Node S) (batch : Option (List Request)) → DeliversInOrder m view n → Sound T view n → is_free n ≡ true → DueCertified T view n (backed n Accept batch)
 certified-backed T m view n None d s free = tt
 certified-backed T m view n (Some batch) d s free =
     for_batch-if (has_quorum n.arrivals (view_of n) Accept (open_slot n) (digest_of batch)) (Some batch) (Certified T view (length (decided_of n.entries) + 1))
     (λ enough. quorum-certified T view (view_of n) (length (decided_of n.entries) + 1) (open_slot n) n.arrivals batch (view-in_order m view n d) (open_slot-free m view n d free) s.heard enough)
 
+-- so is the batch that a node decides
 certified-deciding : {S : Type 0} (T : ℕ → Slot → List Request → Type 0) (m : Meaning S) (view : View) (n : Node S) → DeliversInOrder m view n → Sound T view n → DueCertified T view n (deciding n)
 unfolding deciding
 certified-deciding T m view n d s =
     for_batch-if (is_free n) (backed n Accept (proposal_of n.arrivals (open_slot n))) _ (λ free. certified-backed T m view n (proposal_of n.arrivals (open_slot n)) d s free)
 
+-- the voting rules
 sound-votes : {S : Type 0} (T : ℕ → Slot → List Request → Type 0) (view : View) (n : Node S) → Sound T view n → Sound T view (votes n)
 unfolding votes proposes writes accepts
 sound-votes T view n s =
@@ -184,16 +197,19 @@ sound-votes T view n s =
     let wrote : Sound T view (writes (proposes n)) = sound-write_batch T view (proposes n) (writing (proposes n)) proposed in
     sound-accept_batch T view (writes (proposes n)) (accepting (writes (proposes n))) (accepts_where_none (writes (proposes n))) wrote
 
+-- a pass of the rules
 sound-passes : {S : Type 0} (T : ℕ → Slot → List Request → Type 0) (m : Meaning S) (view : View) (n : Node S) → DeliversInOrder m view n → Sound T view n → Sound T view (passes n)
 unfolding passes decides
 sound-passes T m view n d s =
     let voted : Sound T view (votes n) = sound-votes T view n s in
     sound-decide_batch T view (votes n) (deciding (votes n)) (certified-deciding T m view (votes n) (in_order-votes m view n d) voted) voted
 
+-- an arrival and its pass
 sound-arrival : {S : Type 0} (T : ℕ → Slot → List Request → Type 0) (m : Meaning S) (view : View) (n : Node S) (message : Message) (why : Option Why) → Said T message → DeliversInOrder m view n → Sound T view n → Sound T view (arrival_outcome n message why).node
 sound-arrival T m view n message None said d s = sound-passes T m view (kept n message) (in_order-kept m view n message d) (sound-kept T view n message said s)
 sound-arrival T m view n message (Some why) said d s = s
 
+-- a step
 pub sound-step : {S : Type 0} (T : ℕ → Slot → List Request → Type 0) (m : Meaning S) (view : View) (n : Node S) (event : NodeEvent) → EventSaid T event → DeliversInOrder m view n → Sound T view n → Sound T view (step_of m n event).node
 unfolding step_of
 sound-step T m view n (Arrive message) said d s = sound-arrival T m view n message (why_dropped n message) said d s
@@ -202,5 +218,6 @@ sound-step T m view n Deliver said d s = sound-passes T m view (delivers m n) (i
 sound-step T m view n (Firm count) said d s =
     sound-passes T m view (record n { firm = count }) (record { replica = d.replica; waiting = d.waiting; count = d.count }) (record { heard = s.heard; held = s.held; once = s.once; decided = s.decided })
 
+-- an opened node is sound
 pub sound-opened : {S : Type 0} (T : ℕ → Slot → List Request → Type 0) (m : Meaning S) (id : ℕ) (view : View) → Sound T view (opened m id view)
 sound-opened T m id view = record { heard = tt; held = tt; once = λ slot. omega arith; decided = tt }
