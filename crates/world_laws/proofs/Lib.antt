@@ -4,3 +4,16 @@ pub mod Aligned
 pub mod OnePlace
 pub mod Executions
 pub mod Replies
+pub mod Equal
+pub mod Quorums
+pub mod Once
+pub mod InOrder
+pub mod Certified
+pub mod Said
+pub mod Sound
+pub mod Follows
+pub mod Says
+pub mod Fronts
+pub mod Chosen
+pub mod ChosenKept
+pub mod Grows

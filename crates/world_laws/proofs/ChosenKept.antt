@@ -1,0 +1,244 @@
+-- Each event of a world keeps the list of chosen batches right.
+use Rattle.std.proofs.Common.{◌≡◌, ℕ, ◌+◌, ◌≤◌, ◌^◌, Bool, true, false, List, [], ◌∷◌, length, refl, ap, ◌∙◌, sym, arith, cond, Some, is_some, subst, take, nat_lt, inl, inr}
+use Rattle.std.specs.Prelude.{map, slice_get, slice_set}
+use Rattle.std.specs.List.{flat_map}
+use Rattle.smart_base.specs.Lists.{Each}
+use Rattle.smart_base.specs.declared.view.View.{View}
+use Rattle.smart_messages.specs.declared.message.Request.{Request}
+use Rattle.smart_messages.specs.declared.message.Slot.{Slot}
+use Rattle.smart_messages.specs.declared.message.Answer.{Answer}
+use Rattle.smart_messages.specs.declared.message.Message.{Message}
+use Rattle.smart_messages.specs.declared.message.Message.TheVariants.{Ask}
+use Rattle.smart_messages.specs.declared.entry.NodeEvent.{NodeEvent}
+use Rattle.smart_messages.specs.declared.entry.NodeEvent.TheVariants.{Arrive, Tick, Deliver, Firm}
+use Rattle.smart_service.specs.Services.{Meaning}
+use Rattle.node_rules.specs.Replicas.{state}
+use Rattle.node_rules.specs.Nodes.{Node, view_of, next_place}
+use Rattle.node_rules.specs.Steps.{step_of, leaving, staying}
+use Rattle.node_rules.specs.declared.node.Held.{Held}
+use Rattle.node_rules.specs.declared.node.Target.{Target}
+use Rattle.node_rules.specs.declared.node.Target.TheVariants as targets
+use Rattle.world_rules.specs.Clients.{request_of, asking, heard}
+use Rattle.world_rules.specs.Worlds.{Host, World, sends, sends_all, delivery_in, chosen_with, host_after, stepped, hearing, hosts_from, begun}
+use Rattle.world_rules.specs.Promises.{IsPrefix, world_at}
+use Rattle.world_rules.specs.declared.line.Line.{Line}
+use Rattle.world_rules.specs.declared.client.Client.{Client}
+use Rattle.world_rules.specs.declared.client.Heard.{Heard}
+use Rattle.world_rules.specs.declared.message.Origin.{Origin}
+use Rattle.world_rules.specs.declared.message.Origin.TheVariants as origins
+use Rattle.world_rules.specs.declared.message.Sent.{Sent}
+use Rattle.world_laws.specs.Books.{decided_of, DeliversInOrder}
+use Rattle.world_laws.proofs.Lists.{each_end, each_append, each_weaker, each_set, each_get, either}
+use Rattle.world_laws.proofs.Keeps.{HasMessage, MayCome, Keeps, keeps-world_after}
+use Rattle.world_laws.proofs.Aligned.{Aligned, AllAligned}
+use Rattle.world_laws.proofs.Fronts.{front-same, front-take, front-batch_at}
+use Rattle.world_laws.proofs.Certified.{all_certified_weaker}
+use Rattle.world_laws.proofs.Said.{Said, EventSaid, OwnSaid, said_weaker}
+use Rattle.world_laws.proofs.Sound.{Sound, sound-step, sound-opened}
+use Rattle.world_laws.proofs.InOrder.{view-in_order, in_order-step, in_order-released, in_order-opened}
+use Rattle.world_laws.proofs.Follows.{Follows, follows-step, next-step, WasDue, due-step}
+use Rattle.world_laws.proofs.Says.{Says, Distinct, says-set, says-here, ids-set}
+use Rattle.world_laws.proofs.Chosen.{DeliveredIs, HostRight, PartsRight, ChosenRight, chosen-front, within-step, certified-step, host-front, waiting-at, due-agrees, host_weaker}
+
+-- messages leave
+
+-- messages that say what is so
+abbrev AllSay : {S : Type 0} → List (Host S) → List Held → Type 0
+AllSay hosts held = Each (λ h. Said (Says hosts) h.message) held
+
+-- a message that says what is so leaves
+right-sends : {S : Type 0} (m : Meaning S) (w : World S) (origin : Origin) (to : Target) (message : Message) (later : List Held) → Said (Says w.hosts) message → AllSay w.hosts later → ChosenRight m w
+    → ChosenRight m (sends w origin to message) × AllSay (sends w origin to message).hosts later
+unfolding sends
+right-sends {S = S} m w origin to message later said all r =
+    either (λ (v : World S). ChosenRight m v × AllSay v.hosts later) (nat_lt (length w.sent) (2 ^ 24)) _ _
+    (record {
+      right = r.right;
+      said = each_end (λ (s : Sent). Said (Says w.hosts) s.message) w.sent (record { origin = origin; to = to; message = message }) r.said said;
+      ids = r.ids;
+      distinct = r.distinct;
+      certified = r.certified;
+    }, all)
+    (r, all)
+
+-- so do held messages, in order
+right-sends_all : {S : Type 0} (m : Meaning S) (id : ℕ) (w : World S) (held : List Held) → AllSay w.hosts held → ChosenRight m w → ChosenRight m (sends_all id w held)
+right-sends_all m id w [] all r = r
+right-sends_all m id w (h ∷ hs) all r =
+    let both = right-sends m w (origins.Node id) h.to h.message hs all.0 all.1 r in
+    right-sends_all m id (sends w (origins.Node id) h.to h.message) hs both.1 both.0
+
+-- what holds of each value of both branches
+each_if : {A : Type 0} (P : A → Type 0) (b : Bool) (xs ys : List A) → Each P xs → Each P ys → Each P (cond b xs ys)
+each_if P true xs ys ex ey = ex
+each_if P false xs ys ex ey = ey
+
+-- what holds of all held messages holds of those that leave
+pub each-leaving : (P : Held → Type 0) (firm : ℕ) (held : List Held) → Each P held → Each P (leaving firm held)
+each-leaving P firm [] each = tt
+each-leaving P firm (h ∷ hs) each = each_if P _ (h ∷ leaving firm hs) [] (each.0, each-leaving P firm hs each.1) tt
+
+-- and of those that stay
+pub each-staying : (P : Held → Type 0) (firm : ℕ) (held : List Held) → Each P held → Each P (staying firm held)
+each-staying P firm [] each = tt
+each-staying P firm (h ∷ hs) each = each_if P _ (staying firm hs) (h ∷ hs) (each-staying P firm hs each.1) each
+
+-- what was sent says what is so
+said-sent : (T : ℕ → Slot → List Request → Type 0) (sent : List Sent) (x : Message) → Each (λ s. Said T s.message) sent → HasMessage sent x → Said T x
+said-sent T [] x each has = absurd has
+said-sent T (s ∷ sent) x each has = elim has [ inl here ↦ subst (λ (y : Message). Said T y) here each.0 | inr later ↦ said-sent T sent x each.1 later ]
+
+-- what may come to a node says what is so
+said-event : {S : Type 0} (m : Meaning S) (w : World S) (h : Host S) (event : NodeEvent) → MayCome w h event → ChosenRight m w → EventSaid (Says w.hosts) event
+said-event m w h (Arrive message) may r = said-sent (Says w.hosts) w.sent message r.said may
+said-event m w h Tick may r = tt
+said-event m w h Deliver may r = tt
+said-event m w h (Firm count) may r = tt
+
+-- a host's node takes an event
+
+-- the host behind it
+host-stepped : {S : Type 0} (m : Meaning S) (w : World S) (i : ℕ) (h : Host S) (event : NodeEvent) → slice_get w.hosts i ≡ Some h → MayCome w h event → ChosenRight m w
+    → HostRight (Says w.hosts) m w.view (chosen_with w.chosen (next_place (step_of m h.node event).node) (step_of m h.node event).node.waiting) (host_after h (step_of m h.node event))
+host-stepped {S = S} m w i h event at may r =
+    let T : ℕ → Slot → List Request → Type 0 = Says w.hosts in
+    let n' : Node S = (step_of m h.node event).node in
+    let more : List (List Request) = chosen_with w.chosen (next_place n') n'.waiting in
+    let front : take (length w.chosen) more ≡ w.chosen = chosen-front w.chosen (next_place n') n'.waiting in
+    let hr : HostRight T m w.view w.chosen h = each_get (HostRight T m w.view w.chosen) w.hosts i h r.right at in
+    let own : take (length (decided_of h.node.entries)) w.chosen ≡ decided_of h.node.entries = host-front m w.view w.hosts w.sent w.chosen h r hr in
+    let s : Sound T w.view n' = sound-step T m w.view h.node event (said-event m w h event may r) hr.order hr.sound in
+    let d : DeliversInOrder m w.view n' = in_order-step m w.view h.node event hr.order in
+    record {
+      sound = record { heard = s.heard; held = each-staying (λ (x : Held). OwnSaid n'.entries n'.id x.message) n'.firm n'.held s.held; once = s.once; decided = s.decided };
+      order = in_order-released m w.view n' d;
+      within = within-step m w.view w.chosen h.node n' n'.waiting refl (next-step m h.node event) d hr.within;
+      agrees = each_append (DeliveredIs more) h.delivered (flat_map delivery_in (step_of m h.node event).fired)
+          (each_weaker (DeliveredIs w.chosen) (DeliveredIs more) (λ x is. front-batch_at w.chosen more x.place x.batch front is) h.delivered hr.agrees)
+          (each_weaker (WasDue h.node) (DeliveredIs more) (λ x was. front-batch_at w.chosen more x.place x.batch front (due-agrees m w.view w.chosen h.node x hr.order own was))
+          (flat_map delivery_in (step_of m h.node event).fired) (due-step m h.node event));
+    }
+
+-- the world behind it
+right-event : {S : Type 0} (m : Meaning S) (w : World S) (i : ℕ) (h : Host S) (event : NodeEvent) → slice_get w.hosts i ≡ Some h → MayCome w h event → ChosenRight m w → ChosenRight m (stepped w i h (step_of m h.node event))
+unfolding stepped
+right-event {S = S} m w i h event at may r =
+    let T : ℕ → Slot → List Request → Type 0 = Says w.hosts in
+    let n' : Node S = (step_of m h.node event).node in
+    let h' : Host S = host_after h (step_of m h.node event) in
+    let U : ℕ → Slot → List Request → Type 0 = Says (slice_set w.hosts i h') in
+    let more : List (List Request) = chosen_with w.chosen (next_place n') n'.waiting in
+    let front : take (length w.chosen) more ≡ w.chosen = chosen-front w.chosen (next_place n') n'.waiting in
+    let f : Follows h.node n' = follows-step m h.node event in
+    let f' : Follows h.node h'.node = record { id = f.id; grows = f.grows } in
+    let weaker : (x : ℕ) (s : Slot) (b : List Request) → T x s b → U x s b = says-set w.hosts i h h' at f' in
+    let hr : HostRight T m w.view w.chosen h = each_get (HostRight T m w.view w.chosen) w.hosts i h r.right at in
+    let s : Sound T w.view n' = sound-step T m w.view h.node event (said-event m w h event may r) hr.order hr.sound in
+    let d : DeliversInOrder m w.view n' = in_order-step m w.view h.node event hr.order in
+    let here : HostRight T m w.view more h' = host-stepped m w i h event at may r in
+    right-sends_all m h.node.id _ (leaving n'.firm n'.held)
+    (each_weaker (λ (x : Held). OwnSaid n'.entries n'.id x.message) (λ (x : Held). Said U x.message) (λ x own. said_weaker _ U (says-here w.hosts i h h' at) x.message own)
+    (leaving n'.firm n'.held) (each-leaving (λ (x : Held). OwnSaid n'.entries n'.id x.message) n'.firm n'.held s.held))
+    (record {
+      right = each_set (HostRight U m w.view more) w.hosts i h'
+          (each_weaker (HostRight T m w.view w.chosen) (HostRight U m w.view more) (λ y ry. host_weaker T U weaker m w.view w.chosen more front y ry) w.hosts r.right)
+          (host_weaker T U weaker m w.view more more (front-same more) h' here);
+      said = each_weaker (λ (x : Sent). Said T x.message) (λ (x : Sent). Said U x.message) (λ x said. said_weaker T U weaker x.message said) w.sent r.said;
+      ids = ids-set w.hosts i h h' at f'.id ∙ r.ids;
+      distinct = r.distinct;
+      certified = all_certified_weaker T U weaker w.view 1 more (certified-step T m w.view w.chosen n' n'.waiting refl d s.decided r.certified);
+    })
+
+-- clients
+
+-- a client that hears changes no part
+right-hear : {S : Type 0} (m : Meaning S) (w : World S) (i : ℕ) (c : Client) (a : Answer) (h : Heard) → ChosenRight m w → ChosenRight m (hearing w i c a h)
+unfolding hearing
+right-hear m w i c a h r = r
+
+-- a request says nothing of what members accepted
+right-ask : {S : Type 0} (m : Meaning S) (w : World S) (i : ℕ) (c : Client) (op : List ℕ) → ChosenRight m w
+    → ChosenRight m (sends (record w { clients = slice_set w.clients i (asking c (request_of c op)) }) (origins.Client c.id) targets.View (Ask (request_of c op)))
+right-ask m w i c op r =
+    (right-sends m (record w { clients = slice_set w.clients i (asking c (request_of c op)) }) (origins.Client c.id) targets.View (Ask (request_of c op)) [] tt tt r).0
+
+-- each event keeps the list right
+pub chosen-kept : {S : Type 0} (m : Meaning S) → Keeps (step_of m) (ChosenRight m)
+chosen-kept m =
+    record {
+      event = λ w i h event at may r. right-event m w i h event at may r;
+      hear = λ w i c a at has r. right-hear m w i c a (heard w.view c a) r;
+      ask = λ w i c op at free r. right-ask m w i c op r;
+      same = λ w mark told r. r;
+    }
+
+-- the beginning
+
+-- opened hosts are right
+hosts_right : {S : Type 0} (T : ℕ → Slot → List Request → Type 0) (m : Meaning S) (view : View) (members : List ℕ) → Each (HostRight T m view []) (hosts_from m view members)
+hosts_right T m view [] = tt
+hosts_right T m view (id ∷ ids) = (record { sound = sound-opened T m id view; order = in_order-opened m id view; within = omega arith; agrees = tt }, hosts_right T m view ids)
+
+-- and are the members
+hosts_ids : {S : Type 0} (m : Meaning S) (view : View) (members : List ℕ) → map (λ h. h.node.id) (hosts_from m view members) ≡ members
+hosts_ids m view [] = refl
+hosts_ids m view (id ∷ ids) = ap (λ xs. id ∷ xs) (hosts_ids m view ids)
+
+-- a world that begins is right
+pub chosen-begun : {S : Type 0} (m : Meaning S) (view : View) → Distinct view.members → ChosenRight m (begun m view)
+chosen-begun m view distinct =
+    record {
+      right = hosts_right (Says (hosts_from m view view.members)) m view view.members;
+      said = tt;
+      ids = hosts_ids m view view.members;
+      distinct = distinct;
+      certified = tt;
+    }
+
+-- hosts stand along the list
+
+-- a host's replica is the state of a front of the list, and the batch that waits is the list's next
+host-aligned : {S : Type 0} (m : Meaning S) (view : View) (hosts : List (Host S)) (sent : List Sent) (chosen : List (List Request)) → PartsRight m view hosts sent chosen → (h : Host S) → HostRight (Says hosts) m view chosen h → Aligned m view chosen h
+host-aligned {S = S} m view hosts sent chosen r h right =
+    let ds : List (List Request) = decided_of h.node.entries in
+    let own : take (length ds) chosen ≡ ds = host-front m view hosts sent chosen h r right in
+    let place : h.node.replica.place ≤ length ds = delivered-within h.node right.order in
+    record {
+      within = omega (arith, place, right.within);
+      replica = right.order.replica ∙ ap (λ bs. state m view bs) (front-take ds chosen h.node.replica.place own place);
+      waiting = λ batch at. waiting-at m view chosen h.node batch right.order own at;
+    }
+  where
+    delivered-within : (n : Node S) → DeliversInOrder m view n → n.replica.place ≤ length (decided_of n.entries)
+    delivered-within n d = subst (λ (k : ℕ). n.replica.place ≤ k) (sym d.count) (at_most (is_some n.waiting) n.replica.place)
+      where
+        at_most : (b : Bool) (k : ℕ) → k ≤ cond b (k + 1) k
+        at_most true k = omega arith
+        at_most false k = omega arith
+
+-- all hosts stand along the list
+pub chosen-aligned : {S : Type 0} (m : Meaning S) (w : World S) → ChosenRight m w → AllAligned m w
+chosen-aligned m w r =
+    record { hosts = each_weaker (HostRight (Says w.hosts) m w.view w.chosen) (Aligned m w.view w.chosen) (λ h right. host-aligned m w.view w.hosts w.sent w.chosen r h right) w.hosts r.right }
+
+-- each host has delivered a front of the list
+pub chosen-prefix : {S : Type 0} (m : Meaning S) (w : World S) → ChosenRight m w → Each (IsPrefix m w.view w.chosen) w.hosts
+chosen-prefix m w r =
+    each_weaker (HostRight (Says w.hosts) m w.view w.chosen) (IsPrefix m w.view w.chosen)
+    (λ h right. let a = host-aligned m w.view w.hosts w.sent w.chosen r h right in record { within = a.within; replica = a.replica; delivered = right.agrees }) w.hosts r.right
+
+-- throughout a script
+
+-- the list is right after each line of a script
+pub chosen-at : {S : Type 0} (m : Meaning S) (view : View) → Distinct view.members → (ls : List Line) (k : ℕ) → ChosenRight m (world_at m view ls k)
+chosen-at m view distinct ls k = keeps-world_after (step_of m) (ChosenRight m) (chosen-kept m) (begun m view) (take k ls) (chosen-begun m view distinct)
+
+-- and each host has delivered a front of it
+pub prefix-at : {S : Type 0} (m : Meaning S) (view : View) → Distinct view.members → (ls : List Line) (k : ℕ)
+    → Each (IsPrefix m (world_at m view ls k).view (world_at m view ls k).chosen) (world_at m view ls k).hosts
+prefix-at m view distinct ls k = chosen-prefix m (world_at m view ls k) (chosen-at m view distinct ls k)
+
+-- each node's view is the one that the world began with
+pub views-right : {S : Type 0} (m : Meaning S) (w : World S) → ChosenRight m w → Each (λ h. view_of h.node ≡ w.view) w.hosts
+views-right {S = S} m w r =
+    each_weaker (HostRight (Says w.hosts) m w.view w.chosen) (λ (h : Host S). view_of h.node ≡ w.view) (λ h right. view-in_order m w.view h.node right.order) w.hosts r.right

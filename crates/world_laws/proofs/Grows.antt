@@ -1,0 +1,126 @@
+-- The list of chosen batches only grows, and the view stays.
+use Rattle.std.proofs.Common.{◌≡◌, ℕ, zero, suc, ◌+◌, ◌≤◌, ◌^◌, ◌==◌, ◌++◌, List, [], ◌∷◌, length, refl, ◌∙◌, arith, Option, Some, None, take, nat_lt}
+use Rattle.std.specs.Prelude.{slice_set}
+use Rattle.smart_base.specs.declared.view.View.{View}
+use Rattle.smart_messages.specs.declared.message.Request.{Request}
+use Rattle.smart_messages.specs.declared.message.Answer.{Answer}
+use Rattle.smart_messages.specs.declared.message.Message.{Message}
+use Rattle.smart_messages.specs.declared.message.Message.TheVariants.{Ask}
+use Rattle.smart_messages.specs.declared.entry.NodeEvent.{NodeEvent}
+use Rattle.smart_service.specs.Services.{Meaning}
+use Rattle.node_rules.specs.Nodes.{Node, next_place}
+use Rattle.node_rules.specs.Steps.{Outcome, step_of, leaving}
+use Rattle.node_rules.specs.declared.node.Held.{Held}
+use Rattle.node_rules.specs.declared.node.Target.{Target}
+use Rattle.node_rules.specs.declared.node.Target.TheVariants as targets
+use Rattle.world_rules.specs.Clients.{request_of, asking, heard}
+use Rattle.world_rules.specs.Worlds.{Host, World, sends, sends_all, chosen_with, stepped, hearing, begun}
+use Rattle.world_rules.specs.Plays.{line_played, rested, world_after}
+use Rattle.world_rules.specs.Promises.{world_at}
+use Rattle.world_rules.specs.declared.client.Client.{Client}
+use Rattle.world_rules.specs.declared.client.Heard.{Heard}
+use Rattle.world_rules.specs.declared.line.Line.{Line}
+use Rattle.world_rules.specs.declared.message.Origin.{Origin}
+use Rattle.world_rules.specs.declared.message.Origin.TheVariants as origins
+use Rattle.world_laws.proofs.Lists.{either}
+use Rattle.world_laws.proofs.Keeps.{Keeps, keeps-world_after}
+use Rattle.world_laws.proofs.Fronts.{IsFront, front-same, front-append}
+
+-- messages that leave change neither the list nor the view
+
+-- a message that leaves keeps the list
+pub chosen-sends : {S : Type 0} (w : World S) (origin : Origin) (to : Target) (message : Message) → (sends w origin to message).chosen ≡ w.chosen
+unfolding sends
+chosen-sends {S = S} w origin to message = either (λ (v : World S). v.chosen ≡ w.chosen) (nat_lt (length w.sent) (2 ^ 24)) _ _ refl refl
+
+-- so do held messages
+pub chosen-sends_all : {S : Type 0} (id : ℕ) (w : World S) (held : List Held) → (sends_all id w held).chosen ≡ w.chosen
+chosen-sends_all id w [] = refl
+chosen-sends_all id w (h ∷ hs) = chosen-sends_all id (sends w (origins.Node id) h.to h.message) hs ∙ chosen-sends w (origins.Node id) h.to h.message
+
+-- a message that leaves keeps the view
+pub view-sends : {S : Type 0} (w : World S) (origin : Origin) (to : Target) (message : Message) → (sends w origin to message).view ≡ w.view
+unfolding sends
+view-sends {S = S} w origin to message = either (λ (v : World S). v.view ≡ w.view) (nat_lt (length w.sent) (2 ^ 24)) _ _ refl refl
+
+-- so do held messages
+pub view-sends_all : {S : Type 0} (id : ℕ) (w : World S) (held : List Held) → (sends_all id w held).view ≡ w.view
+view-sends_all id w [] = refl
+view-sends_all id w (h ∷ hs) = view-sends_all id (sends w (origins.Node id) h.to h.message) hs ∙ view-sends w (origins.Node id) h.to h.message
+
+-- events
+
+-- a list with the batch that waits at a node begins with what it began with
+front-chosen_with : (front chosen : List (List Request)) (place : ℕ) (waiting : Option (List Request)) → take (length front) chosen ≡ front → take (length front) (chosen_with chosen place waiting) ≡ front
+front-chosen_with front chosen place None is = is
+front-chosen_with front chosen place (Some batch) is =
+    either (λ (c : List (List Request)). take (length front) c ≡ front) (place == length chosen + 1) (chosen ++ batch ∷ []) chosen (front-append front chosen (batch ∷ []) is) is
+
+-- a step adds the batch that waits
+chosen-stepped : {S : Type 0} (w : World S) (i : ℕ) (h : Host S) (o : Outcome S) → (stepped w i h o).chosen ≡ chosen_with w.chosen (next_place o.node) o.node.waiting
+unfolding stepped
+chosen-stepped w i h o = chosen-sends_all h.node.id _ (leaving o.node.firm o.node.held)
+
+-- a step keeps the view
+view-stepped : {S : Type 0} (w : World S) (i : ℕ) (h : Host S) (o : Outcome S) → (stepped w i h o).view ≡ w.view
+unfolding stepped
+view-stepped w i h o = view-sends_all h.node.id _ (leaving o.node.firm o.node.held)
+
+-- a client that hears keeps the list
+chosen-hearing : {S : Type 0} (w : World S) (i : ℕ) (c : Client) (a : Answer) (h : Heard) → (hearing w i c a h).chosen ≡ w.chosen
+unfolding hearing
+chosen-hearing w i c a h = refl
+
+-- a client that hears keeps the view
+view-hearing : {S : Type 0} (w : World S) (i : ℕ) (c : Client) (a : Answer) (h : Heard) → (hearing w i c a h).view ≡ w.view
+unfolding hearing
+view-hearing w i c a h = refl
+
+-- each event keeps what the list began with
+pub front-kept : {S : Type 0} (step : Node S → NodeEvent → Outcome S) (front : List (List Request)) → Keeps step (λ w. take (length front) w.chosen ≡ front)
+front-kept step front =
+    record {
+      event = λ w i h event at may is. rw chosen-stepped (front-chosen_with front w.chosen (next_place (step h.node event).node) (step h.node event).node.waiting is);
+      hear = λ w i c a at has is. rw chosen-hearing is;
+      ask = λ w i c op at free is. rw chosen-sends is;
+      same = λ w mark told is. is;
+    }
+
+-- each event keeps the view
+pub view-kept : {S : Type 0} (step : Node S → NodeEvent → Outcome S) (view : View) → Keeps step (λ w. w.view ≡ view)
+view-kept step view =
+    record {
+      event = λ w i h event at may is. view-stepped w i h (step h.node event) ∙ is;
+      hear = λ w i c a at has is. view-hearing w i c a (heard w.view c a) ∙ is;
+      ask = λ w i c op at free is. view-sends (record w { clients = slice_set w.clients i (asking c (request_of c op)) }) (origins.Client c.id) targets.View (Ask (request_of c op)) ∙ is;
+      same = λ w mark told is. is;
+    }
+
+-- lines
+
+-- the list only grows
+pub chosen-grows : {S : Type 0} (m : Meaning S) (w : World S) (ls : List Line) → IsFront w.chosen (world_after (step_of m) w ls).chosen
+chosen-grows {S = S} m w ls =
+    keeps-world_after (step_of m) (λ (v : World S). take (length w.chosen) v.chosen ≡ w.chosen) (front-kept (step_of m) w.chosen) w ls (front-same w.chosen)
+
+-- the view stays
+pub view-stays : {S : Type 0} (m : Meaning S) (w : World S) (ls : List Line) → (world_after (step_of m) w ls).view ≡ w.view
+view-stays {S = S} m w ls = keeps-world_after (step_of m) (λ (v : World S). v.view ≡ w.view) (view-kept (step_of m) w.view) w ls refl
+
+-- the world after more lines
+pub world_after-append : {S : Type 0} (step : Node S → NodeEvent → Outcome S) (w : World S) (ls more : List Line) → world_after step w (ls ++ more) ≡ world_after step (world_after step w ls) more
+world_after-append step w [] more = refl
+world_after-append step w (l ∷ ls) more = world_after-append step (rested (line_played step w l)) ls more
+
+-- of two fronts of a script the longer has the longer list
+pub chosen-grows-between : {S : Type 0} (m : Meaning S) (w : World S) (ls : List Line) (j k : ℕ) → j ≤ k
+    → take (length (world_after (step_of m) w (take j ls)).chosen) (world_after (step_of m) w (take k ls)).chosen ≡ (world_after (step_of m) w (take j ls)).chosen
+chosen-grows-between m w ls zero k le = chosen-grows m w (take k ls)
+chosen-grows-between m w ls (suc j) zero le = absurd (omega (arith, le))
+chosen-grows-between m w [] (suc j) (suc k) le = front-same w.chosen
+chosen-grows-between m w (l ∷ ls) (suc j) (suc k) le = chosen-grows-between m (rested (line_played (step_of m) w l)) ls j k (omega (arith, le))
+
+-- so after a group's begin: the list after j lines is a front of the list after k
+pub list-grows : {S : Type 0} (m : Meaning S) (view : View) (ls : List Line) (j k : ℕ) → j ≤ k
+    → take (length (world_at m view ls j).chosen) (world_at m view ls k).chosen ≡ (world_at m view ls j).chosen
+list-grows m view ls j k le = chosen-grows-between m (begun m view) ls j k le
