@@ -1,3 +1,5 @@
 pub mod Lists
 pub mod Keeps
 pub mod Aligned
+pub mod Numbered
+pub mod Authentic
