@@ -66,7 +66,7 @@ EventAsked A (Firm count) = Unit {0}
 
 -- more counts as asked
 
-good-weaker : (A B : Request → Type 0) → ((q : Request) → A q → B q) → (place : ℕ) (batch : List Request) → GoodBatch A place batch → GoodBatch B place batch
+pub good-weaker : (A B : Request → Type 0) → ((q : Request) → A q → B q) → (place : ℕ) (batch : List Request) → GoodBatch A place batch → GoodBatch B place batch
 good-weaker A B weaker place batch good = record { asked = each_weaker A B weaker batch good.asked; fitting = good.fitting }
 
 pub message-weaker : (A B : Request → Type 0) → ((q : Request) → A q → B q) → (message : Message) → MessageAsked A message → MessageAsked B message

@@ -3,3 +3,4 @@ pub mod Keeps
 pub mod Aligned
 pub mod Numbered
 pub mod Authentic
+pub mod Asked
