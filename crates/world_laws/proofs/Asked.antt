@@ -1,5 +1,8 @@
 -- Each request in a world was asked by its client, and each batch fits its place.
-use Rattle.std.proofs.Common.{◌≡◌, ℕ, zero, suc, ◌+◌, ◌^◌, ◌++◌, ◌==◌, Bool, true, false, List, [], ◌∷◌, length, refl, cond, Option, Some, None, nat_lt, inl, inr, subst, eqb-true, arith}
+use Rattle.std.proofs.lemmas.Bool.{leb-true, ltb-true}
+use Rattle.std.specs.List.{list_all}
+use Rattle.std.specs.Option.{option_and_then}
+use Rattle.std.proofs.Common.{◌≡◌, ℕ, nat_le, ◌≤◌, ap, ◌∙◌, ◌<◌, ◌&&◌, sym, zero, suc, ◌+◌, ◌^◌, ◌++◌, ◌==◌, Bool, true, false, List, [], ◌∷◌, length, refl, cond, Option, Some, None, nat_lt, inl, inr, subst, eqb-true, arith}
 use Rattle.std.specs.Prelude.{slice_get, slice_set}
 use Rattle.smart_base.specs.Lists.{Each}
 use Rattle.smart_messages.specs.declared.message.Request.{Request}
@@ -8,8 +11,8 @@ use Rattle.smart_messages.specs.declared.message.Message.TheVariants.{Ask}
 use Rattle.smart_messages.specs.declared.entry.NodeEvent.{NodeEvent}
 use Rattle.smart_messages.specs.declared.entry.NodeEvent.TheVariants.{Arrive, Tick, Deliver, Firm}
 use Rattle.smart_service.specs.Services.{Meaning}
-use Rattle.node_rules.specs.Replicas.{batch_at}
-use Rattle.node_rules.specs.Nodes.{Node, next_place}
+use Rattle.node_rules.specs.Replicas.{request_at, batch_at}
+use Rattle.node_rules.specs.Nodes.{request_fits, Node, next_place}
 use Rattle.node_rules.specs.Steps.{step_of, leaving}
 use Rattle.node_rules.specs.declared.node.Held.{Held}
 use Rattle.node_rules.specs.declared.node.Target.{Target}
@@ -21,7 +24,7 @@ use Rattle.world_rules.specs.Worlds.{Host, World, sends, sends_all, chosen_with,
 use Rattle.world_rules.specs.declared.message.Origin.{Origin}
 use Rattle.world_rules.specs.declared.message.Origin.TheVariants as origins
 use Rattle.world_rules.specs.declared.message.Sent.{Sent}
-use Rattle.world_laws.proofs.Lists.{either, each_end, each_weaker, each_set, each_get}
+use Rattle.world_laws.proofs.Lists.{some-equal, and_true, either, each_end, each_weaker, each_set, each_get}
 use Rattle.world_laws.proofs.Numbered.{EachAt, each_at_end, each_at_get, each_at_weaker}
 use Rattle.world_laws.proofs.Keeps.{HasMessage, MayCome, Keeps}
 use Rattle.world_laws.proofs.Authentic.{GoodBatch, MessageAsked, ForBatch, NodeAuthentic, EventAsked, good-weaker, message-weaker, authentic-weaker, authentic-released, authentic-step, each-leaving}
@@ -155,3 +158,37 @@ asked-begun m view = record { all = record { hosts = hosts_asked (HasAsked []) m
 pub batch_good : {S : Type 0} (w : World S) (place : ℕ) (batch : List Request) → RequestsAsked w → batch_at w.chosen place ≡ Some batch → GoodBatch (HasAsked w.sent) place batch
 batch_good w zero batch is at = absurd (cc)
 batch_good w (suc i) batch is at = each_at_get (λ j b. GoodBatch (HasAsked w.sent) (suc j) b) w.chosen i batch is.all.chosen at
+
+-- what is so of the request at a place and an index of the list: its client asked it, after earlier places alone
+pub record StandsRight (sent : List Sent) (place : ℕ) (q : Request) : Type 0 where
+  pub asked : HasAsked sent q
+  pub below : q.after < place
+  pub client_low : 1 ≤ q.client
+  pub client_high : q.client ≤ 1024
+
+all_at : {A : Type 0} (p : A → Bool) (xs : List A) (i : ℕ) (x : A) → list_all p xs ≡ true → slice_get xs i ≡ Some x → p x ≡ true
+all_at p [] i x all at = absurd (cc)
+all_at p (y ∷ xs) zero x all at = ap p (sym (some-equal y x at)) ∙ (and_true (p y) (list_all p xs) all).0
+all_at p (y ∷ xs) (suc i) x all at = all_at p xs i x (and_true (p y) (list_all p xs) all).1 at
+
+stands_in : (sent : List Sent) (place : ℕ) (batch : List Request) (index : ℕ) (q : Request) → GoodBatch (HasAsked sent) place batch → slice_get batch index ≡ Some q → StandsRight sent place q
+stands_in sent place batch index q good at =
+    let fit = and_true (nat_lt 0 (length batch) && nat_le (length batch) 64) (list_all (request_fits place) batch) good.fitting in
+    let own = all_at (request_fits place) batch index q fit.1 at in
+    let outer = and_true (nat_lt q.after place && nat_le 1 q.client) (nat_le q.client 1024) own in
+    let inner = and_true (nat_lt q.after place) (nat_le 1 q.client) outer.0 in
+    record {
+      asked = each_get (HasAsked sent) batch index q good.asked at;
+      below = ltb-true q.after place inner.0;
+      client_low = leb-true 1 q.client inner.1;
+      client_high = leb-true q.client 1024 outer.1;
+    }
+
+stands_found : (sent : List Sent) (place : ℕ) (found : Option (List Request)) (index : ℕ) (q : Request) → ((batch : List Request) → found ≡ Some batch → GoodBatch (HasAsked sent) place batch)
+    → option_and_then (λ batch. slice_get batch index) found ≡ Some q → StandsRight sent place q
+stands_found sent place None index q good at = absurd (cc)
+stands_found sent place (Some batch) index q good at = stands_in sent place batch index q (good batch refl) at
+
+-- the request at a place and an index of the list was asked by its client, after earlier places alone
+pub stands_right : {S : Type 0} (w : World S) (place index : ℕ) (q : Request) → RequestsAsked w → request_at w.chosen place index ≡ Some q → StandsRight w.sent place q
+stands_right w place index q is at = stands_found w.sent place (batch_at w.chosen place) index q (λ batch found. batch_good w place batch is found) at
