@@ -4,3 +4,5 @@ pub mod Aligned
 pub mod Numbered
 pub mod Authentic
 pub mod Asked
+pub mod Hearing
+pub mod Asking
