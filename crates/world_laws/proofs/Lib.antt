@@ -6,3 +6,5 @@ pub mod Authentic
 pub mod Asked
 pub mod Hearing
 pub mod Asking
+pub mod Rests
+pub mod Bounded
