@@ -1,5 +1,5 @@
 -- A flow comes to rest: each turn that changes something raises the mark, which no number of messages passes.
-use Rattle.std.proofs.Common.{◌≡◌, ℕ, zero, suc, ◌+◌, ◌^◌, ◌++◌, ◌≤◌, ◌<◌, List, [], ◌∷◌, length, refl, ap, ◌∙◌, sym, inl, inr, ◌⊎◌, Option, Some, None, is_some, nat_lt, arith}
+use Rattle.std.proofs.Common.{◌≡◌, ℕ, zero, suc, ◌+◌, ◌^◌, ◌++◌, ◌≤◌, ◌<◌, List, [], ◌∷◌, length, refl, inl, inr, ◌⊎◌, Option, Some, None, is_some, nat_lt, arith}
 use Rattle.std.proofs.lemmas.Bool.{ltb-true}
 use Rattle.std.proofs.lemmas.Option.{slice_get_within}
 use Rattle.std.proofs.lemmas.List.{length-append}
@@ -25,7 +25,7 @@ use Rattle.world_rules.specs.declared.message.Origin.TheVariants as origins
 use Rattle.world_rules.specs.declared.message.Sent.{Sent}
 use Rattle.world_laws.proofs.Lists.{either, either_by}
 use Rattle.world_laws.proofs.Keeps.{KeepsLive, has_at, live-goes, live-settle_all, live-world_after}
-use Rattle.world_laws.proofs.Rests.{repeated_idle}
+use Rattle.world_laws.proofs.Rests.{rests_still}
 
 -- the mark has come to a number, no mark passes the messages, and all messages have numbers
 pub record Passed {S : Type 0} (low : ℕ) (w : World S) : Type 0 where
@@ -112,7 +112,7 @@ unfolding repeated
 rests_after step zero w enough is = elim (raises step w is) [ inl rests ↦ rests | inr more ↦ absurd (omega (arith, more.0)) ]
 rests_after step (suc k) w enough is =
     elim (raises step w is) [
-      inl rests ↦ ap (λ v. flow_once step (repeated (flow_once step) k v)) rests ∙ (ap (flow_once step) (repeated_idle (flow_once step) k w rests) ∙ (rests ∙ (sym (repeated_idle (flow_once step) k w rests) ∙ sym (ap (repeated (flow_once step) k) rests))))
+      inl rests ↦ rests_still (flow_once step) (suc k) w rests
     | inr more ↦ rests_after step k (flow_once step w) (omega (arith, more.1.past)) (record { mark = more.1.mark; sent = more.1.sent })
     ]
 

@@ -1,3 +1,5 @@
 //! The laws of a play: one list, for every script. They speak of the definitions alone, and stand
 //! on functions with empty bodies.
 #![tactic(auto)]
+
+pub mod rest;
