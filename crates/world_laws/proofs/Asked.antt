@@ -21,12 +21,14 @@ use Rattle.smart_base.specs.declared.view.View.{View}
 use Rattle.world_rules.specs.Clients.{request_of, asking}
 use Rattle.world_rules.specs.Promises.{HasAsked}
 use Rattle.world_rules.specs.Worlds.{Host, World, sends, sends_all, chosen_with, host_after, stepped, hearing, hosts_from, begun}
+use Rattle.world_rules.specs.Plays.{world_after}
+use Rattle.world_rules.specs.declared.line.Line.{Line}
 use Rattle.world_rules.specs.declared.message.Origin.{Origin}
 use Rattle.world_rules.specs.declared.message.Origin.TheVariants as origins
 use Rattle.world_rules.specs.declared.message.Sent.{Sent}
 use Rattle.world_laws.proofs.Lists.{some-equal, and_true, either, each_end, each_weaker, each_set, each_get}
 use Rattle.world_laws.proofs.Numbered.{EachAt, each_at_end, each_at_get, each_at_weaker}
-use Rattle.world_laws.proofs.Keeps.{HasMessage, MayCome, Keeps}
+use Rattle.world_laws.proofs.Keeps.{HasMessage, MayCome, Keeps, keeps-world_after}
 use Rattle.world_laws.proofs.Authentic.{GoodBatch, MessageAsked, ForBatch, NodeAuthentic, EventAsked, good-weaker, message-weaker, authentic-weaker, authentic-released, authentic-step, each-leaving}
 
 -- the batch of each place was asked and fits there
@@ -151,6 +153,10 @@ hosts_asked A m view (id ∷ ids) = (record { pool = tt; arrivals = tt; waiting 
 
 pub asked-begun : {S : Type 0} (m : Meaning S) (view : View) → RequestsAsked (begun m view)
 asked-begun m view = record { all = record { hosts = hosts_asked (HasAsked []) m view view.members; sent = tt; chosen = tt } }
+
+-- after any lines of any script, each request was asked by its client, and each batch fits its place
+pub asked-after : {S : Type 0} (m : Meaning S) (view : View) (ls : List Line) → RequestsAsked (world_after (step_of m) (begun m view) ls)
+asked-after m view ls = keeps-world_after (step_of m) RequestsAsked (keeps-asked m) (begun m view) ls (asked-begun m view)
 
 -- what follows of the list
 

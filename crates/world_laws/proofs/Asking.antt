@@ -17,7 +17,9 @@ use Rattle.node_rules.specs.declared.node.Target.TheVariants as targets
 use Rattle.world_rules.specs.Clients.{fresh, request_of, asking, acceptance, heard, after_heard}
 use Rattle.world_rules.specs.Promises.{HasAsked, Rises}
 use Rattle.world_rules.specs.Worlds.{Host, World, sends, sends_all, stepped, acceptance_in, hearing, clients_from, begun}
+use Rattle.world_rules.specs.Plays.{world_after}
 use Rattle.world_rules.specs.declared.client.Client.{Client}
+use Rattle.world_rules.specs.declared.line.Line.{Line}
 use Rattle.world_rules.specs.declared.client.Acceptance.{Acceptance}
 use Rattle.world_rules.specs.declared.client.Heard.{Heard}
 use Rattle.world_rules.specs.declared.client.Heard.TheVariants as hears
@@ -28,7 +30,7 @@ use Rattle.world_rules.specs.declared.message.Origin.TheVariants as origins
 use Rattle.world_rules.specs.declared.message.Sent.{Sent}
 use Rattle.world_laws.proofs.Lists.{either, some-equal, each_end, each_weaker}
 use Rattle.world_laws.proofs.Numbered.{EachAt, each_at_get, each_at_weaker, each_at_set}
-use Rattle.world_laws.proofs.Keeps.{KeepsLive}
+use Rattle.world_laws.proofs.Keeps.{KeepsLive, live-world_after}
 use Rattle.world_laws.proofs.Asked.{asked_end, asked_now}
 use Rattle.world_laws.proofs.Hearing.{Accepts, accepts_waiting}
 
@@ -276,3 +278,7 @@ right-begun m view =
   where
     no_request : (r : Request) → None ≡ Some r → ⊥
     no_request r same = cc
+
+-- after any lines of any script, clients are right
+pub right-after : {S : Type 0} (m : Meaning S) (step : Node S → NodeEvent → Outcome S) (view : View) (ls : List Line) → ClientsRight (world_after step (begun m view) ls)
+right-after m step view ls = live-world_after step ClientsRight (keeps-right step) (begun m view) ls (right-begun m view)

@@ -91,6 +91,10 @@ pub bounded-begun : {S : Type 0} (m : Meaning S) (view : View) → BoundedWorld 
 bounded-begun m view = record { mark = omega arith; sent = omega arith }
 
 
+-- after any lines of any script, the mark and the messages are bounded
+pub bounded-after : {S : Type 0} (m : Meaning S) (step : Node S → NodeEvent → Outcome S) (view : View) (ls : List Line) → BoundedWorld (world_after step (begun m view) ls)
+bounded-after m step view ls = live-world_after step BoundedWorld (keeps-bounded step) (begun m view) ls (bounded-begun m view)
+
 -- a turn of a flow rests, or raises the mark
 raises_sent : {S : Type 0} (step : Node S → NodeEvent → Outcome S) (w : World S) (found : Option Sent) → slice_get w.sent w.mark ≡ found → BoundedWorld w
     → (flow_sent step w found ≡ w) ⊎ ((w.mark < 2 ^ 24) × Passed (w.mark + 1) (flow_sent step w found))
@@ -131,4 +135,4 @@ pub flow_line_rests : {S : Type 0} (m : Meaning S) (step : Node S → NodeEvent 
 unfolding line_played
 flow_line_rests m step view ls =
     flow_rests step (settle_all step (world_after step (begun m view) ls))
-    (live-settle_all step BoundedWorld (keeps-bounded step) (world_after step (begun m view) ls) (live-world_after step BoundedWorld (keeps-bounded step) (begun m view) ls (bounded-begun m view)))
+    (live-settle_all step BoundedWorld (keeps-bounded step) (world_after step (begun m view) ls) (bounded-after m step view ls))

@@ -74,6 +74,17 @@ live step P k =
       tell = λ w told p. k.same w w.mark told p;
     }
 
+-- two facts that are kept, are kept together
+pub live-both : {S : Type 0} (step : Node S → NodeEvent → Outcome S) (P Q : World S → Type 0) → KeepsLive step P → KeepsLive step Q → KeepsLive step (λ w. P w × Q w)
+live-both step P Q k l =
+    record {
+      event = λ w i h event on at may is. (k.event w i h event on at may is.0, l.event w i h event on at may is.1);
+      hear = λ w i c a on at has is. (k.hear w i c a on at has is.0, l.hear w i c a on at has is.1);
+      ask = λ w i c op on at free is. (k.ask w i c op on at free is.0, l.ask w i c op on at free is.1);
+      mark = λ w s on at is. (k.mark w s on at is.0, l.mark w s on at is.1);
+      tell = λ w told is. (k.tell w told is.0, l.tell w told is.1);
+    }
+
 -- messages stay
 
 has_end : (sent : List Sent) (s : Sent) (x : Message) → HasMessage sent x → HasMessage (sent ++ s ∷ []) x
