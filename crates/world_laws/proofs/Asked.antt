@@ -56,6 +56,7 @@ pub asked_now : (sent : List Sent) (q : Request) → HasAsked (sent ++ record { 
 asked_now [] q = inl refl
 asked_now (t ∷ sent) q = inr (asked_now sent q)
 
+-- what counts as asked in a world, counts so where more does
 asked_as-weaker : {S : Type 0} (A B : Request → Type 0) → ((q : Request) → A q → B q) → (w : World S) → AskedAs A w → AskedAs B w
 asked_as-weaker {S = S} A B weaker w is =
     record {
@@ -66,6 +67,7 @@ asked_as-weaker {S = S} A B weaker w is =
 
 -- messages leave
 
+-- a message leaves that carries what was asked
 asked-sends : {S : Type 0} (w : World S) (origin : Origin) (to : Target) (message : Message)
     → MessageAsked (HasAsked (w.sent ++ record { origin = origin; to = to; message = message } ∷ [])) message → RequestsAsked w → RequestsAsked (sends w origin to message)
 unfolding sends
@@ -82,6 +84,7 @@ pub asked_grows : {S : Type 0} (w : World S) (origin : Origin) (to : Target) (me
 unfolding sends
 asked_grows {S = S} w origin to message q asked = either (λ (v : World S). HasAsked v.sent q) (nat_lt (length w.sent) (2 ^ 24)) _ _ (asked_end w.sent _ q asked) asked
 
+-- messages of a node leave
 asked-sends_all : {S : Type 0} (id : ℕ) (w : World S) (held : List Held) → Each (λ h. MessageAsked (HasAsked w.sent) h.message) held → RequestsAsked w → RequestsAsked (sends_all id w held)
 asked-sends_all id w [] each is = is
 asked-sends_all {S = S} id w (h ∷ hs) each is =
@@ -93,6 +96,7 @@ asked-sends_all {S = S} id w (h ∷ hs) each is =
 
 -- a batch is chosen
 
+-- a good batch is chosen for the next place, or none is
 chosen-if : (A : Request → Type 0) (chosen : List (List Request)) (place : ℕ) (batch : List Request) (t : Bool) → (place == length chosen + 1) ≡ t → ChosenGood A chosen → GoodBatch A place batch
     → ChosenGood A (cond t (chosen ++ batch ∷ []) chosen)
 chosen-if A chosen place batch true is each good =
@@ -100,23 +104,27 @@ chosen-if A chosen place batch true is each good =
     each_at_end (λ i b. GoodBatch A (suc i) b) chosen batch each (subst (λ (k : ℕ). GoodBatch A k batch) same good)
 chosen-if A chosen place batch false is each good = each
 
+-- the batch that waits at a node, if one does, is good to choose
 chosen-with : (A : Request → Type 0) (chosen : List (List Request)) (place : ℕ) (waiting : Option (List Request)) → ChosenGood A chosen → ForBatch waiting (GoodBatch A place) → ChosenGood A (chosen_with chosen place waiting)
 chosen-with A chosen place None each good = each
 chosen-with A chosen place (Some batch) each good = chosen-if A chosen place batch (place == length chosen + 1) refl each good
 
 -- events
 
+-- a message that was sent carries what was asked
 message_asked : (A : Request → Type 0) (sent : List Sent) (message : Message) → Each (λ s. MessageAsked A s.message) sent → HasMessage sent message → MessageAsked A message
 message_asked A [] message each has = absurd has
 message_asked A (s ∷ sent) message each has =
     elim has [ inl here ↦ subst (MessageAsked A) here each.0 | inr later ↦ message_asked A sent message each.1 later ]
 
+-- what may come to a node carries what was asked
 event_asked : {S : Type 0} (w : World S) (h : Host S) (event : NodeEvent) → MayCome w h event → RequestsAsked w → EventAsked (HasAsked w.sent) event
 event_asked w h (Arrive message) may is = message_asked (HasAsked w.sent) w.sent message is.all.sent may
 event_asked w h Tick may is = tt
 event_asked w h Deliver may is = tt
 event_asked w h (Firm count) may is = tt
 
+-- a node takes an event
 asked-stepped : {S : Type 0} (m : Meaning S) (w : World S) (i : ℕ) (h : Host S) (event : NodeEvent) → slice_get w.hosts i ≡ Some h → MayCome w h event → RequestsAsked w → RequestsAsked (stepped w i h (step_of m h.node event))
 unfolding stepped
 asked-stepped {S = S} m w i h event at may is =
@@ -140,17 +148,19 @@ keeps-asked m =
       event = λ w i h event at may is. asked-stepped m w i h event at may is;
       hear = λ w i c a at has is. record { all = record { hosts = is.all.hosts; sent = is.all.sent; chosen = is.all.chosen } };
       ask = λ w i c op at free is.
-        asked-sends (record w { clients = slice_set w.clients i (asking c (request_of c op)) }) (origins.Client c.id) targets.View (Ask (request_of c op))
-        (asked_now w.sent (request_of c op)) (record { all = record { hosts = is.all.hosts; sent = is.all.sent; chosen = is.all.chosen } });
+          asked-sends (record w { clients = slice_set w.clients i (asking c (request_of c op)) }) (origins.Client c.id) targets.View (Ask (request_of c op))
+          (asked_now w.sent (request_of c op)) (record { all = record { hosts = is.all.hosts; sent = is.all.sent; chosen = is.all.chosen } });
       same = λ w mark told is. record { all = record { hosts = is.all.hosts; sent = is.all.sent; chosen = is.all.chosen } };
     }
 
 -- the beginning
 
+-- nodes that have just opened hold no request
 hosts_asked : {S : Type 0} (A : Request → Type 0) (m : Meaning S) (view : View) (members : List ℕ) → Each (λ h. NodeAuthentic A h.node) (hosts_from m view members)
 hosts_asked A m view [] = tt
 hosts_asked A m view (id ∷ ids) = (record { pool = tt; arrivals = tt; waiting = tt; held = tt }, hosts_asked A m view ids)
 
+-- a world begins with no request
 pub asked-begun : {S : Type 0} (m : Meaning S) (view : View) → RequestsAsked (begun m view)
 asked-begun m view = record { all = record { hosts = hosts_asked (HasAsked []) m view view.members; sent = tt; chosen = tt } }
 
@@ -172,11 +182,13 @@ pub record StandsRight (sent : List Sent) (place : ℕ) (q : Request) : Type 0 w
   pub client_low : 1 ≤ q.client
   pub client_high : q.client ≤ 1024
 
+-- what each value passes, the value at an index passes
 all_at : {A : Type 0} (p : A → Bool) (xs : List A) (i : ℕ) (x : A) → list_all p xs ≡ true → slice_get xs i ≡ Some x → p x ≡ true
 all_at p [] i x all at = absurd (cc)
 all_at p (y ∷ xs) zero x all at = ap p (sym (some-equal y x at)) ∙ (and_true (p y) (list_all p xs) all).0
 all_at p (y ∷ xs) (suc i) x all at = all_at p xs i x (and_true (p y) (list_all p xs) all).1 at
 
+-- the request at an index of a good batch stands right
 stands_in : (sent : List Sent) (place : ℕ) (batch : List Request) (index : ℕ) (q : Request) → GoodBatch (HasAsked sent) place batch → slice_get batch index ≡ Some q → StandsRight sent place q
 stands_in sent place batch index q good at =
     let fit = and_true (nat_lt 0 (length batch) && nat_le (length batch) 64) (list_all (request_fits place) batch) good.fitting in
@@ -190,6 +202,7 @@ stands_in sent place batch index q good at =
       client_high = leb-true q.client 1024 outer.1;
     }
 
+-- the request at an index of a batch that is found stands right
 stands_found : (sent : List Sent) (place : ℕ) (found : Option (List Request)) (index : ℕ) (q : Request) → ((batch : List Request) → found ≡ Some batch → GoodBatch (HasAsked sent) place batch)
     → option_and_then (λ batch. slice_get batch index) found ≡ Some q → StandsRight sent place q
 stands_found sent place None index q good at = absurd (cc)

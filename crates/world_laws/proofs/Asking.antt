@@ -60,6 +60,7 @@ pub record ClientsRight {S : Type 0} (w : World S) : Type 0 where
 
 -- nodes ask nothing
 
+-- what a client asked, it asked before a node sent
 node_asks_nothing : (sent : List Sent) (id : ℕ) (to : Target) (message : Message) (q : Request) → HasAsked (sent ++ record { origin = origins.Node id; to = to; message = message } ∷ []) q → HasAsked sent q
 node_asks_nothing [] id to message q asked = elim asked [ inl here ↦ absurd (other (ap (λ (s : Sent). s.origin) here)) | inr later ↦ absurd later ]
   where
@@ -78,6 +79,7 @@ asks_one (t ∷ sent) origin to new q asked =
 
 -- a message of a node leaves
 
+-- clients stay right where messages leave that ask nothing
 right-sent : (sent sent' : List Sent) (ending ending' : Option Ending) (clients : List Client) (accepted : List Acceptance) → ((q : Request) → HasAsked sent q → HasAsked sent' q) → ((q : Request) → HasAsked sent' q → HasAsked sent q)
     → (ending' ≡ None → ending ≡ None) → Right sent ending clients accepted → Right sent' ending' clients accepted
 right-sent sent sent' ending ending' clients accepted forth back on is =
@@ -95,9 +97,11 @@ right-sent sent sent' ending ending' clients accepted forth back on is =
       rising = is.rising;
     }
 
+-- a play that has ended has ended
 ended_not : Some Limit ≡ None → ⊥
 ended_not same = cc
 
+-- a message of a node leaves
 right-node_sends : {S : Type 0} (w : World S) (id : ℕ) (to : Target) (message : Message) → ClientsRight w → ClientsRight (sends w (origins.Node id) to message)
 unfolding sends
 right-node_sends {S = S} w id to message is =
@@ -106,16 +110,19 @@ right-node_sends {S = S} w id to message is =
     (record { all = right-sent w.sent (w.sent ++ s ∷ []) w.ending w.ending w.clients w.accepted (asked_end w.sent s) (node_asks_nothing w.sent id to message) (λ on. on) is.all })
     (record { all = right-sent w.sent w.sent w.ending (Some Limit) w.clients w.accepted (λ q asked. asked) (λ q asked. asked) (λ on. absurd (ended_not on)) is.all })
 
+-- messages of a node leave
 right-sends_all : {S : Type 0} (id : ℕ) (w : World S) (held : List Held) → ClientsRight w → ClientsRight (sends_all id w held)
 right-sends_all id w [] is = is
 right-sends_all id w (h ∷ hs) is = right-sends_all id (sends w (origins.Node id) h.to h.message) hs (right-node_sends w id h.to h.message is)
 
+-- a node takes an event
 right-stepped : {S : Type 0} (w : World S) (i : ℕ) (h : Host S) (o : Outcome S) → ClientsRight w → ClientsRight (stepped w i h o)
 unfolding stepped
 right-stepped w i h o is = right-sends_all h.node.id _ (leaving o.node.firm o.node.held) (record { all = is.all })
 
 -- a client asks
 
+-- clients stay right where one asks: its message has a number, or the play ends
 right-ask : (sent sent' : List Sent) (ending ending' : Option Ending) (clients : List Client) (accepted : List Acceptance) (i : ℕ) (c : Client) (op : List ℕ)
     → slice_get clients i ≡ Some c → ((q : Request) → HasAsked sent q → HasAsked sent' q) → ((q : Request) → HasAsked sent' q → HasAsked sent q ⊎ (q ≡ request_of c op))
     → (ending' ≡ None → HasAsked sent' (request_of c op)) → (ending' ≡ None → ending ≡ None) → Right sent ending clients accepted
@@ -139,27 +146,30 @@ right-ask sent sent' ending ending' clients accepted i c op at forth back now on
             seen = own.seen;
           });
       one = λ q r asked_q asked_r client seq.
-        elim (back q asked_q) [
-          inl q_before ↦ elim (back r asked_r) [
-            inl r_before ↦ is.one q r q_before r_before client seq
-          | inr r_new ↦ absurd (past (own.last q q_before (client ∙ (ap (λ (x : Request). x.client) r_new ∙ own.id))) (seq ∙ ap (λ (x : Request). x.seq) r_new))
-          ]
-        | inr q_new ↦ elim (back r asked_r) [
-            inl r_before ↦ absurd (past (own.last r r_before (sym client ∙ (ap (λ (x : Request). x.client) q_new ∙ own.id))) (sym seq ∙ ap (λ (x : Request). x.seq) q_new))
-          | inr r_new ↦ q_new ∙ sym r_new
-          ]
-        ];
+          elim (back q asked_q) [
+            | inl q_before ↦ elim (back r asked_r) [
+              | inl r_before ↦ is.one q r q_before r_before client seq
+              | inr r_new ↦ absurd (past (own.last q q_before (client ∙ (ap (λ (x : Request). x.client) r_new ∙ own.id))) (seq ∙ ap (λ (x : Request). x.seq) r_new))
+            ]
+            | inr q_new ↦ elim (back r asked_r) [
+              | inl r_before ↦ absurd (past (own.last r r_before (sym client ∙ (ap (λ (x : Request). x.client) q_new ∙ own.id))) (sym seq ∙ ap (λ (x : Request). x.seq) q_new))
+              | inr r_new ↦ q_new ∙ sym r_new
+            ]
+          ];
       asked = each_weaker (λ (a : Acceptance). HasAsked sent a.request) (λ (a : Acceptance). HasAsked sent' a.request) (λ a asked. forth a.request asked) accepted is.asked;
       rising = is.rising;
     }
   where
     more : {s : ℕ} → s ≤ c.last → s ≤ c.last + 1
     more low = omega arith
+
     last_is : {s : ℕ} → s ≡ c.last + 1 → s ≤ c.last + 1
     last_is same = omega arith
+
     past : {s : ℕ} → s ≤ c.last → s ≡ c.last + 1 → ⊥
     past low same = omega arith
 
+-- a client asks
 right-asks : {S : Type 0} (w : World S) (i : ℕ) (c : Client) (op : List ℕ) → slice_get w.clients i ≡ Some c → ClientsRight w
     → ClientsRight (sends (record w { clients = slice_set w.clients i (asking c (request_of c op)) }) (origins.Client c.id) targets.View (Ask (request_of c op)))
 unfolding sends
@@ -176,6 +186,7 @@ right-asks {S = S} w i c op at is =
 
 -- a client hears
 
+-- clients stay right where one hears a reply and accepts none
 right-same : (sent : List Sent) (ending : Option Ending) (clients : List Client) (accepted : List Acceptance) (i : ℕ) (c' : Client) → ClientRight sent ending accepted i c' → Right sent ending clients accepted
     → Right sent ending (slice_set clients i c') (accepted ++ [])
 right-same sent ending clients accepted i c' own is =
@@ -187,6 +198,7 @@ right-same sent ending clients accepted i c' own is =
       rising = is.rising;
     })
 
+-- what is accepted last stands above all that its client accepted
 rises_end : (accepted : List Acceptance) (b : Acceptance) → Rises accepted → Each (λ a. b.request.client ≡ a.request.client → a.place ≤ b.request.after) accepted → Rises (accepted ++ b ∷ [])
 rises_end [] b rises below = (tt, tt)
 rises_end (a ∷ later) b rises below =
@@ -225,13 +237,17 @@ right-accept sent ending clients accepted i c a q at waits on is =
   where
     no_request : (r : Request) → None ≡ Some r → ⊥
     no_request r same = cc
+
     higher : {p : ℕ} → p ≤ c.seen → p ≤ max c.seen a.place
     higher low = omega arith
+
     highest : a.place ≤ max c.seen a.place
     highest = omega arith
+
     known : {p : ℕ} → p ≤ c.seen → q.after ≡ c.seen → p ≤ q.after
     known low same = omega arith
 
+-- clients stay right where one hears a reply
 right-heard : (sent : List Sent) (ending : Option Ending) (clients : List Client) (accepted : List Acceptance) (v : View) (i : ℕ) (c : Client) (a : Answer) (h : Heard)
     → slice_get clients i ≡ Some c → ending ≡ None → heard v c a ≡ h → Right sent ending clients accepted
     → Right sent ending (slice_set clients i (after_heard c a h)) (accepted ++ acceptance_in h)
@@ -259,12 +275,14 @@ keeps-right step =
 
 -- the beginning
 
+-- what holds of each fresh client
 each_fresh : (P : ℕ → Client → Type 0) (count i : ℕ) → ((k : ℕ) → P k (fresh (i + k))) → EachAt P (clients_from count i)
 unfolding clients_from
 each_fresh P zero i each = tt
 each_fresh P (suc count) i each =
     (subst (λ (n : ℕ). P zero (fresh n)) (omega arith) (each zero), each_fresh (λ k. P (suc k)) count (i + 1) (λ k. subst (λ (n : ℕ). P (suc k) (fresh n)) (omega arith) (each (suc k))))
 
+-- clients begin right
 pub right-begun : {S : Type 0} (m : Meaning S) (view : View) → ClientsRight (begun m view)
 right-begun m view =
     record {

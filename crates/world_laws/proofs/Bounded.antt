@@ -38,6 +38,7 @@ pub record BoundedWorld {S : Type 0} (w : World S) : Type 0 where
   pub mark : w.mark ≤ length w.sent
   pub sent : length w.sent ≤ 2 ^ 24
 
+-- a message leaves if it has a number
 passed-sends : {S : Type 0} (low : ℕ) (w : World S) (origin : Origin) (to : Target) (message : Message) → Passed low w → Passed low (sends w origin to message)
 unfolding sends
 passed-sends {S = S} low w origin to message is =
@@ -45,13 +46,15 @@ passed-sends {S = S} low w origin to message is =
     let longer : length (w.sent ++ s ∷ []) ≡ length w.sent + 1 = length-append w.sent (s ∷ []) in
     either_by (λ (v : World S). Passed low v) (nat_lt (length w.sent) (2 ^ 24)) _ _
     (λ room. let below : length w.sent < 2 ^ 24 = ltb-true (length w.sent) (2 ^ 24) room in
-      record { past = is.past; mark = omega (arith, is.mark, longer); sent = omega (arith, below, longer) })
+    record { past = is.past; mark = omega (arith, is.mark, longer); sent = omega (arith, below, longer) })
     (λ full. record { past = is.past; mark = is.mark; sent = is.sent })
 
+-- messages of a node leave
 passed-sends_all : {S : Type 0} (low id : ℕ) (w : World S) (held : List Held) → Passed low w → Passed low (sends_all id w held)
 passed-sends_all low id w [] is = is
 passed-sends_all low id w (h ∷ hs) is = passed-sends_all low id (sends w (origins.Node id) h.to h.message) hs (passed-sends low w (origins.Node id) h.to h.message is)
 
+-- a node takes an event
 passed-stepped : {S : Type 0} (low : ℕ) (w : World S) (i : ℕ) (h : Host S) (o : Outcome S) → Passed low w → Passed low (stepped w i h o)
 unfolding stepped
 passed-stepped low w i h o is = passed-sends_all low h.node.id _ (leaving o.node.firm o.node.held) (record { past = is.past; mark = is.mark; sent = is.sent })
@@ -64,8 +67,8 @@ keeps-passed step low =
       event = λ w i h event on at may is. passed-stepped low w i h (step h.node event) is;
       hear = λ w i c a on at has is. record { past = is.past; mark = is.mark; sent = is.sent };
       ask = λ w i c op on at free is.
-        passed-sends low (record w { clients = slice_set w.clients i (asking c (request_of c op)) }) (origins.Client c.id) targets.View (Ask (request_of c op))
-        (record { past = is.past; mark = is.mark; sent = is.sent });
+          passed-sends low (record w { clients = slice_set w.clients i (asking c (request_of c op)) }) (origins.Client c.id) targets.View (Ask (request_of c op))
+          (record { past = is.past; mark = is.mark; sent = is.sent });
       mark = λ w s on at is. record { past = omega (arith, is.past); mark = omega (arith, slice_get_within w.sent w.mark s at); sent = is.sent };
       tell = λ w told is. record { past = is.past; mark = is.mark; sent = is.sent };
     }
@@ -84,12 +87,13 @@ keeps-bounded step =
   where
     passed : {S : Type 0} {w : World S} → BoundedWorld w → Passed 0 w
     passed is = record { past = omega arith; mark = is.mark; sent = is.sent }
+
     bounded : {S : Type 0} {w : World S} → Passed 0 w → BoundedWorld w
     bounded is = record { mark = is.mark; sent = is.sent }
 
+-- a world begins without messages
 pub bounded-begun : {S : Type 0} (m : Meaning S) (view : View) → BoundedWorld (begun m view)
 bounded-begun m view = record { mark = omega arith; sent = omega arith }
-
 
 -- after any lines of any script, the mark and the messages are bounded
 pub bounded-after : {S : Type 0} (m : Meaning S) (step : Node S → NodeEvent → Outcome S) (view : View) (ls : List Line) → BoundedWorld (world_after step (begun m view) ls)
@@ -101,10 +105,13 @@ raises_sent : {S : Type 0} (step : Node S → NodeEvent → Outcome S) (w : Worl
 raises_sent step w None at is = inl refl
 raises_sent {S = S} step w (Some s) at is =
     let within : w.mark < length w.sent = slice_get_within w.sent w.mark s at in
-    inr (omega (arith, is.sent),
+    inr (
+      omega (arith, is.sent),
       live-goes step (Passed (w.mark + 1)) (keeps-passed step (w.mark + 1)) (record w { mark = w.mark + 1 }) s.message s.to (has_at w.sent w.mark s at)
-      (record { past = omega arith; mark = omega arith; sent = is.sent }))
+          (record { past = omega arith; mark = omega arith; sent = is.sent }),
+    )
 
+-- a turn of a flow rests, or raises the mark, whether the play has ended or not
 raises : {S : Type 0} (step : Node S → NodeEvent → Outcome S) (w : World S) → BoundedWorld w → (flow_once step w ≡ w) ⊎ ((w.mark < 2 ^ 24) × Passed (w.mark + 1) (flow_once step w))
 unfolding flow_once
 raises {S = S} step w is =
@@ -116,10 +123,11 @@ unfolding repeated
 rests_after step zero w enough is = elim (raises step w is) [ inl rests ↦ rests | inr more ↦ absurd (omega (arith, more.0)) ]
 rests_after step (suc k) w enough is =
     elim (raises step w is) [
-      inl rests ↦ rests_still (flow_once step) (suc k) w rests
-    | inr more ↦ rests_after step k (flow_once step w) (omega (arith, more.1.past)) (record { mark = more.1.mark; sent = more.1.sent })
+      | inl rests ↦ rests_still (flow_once step) (suc k) w rests
+      | inr more ↦ rests_after step k (flow_once step w) (omega (arith, more.1.past)) (record { mark = more.1.mark; sent = more.1.sent })
     ]
 
+-- there are more turns than numbers of messages
 turns_enough : 2 ^ 24 ≤ turns
 unfolding turns
 turns_enough = omega arith

@@ -34,10 +34,12 @@ test_passed : {A : Type 0} (t : Bool) (x : A) (rest : Option A) → cond (not t)
 test_passed true x rest none = (refl, none)
 test_passed false x rest none = absurd (cc)
 
+-- where the last reason gives none, its test has failed
 test_failed : {A : Type 0} (t : Bool) (x : A) → cond t (Some x) None ≡ None → t ≡ false
 test_failed true x none = absurd (cc)
 test_failed false x none = refl
 
+-- a reply that no reason ignores counts for the request that waits
 counts_where_not_ignored : (v : View) (c : Client) (a : Answer) (q : Request) → c.waiting ≡ Some q → why_ignored v c a ≡ None → CountsFor v c a q
 unfolding why_ignored
 counts_where_not_ignored v c a q waits none =
@@ -54,10 +56,12 @@ counts_where_not_ignored v c a q waits none =
       first = test_failed (list_any (λ r. r.signer == a.signer) c.replies) reasons.Repeated three.1;
     }
 
+-- a reply is accepted where enough members gave it
 accepted_where_enough : (t : Bool) (x acc : Acceptance) (count need : ℕ) → cond t (hears.Accepted x) (hears.Counted count need) ≡ hears.Accepted acc → (t ≡ true) × (acc ≡ x)
 accepted_where_enough true x acc count need same = (refl, cc)
 accepted_where_enough false x acc count need same = absurd (cc)
 
+-- what is accepted, by reason and by waiting request
 accepts_unless : (v : View) (c : Client) (a : Answer) (acc : Acceptance) (why : Option Ignored) (waiting : Option Request) → why_ignored v c a ≡ why → c.waiting ≡ waiting
     → heard_unless v c a why waiting ≡ hears.Accepted acc → Accepts v c a acc
 accepts_unless v c a acc (Some why) waiting fine waits same = absurd (cc)

@@ -19,6 +19,7 @@ each_at_get P [] i x each at = absurd (cc)
 each_at_get P (y ∷ xs) zero x each at = subst (P zero) (some-equal y x at) each.0
 each_at_get P (y ∷ xs) (suc i) x each at = each_at_get (λ j. P (suc j)) xs i x each.1 at
 
+-- what follows from what holds of each
 pub each_at_weaker : {A : Type 0} (P Q : ℕ → A → Type 0) → ((i : ℕ) (x : A) → P i x → Q i x) → (xs : List A) → EachAt P xs → EachAt Q xs
 each_at_weaker P Q weaker [] each = tt
 each_at_weaker P Q weaker (x ∷ xs) each = (weaker zero x each.0, each_at_weaker (λ i. P (suc i)) (λ i. Q (suc i)) (λ i y. weaker (suc i) y) xs each.1)
