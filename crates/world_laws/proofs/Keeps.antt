@@ -24,7 +24,7 @@ use Rattle.world_rules.specs.declared.line.OutLine.{OutLine}
 use Rattle.world_rules.specs.declared.message.Origin.{Origin}
 use Rattle.world_rules.specs.declared.message.Origin.TheVariants as origins
 use Rattle.world_rules.specs.declared.message.Sent.{Sent}
-use Rattle.world_laws.proofs.Lists.{either, until_rest_keeps, each_from_keeps, some-equal}
+use Rattle.world_laws.proofs.Lists.{either, either_by, until_rest_keeps, each_from_keeps, some-equal}
 
 -- a message was sent
 abbrev pub HasMessage : List Sent → Message → Type 0
@@ -50,24 +50,64 @@ pub record Keeps {S : Type 0} (step : Node S → NodeEvent → Outcome S) (P : W
   -- nothing but the flow's mark and the transcript changes
   pub same : (w : World S) (mark : ℕ) (told : List OutLine) → P w → P (record w { mark = mark; told = told })
 
+-- a fact on worlds that each event keeps, while nothing has ended the play
+pub record KeepsLive {S : Type 0} (step : Node S → NodeEvent → Outcome S) (P : World S → Type 0) : Type 0 where
+  -- a host's node takes an event
+  pub event : (w : World S) (i : ℕ) (h : Host S) (event : NodeEvent) → w.ending ≡ None → slice_get w.hosts i ≡ Some h → MayCome w h event → P w → P (stepped w i h (step h.node event))
+  -- a client hears a reply
+  pub hear : (w : World S) (i : ℕ) (c : Client) (a : Answer) → w.ending ≡ None → slice_get w.clients i ≡ Some c → HasMessage w.sent (Reply a) → P w → P (hearing w i c a (heard w.view c a))
+  -- a client asks
+  pub ask : (w : World S) (i : ℕ) (c : Client) (op : List ℕ) → w.ending ≡ None → slice_get w.clients i ≡ Some c → c.waiting ≡ None → P w
+      → P (sends (record w { clients = slice_set w.clients i (asking c (request_of c op)) }) (origins.Client c.id) targets.View (Ask (request_of c op)))
+  -- a flow goes on to the message behind the mark
+  pub mark : (w : World S) (s : Sent) → w.ending ≡ None → slice_get w.sent w.mark ≡ Some s → P w → P (record w { mark = w.mark + 1 })
+  -- nothing but the transcript changes
+  pub tell : (w : World S) (told : List OutLine) → P w → P (record w { told = told })
+
+-- what each event keeps whatever was said of the ending, it keeps while nothing has ended the play
+pub live : {S : Type 0} (step : Node S → NodeEvent → Outcome S) (P : World S → Type 0) → Keeps step P → KeepsLive step P
+live step P k =
+    record {
+      event = λ w i h event on at may p. k.event w i h event at may p;
+      hear = λ w i c a on at has p. k.hear w i c a at has p;
+      ask = λ w i c op on at free p. k.ask w i c op at free p;
+      mark = λ w s on at p. k.same w (w.mark + 1) w.told p;
+      tell = λ w told p. k.same w w.mark told p;
+    }
+
+-- two facts that are kept, are kept together
+pub live-both : {S : Type 0} (step : Node S → NodeEvent → Outcome S) (P Q : World S → Type 0) → KeepsLive step P → KeepsLive step Q → KeepsLive step (λ w. P w × Q w)
+live-both step P Q k l =
+    record {
+      event = λ w i h event on at may is. (k.event w i h event on at may is.0, l.event w i h event on at may is.1);
+      hear = λ w i c a on at has is. (k.hear w i c a on at has is.0, l.hear w i c a on at has is.1);
+      ask = λ w i c op on at free is. (k.ask w i c op on at free is.0, l.ask w i c op on at free is.1);
+      mark = λ w s on at is. (k.mark w s on at is.0, l.mark w s on at is.1);
+      tell = λ w told is. (k.tell w told is.0, l.tell w told is.1);
+    }
+
 -- messages stay
 
 has_end : (sent : List Sent) (s : Sent) (x : Message) → HasMessage sent x → HasMessage (sent ++ s ∷ []) x
 has_end [] s x has = absurd has
 has_end (t ∷ sent) s x has = elim has [ inl here ↦ inl here | inr later ↦ inr (has_end sent s x later) ]
 
+-- a message that was sent stays so where another leaves
 pub has-sends : {S : Type 0} (w : World S) (origin : Origin) (to : Target) (message x : Message) → HasMessage w.sent x → HasMessage (sends w origin to message).sent x
 unfolding sends
 has-sends {S = S} w origin to message x has = either (λ (v : World S). HasMessage v.sent x) (nat_lt (length w.sent) (2 ^ 24)) _ _ (has_end w.sent _ x has) has
 
+-- and where many leave
 pub has-sends_all : {S : Type 0} (id : ℕ) (w : World S) (held : List Held) (x : Message) → HasMessage w.sent x → HasMessage (sends_all id w held).sent x
 has-sends_all id w [] x has = has
 has-sends_all id w (h ∷ hs) x has = has-sends_all id (sends w (origins.Node id) h.to h.message) hs x (has-sends w (origins.Node id) h.to h.message x has)
 
+-- and where a node has taken an event
 pub has-stepped : {S : Type 0} (w : World S) (i : ℕ) (h : Host S) (o : Outcome S) (x : Message) → HasMessage w.sent x → HasMessage (stepped w i h o).sent x
 unfolding stepped
 has-stepped w i h o x has = has-sends_all h.node.id _ (leaving o.node.firm o.node.held) x has
 
+-- and where a client has heard a reply
 pub has-hearing : {S : Type 0} (w : World S) (i : ℕ) (c : Client) (a : Answer) (h : Heard) (x : Message) → HasMessage w.sent x → HasMessage (hearing w i c a h).sent x
 unfolding hearing
 has-hearing w i c a h x has = has
@@ -82,28 +122,49 @@ carries step P x k =
       same = λ w mark told p. (k.same w mark told p.0, p.1);
     }
 
+-- the same while nothing has ended the play
+pub live-carries : {S : Type 0} (step : Node S → NodeEvent → Outcome S) (P : World S → Type 0) (x : Message) → KeepsLive step P → KeepsLive step (λ w. P w × HasMessage w.sent x)
+live-carries step P x k =
+    record {
+      event = λ w i h event on at may p. (k.event w i h event on at may p.0, has-stepped w i h (step h.node event) x p.1);
+      hear = λ w i c a on at has p. (k.hear w i c a on at has p.0, has-hearing w i c a (heard w.view c a) x p.1);
+      ask = λ w i c op on at free p. (k.ask w i c op on at free p.0, has-sends (record w { clients = slice_set w.clients i (asking c (request_of c op)) }) (origins.Client c.id) targets.View (Ask (request_of c op)) x p.1);
+      mark = λ w s on at p. (k.mark w s on at p.0, p.1);
+      tell = λ w told p. (k.tell w told p.0, p.1);
+    }
+
+-- what is not there is nothing
+pub none_is : {A : Type 0} (found : Option A) → is_some found ≡ false → found ≡ None
+none_is None none = refl
+none_is (Some x) none = absurd (cc)
+
 -- hosts
 
-keeps-host_takes : {S : Type 0} (step : Node S → NodeEvent → Outcome S) (P : World S → Type 0) → Keeps step P → (i : ℕ) (event : NodeEvent) (w : World S) (found : Option (Host S))
-    → slice_get w.hosts i ≡ found → ((h : Host S) → found ≡ Some h → MayCome w h event) → P w → P (host_takes step i event w found)
-keeps-host_takes step P k i event w None at may p = p
-keeps-host_takes step P k i event w (Some h) at may p = k.event w i h event at (may h refl) p
+-- a host that is found takes an event
+live-host_takes : {S : Type 0} (step : Node S → NodeEvent → Outcome S) (P : World S → Type 0) → KeepsLive step P → (i : ℕ) (event : NodeEvent) (w : World S) (found : Option (Host S))
+    → w.ending ≡ None → slice_get w.hosts i ≡ found → ((h : Host S) → found ≡ Some h → MayCome w h event) → P w → P (host_takes step i event w found)
+live-host_takes step P k i event w None on at may p = p
+live-host_takes step P k i event w (Some h) on at may p = k.event w i h event on at (may h refl) p
 
-keeps-node_takes : {S : Type 0} (step : Node S → NodeEvent → Outcome S) (P : World S → Type 0) → Keeps step P → (i : ℕ) (event : NodeEvent) (w : World S)
+-- the node at an index takes an event
+live-node_takes : {S : Type 0} (step : Node S → NodeEvent → Outcome S) (P : World S → Type 0) → KeepsLive step P → (i : ℕ) (event : NodeEvent) (w : World S)
     → ((h : Host S) → slice_get w.hosts i ≡ Some h → MayCome w h event) → P w → P (node_takes step i event w)
 unfolding node_takes
-keeps-node_takes step P k i event w may p = either P (is_some w.ending) w _ p (keeps-host_takes step P k i event w (slice_get w.hosts i) refl may p)
+live-node_takes step P k i event w may p = either_by P (is_some w.ending) w _ (λ over. p) (λ on. live-host_takes step P k i event w (slice_get w.hosts i) (none_is w.ending on) refl may p)
 
--- what is due may come
+-- events that may come
 
+-- an event, if there is one, may come to the host that is found, if one is
 abbrev MayBe : {S : Type 0} → World S → Option (Host S) → Option NodeEvent → Type 0
 MayBe w found None = Unit {0}
 MayBe {S} w found (Some event) = (h : Host S) → found ≡ Some h → MayCome w h event
 
+-- either branch of a choice may come
 may_be-if : {S : Type 0} (w : World S) (found : Option (Host S)) (b : Bool) (x y : Option NodeEvent) → MayBe w found x → MayBe w found y → MayBe w found (cond b x y)
 may_be-if w found true x y mx my = mx
 may_be-if w found false x y mx my = my
 
+-- what is due may come
 due_may_be : {S : Type 0} (w : World S) (found : Option (Host S)) → MayBe w found (option_and_then due found)
 due_may_be w None = tt
 due_may_be {S} w (Some h) =
@@ -114,92 +175,119 @@ due_may_be {S} w (Some h) =
     same_length : {S : Type 0} (a b : Host S) → a ≡ b → length a.node.entries ≡ length b.node.entries
     same_length a b same = cc
 
-keeps-takes_due : {S : Type 0} (step : Node S → NodeEvent → Outcome S) (P : World S → Type 0) → Keeps step P → (i : ℕ) (w : World S) (event : Option NodeEvent)
+-- a node takes what is due
+live-takes_due : {S : Type 0} (step : Node S → NodeEvent → Outcome S) (P : World S → Type 0) → KeepsLive step P → (i : ℕ) (w : World S) (event : Option NodeEvent)
     → MayBe w (slice_get w.hosts i) event → P w → P (takes_due step i w event)
-keeps-takes_due step P k i w None may p = p
-keeps-takes_due step P k i w (Some event) may p = keeps-node_takes step P k i event w may p
+live-takes_due step P k i w None may p = p
+live-takes_due step P k i w (Some event) may p = live-node_takes step P k i event w may p
 
-keeps-settle_once : {S : Type 0} (step : Node S → NodeEvent → Outcome S) (P : World S → Type 0) → Keeps step P → (i : ℕ) (w : World S) → P w → P (settle_once step i w)
+-- a node settles once
+live-settle_once : {S : Type 0} (step : Node S → NodeEvent → Outcome S) (P : World S → Type 0) → KeepsLive step P → (i : ℕ) (w : World S) → P w → P (settle_once step i w)
 unfolding settle_once
-keeps-settle_once step P k i w p = keeps-takes_due step P k i w (option_and_then due (slice_get w.hosts i)) (due_may_be w (slice_get w.hosts i)) p
+live-settle_once step P k i w p = live-takes_due step P k i w (option_and_then due (slice_get w.hosts i)) (due_may_be w (slice_get w.hosts i)) p
 
-keeps-settle : {S : Type 0} (step : Node S → NodeEvent → Outcome S) (P : World S → Type 0) → Keeps step P → (i : ℕ) (w : World S) → P w → P (settle step i w)
-keeps-settle step P k i w p = until_rest_keeps P (settle_once step i) (keeps-settle_once step P k i) w p
+-- a node settles
+live-settle : {S : Type 0} (step : Node S → NodeEvent → Outcome S) (P : World S → Type 0) → KeepsLive step P → (i : ℕ) (w : World S) → P w → P (settle step i w)
+live-settle step P k i w p = until_rest_keeps P (settle_once step i) (live-settle_once step P k i) w p
 
-keeps-settle_all : {S : Type 0} (step : Node S → NodeEvent → Outcome S) (P : World S → Type 0) → Keeps step P → (w : World S) → P w → P (settle_all step w)
-keeps-settle_all step P k w p = each_from_keeps P (settle step) (keeps-settle step P k) (length w.hosts) 0 w p
+-- all nodes settle
+pub live-settle_all : {S : Type 0} (step : Node S → NodeEvent → Outcome S) (P : World S → Type 0) → KeepsLive step P → (w : World S) → P w → P (settle_all step w)
+live-settle_all step P k w p = each_from_keeps P (settle step) (live-settle step P k) (length w.hosts) 0 w p
 
 -- a message that was sent is given
 
-keeps-gives : {S : Type 0} (step : Node S → NodeEvent → Outcome S) (P : World S → Type 0) → Keeps step P → (message : Message) (i : ℕ) (w : World S)
+-- a node takes a message that was sent, and settles
+live-gives : {S : Type 0} (step : Node S → NodeEvent → Outcome S) (P : World S → Type 0) → KeepsLive step P → (message : Message) (i : ℕ) (w : World S)
     → P w × HasMessage w.sent message → P (gives step message i w) × HasMessage (gives step message i w).sent message
 unfolding gives
-keeps-gives {S = S} step P k message i w p =
+live-gives {S = S} step P k message i w p =
     let Q : World S → Type 0 = λ v. P v × HasMessage v.sent message in
-    let kq : Keeps step Q = carries step P message k in
-    keeps-settle step Q kq i (node_takes step i (Arrive message) w) (keeps-node_takes step Q kq i (Arrive message) w (λ h at. p.1) p)
+    let kq : KeepsLive step Q = live-carries step P message k in
+    live-settle step Q kq i (node_takes step i (Arrive message) w) (live-node_takes step Q kq i (Arrive message) w (λ h at. p.1) p)
 
-keeps-give_all : {S : Type 0} (step : Node S → NodeEvent → Outcome S) (P : World S → Type 0) → Keeps step P → (message : Message) (w : World S) → HasMessage w.sent message → P w → P (give_all step message w)
-keeps-give_all {S = S} step P k message w has p =
-    (each_from_keeps (λ (v : World S). P v × HasMessage v.sent message) (gives step message) (keeps-gives step P k message) (length w.hosts) 0 w (p, has)).0
+-- all nodes take a message that was sent
+live-give_all : {S : Type 0} (step : Node S → NodeEvent → Outcome S) (P : World S → Type 0) → KeepsLive step P → (message : Message) (w : World S) → HasMessage w.sent message → P w → P (give_all step message w)
+live-give_all {S = S} step P k message w has p =
+    (each_from_keeps (λ (v : World S). P v × HasMessage v.sent message) (gives step message) (live-gives step P k message) (length w.hosts) 0 w (p, has)).0
 
 -- clients
 
-keeps-client_hears : {S : Type 0} (step : Node S → NodeEvent → Outcome S) (P : World S → Type 0) → Keeps step P → (i : ℕ) (message : Message) (w : World S) (found : Option Client)
-    → slice_get w.clients i ≡ found → HasMessage w.sent message → P w → P (client_hears w i message found)
-keeps-client_hears step P k i message w None at has p = p
-keeps-client_hears step P k i (Ask q) w (Some c) at has p = k.same w w.mark _ p
-keeps-client_hears step P k i (Propose o) w (Some c) at has p = k.same w w.mark _ p
-keeps-client_hears step P k i (Vote b) w (Some c) at has p = k.same w w.mark _ p
-keeps-client_hears step P k i (Reply a) w (Some c) at has p = k.hear w i c a at has p
+-- a client that is found hears a message
+live-client_hears : {S : Type 0} (step : Node S → NodeEvent → Outcome S) (P : World S → Type 0) → KeepsLive step P → (i : ℕ) (message : Message) (w : World S) (found : Option Client)
+    → w.ending ≡ None → slice_get w.clients i ≡ found → HasMessage w.sent message → P w → P (client_hears w i message found)
+live-client_hears step P k i message w None on at has p = p
+live-client_hears step P k i (Ask q) w (Some c) on at has p = k.tell w _ p
+live-client_hears step P k i (Propose o) w (Some c) on at has p = k.tell w _ p
+live-client_hears step P k i (Vote b) w (Some c) on at has p = k.tell w _ p
+live-client_hears step P k i (Reply a) w (Some c) on at has p = k.hear w i c a on at has p
 
-keeps-client_takes : {S : Type 0} (step : Node S → NodeEvent → Outcome S) (P : World S → Type 0) → Keeps step P → (i : ℕ) (message : Message) (w : World S) → HasMessage w.sent message → P w → P (client_takes i message w)
+-- the client at an index hears a message
+live-client_takes : {S : Type 0} (step : Node S → NodeEvent → Outcome S) (P : World S → Type 0) → KeepsLive step P → (i : ℕ) (message : Message) (w : World S) → HasMessage w.sent message → P w → P (client_takes i message w)
 unfolding client_takes
-keeps-client_takes step P k i message w has p = either P (is_some w.ending) w _ p (keeps-client_hears step P k i message w (slice_get w.clients i) refl has p)
+live-client_takes step P k i message w has p = either_by P (is_some w.ending) w _ (λ over. p) (λ on. live-client_hears step P k i message w (slice_get w.clients i) (none_is w.ending on) refl has p)
 
-keeps-client_asks : {S : Type 0} (step : Node S → NodeEvent → Outcome S) (P : World S → Type 0) → Keeps step P → (w : World S) (i : ℕ) (c : Client) (op : List ℕ) (waiting : Option Request)
-    → slice_get w.clients i ≡ Some c → c.waiting ≡ waiting → P w → P (client_asks w i c op waiting)
-keeps-client_asks step P k w i c op (Some q) at is p = k.same w w.mark _ p
-keeps-client_asks step P k w i c op None at is p = either P (nat_lt (c.last + 1) (2 ^ 63)) _ w (k.ask w i c op at is p) p
+-- a client asks, or tells that it is busy
+live-client_asks : {S : Type 0} (step : Node S → NodeEvent → Outcome S) (P : World S → Type 0) → KeepsLive step P → (w : World S) (i : ℕ) (c : Client) (op : List ℕ) (waiting : Option Request)
+    → w.ending ≡ None → slice_get w.clients i ≡ Some c → c.waiting ≡ waiting → P w → P (client_asks w i c op waiting)
+live-client_asks step P k w i c op (Some q) on at is p = k.tell w _ p
+live-client_asks step P k w i c op None on at is p = either P (nat_lt (c.last + 1) (2 ^ 63)) _ w (k.ask w i c op on at is p) p
 
-keeps-ask_found : {S : Type 0} (step : Node S → NodeEvent → Outcome S) (P : World S → Type 0) → Keeps step P → (w : World S) (i : ℕ) (op : List ℕ) (found : Option Client)
-    → slice_get w.clients i ≡ found → P w → P (ask_found w i op found)
-keeps-ask_found step P k w i op None at p = p
-keeps-ask_found step P k w i op (Some c) at p = keeps-client_asks step P k w i c op c.waiting at refl p
+-- a client that is found asks
+live-ask_found : {S : Type 0} (step : Node S → NodeEvent → Outcome S) (P : World S → Type 0) → KeepsLive step P → (w : World S) (i : ℕ) (op : List ℕ) (found : Option Client)
+    → w.ending ≡ None → slice_get w.clients i ≡ found → P w → P (ask_found w i op found)
+live-ask_found step P k w i op None on at p = p
+live-ask_found step P k w i op (Some c) on at p = live-client_asks step P k w i c op c.waiting on at refl p
 
-keeps-asks : {S : Type 0} (step : Node S → NodeEvent → Outcome S) (P : World S → Type 0) → Keeps step P → (i : ℕ) (op : List ℕ) (w : World S) → P w → P (asks i op w)
+-- the client at an index asks
+live-asks : {S : Type 0} (step : Node S → NodeEvent → Outcome S) (P : World S → Type 0) → KeepsLive step P → (i : ℕ) (op : List ℕ) (w : World S) → P w → P (asks i op w)
 unfolding asks
-keeps-asks step P k i op w p = either P (is_some w.ending) w _ p (keeps-ask_found step P k w i op (slice_get w.clients i) refl p)
+live-asks step P k i op w p = either_by P (is_some w.ending) w _ (λ over. p) (λ on. live-ask_found step P k w i op (slice_get w.clients i) (none_is w.ending on) refl p)
 
 -- flow
 
+-- the message at an index of those that were sent was sent
 pub has_at : (sent : List Sent) (i : ℕ) (s : Sent) → slice_get sent i ≡ Some s → HasMessage sent s.message
 has_at [] i s at = absurd (cc)
 has_at (t ∷ sent) zero s at = inl (ap (λ (x : Sent). x.message) (some-equal t s at))
 has_at (t ∷ sent) (suc i) s at = inr (has_at sent i s at)
 
-keeps-goes : {S : Type 0} (step : Node S → NodeEvent → Outcome S) (P : World S → Type 0) → Keeps step P → (w : World S) (message : Message) (to : Target) → HasMessage w.sent message → P w → P (goes step w message to)
-keeps-goes step P k w message targets.View has p = keeps-give_all step P k message w has p
-keeps-goes step P k w message (targets.Client id) has p = keeps-client_takes step P k id message w has p
+-- a message goes to whom it is for
+pub live-goes : {S : Type 0} (step : Node S → NodeEvent → Outcome S) (P : World S → Type 0) → KeepsLive step P → (w : World S) (message : Message) (to : Target) → HasMessage w.sent message → P w → P (goes step w message to)
+live-goes step P k w message targets.View has p = live-give_all step P k message w has p
+live-goes step P k w message (targets.Client id) has p = live-client_takes step P k id message w has p
 
-keeps-flow_sent : {S : Type 0} (step : Node S → NodeEvent → Outcome S) (P : World S → Type 0) → Keeps step P → (w : World S) (found : Option Sent) → slice_get w.sent w.mark ≡ found → P w → P (flow_sent step w found)
-keeps-flow_sent step P k w None at p = p
-keeps-flow_sent step P k w (Some s) at p =
-    keeps-goes step P k (record w { mark = w.mark + 1 }) s.message s.to (has_at w.sent w.mark s at) (k.same w (w.mark + 1) w.told p)
+-- the message behind the mark goes, if there is one
+live-flow_sent : {S : Type 0} (step : Node S → NodeEvent → Outcome S) (P : World S → Type 0) → KeepsLive step P → (w : World S) (found : Option Sent) → w.ending ≡ None → slice_get w.sent w.mark ≡ found → P w → P (flow_sent step w found)
+live-flow_sent step P k w None on at p = p
+live-flow_sent step P k w (Some s) on at p =
+    live-goes step P k (record w { mark = w.mark + 1 }) s.message s.to (has_at w.sent w.mark s at) (k.mark w s on at p)
 
-keeps-flow_once : {S : Type 0} (step : Node S → NodeEvent → Outcome S) (P : World S → Type 0) → Keeps step P → (w : World S) → P w → P (flow_once step w)
+-- one turn of a flow
+live-flow_once : {S : Type 0} (step : Node S → NodeEvent → Outcome S) (P : World S → Type 0) → KeepsLive step P → (w : World S) → P w → P (flow_once step w)
 unfolding flow_once
-keeps-flow_once step P k w p = either P (is_some w.ending) w _ p (keeps-flow_sent step P k w (slice_get w.sent w.mark) refl p)
+live-flow_once step P k w p = either_by P (is_some w.ending) w _ (λ over. p) (λ on. live-flow_sent step P k w (slice_get w.sent w.mark) (none_is w.ending on) refl p)
 
 -- lines
 
-pub keeps-line_played : {S : Type 0} (step : Node S → NodeEvent → Outcome S) (P : World S → Type 0) → Keeps step P → (w : World S) (line : Line) → P w → P (line_played step w line)
+-- a line of a script
+pub live-line_played : {S : Type 0} (step : Node S → NodeEvent → Outcome S) (P : World S → Type 0) → KeepsLive step P → (w : World S) (line : Line) → P w → P (line_played step w line)
 unfolding line_played
-keeps-line_played step P k w lines.Nothing p = p
-keeps-line_played step P k w (lines.Ask client op) p = keeps-asks step P k client op w p
-keeps-line_played step P k w lines.Flow p = until_rest_keeps P (flow_once step) (keeps-flow_once step P k) (settle_all step w) (keeps-settle_all step P k w p)
+live-line_played step P k w lines.Nothing p = p
+live-line_played step P k w (lines.Ask client op) p = live-asks step P k client op w p
+live-line_played step P k w lines.Flow p = until_rest_keeps P (flow_once step) (live-flow_once step P k) (settle_all step w) (live-settle_all step P k w p)
 
+-- all lines of a script
+pub live-world_after : {S : Type 0} (step : Node S → NodeEvent → Outcome S) (P : World S → Type 0) → KeepsLive step P → (w : World S) (ls : List Line) → P w → P (world_after step w ls)
+live-world_after step P k w [] p = p
+live-world_after step P k w (l ∷ ls) p =
+    live-world_after step P k (rested (line_played step w l)) ls (k.tell (line_played step w l) [] (live-line_played step P k w l p))
+
+-- the same of what is kept whatever was said of the ending
+
+-- a line of a script
+pub keeps-line_played : {S : Type 0} (step : Node S → NodeEvent → Outcome S) (P : World S → Type 0) → Keeps step P → (w : World S) (line : Line) → P w → P (line_played step w line)
+keeps-line_played step P k w line p = live-line_played step P (live step P k) w line p
+
+-- all lines of a script
 pub keeps-world_after : {S : Type 0} (step : Node S → NodeEvent → Outcome S) (P : World S → Type 0) → Keeps step P → (w : World S) (ls : List Line) → P w → P (world_after step w ls)
-keeps-world_after step P k w [] p = p
-keeps-world_after step P k w (l ∷ ls) p =
-    keeps-world_after step P k (rested (line_played step w l)) ls (k.same (line_played step w l) (line_played step w l).mark [] (keeps-line_played step P k w l p))
+keeps-world_after step P k w ls p = live-world_after step P (live step P k) w ls p

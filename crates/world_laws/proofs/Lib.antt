@@ -17,3 +17,10 @@ pub mod Fronts
 pub mod Chosen
 pub mod ChosenKept
 pub mod Grows
+pub mod Numbered
+pub mod Authentic
+pub mod Asked
+pub mod Hearing
+pub mod Asking
+pub mod Rests
+pub mod Bounded

@@ -4,3 +4,4 @@
 
 pub mod once;
 pub mod laws;
+pub mod rest;

@@ -1,0 +1,302 @@
+-- Clients number their requests, remember what they saw, and what they accept rises.
+use Rattle.std.proofs.Common.{◌≡◌, ℕ, zero, suc, ◌+◌, ◌^◌, ◌++◌, ◌≤◌, List, [], ◌∷◌, length, refl, ap, ◌∙◌, sym, Option, Some, None, nat_lt, inl, inr, ◌⊎◌, subst, arith, max, append-nil}
+use Rattle.std.specs.Prelude.{slice_get, slice_set}
+use Rattle.smart_base.specs.Lists.{Each}
+use Rattle.smart_base.specs.declared.view.View.{View}
+use Rattle.smart_messages.specs.declared.message.Request.{Request}
+use Rattle.smart_messages.specs.declared.message.Answer.{Answer}
+use Rattle.smart_messages.specs.declared.message.Message.{Message}
+use Rattle.smart_messages.specs.declared.message.Message.TheVariants.{Ask}
+use Rattle.smart_messages.specs.declared.entry.NodeEvent.{NodeEvent}
+use Rattle.smart_service.specs.Services.{Meaning}
+use Rattle.node_rules.specs.Nodes.{Node}
+use Rattle.node_rules.specs.Steps.{Outcome, leaving}
+use Rattle.node_rules.specs.declared.node.Held.{Held}
+use Rattle.node_rules.specs.declared.node.Target.{Target}
+use Rattle.node_rules.specs.declared.node.Target.TheVariants as targets
+use Rattle.world_rules.specs.Clients.{fresh, request_of, asking, acceptance, heard, after_heard}
+use Rattle.world_rules.specs.Promises.{HasAsked, Rises}
+use Rattle.world_rules.specs.Worlds.{Host, World, sends, sends_all, stepped, acceptance_in, hearing, clients_from, begun}
+use Rattle.world_rules.specs.Plays.{world_after}
+use Rattle.world_rules.specs.declared.client.Client.{Client}
+use Rattle.world_rules.specs.declared.line.Line.{Line}
+use Rattle.world_rules.specs.declared.client.Acceptance.{Acceptance}
+use Rattle.world_rules.specs.declared.client.Heard.{Heard}
+use Rattle.world_rules.specs.declared.client.Heard.TheVariants as hears
+use Rattle.world_rules.specs.declared.message.Ending.{Ending}
+use Rattle.world_rules.specs.declared.message.Ending.TheVariants.{Limit}
+use Rattle.world_rules.specs.declared.message.Origin.{Origin}
+use Rattle.world_rules.specs.declared.message.Origin.TheVariants as origins
+use Rattle.world_rules.specs.declared.message.Sent.{Sent}
+use Rattle.world_laws.proofs.Lists.{either, some-equal, each_end, each_weaker}
+use Rattle.world_laws.proofs.Numbered.{EachAt, each_at_get, each_at_weaker, each_at_set}
+use Rattle.world_laws.proofs.Keeps.{KeepsLive, live-world_after}
+use Rattle.world_laws.proofs.Asked.{asked_end, asked_now}
+use Rattle.world_laws.proofs.Hearing.{Accepts, accepts_waiting}
+
+-- a request that waits is its client's last, states what the client has seen, and was asked, unless its message had no number any more
+pub record Waits (sent : List Sent) (ending : Option Ending) (i last seen : ℕ) (q : Request) : Type 0 where
+  pub client : q.client ≡ i
+  pub seq : q.seq ≡ last
+  pub after : q.after ≡ seen
+  pub asked : ending ≡ None → HasAsked sent q
+
+-- a client stands at its number, has counted its requests, and has seen the place of all that it accepted
+pub record ClientRight (sent : List Sent) (ending : Option Ending) (accepted : List Acceptance) (i : ℕ) (c : Client) : Type 0 where
+  pub id : c.id ≡ i
+  pub waits : (q : Request) → c.waiting ≡ Some q → Waits sent ending i c.last c.seen q
+  pub last : (q : Request) → HasAsked sent q → q.client ≡ i → q.seq ≤ c.last
+  pub seen : Each (λ a. a.request.client ≡ i → a.place ≤ c.seen) accepted
+
+-- all clients do, a client's request is known by its number, what was accepted was asked, and what a client accepts rises
+pub record Right (sent : List Sent) (ending : Option Ending) (clients : List Client) (accepted : List Acceptance) : Type 0 where
+  pub each : EachAt (ClientRight sent ending accepted) clients
+  pub one : (q r : Request) → HasAsked sent q → HasAsked sent r → q.client ≡ r.client → q.seq ≡ r.seq → q ≡ r
+  pub asked : Each (λ a. HasAsked sent a.request) accepted
+  pub rising : Rises accepted
+
+pub record ClientsRight {S : Type 0} (w : World S) : Type 0 where
+  pub all : Right w.sent w.ending w.clients w.accepted
+
+-- nodes ask nothing
+
+-- what a client asked, it asked before a node sent
+node_asks_nothing : (sent : List Sent) (id : ℕ) (to : Target) (message : Message) (q : Request) → HasAsked (sent ++ record { origin = origins.Node id; to = to; message = message } ∷ []) q → HasAsked sent q
+node_asks_nothing [] id to message q asked = elim asked [ inl here ↦ absurd (other (ap (λ (s : Sent). s.origin) here)) | inr later ↦ absurd later ]
+  where
+    other : origins.Node id ≡ origins.Client q.client → ⊥
+    other same = cc
+node_asks_nothing (t ∷ sent) id to message q asked = elim asked [ inl here ↦ inl here | inr later ↦ inr (node_asks_nothing sent id to message q later) ]
+
+-- what a client asks, it asked before or asks now
+asks_one : (sent : List Sent) (origin : Origin) (to : Target) (new q : Request) → HasAsked (sent ++ record { origin = origin; to = to; message = Ask new } ∷ []) q → HasAsked sent q ⊎ (q ≡ new)
+asks_one [] origin to new q asked = elim asked [ inl here ↦ inr (same_request (ap (λ (s : Sent). s.message) here)) | inr later ↦ absurd later ]
+  where
+    same_request : Ask new ≡ Ask q → q ≡ new
+    same_request same = cc
+asks_one (t ∷ sent) origin to new q asked =
+    elim asked [ inl here ↦ inl (inl here) | inr later ↦ elim (asks_one sent origin to new q later) [ inl before ↦ inl (inr before) | inr now ↦ inr now ] ]
+
+-- a message of a node leaves
+
+-- clients stay right where messages leave that ask nothing
+right-sent : (sent sent' : List Sent) (ending ending' : Option Ending) (clients : List Client) (accepted : List Acceptance) → ((q : Request) → HasAsked sent q → HasAsked sent' q) → ((q : Request) → HasAsked sent' q → HasAsked sent q)
+    → (ending' ≡ None → ending ≡ None) → Right sent ending clients accepted → Right sent' ending' clients accepted
+right-sent sent sent' ending ending' clients accepted forth back on is =
+    record {
+      each = each_at_weaker (ClientRight sent ending accepted) (ClientRight sent' ending' accepted)
+          (λ i c right. record {
+            id = right.id;
+            waits = λ q waits. let old = right.waits q waits in record { client = old.client; seq = old.seq; after = old.after; asked = λ goes_on. forth q (old.asked (on goes_on)) };
+            last = λ q asked own. right.last q (back q asked) own;
+            seen = right.seen;
+          })
+          clients is.each;
+      one = λ q r asked_q asked_r. is.one q r (back q asked_q) (back r asked_r);
+      asked = each_weaker (λ (a : Acceptance). HasAsked sent a.request) (λ (a : Acceptance). HasAsked sent' a.request) (λ a asked. forth a.request asked) accepted is.asked;
+      rising = is.rising;
+    }
+
+-- a play that has ended has ended
+ended_not : Some Limit ≡ None → ⊥
+ended_not same = cc
+
+-- a message of a node leaves
+right-node_sends : {S : Type 0} (w : World S) (id : ℕ) (to : Target) (message : Message) → ClientsRight w → ClientsRight (sends w (origins.Node id) to message)
+unfolding sends
+right-node_sends {S = S} w id to message is =
+    let s : Sent = record { origin = origins.Node id; to = to; message = message } in
+    either (λ (v : World S). ClientsRight v) (nat_lt (length w.sent) (2 ^ 24)) _ _
+    (record { all = right-sent w.sent (w.sent ++ s ∷ []) w.ending w.ending w.clients w.accepted (asked_end w.sent s) (node_asks_nothing w.sent id to message) (λ on. on) is.all })
+    (record { all = right-sent w.sent w.sent w.ending (Some Limit) w.clients w.accepted (λ q asked. asked) (λ q asked. asked) (λ on. absurd (ended_not on)) is.all })
+
+-- messages of a node leave
+right-sends_all : {S : Type 0} (id : ℕ) (w : World S) (held : List Held) → ClientsRight w → ClientsRight (sends_all id w held)
+right-sends_all id w [] is = is
+right-sends_all id w (h ∷ hs) is = right-sends_all id (sends w (origins.Node id) h.to h.message) hs (right-node_sends w id h.to h.message is)
+
+-- a node takes an event
+right-stepped : {S : Type 0} (w : World S) (i : ℕ) (h : Host S) (o : Outcome S) → ClientsRight w → ClientsRight (stepped w i h o)
+unfolding stepped
+right-stepped w i h o is = right-sends_all h.node.id _ (leaving o.node.firm o.node.held) (record { all = is.all })
+
+-- a client asks
+
+-- clients stay right where one asks: its message has a number, or the play ends
+right-ask : (sent sent' : List Sent) (ending ending' : Option Ending) (clients : List Client) (accepted : List Acceptance) (i : ℕ) (c : Client) (op : List ℕ)
+    → slice_get clients i ≡ Some c → ((q : Request) → HasAsked sent q → HasAsked sent' q) → ((q : Request) → HasAsked sent' q → HasAsked sent q ⊎ (q ≡ request_of c op))
+    → (ending' ≡ None → HasAsked sent' (request_of c op)) → (ending' ≡ None → ending ≡ None) → Right sent ending clients accepted
+    → Right sent' ending' (slice_set clients i (asking c (request_of c op))) accepted
+right-ask sent sent' ending ending' clients accepted i c op at forth back now on is =
+    let new : Request = request_of c op in
+    let own : ClientRight sent ending accepted i c = each_at_get (ClientRight sent ending accepted) clients i c is.each at in
+    record {
+      each = each_at_set (ClientRight sent ending accepted) (ClientRight sent' ending' accepted) clients i (asking c new)
+          (λ j y other right. record {
+            id = right.id;
+            waits = λ q waits. let old = right.waits q waits in record { client = old.client; seq = old.seq; after = old.after; asked = λ goes_on. forth q (old.asked (on goes_on)) };
+            last = λ q asked is_j. elim (back q asked) [ inl before ↦ right.last q before is_j | inr same ↦ absurd (other (sym is_j ∙ (ap (λ (r : Request). r.client) same ∙ own.id))) ];
+            seen = right.seen;
+          })
+          is.each
+          (record {
+            id = own.id;
+            waits = λ q waits. subst (Waits sent' ending' i (c.last + 1) c.seen) (some-equal new q waits) (record { client = own.id; seq = refl; after = refl; asked = now });
+            last = λ q asked is_i. elim (back q asked) [ inl before ↦ more (own.last q before is_i) | inr same ↦ last_is (ap (λ (r : Request). r.seq) same) ];
+            seen = own.seen;
+          });
+      one = λ q r asked_q asked_r client seq.
+          elim (back q asked_q) [
+            | inl q_before ↦ elim (back r asked_r) [
+              | inl r_before ↦ is.one q r q_before r_before client seq
+              | inr r_new ↦ absurd (past (own.last q q_before (client ∙ (ap (λ (x : Request). x.client) r_new ∙ own.id))) (seq ∙ ap (λ (x : Request). x.seq) r_new))
+            ]
+            | inr q_new ↦ elim (back r asked_r) [
+              | inl r_before ↦ absurd (past (own.last r r_before (sym client ∙ (ap (λ (x : Request). x.client) q_new ∙ own.id))) (sym seq ∙ ap (λ (x : Request). x.seq) q_new))
+              | inr r_new ↦ q_new ∙ sym r_new
+            ]
+          ];
+      asked = each_weaker (λ (a : Acceptance). HasAsked sent a.request) (λ (a : Acceptance). HasAsked sent' a.request) (λ a asked. forth a.request asked) accepted is.asked;
+      rising = is.rising;
+    }
+  where
+    more : {s : ℕ} → s ≤ c.last → s ≤ c.last + 1
+    more low = omega arith
+
+    last_is : {s : ℕ} → s ≡ c.last + 1 → s ≤ c.last + 1
+    last_is same = omega arith
+
+    past : {s : ℕ} → s ≤ c.last → s ≡ c.last + 1 → ⊥
+    past low same = omega arith
+
+-- a client asks
+right-asks : {S : Type 0} (w : World S) (i : ℕ) (c : Client) (op : List ℕ) → slice_get w.clients i ≡ Some c → ClientsRight w
+    → ClientsRight (sends (record w { clients = slice_set w.clients i (asking c (request_of c op)) }) (origins.Client c.id) targets.View (Ask (request_of c op)))
+unfolding sends
+right-asks {S = S} w i c op at is =
+    let s : Sent = record { origin = origins.Client c.id; to = targets.View; message = Ask (request_of c op) } in
+    either (λ (v : World S). ClientsRight v) (nat_lt (length w.sent) (2 ^ 24)) _ _
+    (record {
+      all = right-ask w.sent (w.sent ++ s ∷ []) w.ending w.ending w.clients w.accepted i c op at (asked_end w.sent s) (asks_one w.sent (origins.Client c.id) targets.View (request_of c op))
+          (λ on. asked_now w.sent (request_of c op)) (λ on. on) is.all;
+    })
+    (record {
+      all = right-ask w.sent w.sent w.ending (Some Limit) w.clients w.accepted i c op at (λ q asked. asked) (λ q asked. inl asked) (λ on. absurd (ended_not on)) (λ on. absurd (ended_not on)) is.all;
+    })
+
+-- a client hears
+
+-- clients stay right where one hears a reply and accepts none
+right-same : (sent : List Sent) (ending : Option Ending) (clients : List Client) (accepted : List Acceptance) (i : ℕ) (c' : Client) → ClientRight sent ending accepted i c' → Right sent ending clients accepted
+    → Right sent ending (slice_set clients i c') (accepted ++ [])
+right-same sent ending clients accepted i c' own is =
+    subst (λ (xs : List Acceptance). Right sent ending (slice_set clients i c') xs) (sym (append-nil accepted))
+    (record {
+      each = each_at_set (ClientRight sent ending accepted) (ClientRight sent ending accepted) clients i c' (λ j y other right. right) is.each own;
+      one = is.one;
+      asked = is.asked;
+      rising = is.rising;
+    })
+
+-- what is accepted last stands above all that its client accepted
+rises_end : (accepted : List Acceptance) (b : Acceptance) → Rises accepted → Each (λ a. b.request.client ≡ a.request.client → a.place ≤ b.request.after) accepted → Rises (accepted ++ b ∷ [])
+rises_end [] b rises below = (tt, tt)
+rises_end (a ∷ later) b rises below =
+    (each_end (λ (x : Acceptance). x.request.client ≡ a.request.client → a.place ≤ x.request.after) later b rises.0 below.0, rises_end later b rises.1 below.1)
+
+-- the reply to the request that waits is accepted
+right-accept : (sent : List Sent) (ending : Option Ending) (clients : List Client) (accepted : List Acceptance) (i : ℕ) (c : Client) (a : Answer) (q : Request)
+    → slice_get clients i ≡ Some c → c.waiting ≡ Some q → ending ≡ None → Right sent ending clients accepted
+    → Right sent ending (slice_set clients i (record c { waiting = None; seen = max c.seen a.place; replies = [] })) (accepted ++ acceptance q a ∷ [])
+right-accept sent ending clients accepted i c a q at waits on is =
+    let own : ClientRight sent ending accepted i c = each_at_get (ClientRight sent ending accepted) clients i c is.each at in
+    let old : Waits sent ending i c.last c.seen q = own.waits q waits in
+    record {
+      each = each_at_set (ClientRight sent ending accepted) (ClientRight sent ending (accepted ++ acceptance q a ∷ [])) clients i (record c { waiting = None; seen = max c.seen a.place; replies = [] })
+          (λ j y other right. record {
+            id = right.id;
+            waits = right.waits;
+            last = right.last;
+            seen = each_end (λ (b : Acceptance). b.request.client ≡ j → b.place ≤ y.seen) accepted (acceptance q a) right.seen (λ is_j. absurd (other (sym is_j ∙ old.client)));
+          })
+          is.each
+          (record {
+            id = own.id;
+            waits = λ r none. absurd (no_request r none);
+            last = own.last;
+            seen = each_end (λ (b : Acceptance). b.request.client ≡ i → b.place ≤ max c.seen a.place) accepted (acceptance q a)
+                (each_weaker (λ (b : Acceptance). b.request.client ≡ i → b.place ≤ c.seen) (λ (b : Acceptance). b.request.client ≡ i → b.place ≤ max c.seen a.place) (λ b low is_i. higher (low is_i)) accepted own.seen)
+                (λ is_i. highest);
+          });
+      one = is.one;
+      asked = each_end (λ (b : Acceptance). HasAsked sent b.request) accepted (acceptance q a) is.asked (old.asked on);
+      rising = rises_end accepted (acceptance q a) is.rising
+          (each_weaker (λ (b : Acceptance). b.request.client ≡ i → b.place ≤ c.seen) (λ (b : Acceptance). q.client ≡ b.request.client → b.place ≤ q.after)
+          (λ b low same. known (low (sym same ∙ old.client)) old.after) accepted own.seen);
+    }
+  where
+    no_request : (r : Request) → None ≡ Some r → ⊥
+    no_request r same = cc
+
+    higher : {p : ℕ} → p ≤ c.seen → p ≤ max c.seen a.place
+    higher low = omega arith
+
+    highest : a.place ≤ max c.seen a.place
+    highest = omega arith
+
+    known : {p : ℕ} → p ≤ c.seen → q.after ≡ c.seen → p ≤ q.after
+    known low same = omega arith
+
+-- clients stay right where one hears a reply
+right-heard : (sent : List Sent) (ending : Option Ending) (clients : List Client) (accepted : List Acceptance) (v : View) (i : ℕ) (c : Client) (a : Answer) (h : Heard)
+    → slice_get clients i ≡ Some c → ending ≡ None → heard v c a ≡ h → Right sent ending clients accepted
+    → Right sent ending (slice_set clients i (after_heard c a h)) (accepted ++ acceptance_in h)
+right-heard sent ending clients accepted v i c a (hears.Counted count need) at on is_h is =
+    let own : ClientRight sent ending accepted i c = each_at_get (ClientRight sent ending accepted) clients i c is.each at in
+    right-same sent ending clients accepted i (record c { replies = c.replies ++ a ∷ [] }) (record { id = own.id; waits = own.waits; last = own.last; seen = own.seen }) is
+right-heard sent ending clients accepted v i c a (hears.Ignored why) at on is_h is =
+    right-same sent ending clients accepted i c (each_at_get (ClientRight sent ending accepted) clients i c is.each at) is
+right-heard sent ending clients accepted v i c a (hears.Accepted acc) at on is_h is =
+    let taken : Accepts v c a acc = accepts_waiting v c a acc is_h in
+    subst (λ (b : Acceptance). Right sent ending (slice_set clients i (record c { waiting = None; seen = max c.seen a.place; replies = [] })) (accepted ++ b ∷ [])) (sym taken.is)
+    (right-accept sent ending clients accepted i c a taken.request at taken.counts.waits on is)
+
+-- clients stay right, whatever the nodes do
+pub keeps-right : {S : Type 0} (step : Node S → NodeEvent → Outcome S) → KeepsLive step ClientsRight
+unfolding hearing
+keeps-right step =
+    record {
+      event = λ w i h event on at may is. right-stepped w i h (step h.node event) is;
+      hear = λ w i c a on at has is. record { all = right-heard w.sent w.ending w.clients w.accepted w.view i c a (heard w.view c a) at on refl is.all };
+      ask = λ w i c op on at free is. right-asks w i c op at is;
+      mark = λ w s on at is. record { all = is.all };
+      tell = λ w told is. record { all = is.all };
+    }
+
+-- the beginning
+
+-- what holds of each fresh client
+each_fresh : (P : ℕ → Client → Type 0) (count i : ℕ) → ((k : ℕ) → P k (fresh (i + k))) → EachAt P (clients_from count i)
+unfolding clients_from
+each_fresh P zero i each = tt
+each_fresh P (suc count) i each =
+    (subst (λ (n : ℕ). P zero (fresh n)) (omega arith) (each zero), each_fresh (λ k. P (suc k)) count (i + 1) (λ k. subst (λ (n : ℕ). P (suc k) (fresh n)) (omega arith) (each (suc k))))
+
+-- clients begin right
+pub right-begun : {S : Type 0} (m : Meaning S) (view : View) → ClientsRight (begun m view)
+right-begun m view =
+    record {
+      all = record {
+        each = each_fresh (ClientRight [] None []) 1025 0 (λ k. record { id = omega arith; waits = λ q waits. absurd (no_request q waits); last = λ q asked own. absurd asked; seen = tt });
+        one = λ q r asked_q. absurd asked_q;
+        asked = tt;
+        rising = tt;
+      };
+    }
+  where
+    no_request : (r : Request) → None ≡ Some r → ⊥
+    no_request r same = cc
+
+-- after any lines of any script, clients are right
+pub right-after : {S : Type 0} (m : Meaning S) (step : Node S → NodeEvent → Outcome S) (view : View) (ls : List Line) → ClientsRight (world_after step (begun m view) ls)
+right-after m step view ls = live-world_after step ClientsRight (keeps-right step) (begun m view) ls (right-begun m view)

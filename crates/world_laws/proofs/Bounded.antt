@@ -1,0 +1,146 @@
+-- A flow comes to rest: each turn that changes something raises the mark, which no number of messages passes.
+use Rattle.std.proofs.Common.{◌≡◌, ℕ, zero, suc, ◌+◌, ◌^◌, ◌++◌, ◌≤◌, ◌<◌, List, [], ◌∷◌, length, refl, inl, inr, ◌⊎◌, Option, Some, None, is_some, nat_lt, arith}
+use Rattle.std.proofs.lemmas.Bool.{ltb-true}
+use Rattle.std.proofs.lemmas.Option.{slice_get_within}
+use Rattle.std.proofs.lemmas.List.{length-append}
+use Rattle.std.specs.Prelude.{slice_get, slice_set}
+use Rattle.smart_base.specs.declared.view.View.{View}
+use Rattle.smart_messages.specs.declared.message.Message.{Message}
+use Rattle.smart_messages.specs.declared.message.Message.TheVariants.{Ask}
+use Rattle.smart_messages.specs.declared.entry.NodeEvent.{NodeEvent}
+use Rattle.smart_service.specs.Services.{Meaning}
+use Rattle.node_rules.specs.Nodes.{Node}
+use Rattle.node_rules.specs.Steps.{Outcome, leaving}
+use Rattle.node_rules.specs.declared.node.Held.{Held}
+use Rattle.node_rules.specs.declared.node.Target.{Target}
+use Rattle.node_rules.specs.declared.node.Target.TheVariants as targets
+use Rattle.world_rules.specs.Repeats.{repeated, turns, until_rest}
+use Rattle.world_rules.specs.Clients.{request_of, asking}
+use Rattle.world_rules.specs.Worlds.{Host, World, sends, sends_all, stepped, hearing, flow_sent, flow_once, settle_all, begun}
+use Rattle.world_rules.specs.Plays.{line_played, world_after}
+use Rattle.world_rules.specs.declared.line.Line.{Line}
+use Rattle.world_rules.specs.declared.line.Line.TheVariants as lines
+use Rattle.world_rules.specs.declared.message.Origin.{Origin}
+use Rattle.world_rules.specs.declared.message.Origin.TheVariants as origins
+use Rattle.world_rules.specs.declared.message.Sent.{Sent}
+use Rattle.world_laws.proofs.Lists.{either, either_by}
+use Rattle.world_laws.proofs.Keeps.{KeepsLive, has_at, live-goes, live-settle_all, live-world_after}
+use Rattle.world_laws.proofs.Rests.{rests_still}
+
+-- the mark has come to a number, no mark passes the messages, and all messages have numbers
+pub record Passed {S : Type 0} (low : ℕ) (w : World S) : Type 0 where
+  pub past : low ≤ w.mark
+  pub mark : w.mark ≤ length w.sent
+  pub sent : length w.sent ≤ 2 ^ 24
+
+-- the mark never passes the messages, and all messages have numbers
+pub record BoundedWorld {S : Type 0} (w : World S) : Type 0 where
+  pub mark : w.mark ≤ length w.sent
+  pub sent : length w.sent ≤ 2 ^ 24
+
+-- a message leaves if it has a number
+passed-sends : {S : Type 0} (low : ℕ) (w : World S) (origin : Origin) (to : Target) (message : Message) → Passed low w → Passed low (sends w origin to message)
+unfolding sends
+passed-sends {S = S} low w origin to message is =
+    let s : Sent = record { origin = origin; to = to; message = message } in
+    let longer : length (w.sent ++ s ∷ []) ≡ length w.sent + 1 = length-append w.sent (s ∷ []) in
+    either_by (λ (v : World S). Passed low v) (nat_lt (length w.sent) (2 ^ 24)) _ _
+    (λ room. let below : length w.sent < 2 ^ 24 = ltb-true (length w.sent) (2 ^ 24) room in
+    record { past = is.past; mark = omega (arith, is.mark, longer); sent = omega (arith, below, longer) })
+    (λ full. record { past = is.past; mark = is.mark; sent = is.sent })
+
+-- messages of a node leave
+passed-sends_all : {S : Type 0} (low id : ℕ) (w : World S) (held : List Held) → Passed low w → Passed low (sends_all id w held)
+passed-sends_all low id w [] is = is
+passed-sends_all low id w (h ∷ hs) is = passed-sends_all low id (sends w (origins.Node id) h.to h.message) hs (passed-sends low w (origins.Node id) h.to h.message is)
+
+-- a node takes an event
+passed-stepped : {S : Type 0} (low : ℕ) (w : World S) (i : ℕ) (h : Host S) (o : Outcome S) → Passed low w → Passed low (stepped w i h o)
+unfolding stepped
+passed-stepped low w i h o is = passed-sends_all low h.node.id _ (leaving o.node.firm o.node.held) (record { past = is.past; mark = is.mark; sent = is.sent })
+
+-- the mark stays past a number and within the messages
+pub keeps-passed : {S : Type 0} (step : Node S → NodeEvent → Outcome S) (low : ℕ) → KeepsLive step (Passed low)
+unfolding hearing
+keeps-passed step low =
+    record {
+      event = λ w i h event on at may is. passed-stepped low w i h (step h.node event) is;
+      hear = λ w i c a on at has is. record { past = is.past; mark = is.mark; sent = is.sent };
+      ask = λ w i c op on at free is.
+          passed-sends low (record w { clients = slice_set w.clients i (asking c (request_of c op)) }) (origins.Client c.id) targets.View (Ask (request_of c op))
+          (record { past = is.past; mark = is.mark; sent = is.sent });
+      mark = λ w s on at is. record { past = omega (arith, is.past); mark = omega (arith, slice_get_within w.sent w.mark s at); sent = is.sent };
+      tell = λ w told is. record { past = is.past; mark = is.mark; sent = is.sent };
+    }
+
+-- the mark and the messages are bounded, whatever happens
+pub keeps-bounded : {S : Type 0} (step : Node S → NodeEvent → Outcome S) → KeepsLive step BoundedWorld
+keeps-bounded step =
+    let k = keeps-passed step 0 in
+    record {
+      event = λ w i h event on at may is. bounded (k.event w i h event on at may (passed is));
+      hear = λ w i c a on at has is. bounded (k.hear w i c a on at has (passed is));
+      ask = λ w i c op on at free is. bounded (k.ask w i c op on at free (passed is));
+      mark = λ w s on at is. bounded (k.mark w s on at (passed is));
+      tell = λ w told is. bounded (k.tell w told (passed is));
+    }
+  where
+    passed : {S : Type 0} {w : World S} → BoundedWorld w → Passed 0 w
+    passed is = record { past = omega arith; mark = is.mark; sent = is.sent }
+
+    bounded : {S : Type 0} {w : World S} → Passed 0 w → BoundedWorld w
+    bounded is = record { mark = is.mark; sent = is.sent }
+
+-- a world begins without messages
+pub bounded-begun : {S : Type 0} (m : Meaning S) (view : View) → BoundedWorld (begun m view)
+bounded-begun m view = record { mark = omega arith; sent = omega arith }
+
+-- after any lines of any script, the mark and the messages are bounded
+pub bounded-after : {S : Type 0} (m : Meaning S) (step : Node S → NodeEvent → Outcome S) (view : View) (ls : List Line) → BoundedWorld (world_after step (begun m view) ls)
+bounded-after m step view ls = live-world_after step BoundedWorld (keeps-bounded step) (begun m view) ls (bounded-begun m view)
+
+-- a turn of a flow rests, or raises the mark
+raises_sent : {S : Type 0} (step : Node S → NodeEvent → Outcome S) (w : World S) (found : Option Sent) → slice_get w.sent w.mark ≡ found → BoundedWorld w
+    → (flow_sent step w found ≡ w) ⊎ ((w.mark < 2 ^ 24) × Passed (w.mark + 1) (flow_sent step w found))
+raises_sent step w None at is = inl refl
+raises_sent {S = S} step w (Some s) at is =
+    let within : w.mark < length w.sent = slice_get_within w.sent w.mark s at in
+    inr (
+      omega (arith, is.sent),
+      live-goes step (Passed (w.mark + 1)) (keeps-passed step (w.mark + 1)) (record w { mark = w.mark + 1 }) s.message s.to (has_at w.sent w.mark s at)
+          (record { past = omega arith; mark = omega arith; sent = is.sent }),
+    )
+
+-- a turn of a flow rests, or raises the mark, whether the play has ended or not
+raises : {S : Type 0} (step : Node S → NodeEvent → Outcome S) (w : World S) → BoundedWorld w → (flow_once step w ≡ w) ⊎ ((w.mark < 2 ^ 24) × Passed (w.mark + 1) (flow_once step w))
+unfolding flow_once
+raises {S = S} step w is =
+    either (λ (v : World S). (v ≡ w) ⊎ ((w.mark < 2 ^ 24) × Passed (w.mark + 1) v)) (is_some w.ending) w (flow_sent step w (slice_get w.sent w.mark)) (inl refl) (raises_sent step w (slice_get w.sent w.mark) refl is)
+
+-- a flow rests once it has had more turns than there are numbers behind the mark
+rests_after : {S : Type 0} (step : Node S → NodeEvent → Outcome S) (k : ℕ) (w : World S) → 2 ^ 24 ≤ w.mark + k → BoundedWorld w → flow_once step (repeated (flow_once step) k w) ≡ repeated (flow_once step) k w
+unfolding repeated
+rests_after step zero w enough is = elim (raises step w is) [ inl rests ↦ rests | inr more ↦ absurd (omega (arith, more.0)) ]
+rests_after step (suc k) w enough is =
+    elim (raises step w is) [
+      | inl rests ↦ rests_still (flow_once step) (suc k) w rests
+      | inr more ↦ rests_after step k (flow_once step w) (omega (arith, more.1.past)) (record { mark = more.1.mark; sent = more.1.sent })
+    ]
+
+-- there are more turns than numbers of messages
+turns_enough : 2 ^ 24 ≤ turns
+unfolding turns
+turns_enough = omega arith
+
+-- a flow from a bounded world comes to rest
+pub flow_rests : {S : Type 0} (step : Node S → NodeEvent → Outcome S) (w : World S) → BoundedWorld w → flow_once step (until_rest (flow_once step) w) ≡ until_rest (flow_once step) w
+unfolding until_rest
+flow_rests step w is = rests_after step turns w (omega (arith, turns_enough)) is
+
+-- after a flow line, one more turn changes nothing
+pub flow_line_rests : {S : Type 0} (m : Meaning S) (step : Node S → NodeEvent → Outcome S) (view : View) (ls : List Line)
+    → flow_once step (line_played step (world_after step (begun m view) ls) lines.Flow) ≡ line_played step (world_after step (begun m view) ls) lines.Flow
+unfolding line_played
+flow_line_rests m step view ls =
+    flow_rests step (settle_all step (world_after step (begun m view) ls))
+    (live-settle_all step BoundedWorld (keeps-bounded step) (world_after step (begun m view) ls) (bounded-after m step view ls))

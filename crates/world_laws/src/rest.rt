@@ -1,0 +1,29 @@
+//! Laws of rest: what is repeated until it changes nothing.
+ghost use Rattle.std.specs.Prelude.{◌≡◌, ◌≤◌, ℕ, List};
+ghost use Rattle.smart_base.specs.declared.view.View.{View};
+ghost use Rattle.node_rules.specs.Steps.{step_of};
+ghost use Rattle.world_rules.specs.Repeats.{repeated, turns, until_rest};
+ghost use Rattle.world_rules.specs.Worlds.{World, flow_once, begun};
+ghost use Rattle.world_rules.specs.Plays.{line_played, world_after};
+ghost use Rattle.world_rules.specs.declared.line.Line.{Line};
+ghost use Rattle.world_rules.specs.declared.line.Line.TheVariants as lines;
+
+use smart_service::service::Service;
+
+/// A flow comes to rest: after a flow line of any script over any group, one more turn changes
+/// nothing.
+pub fn flow_rests<S: Service>()
+    ensures { (view : View) (ls : List Line) →
+        flow_once (step_of S.meaning) (line_played (step_of S.meaning) (world_after (step_of S.meaning) (begun S.meaning view) ls) lines.Flow)
+        ≡ line_played (step_of S.meaning) (world_after (step_of S.meaning) (begun S.meaning view) ls) lines.Flow }
+{}
+
+/// What changes nothing in a world is the end of its repetition there.
+pub fn rest_is_kept<S: Service>()
+    ensures { (f : World S → World S) (w : World S) → f w ≡ w → until_rest f w ≡ w }
+{}
+
+/// Where some number of turns up to 2^64 - 1 comes to rest, that is the end of the repetition.
+pub fn rest_is_reached<S: Service>()
+    ensures { (f : World S → World S) (k : ℕ) (w : World S) → k ≤ turns → f (repeated f k w) ≡ repeated f k w → until_rest f w ≡ repeated f k w }
+{}
