@@ -64,6 +64,7 @@ within-step m view chosen n n' (Some batch) at next d le =
   where
     differ : (a b : ℕ) → (a == b) ≡ false → a ≡ b → ⊥
     differ a b isnt e = let is = eq-eqb a b e in absurd (cc)
+
     less : (a b : ℕ) → a ≤ b + 1 → (a ≡ b + 1 → ⊥) → a ≤ b
     less a b most not_next = omega (arith, most, not_next)
 

@@ -51,14 +51,16 @@ right-sends : {S : Type 0} (m : Meaning S) (w : World S) (origin : Origin) (to :
     → ChosenRight m (sends w origin to message) × AllSay (sends w origin to message).hosts later
 unfolding sends
 right-sends {S = S} m w origin to message later said all r =
-    either (λ (v : World S). ChosenRight m v × AllSay v.hosts later) (nat_lt (length w.sent) (2 ^ 24)) _ _
-    (record {
-      right = r.right;
-      said = each_end (λ (s : Sent). Said (Says w.hosts) s.message) w.sent (record { origin = origin; to = to; message = message }) r.said said;
-      ids = r.ids;
-      distinct = r.distinct;
-      certified = r.certified;
-    }, all)
+    either (λ (v : World S). ChosenRight m v × AllSay v.hosts later) (nat_lt (length w.sent) (2 ^ 24)) _ _ (
+      record {
+        right = r.right;
+        said = each_end (λ (s : Sent). Said (Says w.hosts) s.message) w.sent (record { origin = origin; to = to; message = message }) r.said said;
+        ids = r.ids;
+        distinct = r.distinct;
+        certified = r.certified;
+      },
+      all,
+    )
     (r, all)
 
 -- so do held messages, in order

@@ -220,9 +220,11 @@ due-votes n x =
     proposed : (batch : Option (List Request)) → AllDue n (fired_if fires.Proposed batch)
     proposed None = tt
     proposed (Some batch) = tt
+
     wrote : (batch : Option (List Request)) → AllDue n (fired_if fires.Wrote batch)
     wrote None = tt
     wrote (Some batch) = tt
+
     accepted : (batch : Option (List Request)) → AllDue n (fired_if fires.Accepted batch)
     accepted None = tt
     accepted (Some batch) = tt

@@ -2,6 +2,6 @@
 //! on functions with empty bodies.
 #![tactic(auto)]
 
-pub mod once;
+pub mod execution;
 pub mod laws;
 pub mod rest;

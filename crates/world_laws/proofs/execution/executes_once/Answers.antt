@@ -1,5 +1,5 @@
 use Rattle.world_laws.proofs.OnePlace.{once-executions}
-use Rattle.world_laws.proofs.once.executes_once.Goals as goal
+use Rattle.world_laws.proofs.execution.executes_once.Goals as goal
 
 pub returns : goal.returns
 returns g c = λ view list a b ha hb client seq. once-executions g.S.Service.meaning view list a b ha hb client seq
