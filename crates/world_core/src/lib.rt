@@ -6,3 +6,4 @@ pub mod client;
 pub mod host;
 pub mod message;
 pub mod state;
+pub mod world;

@@ -381,4 +381,48 @@ impl<S: Service> WorldState<S> {
             }
         }
     }
+
+    /// What the lines since the last call have told.
+    pub fn take_told(&mut self) -> Sequence<OutLine>
+        ensures told { result ≡ self.old.told }
+        ensures world { self.new ≡ rested self.old }
+    {
+        let told = mem::replace(&mut self.told, Vec::new(self.alloc));
+        Sequence::from_vec(told)
+    }
+
+    /// What has ended the play.
+    pub fn ending(&self) -> Option<Ending>
+        ensures { result ≡ self.now.ending }
+    {
+        self.ending
+    }
+
+    /// The batch of each place that was decided.
+    pub fn chosen(&self) -> &[Batch]
+        ensures { result.now ≡ self.now.chosen }
+    {
+        self.chosen.as_slice()
+    }
+
+    /// All messages that left, in the order of their numbers.
+    pub fn sent(&self) -> &[Sent]
+        ensures { result.now ≡ self.now.sent }
+    {
+        self.sent.as_slice()
+    }
+
+    /// The replies that clients accepted, in order.
+    pub fn accepted(&self) -> &[Acceptance]
+        ensures { result.now ≡ self.now.accepted }
+    {
+        self.accepted.as_slice()
+    }
+
+    /// The members' hosts, ascending.
+    pub fn hosts(&self) -> &[Host<S>]
+        ensures { result.now ≡ self.now.hosts }
+    {
+        self.hosts.as_slice()
+    }
 }

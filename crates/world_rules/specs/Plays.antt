@@ -1,9 +1,10 @@
 -- The play of a script's lines.
-use Rattle.std.specs.Prelude.{List, [], ◌∷◌, ◌++◌}
+use Rattle.std.specs.Prelude.{◌≡◌, Bool, false, List, [], ◌∷◌, ◌++◌, None}
+use Rattle.smart_service.specs.Services.{Meaning}
 use Rattle.smart_messages.specs.declared.entry.NodeEvent.{NodeEvent}
 use Rattle.node_rules.specs.Nodes.{Node}
 use Rattle.node_rules.specs.Steps.{Outcome}
-use Rattle.world_rules.specs.Worlds.{World, asks, flows}
+use Rattle.world_rules.specs.Worlds.{World, asks, flows, begun}
 use Rattle.world_rules.specs.declared.line.Line.{Line}
 use Rattle.world_rules.specs.declared.line.Line.TheVariants as lines
 use Rattle.world_rules.specs.declared.line.OutLine.{OutLine}
@@ -27,3 +28,14 @@ world_after step w (l ∷ ls) = world_after step (rested (line_played step w l))
 abbrev pub lines_told : {S : Type 0} → (Node S → NodeEvent → Outcome S) → World S → List Line → List OutLine
 lines_told step w [] = []
 lines_told step w (l ∷ ls) = (line_played step w l).told ++ lines_told step (rested (line_played step w l)) ls
+
+-- a play: the lines that were played, the world behind them, and whether it is over
+pub record Play (S : Type 0) : Type 0 where
+  pub lines : List Line
+  pub world : World S
+  pub over : Bool
+
+-- until it is over, a play stands for its lines: its world is the one behind them, and nothing has ended it
+pub record IsPlay {S : Type 0} (step : Node S → NodeEvent → Outcome S) (m : Meaning S) (p : Play S) : Type 0 where
+  pub stands : p.over ≡ false → p.world ≡ world_after step (begun m p.world.view) p.lines
+  pub going : p.over ≡ false → p.world.ending ≡ None

@@ -236,6 +236,11 @@ flow_once step w = if is_some w.ending then w else flow_sent step w (slice_get w
 abbrev pub flows : {S : Type 0} → (Node S → NodeEvent → Outcome S) → World S → World S
 flows step w = until_rest (flow_once step) (settle_all step w)
 
+-- the host of a member, if it is one
+abbrev pub host_of : {S : Type 0} → List (Host S) → ℕ → Option (Host S)
+host_of [] id = None
+host_of (h ∷ hs) id = if h.node.id == id then Some h else host_of hs id
+
 -- the beginning
 
 abbrev pub hosts_from : {S : Type 0} → Meaning S → View → List ℕ → List (Host S)

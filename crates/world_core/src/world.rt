@@ -1,0 +1,152 @@
+//! The play of a script.
+ghost use Rattle.std.specs.Prelude.{◌≡◌, ◌++◌, [], ◌∷◌, true, false, None, Some, IfOk, OnOk, OnErr, IsErrOf, option_map};
+ghost use Rattle.std.specs.Option.{option_copied};
+ghost use Rattle.node_rules.specs.Steps.{step_of};
+ghost use Rattle.world_rules.specs.Worlds.{begun, host_of};
+ghost use Rattle.world_rules.specs.Plays.{line_played, rested, IsPlay};
+
+use crate::host::Host;
+use crate::state::WorldState;
+use node_rules::node::Delivery;
+use smart_base::name::MemberId;
+use smart_base::sequence::Sequence;
+use smart_base::view::View;
+use smart_messages::entry::LogEntry;
+use smart_messages::message::Batch;
+use smart_service::service::Service;
+use std::alloc::{AllocError, Global};
+use std::marker::Model;
+use world_rules::client::Acceptance;
+use world_rules::line::{Line, OutLine};
+use world_rules::message::Sent;
+
+/// Why a line was not played to its end. The play is over then.
+#[derive(Clone, Copy, Debug, PartialEq, Eq)]
+pub enum WorldEnd {
+    /// More messages would be sent than have numbers.
+    Limit,
+    /// Memory ran out.
+    NoMemory,
+}
+
+/// The play of a script over a service: the world, and the lines that it stands for.
+#[derive(Drop)]
+pub struct World<S: Service> {
+    lines: Vec<Line>,
+    state: WorldState<S>,
+    over: bool,
+}
+
+impl<S: Service> Model for World<S> {
+    ghost use Rattle.node_rules.specs.Steps.{step_of};
+    ghost use Rattle.world_rules.specs.Plays.{Play, IsPlay};
+
+    ghost Value = { Play S };
+
+    ghost view = { λ w. record { lines = w.lines.items; world = w.state; over = w.over } };
+
+    ghost invariant = { λ w. IsPlay (step_of S.meaning) S.meaning (record { lines = w.lines.items; world = w.state; over = w.over }) };
+}
+
+impl<S: Service> World<S> {
+    /// The play at the end of a header.
+    pub fn begin(alloc: Global, view: View) -> Result<Self, AllocError>
+        ensures { IfOk result (λ w. w ≡ record { lines = []; world = begun S.meaning view; over = false }) }
+    {
+        Ok(World {
+            lines: Vec::new(alloc),
+            state: WorldState::begin(alloc, view)?,
+            over: false,
+        })
+    }
+
+    /// Plays a line, and gives what it tells.
+    pub fn play(&mut self, line: Line) -> Result<Sequence<OutLine>, WorldEnd>
+        requires { self.old.over ≡ false }
+        ensures told { IfOk result (λ told. told ≡ (line_played (step_of S.meaning) self.old.world line).told) }
+        ensures world { OnOk result (self.new ≡ record { lines = self.old.lines ++ line ∷ []; world = rested (line_played (step_of S.meaning) self.old.world line); over = false }) }
+        ensures going { OnOk result ((line_played (step_of S.meaning) self.old.world line).ending ≡ None) }
+        ensures limit { IsErrOf result WorldEnd.Limit → (line_played (step_of S.meaning) self.old.world line).ending ≡ Some Ending.Limit }
+        ensures over { OnErr result (self.new.over ≡ true) }
+    {
+        self.over = true;
+        if self.state.play(&line).is_err() {
+            return Err(WorldEnd::NoMemory);
+        }
+        if self.state.ending().is_some() {
+            return Err(WorldEnd::Limit);
+        }
+        if self.lines.push(line).is_err() {
+            return Err(WorldEnd::NoMemory);
+        }
+        let told = self.state.take_told();
+        self.over = false;
+        Ok(told)
+    }
+
+    /// Whether the play is over. Until then it stands for its lines.
+    pub fn is_over(&self) -> bool
+        ensures value { result ≡ self.now.over }
+        ensures stands { IsPlay (step_of S.meaning) S.meaning self.now }
+    {
+        self.over
+    }
+
+    /// The batch of each place that was decided.
+    pub fn chosen(&self) -> &[Batch]
+        ensures { result.now ≡ self.now.world.chosen }
+    {
+        self.state.chosen()
+    }
+
+    /// All messages that left, in the order of their numbers.
+    pub fn sent(&self) -> &[Sent]
+        ensures { result.now ≡ self.now.world.sent }
+    {
+        self.state.sent()
+    }
+
+    /// The replies that clients accepted, in order.
+    pub fn accepted(&self) -> &[Acceptance]
+        ensures { result.now ≡ self.now.world.accepted }
+    {
+        self.state.accepted()
+    }
+
+    fn host(&self, id: MemberId) -> Option<&Host<S>>
+        ensures { option_copied result ≡ host_of self.now.world.hosts id }
+    {
+        find_host(self.state.hosts(), id)
+    }
+
+    /// A member's book, if it is a member.
+    pub fn book(&self, id: MemberId) -> Option<&[LogEntry]>
+        ensures { option_copied result ≡ option_map (λ h. h.node.entries) (host_of self.now.world.hosts id) }
+    {
+        match self.host(id) {
+            None => None,
+            Some(host) => Some(host.book()),
+        }
+    }
+
+    /// The batches that a member ever delivered, if it is a member.
+    pub fn delivered(&self, id: MemberId) -> Option<&[Delivery]>
+        ensures { option_copied result ≡ option_map (λ h. h.delivered) (host_of self.now.world.hosts id) }
+    {
+        match self.host(id) {
+            None => None,
+            Some(host) => Some(host.delivered()),
+        }
+    }
+}
+
+fn find_host<S: Service>(hosts: &[Host<S>], id: MemberId) -> Option<&Host<S>>
+    ensures { option_copied result ≡ host_of hosts.now id }
+{
+    for host in hosts {
+        if host.id() == id {
+            return Some(host);
+        }
+    }
+    None
+}
