@@ -5,12 +5,13 @@ ghost use Rattle.std.specs.Option.{option_copied};
 ghost use Rattle.smart_messages.specs.Equality.{same_slot};
 ghost use Rattle.node_rules.specs.Nodes.{is_vote, has_vote, has_quorum, certificate, proposal_of, is_wrote, is_accepted, request_fits, fits};
 ghost use Rattle.node_rules.specs.Arrivals.{is_same_proposal, is_same_vote, offered};
+ghost use Rattle.kept_arrivals.specs.Kept.{is_ahead, is_needed};
 ghost use Rattle.node_rules.specs.Rules.{settled, gathered};
 
 use crate::replica::is_next;
 use smart_base::duplicate::Duplicate;
 use smart_base::name::MemberId;
-use smart_base::number::Place;
+use smart_base::number::{Place, Regency, ViewNo};
 use smart_base::sequence::Sequence;
 use smart_base::view::View;
 use smart_messages::entry::LogEntry;
@@ -133,7 +134,8 @@ pub fn proposal_of<'a>(arrivals: &'a [Message], slot: &Slot) -> Option<&'a Batch
     None
 }
 
-fn is_wrote(slot: &Slot, entry: &LogEntry) -> bool
+/// Whether an entry is a write for the slot.
+pub fn is_wrote(slot: &Slot, entry: &LogEntry) -> bool
     ensures { result ≡ is_wrote slot.now entry.now }
 {
     match entry {
@@ -142,27 +144,14 @@ fn is_wrote(slot: &Slot, entry: &LogEntry) -> bool
     }
 }
 
-fn is_accepted(slot: &Slot, entry: &LogEntry) -> bool
+/// Whether an entry is an accept for the slot.
+pub fn is_accepted(slot: &Slot, entry: &LogEntry) -> bool
     ensures { result ≡ is_accepted slot.now entry.now }
 {
     match entry {
         LogEntry::Accepted(made, _, _) => same_slot(*made, *slot),
         LogEntry::Opened | LogEntry::Wrote(..) | LogEntry::Decided(..) => false,
     }
-}
-
-/// Whether the book has a write for the slot.
-pub fn has_written(entries: &[LogEntry], slot: &Slot) -> bool
-    ensures { result ≡ list_any (is_wrote slot.now) entries.now }
-{
-    entries.iter().any(|entry| is_wrote(slot, entry))
-}
-
-/// Whether the book has an accept for the slot.
-pub fn has_accepted(entries: &[LogEntry], slot: &Slot) -> bool
-    ensures { result ≡ list_any (is_accepted slot.now) entries.now }
-{
-    entries.iter().any(|entry| is_accepted(slot, entry))
 }
 
 /// Whether a slot is among those proposed for.
@@ -271,4 +260,34 @@ pub fn gathered(alloc: Global, pool: &[Request], place: Place) -> Result<Option<
         }
     }
     Ok(None)
+}
+
+fn is_ahead(view: ViewNo, place: Place, regency: Regency, slot: &Slot) -> bool
+    ensures { result ≡ is_ahead view place regency slot.now }
+{
+    place < slot.place && view <= slot.view && regency <= slot.regency
+}
+
+fn is_needed(view: ViewNo, place: Place, regency: Regency, message: &Message) -> bool
+    ensures { result ≡ is_needed view place regency message.now }
+{
+    match message {
+        Message::Propose(proposal) => is_ahead(view, place, regency, &proposal.slot),
+        Message::Vote(ballot) => is_ahead(view, place, regency, &ballot.slot),
+        Message::Ask(_) | Message::Reply(_) => false,
+    }
+}
+
+/// Keeps the messages that a node still needs past a place.
+pub fn keep_needed(arrivals: &mut Vec<Message>, view: ViewNo, place: Place, regency: Regency)
+    ensures { arrivals.new.items ≡ filter (is_needed view place regency) arrivals.old.items }
+{
+    arrivals.retain(|message| is_needed(view, place, regency, message));
+}
+
+/// Keeps the slots past a place.
+pub fn keep_ahead(slots: &mut Vec<Slot>, view: ViewNo, place: Place, regency: Regency)
+    ensures { slots.new.items ≡ filter (is_ahead view place regency) slots.old.items }
+{
+    slots.retain(|slot| is_ahead(view, place, regency, slot));
 }

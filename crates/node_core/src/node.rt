@@ -1,13 +1,17 @@
 //! The node itself.
-ghost use Rattle.std.specs.Prelude.{◌≡◌, ◌+◌, ◌^◌, ◌<◌, true, length, IfOk, OnOk, is_some};
+ghost use Rattle.std.specs.Prelude.{◌≡◌, ◌+◌, ◌^◌, ◌<◌, ◌≤◌, true, length, IfOk, OnOk, is_some};
 ghost use Rattle.std.specs.Option.{option_copied};
-ghost use Rattle.node_rules.specs.Nodes.{view_of, regency_of, decided_place, open_slot, is_free, is_open, holding, recording};
+ghost use Rattle.node_rules.specs.Nodes.{view_of, regency_of, next_place, is_wrote, is_accepted, decided_place, open_slot, is_free, is_open, holding, recording};
+ghost use Rattle.std.specs.List.{list_any};
+ghost use Rattle.kept_arrivals.specs.Kept.{trimmed, core_step};
+ghost use Rattle.node_core.specs.Books.{entry_place};
 ghost use Rattle.node_rules.specs.Arrivals.{why_dropped};
 ghost use Rattle.node_rules.specs.Steps.{step_of, outcome_from, arrival_outcome, first_leaving, after_first, leaving, released, opened};
 
 mod arrivals;
 mod rules;
 
+use crate::find::{is_accepted, is_wrote, keep_ahead, keep_needed};
 use node_rules::node::{Fired, Held, Target, Why};
 use smart_base::name::MemberId;
 use smart_base::number::{Place, Regency};
@@ -35,11 +39,17 @@ pub struct NodeCore<S> {
     firm: u64,
     held: Sequence<Held>,
     proposed: Vec<Slot>,
+    /// Whether the book has a write for the slot in which the node takes part.
+    wrote: bool,
+    /// Whether the book has an accept for that slot.
+    accepted: bool,
 }
 
 impl<S> Model for NodeCore<S> {
     ghost use Rattle.std.specs.Prelude.{◌+◌, ◌<◌, ◌^◌, IsSome};
+    ghost use Rattle.smart_base.specs.Views.{present};
     ghost use Rattle.node_rules.specs.Nodes.{Node};
+    ghost use Rattle.node_core.specs.Books.{Remembers};
 
     ghost Value = { Node S };
 
@@ -55,7 +65,7 @@ impl<S> Model for NodeCore<S> {
       proposed = c.proposed.items;
     } };
 
-    ghost invariant = { λ c. IsSome c.waiting → c.replica.place + 1 < 2 ^ 63 };
+    ghost invariant = { λ c. (IsSome c.waiting → c.replica.place + 1 < 2 ^ 63) × Remembers c.entries (record { view = (present c.replica.views).number; place = c.replica.place + 1; regency = 0 }) c.wrote c.accepted };
 }
 
 /// What a step tells: the rules that fired, in order, and why an arrival was dropped.
@@ -90,6 +100,8 @@ impl<S: Service> NodeCore<S> {
             firm: 0,
             held: Sequence::new(alloc),
             proposed: Vec::new(alloc),
+            wrote: false,
+            accepted: false,
         })
     }
 
@@ -149,25 +161,17 @@ impl<S: Service> NodeCore<S> {
         self.entries.as_slice()
     }
 
-    /// Takes one event: what happens to the node, and then one pass of its rules.
-    #[tactic(auto, unfolding(node_rules::specs::Steps::step_of))]
+    /// Takes one event: what happens to the node, and then one pass of its rules. Of what was kept
+    /// before, only what is still needed remains.
+    #[tactic(auto, unfolding(kept_arrivals::specs::Kept::core_step))]
     pub fn step(&mut self, event: &NodeEvent) -> Result<Outcome, AllocError>
-        ensures node { OnOk result (self.new ≡ (step_of S.meaning self.old event.now).node) }
-        ensures fired { IfOk result (λ o. o.fired ≡ (step_of S.meaning self.old event.now).fired) }
-        ensures dropped { IfOk result (λ o. o.dropped ≡ (step_of S.meaning self.old event.now).dropped) }
+        ensures node { OnOk result (self.new ≡ (core_step S.meaning self.old event.now).node) }
+        ensures fired { IfOk result (λ o. o.fired ≡ (core_step S.meaning self.old event.now).fired) }
+        ensures dropped { IfOk result (λ o. o.dropped ≡ (core_step S.meaning self.old event.now).dropped) }
     {
-        match event {
-            NodeEvent::Arrive(message) => self.arrival_outcome(message),
-            NodeEvent::Tick => self.outcome_from(Sequence::new(self.alloc)),
-            NodeEvent::Deliver => {
-                let fired = self.delivers()?;
-                self.outcome_from(fired)
-            }
-            NodeEvent::Firm(count) => {
-                self.firm = *count;
-                self.outcome_from(Sequence::new(self.alloc))
-            }
-        }
+        let outcome = self.step_of(event)?;
+        self.trim();
+        Ok(outcome)
     }
 
     /// The first held message leaves, if its entries are firm.
@@ -192,6 +196,39 @@ impl<S: Service> NodeCore<S> {
             left.push(held)?;
         }
         Ok(left)
+    }
+
+    /// The step of a node that keeps all.
+    #[tactic(auto, unfolding(node_rules::specs::Steps::step_of))]
+    fn step_of(&mut self, event: &NodeEvent) -> Result<Outcome, AllocError>
+        ensures node { OnOk result (self.new ≡ (step_of S.meaning self.old event.now).node) }
+        ensures fired { IfOk result (λ o. o.fired ≡ (step_of S.meaning self.old event.now).fired) }
+        ensures dropped { IfOk result (λ o. o.dropped ≡ (step_of S.meaning self.old event.now).dropped) }
+    {
+        match event {
+            NodeEvent::Arrive(message) => self.arrival_outcome(message),
+            NodeEvent::Tick => self.outcome_from(Sequence::new(self.alloc)),
+            NodeEvent::Deliver => {
+                let fired = self.delivers()?;
+                self.outcome_from(fired)
+            }
+            NodeEvent::Firm(count) => {
+                self.firm = *count;
+                self.outcome_from(Sequence::new(self.alloc))
+            }
+        }
+    }
+
+    /// Drops what no rule needs any more.
+    #[tactic(auto, unfolding(kept_arrivals::specs::Kept::trimmed))]
+    fn trim(&mut self)
+        ensures { self.new ≡ trimmed self.old }
+    {
+        let view = self.view().number;
+        let place = self.decided_place();
+        let regency = self.regency();
+        keep_needed(&mut self.arrivals, view, place, regency);
+        keep_ahead(&mut self.proposed, view, place, regency);
     }
 
     /// Drops an arrival for its first reason, or keeps it and passes the rules.
@@ -277,10 +314,33 @@ impl<S: Service> NodeCore<S> {
         self.held.push(Held { to, message, needs })
     }
 
-    /// Writes an entry down.
+    /// Whether the node has written for the slot in which it takes part.
+    fn has_written(&self) -> bool
+        ensures { result ≡ list_any (is_wrote (open_slot self.now)) self.now.entries }
+    {
+        self.wrote
+    }
+
+    /// Whether the node has accepted in the slot in which it takes part.
+    fn has_accepted(&self) -> bool
+        ensures { result ≡ list_any (is_accepted (open_slot self.now)) self.now.entries }
+    {
+        self.accepted
+    }
+
+    /// Writes an entry down that speaks of no later place than the next.
+    #[tactic(auto, using(crate::proofs::Books::remembers_more))]
     fn record(&mut self, entry: LogEntry) -> Result<(), AllocError>
+        requires free { is_free self.old ≡ true }
+        requires next { entry_place entry ≤ next_place self.old }
         ensures { OnOk result (self.new ≡ recording self.old entry) }
     {
-        self.entries.push(entry)
+        let slot = self.open_slot();
+        let wrote = is_wrote(&slot, &entry);
+        let accepted = is_accepted(&slot, &entry);
+        self.entries.push(entry)?;
+        self.wrote = self.wrote || wrote;
+        self.accepted = self.accepted || accepted;
+        Ok(())
     }
 }

@@ -1,14 +1,13 @@
 //! The rules of a node: what is due, what the rule does with it, and both.
-ghost use Rattle.std.specs.Prelude.{◌≡◌, ◌++◌, true, IfOk, OnOk, IsSome, Some};
+ghost use Rattle.std.specs.Prelude.{◌≡◌, None, ◌<◌, ◌^◌, ◌++◌, true, IfOk, OnOk, IsSome, Some};
 ghost use Rattle.std.specs.Option.{option_copied};
 ghost use Rattle.node_rules.specs.Nodes.{next_place, is_free};
-ghost use Rattle.node_rules.specs.Rules.{replying, delivers, delivery, proposing, propose_batch, proposes, ballot, writing, write_batch, writes, backed, backers, accepting, accept_batch, accepts, deciding, decide_batch, decides, fired_if};
+ghost use Rattle.node_rules.specs.Replicas.{delivered, executed_lines};
+ghost use Rattle.node_rules.specs.Rules.{settled, replying, delivers, delivery, proposing, propose_batch, proposes, ballot, writing, write_batch, writes, backed, backers, accepting, accept_batch, accepts, deciding, decide_batch, decides, fired_if};
 ghost use Rattle.node_rules.specs.declared.node.Fired.TheVariants as fires;
 ghost use Rattle.node_rules.specs.Steps.{votes, fired_votes, passes, fired_pass};
 
-use crate::find::{
-    certificate, gathered, has_accepted, has_proposed, has_quorum, has_written, proposal_of, settle,
-};
+use crate::find::{certificate, gathered, has_proposed, has_quorum, proposal_of, settle};
 use crate::node::NodeCore;
 use crate::replica::deliver;
 use node_rules::node::{Delivery, Fired, Target};
@@ -17,7 +16,9 @@ use smart_base::name::MemberId;
 use smart_base::sequence::Sequence;
 use smart_messages::entry::LogEntry;
 use smart_messages::equality::digest_of;
-use smart_messages::message::{Answer, Ballot, Batch, Digest, Message, Proposal, VoteKind};
+use smart_messages::message::{
+    Answer, Ballot, Batch, Digest, Message, Proposal, Request, VoteKind,
+};
 use smart_service::service::Service;
 use smart_service::table::TableLine;
 use std::alloc::AllocError;
@@ -75,10 +76,10 @@ impl<S: Service> NodeCore<S> {
             None => Ok(fired),
             Some(batch) => {
                 let answers = self.view().is_member(self.id);
-                let lines = deliver(self.alloc, &mut self.replica, batch.as_slice())?;
-                settle(&mut self.pool, &self.replica.table);
+                let place = self.replica.place.next();
+                let lines = self.execute(batch.as_slice())?;
                 fired.push(Fired::Delivered(Delivery {
-                    place: self.replica.place,
+                    place,
                     batch,
                     executed: lines.len() as u64,
                 }))?;
@@ -88,6 +89,20 @@ impl<S: Service> NodeCore<S> {
                 Ok(fired)
             }
         }
+    }
+
+    /// Executes a batch at the next place, and gives the lines of the requests that were executed.
+    fn execute(&mut self, batch: &[Request]) -> Result<Sequence<TableLine>, AllocError>
+        requires free { self.old.waiting ≡ None }
+        requires room { next_place self.old < 2 ^ 63 }
+        ensures node { OnOk result (self.new ≡ record self.old { replica = delivered S.meaning self.old.replica batch.now; pool = settled (delivered S.meaning self.old.replica batch.now).table self.old.pool }) }
+        ensures lines { IfOk result (λ lines. lines ≡ executed_lines S.meaning self.old.replica batch.now) }
+    {
+        self.wrote = false;
+        self.accepted = false;
+        let lines = deliver(self.alloc, &mut self.replica, batch)?;
+        settle(&mut self.pool, &self.replica.table);
+        Ok(lines)
     }
 
     #[tactic(auto, unfolding(node_rules::specs::Rules::proposing))]
@@ -157,7 +172,7 @@ impl<S: Service> NodeCore<S> {
             return Ok(None);
         }
         let slot = self.open_slot();
-        if has_written(self.entries.as_slice(), &slot) {
+        if self.has_written() {
             return Ok(None);
         }
         match proposal_of(self.arrivals.as_slice(), &slot) {
@@ -231,7 +246,7 @@ impl<S: Service> NodeCore<S> {
             return Ok(None);
         }
         let slot = self.open_slot();
-        if has_accepted(self.entries.as_slice(), &slot) {
+        if self.has_accepted() {
             return Ok(None);
         }
         let batch = proposal_of(self.arrivals.as_slice(), &slot);

@@ -1,0 +1,4 @@
+pub mod Filters
+pub mod Needed
+pub mod Rules
+pub mod Steps

@@ -1,0 +1,19 @@
+//! Laws of what a node keeps.
+ghost use Rattle.std.specs.Prelude.{ℕ, List};
+ghost use Rattle.smart_base.specs.declared.view.View.{View};
+ghost use Rattle.smart_messages.specs.declared.entry.NodeEvent.{NodeEvent};
+ghost use Rattle.node_rules.specs.Nodes.{Node};
+ghost use Rattle.node_rules.specs.Steps.{opened};
+ghost use Rattle.kept_arrivals.specs.Kept.{Stands, StepStands, core_after, node_after};
+
+use smart_service::service::Service;
+
+/// The step of a core that stands for a node is the node's step.
+pub fn a_core_steps_as_its_node<S: Service>()
+    ensures { (core n : Node S) (event : NodeEvent) → Stands core n → StepStands S.meaning core n event }
+{}
+
+/// Whatever comes, a core that began with an empty book stands for the node that keeps all.
+pub fn a_core_stands_for_its_node<S: Service>()
+    ensures { (id : ℕ) (view : View) (events : List NodeEvent) → Stands (core_after S.meaning (opened S.meaning id view) events) (node_after S.meaning (opened S.meaning id view) events) }
+{}
