@@ -3,7 +3,8 @@ ghost use Rattle.std.specs.Prelude.{◌≡◌, ◌+◌, ◌++◌, ◌==◌, [], 
 ghost use Rattle.std.specs.List.{flat_map};
 ghost use Rattle.std.specs.Option.{option_copied};
 ghost use Rattle.node_rules.specs.Nodes.{next_place};
-ghost use Rattle.node_rules.specs.Steps.{step_of, leaving, released, opened};
+ghost use Rattle.kept_arrivals.specs.Kept.{core_step};
+ghost use Rattle.node_rules.specs.Steps.{leaving, released, opened};
 ghost use Rattle.world_rules.specs.Worlds.{due, told_drop, told_fired, delivery_in, chosen_with, host_after};
 
 use node_core::node::NodeCore;
@@ -160,10 +161,10 @@ pub fn step_host<S: Service>(
     told: &mut Vec<OutLine>,
     event: &NodeEvent,
 ) -> Result<Sequence<Held>, AllocError>
-    ensures host { OnOk result (host.new ≡ host_after host.old (step_of S.meaning host.old.node event.now)) }
-    ensures chosen { OnOk result (let after = (step_of S.meaning host.old.node event.now).node in chosen.new.items ≡ chosen_with chosen.old.items (next_place after) after.waiting) }
-    ensures told { OnOk result (let o = step_of S.meaning host.old.node event.now in told.new.items ≡ told.old.items ++ (told_drop host.old.node.id o.dropped ++ flat_map (told_fired host.old.node.id) o.fired)) }
-    ensures left { IfOk result (λ left. let after = (step_of S.meaning host.old.node event.now).node in left ≡ leaving after.firm after.held) }
+    ensures host { OnOk result (host.new ≡ host_after host.old (core_step S.meaning host.old.node event.now)) }
+    ensures chosen { OnOk result (let after = (core_step S.meaning host.old.node event.now).node in chosen.new.items ≡ chosen_with chosen.old.items (next_place after) after.waiting) }
+    ensures told { OnOk result (let o = core_step S.meaning host.old.node event.now in told.new.items ≡ told.old.items ++ (told_drop host.old.node.id o.dropped ++ flat_map (told_fired host.old.node.id) o.fired)) }
+    ensures left { IfOk result (λ left. let after = (core_step S.meaning host.old.node event.now).node in left ≡ leaving after.firm after.held) }
 {
     let id = host.node.id();
     let outcome = host.node.step(event)?;

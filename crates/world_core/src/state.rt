@@ -1,6 +1,6 @@
 //! What happens in a world.
 ghost use Rattle.std.specs.Prelude.{◌≡◌, ◌+◌, ◌-◌, ◌^◌, ◌<◌, ◌++◌, [], ◌∷◌, IfOk, OnOk, None, Some, length, slice_get, slice_set, false};
-ghost use Rattle.node_rules.specs.Steps.{step_of};
+ghost use Rattle.kept_arrivals.specs.Kept.{core_step};
 ghost use Rattle.world_rules.specs.Repeats.{repeated, turns, until_rest, each_from};
 ghost use Rattle.world_rules.specs.Clients.{heard, after_heard};
 ghost use Rattle.world_rules.specs.Worlds.{telling, sends, sends_all, summary_of, stepped, node_takes, settle_once, settle, settle_all, gives, give_all, acceptance_in, told_heard, hearing, client_takes, client_asks, asks, goes, flow_once, flows, hosts_from, clients_from, begun};
@@ -174,7 +174,7 @@ impl<S: Service> WorldState<S> {
 
     #[tactic(auto, unfolding(world_rules::specs::Worlds::node_takes, world_rules::specs::Worlds::stepped))]
     fn node_takes(&mut self, i: usize, event: &NodeEvent) -> Result<(), AllocError>
-        ensures { OnOk result (self.new ≡ node_takes (step_of S.meaning) i event.now self.old) }
+        ensures { OnOk result (self.new ≡ node_takes (core_step S.meaning) i event.now self.old) }
     {
         if self.ending.is_some() || i >= self.hosts.len() {
             return Ok(());
@@ -194,7 +194,7 @@ impl<S: Service> WorldState<S> {
     /// The node at an index takes what is due, if anything is.
     #[tactic(auto, unfolding(world_rules::specs::Worlds::settle_once, world_rules::specs::Worlds::node_takes))]
     fn settle_once(&mut self, i: usize) -> Result<bool, AllocError>
-        ensures world { OnOk result (self.new ≡ settle_once (step_of S.meaning) i self.old) }
+        ensures world { OnOk result (self.new ≡ settle_once (core_step S.meaning) i self.old) }
         ensures idle { IfOk result (λ more. more ≡ false → self.new ≡ self.old) }
     {
         if self.ending.is_some() || i >= self.hosts.len() {
@@ -212,7 +212,7 @@ impl<S: Service> WorldState<S> {
     /// The node at an index takes what is due until nothing is.
     #[tactic(auto, using(crate::proofs::Turns::rest_begins, crate::proofs::Turns::rest_more, crate::proofs::Turns::rest_done, crate::proofs::Turns::rest_idle))]
     fn settle(&mut self, i: usize) -> Result<(), AllocError>
-        ensures { OnOk result (self.new ≡ settle (step_of S.meaning) i self.old) }
+        ensures { OnOk result (self.new ≡ settle (core_step S.meaning) i self.old) }
     {
         for turn in 0..u64::MAX {
             if !self.settle_once(i)? {
@@ -225,7 +225,7 @@ impl<S: Service> WorldState<S> {
     /// Each node settles, ascending.
     #[tactic(auto, using(crate::proofs::Turns::each_more, crate::proofs::Turns::each_done))]
     fn settle_all(&mut self) -> Result<(), AllocError>
-        ensures { OnOk result (self.new ≡ settle_all (step_of S.meaning) self.old) }
+        ensures { OnOk result (self.new ≡ settle_all (core_step S.meaning) self.old) }
     {
         let count = self.hosts.len();
         for i in 0..count {
@@ -236,7 +236,7 @@ impl<S: Service> WorldState<S> {
 
     /// The node at an index takes an event, and settles.
     fn give(&mut self, i: usize, event: &NodeEvent) -> Result<(), AllocError>
-        ensures { OnOk result (self.new ≡ settle (step_of S.meaning) i (node_takes (step_of S.meaning) i event.now self.old)) }
+        ensures { OnOk result (self.new ≡ settle (core_step S.meaning) i (node_takes (core_step S.meaning) i event.now self.old)) }
     {
         self.node_takes(i, event)?;
         self.settle(i)?;
@@ -246,7 +246,7 @@ impl<S: Service> WorldState<S> {
     /// Each node takes a message and settles, ascending.
     #[tactic(auto, using(crate::proofs::Turns::each_more, crate::proofs::Turns::each_done), unfolding(world_rules::specs::Worlds::gives))]
     fn give_all(&mut self, message: Message) -> Result<(), AllocError>
-        ensures { OnOk result (self.new ≡ give_all (step_of S.meaning) message self.old) }
+        ensures { OnOk result (self.new ≡ give_all (core_step S.meaning) message self.old) }
     {
         let count = self.hosts.len();
         let arrival = NodeEvent::Arrive(message);
@@ -310,7 +310,7 @@ impl<S: Service> WorldState<S> {
     // Flow.
 
     fn go(&mut self, message: Message, to: Target) -> Result<(), AllocError>
-        ensures { OnOk result (self.new ≡ goes (step_of S.meaning) self.old message to) }
+        ensures { OnOk result (self.new ≡ goes (core_step S.meaning) self.old message to) }
     {
         match to {
             Target::View => {
@@ -327,7 +327,7 @@ impl<S: Service> WorldState<S> {
     /// The next message behind the mark, if there is one, is given to whom it is for.
     #[tactic(auto, unfolding(world_rules::specs::Worlds::flow_once))]
     fn flow_once(&mut self) -> Result<bool, AllocError>
-        ensures world { OnOk result (self.new ≡ flow_once (step_of S.meaning) self.old) }
+        ensures world { OnOk result (self.new ≡ flow_once (core_step S.meaning) self.old) }
         ensures idle { IfOk result (λ more. more ≡ false → self.new ≡ self.old) }
     {
         let next = self.mark as usize;
@@ -344,7 +344,7 @@ impl<S: Service> WorldState<S> {
     /// Each message behind the mark is given, until none is left.
     #[tactic(auto, using(crate::proofs::Turns::rest_begins, crate::proofs::Turns::rest_more, crate::proofs::Turns::rest_done, crate::proofs::Turns::rest_idle))]
     fn flow_rest(&mut self) -> Result<(), AllocError>
-        ensures { OnOk result (self.new ≡ until_rest (flow_once (step_of S.meaning)) self.old) }
+        ensures { OnOk result (self.new ≡ until_rest (flow_once (core_step S.meaning)) self.old) }
     {
         for turn in 0..u64::MAX {
             if !self.flow_once()? {
@@ -355,7 +355,7 @@ impl<S: Service> WorldState<S> {
     }
 
     fn flow(&mut self) -> Result<(), AllocError>
-        ensures { OnOk result (self.new ≡ flows (step_of S.meaning) self.old) }
+        ensures { OnOk result (self.new ≡ flows (core_step S.meaning) self.old) }
     {
         self.settle_all()?;
         self.flow_rest()?;
@@ -367,7 +367,7 @@ impl<S: Service> WorldState<S> {
     /// Plays a line of a script.
     #[tactic(auto, unfolding(world_rules::specs::Plays::line_played))]
     pub fn play(&mut self, line: &Line) -> Result<(), AllocError>
-        ensures { OnOk result (self.new ≡ line_played (step_of S.meaning) self.old line.now) }
+        ensures { OnOk result (self.new ≡ line_played (core_step S.meaning) self.old line.now) }
     {
         match line {
             Line::Nothing => Ok(()),

@@ -1,13 +1,15 @@
 //! The play of a script.
 ghost use Rattle.std.specs.Prelude.{◌≡◌, ◌++◌, [], ◌∷◌, true, false, None, Some, IfOk, OnOk, OnErr, IsErrOf, option_map};
 ghost use Rattle.std.specs.Option.{option_copied};
-ghost use Rattle.node_rules.specs.Steps.{step_of};
+ghost use Rattle.kept_arrivals.specs.Kept.{core_step};
 ghost use Rattle.world_rules.specs.Worlds.{begun, host_of};
 ghost use Rattle.world_rules.specs.Plays.{line_played, rested, IsPlay};
+ghost use Rattle.world_rules.specs.declared.message.Ending.TheVariants as endings;
 
 use crate::host::Host;
 use crate::state::WorldState;
 use node_rules::node::Delivery;
+use smart_base::duplicate::Duplicate;
 use smart_base::name::MemberId;
 use smart_base::sequence::Sequence;
 use smart_base::view::View;
@@ -32,30 +34,33 @@ pub enum WorldEnd {
 /// The play of a script over a service: the world, and the lines that it stands for.
 #[derive(Drop)]
 pub struct World<S: Service> {
+    group: View,
     lines: Vec<Line>,
     state: WorldState<S>,
     over: bool,
 }
 
 impl<S: Service> Model for World<S> {
-    ghost use Rattle.node_rules.specs.Steps.{step_of};
+    ghost use Rattle.kept_arrivals.specs.Kept.{core_step};
     ghost use Rattle.world_rules.specs.Plays.{Play, IsPlay};
 
     ghost Value = { Play S };
 
-    ghost view = { λ w. record { lines = w.lines.items; world = w.state; over = w.over } };
+    ghost view = { λ w. record { group = w.group; lines = w.lines.items; world = w.state; over = w.over } };
 
-    ghost invariant = { λ w. IsPlay (step_of S.meaning) S.meaning (record { lines = w.lines.items; world = w.state; over = w.over }) };
+    ghost invariant = { λ w. IsPlay (core_step S.meaning) S.meaning (record { group = w.group; lines = w.lines.items; world = w.state; over = w.over }) };
 }
 
 impl<S: Service> World<S> {
     /// The play at the end of a header.
     pub fn begin(alloc: Global, view: View) -> Result<Self, AllocError>
-        ensures { IfOk result (λ w. w ≡ record { lines = []; world = begun S.meaning view; over = false }) }
+        ensures { IfOk result (λ w. w ≡ record { group = view; lines = []; world = begun S.meaning view; over = false }) }
     {
+        let state = WorldState::begin(alloc, view.duplicate(alloc)?)?;
         Ok(World {
+            group: view,
             lines: Vec::new(alloc),
-            state: WorldState::begin(alloc, view)?,
+            state,
             over: false,
         })
     }
@@ -63,10 +68,10 @@ impl<S: Service> World<S> {
     /// Plays a line, and gives what it tells.
     pub fn play(&mut self, line: Line) -> Result<Sequence<OutLine>, WorldEnd>
         requires { self.old.over ≡ false }
-        ensures told { IfOk result (λ told. told ≡ (line_played (step_of S.meaning) self.old.world line).told) }
-        ensures world { OnOk result (self.new ≡ record { lines = self.old.lines ++ line ∷ []; world = rested (line_played (step_of S.meaning) self.old.world line); over = false }) }
-        ensures going { OnOk result ((line_played (step_of S.meaning) self.old.world line).ending ≡ None) }
-        ensures limit { IsErrOf result WorldEnd.Limit → (line_played (step_of S.meaning) self.old.world line).ending ≡ Some Ending.Limit }
+        ensures told { IfOk result (λ told. told ≡ (line_played (core_step S.meaning) self.old.world line).told) }
+        ensures world { OnOk result (self.new ≡ record { group = self.old.group; lines = self.old.lines ++ line ∷ []; world = rested (line_played (core_step S.meaning) self.old.world line); over = false }) }
+        ensures going { OnOk result ((line_played (core_step S.meaning) self.old.world line).ending ≡ None) }
+        ensures limit { IsErrOf result WorldEnd.Limit → (line_played (core_step S.meaning) self.old.world line).ending ≡ Some endings.Limit }
         ensures over { OnErr result (self.new.over ≡ true) }
     {
         self.over = true;
@@ -87,7 +92,7 @@ impl<S: Service> World<S> {
     /// Whether the play is over. Until then it stands for its lines.
     pub fn is_over(&self) -> bool
         ensures value { result ≡ self.now.over }
-        ensures stands { IsPlay (step_of S.meaning) S.meaning self.now }
+        ensures stands { IsPlay (core_step S.meaning) S.meaning self.now }
     {
         self.over
     }

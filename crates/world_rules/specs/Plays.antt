@@ -1,5 +1,6 @@
 -- The play of a script's lines.
 use Rattle.std.specs.Prelude.{◌≡◌, Bool, false, List, [], ◌∷◌, ◌++◌, None}
+use Rattle.smart_base.specs.declared.view.View.{View}
 use Rattle.smart_service.specs.Services.{Meaning}
 use Rattle.smart_messages.specs.declared.entry.NodeEvent.{NodeEvent}
 use Rattle.node_rules.specs.Nodes.{Node}
@@ -29,13 +30,14 @@ abbrev pub lines_told : {S : Type 0} → (Node S → NodeEvent → Outcome S) �
 lines_told step w [] = []
 lines_told step w (l ∷ ls) = (line_played step w l).told ++ lines_told step (rested (line_played step w l)) ls
 
--- a play: the lines that were played, the world behind them, and whether it is over
+-- a play: the group's first view, the lines that were played, the world behind them, and whether it is over
 pub record Play (S : Type 0) : Type 0 where
+  pub group : View
   pub lines : List Line
   pub world : World S
   pub over : Bool
 
 -- until it is over, a play stands for its lines: its world is the one behind them, and nothing has ended it
 pub record IsPlay {S : Type 0} (step : Node S → NodeEvent → Outcome S) (m : Meaning S) (p : Play S) : Type 0 where
-  pub stands : p.over ≡ false → p.world ≡ world_after step (begun m p.world.view) p.lines
+  pub stands : p.over ≡ false → p.world ≡ world_after step (begun m p.group) p.lines
   pub going : p.over ≡ false → p.world.ending ≡ None

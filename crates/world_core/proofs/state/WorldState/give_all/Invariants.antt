@@ -1,6 +1,6 @@
 use Rattle.std.proofs.Common.{◌≡◌, ◌-◌, length}
 use Rattle.smart_messages.specs.declared.entry.NodeEvent.TheVariants.{Arrive}
-use Rattle.node_rules.specs.Steps.{step_of}
+use Rattle.kept_arrivals.specs.Kept.{core_step}
 use Rattle.world_rules.specs.Repeats.{each_from}
 use Rattle.world_rules.specs.Worlds.{gives}
 use Rattle.world_core.proofs.state.WorldState.give_all.Given as goal
@@ -9,5 +9,5 @@ use Rattle.world_core.proofs.state.WorldState.give_all.Given as goal
 abbrev pub invariant-loop-i : goal.invariant-loop-i
 invariant-loop-i g l = record {
   arrival : l.arrival ≡ Arrive l.fn.message;
-  rest : each_from (gives (step_of g.S.Service.meaning) l.fn.message) (l.count - l.i) l.i l.self ≡ each_from (gives (step_of g.S.Service.meaning) l.fn.message) (length l.fn.self.hosts) 0 l.fn.self;
+  rest : each_from (gives (core_step g.S.Service.meaning) l.fn.message) (l.count - l.i) l.i l.self ≡ each_from (gives (core_step g.S.Service.meaning) l.fn.message) (length l.fn.self.hosts) 0 l.fn.self;
 }

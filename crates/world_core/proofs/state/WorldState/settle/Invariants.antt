@@ -1,5 +1,5 @@
 use Rattle.std.proofs.Common.{◌≡◌, ◌-◌}
-use Rattle.node_rules.specs.Steps.{step_of}
+use Rattle.kept_arrivals.specs.Kept.{core_step}
 use Rattle.world_rules.specs.Repeats.{repeated, turns, until_rest}
 use Rattle.world_rules.specs.Worlds.{settle_once}
 use Rattle.world_core.proofs.state.WorldState.settle.Given as goal
@@ -7,4 +7,4 @@ use Rattle.world_core.proofs.state.WorldState.settle.Given as goal
 -- the turns so far and those left are all
 abbrev pub invariant-loop-turn : goal.invariant-loop-turn
 invariant-loop-turn g l =
-    repeated (settle_once (step_of g.S.Service.meaning) l.i) (turns - l.turn) l.self ≡ until_rest (settle_once (step_of g.S.Service.meaning) l.i) l.fn.self
+    repeated (settle_once (core_step g.S.Service.meaning) l.i) (turns - l.turn) l.self ≡ until_rest (settle_once (core_step g.S.Service.meaning) l.i) l.fn.self
