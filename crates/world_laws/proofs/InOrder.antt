@@ -23,7 +23,8 @@ use Rattle.node_rules.specs.declared.node.Why.{Why}
 use Rattle.node_rules.specs.declared.node.Target.TheVariants as targets
 use Rattle.smart_messages.specs.declared.message.VoteKind.TheVariants.{Write, Accept}
 use Rattle.smart_messages.specs.Equality.{digest_of}
-use Rattle.world_laws.specs.Books.{decided_of, DeliversInOrder, node_after}
+use Rattle.kept_arrivals.specs.Kept.{node_after}
+use Rattle.world_laws.specs.Books.{decided_of, DeliversInOrder}
 use Rattle.world_laws.proofs.Lists.{and_true}
 use Rattle.world_laws.proofs.Once.{guard_passed}
 

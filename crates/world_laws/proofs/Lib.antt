@@ -24,3 +24,4 @@ pub mod Hearing
 pub mod Asking
 pub mod Rests
 pub mod Bounded
+pub mod CoreWorlds

@@ -18,7 +18,8 @@ use Rattle.node_rules.specs.Arrivals.{why_dropped, kept}
 use Rattle.node_rules.specs.Rules.{settled, replying, lines_to_answer, deliver_batch, delivers, proposing, propose_batch, proposes, writing, write_batch, writes, accepting, accept_batch, accepts, deciding, decide_batch, decides}
 use Rattle.node_rules.specs.Steps.{votes, passes, arrival_outcome, step_of}
 use Rattle.node_rules.specs.declared.node.Why.{Why}
-use Rattle.world_laws.specs.Books.{node_after, passing, AcceptsOnce}
+use Rattle.kept_arrivals.specs.Kept.{node_after}
+use Rattle.world_laws.specs.Books.{passing, AcceptsOnce}
 use Rattle.world_laws.proofs.Lists.{and_true, or_false, not_true}
 use Rattle.world_laws.proofs.Equal.{same_slot-equal}
 

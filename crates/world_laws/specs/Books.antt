@@ -5,16 +5,9 @@ use Rattle.smart_messages.specs.declared.message.Request.{Request}
 use Rattle.smart_messages.specs.declared.message.Slot.{Slot}
 use Rattle.smart_messages.specs.declared.entry.LogEntry.{LogEntry}
 use Rattle.smart_messages.specs.declared.entry.LogEntry.TheVariants.{Opened, Wrote, Accepted, Decided}
-use Rattle.smart_messages.specs.declared.entry.NodeEvent.{NodeEvent}
 use Rattle.smart_service.specs.Services.{Meaning}
 use Rattle.node_rules.specs.Replicas.{state}
 use Rattle.node_rules.specs.Nodes.{Node, is_accepted, decided_place}
-use Rattle.node_rules.specs.Steps.{step_of}
-
--- the node after events
-abbrev pub node_after : {S : Type 0} → Meaning S → Node S → List NodeEvent → Node S
-node_after m n [] = n
-node_after m n (e ∷ es) = node_after m (step_of m n e).node es
 
 -- how many values pass a test
 abbrev pub passing : {A : Type 0} → (A → Bool) → List A → ℕ

@@ -4,7 +4,8 @@ ghost use Rattle.smart_base.specs.Views.{quorum};
 ghost use Rattle.smart_base.specs.declared.view.View.{View};
 ghost use Rattle.smart_messages.specs.declared.entry.NodeEvent.{NodeEvent};
 ghost use Rattle.node_rules.specs.Steps.{opened};
-ghost use Rattle.world_laws.specs.Books.{AcceptsOnce, DeliversInOrder, node_after};
+ghost use Rattle.kept_arrivals.specs.Kept.{node_after};
+ghost use Rattle.world_laws.specs.Books.{AcceptsOnce, DeliversInOrder};
 
 use smart_service::service::Service;
 

@@ -2,6 +2,7 @@
 //! on functions with empty bodies.
 #![tactic(auto)]
 
+pub mod cores;
 pub mod execution;
 pub mod laws;
 pub mod rest;

@@ -1,0 +1,308 @@
+-- The play of cores, which keep no more than they need, is the play of the nodes that keep all.
+use Rattle.std.proofs.Common.{◌≡◌, ℕ, zero, suc, ◌+◌, ◌^◌, ◌++◌, Bool, true, false, List, [], ◌∷◌, length, map, refl, ap, sym, ◌∙◌, cond, Option, Some, None, is_some, nat_lt}
+use Rattle.std.specs.Prelude.{slice_get, slice_set, option_map}
+use Rattle.std.specs.List.{flat_map}
+use Rattle.std.specs.Option.{option_and_then}
+use Rattle.smart_base.specs.declared.view.View.{View}
+use Rattle.smart_messages.specs.declared.message.Request.{Request}
+use Rattle.smart_messages.specs.declared.message.Message.{Message}
+use Rattle.smart_messages.specs.declared.message.Message.TheVariants.{Ask, Propose, Vote, Reply}
+use Rattle.smart_messages.specs.declared.entry.NodeEvent.{NodeEvent}
+use Rattle.smart_messages.specs.declared.entry.NodeEvent.TheVariants.{Arrive}
+use Rattle.smart_service.specs.Services.{Meaning}
+use Rattle.node_rules.specs.Nodes.{Node, next_place}
+use Rattle.node_rules.specs.Steps.{Outcome, step_of, leaving, opened}
+use Rattle.node_rules.specs.declared.node.Held.{Held}
+use Rattle.node_rules.specs.declared.node.Target.{Target}
+use Rattle.node_rules.specs.declared.node.Target.TheVariants as targets
+use Rattle.kept_arrivals.specs.Kept.{trimmed, core_step}
+use Rattle.kept_arrivals.proofs.Steps.{core_step_trimmed, opened_stands}
+use Rattle.world_rules.specs.Repeats.{repeated, turns, until_rest, each_from}
+use Rattle.world_rules.specs.Clients.{request_of, asking}
+use Rattle.world_rules.specs.Worlds.{Host, World, sends, sends_all, told_drop, told_fired, chosen_with, host_after, stepped, host_takes, node_takes, due, takes_due, settle_once, settle, settle_all, gives, give_all, hearing, client_hears, client_takes, client_asks, ask_found, asks, goes, flow_sent, flow_once, flows, hosts_from, begun}
+use Rattle.world_rules.specs.Plays.{line_played, rested, world_after, lines_told}
+use Rattle.world_rules.specs.declared.client.Client.{Client}
+use Rattle.world_rules.specs.declared.message.Origin.{Origin}
+use Rattle.world_rules.specs.declared.message.Origin.TheVariants as origins
+use Rattle.world_rules.specs.declared.message.Sent.{Sent}
+use Rattle.world_rules.specs.declared.line.Line.{Line}
+use Rattle.world_rules.specs.declared.line.Line.TheVariants as lines
+use Rattle.world_laws.specs.Cores.{trimmed_host, trimmed_world}
+
+-- lists, choices and repeated steps
+
+-- the value at an index of the mapped list
+map_get : {A B : Type 0} (t : A → B) (xs : List A) (i : ℕ) → slice_get (map t xs) i ≡ option_map t (slice_get xs i)
+map_get t [] i = refl
+map_get t (x ∷ xs) zero = refl
+map_get t (x ∷ xs) (suc i) = map_get t xs i
+
+-- a value that is set in the mapped list
+map_set : {A B : Type 0} (t : A → B) (xs : List A) (i : ℕ) (x : A) → slice_set (map t xs) i (t x) ≡ map t (slice_set xs i x)
+map_set t [] i x = refl
+map_set t (y ∷ xs) zero x = refl
+map_set t (y ∷ xs) (suc i) x = ap (λ ys. t y ∷ ys) (map_set t xs i x)
+
+-- the mapped list is as long
+map_length : {A B : Type 0} (t : A → B) (xs : List A) → length (map t xs) ≡ length xs
+map_length t [] = refl
+map_length t (x ∷ xs) = ap (λ k. suc k) (map_length t xs)
+
+-- a choice
+choice_same : {A B : Type 0} (t : A → B) (b : Bool) (x y : A) (v w : B) → v ≡ t x → w ≡ t y → cond b v w ≡ t (cond b x y)
+choice_same t true x y v w left right = left
+choice_same t false x y v w left right = right
+
+-- a step that is repeated
+repeated_same : {A B : Type 0} (t : A → B) (f : B → B) (g : A → A) → ((x : A) → f (t x) ≡ t (g x)) → (k : ℕ) (x : A) → repeated f k (t x) ≡ t (repeated g k x)
+unfolding repeated
+repeated_same t f g same zero x = refl
+repeated_same t f g same (suc k) x = ap (λ y. repeated f k y) (same x) ∙ repeated_same t f g same k (g x)
+
+-- a step that is repeated until it rests
+until_rest_same : {A B : Type 0} (t : A → B) (f : B → B) (g : A → A) → ((x : A) → f (t x) ≡ t (g x)) → (x : A) → until_rest f (t x) ≡ t (until_rest g x)
+unfolding until_rest
+until_rest_same t f g same x = repeated_same t f g same turns x
+
+-- a step at each of several numbers
+each_from_same : {A B : Type 0} (t : A → B) (f : ℕ → B → B) (g : ℕ → A → A) → ((i : ℕ) (x : A) → f i (t x) ≡ t (g i x)) → (k i : ℕ) (x : A) → each_from f k i (t x) ≡ t (each_from g k i x)
+unfolding each_from
+each_from_same t f g same zero i x = refl
+each_from_same t f g same (suc k) i x = ap (λ y. each_from f k (i + 1) y) (same i x) ∙ each_from_same t f g same k (i + 1) (g i x)
+
+-- what leaves
+
+-- a message leaves
+sends_same : {S : Type 0} (w : World S) (origin : Origin) (to : Target) (message : Message) → sends (trimmed_world w) origin to message ≡ trimmed_world (sends w origin to message)
+unfolding sends trimmed_world
+sends_same w origin to message = choice_same trimmed_world (nat_lt (length w.sent) (2 ^ 24)) _ _ _ _ refl refl
+
+-- many messages leave
+sends_all_same : {S : Type 0} (id : ℕ) (w : World S) (held : List Held) → sends_all id (trimmed_world w) held ≡ trimmed_world (sends_all id w held)
+sends_all_same id w [] = refl
+sends_all_same id w (h ∷ hs) =
+    ap (λ v. sends_all id v hs) (sends_same w (origins.Node id) h.to h.message) ∙ sends_all_same id (sends w (origins.Node id) h.to h.message) hs
+
+-- events of a node
+
+-- what a node's step leaves and tells, with no more kept than is needed
+abbrev trimmed_outcome : {S : Type 0} → Outcome S → Outcome S
+trimmed_outcome o = record o { node = trimmed o.node }
+
+-- a core's step
+core_step_same : {S : Type 0} (m : Meaning S) (n : Node S) (event : NodeEvent) → core_step m (trimmed n) event ≡ trimmed_outcome (step_of m n event)
+core_step_same m n event = let is = core_step_trimmed m n event in equal _ _ is.node.same is.fired is.dropped
+  where
+    equal : {S : Type 0} (a b : Outcome S) → a.node ≡ b.node → a.fired ≡ b.fired → a.dropped ≡ b.dropped → a ≡ b
+    equal a b node fired dropped =
+        ap (λ n. record a { node = n }) node ∙ (ap (λ f. record b { fired = f; dropped = a.dropped }) fired ∙ ap (λ d. record b { dropped = d }) dropped)
+
+-- a host behind a step
+host_after_same : {S : Type 0} (h : Host S) (o : Outcome S) → host_after (trimmed_host h) (trimmed_outcome o) ≡ trimmed_host (host_after h o)
+unfolding trimmed_host trimmed
+host_after_same h o = refl
+
+-- a node's step
+stepped_same : {S : Type 0} (w : World S) (i : ℕ) (h : Host S) (o : Outcome S) → stepped (trimmed_world w) i (trimmed_host h) (trimmed_outcome o) ≡ trimmed_world (stepped w i h o)
+unfolding stepped trimmed_world trimmed_host trimmed
+stepped_same {S} w i h o =
+    let behind : List (Host S) → World S = λ hosts. record w {
+      hosts = hosts;
+      chosen = chosen_with w.chosen (next_place o.node) o.node.waiting;
+      told = w.told ++ (told_drop h.node.id o.dropped ++ flat_map (told_fired h.node.id) o.fired);
+    } in
+    ap (λ hosts. sends_all h.node.id (behind hosts) (leaving o.node.firm o.node.held)) (map_set trimmed_host w.hosts i (host_after h o))
+    ∙ sends_all_same h.node.id (behind (slice_set w.hosts i (host_after h o))) (leaving o.node.firm o.node.held)
+
+-- a host that is found takes an event
+host_takes_same : {S : Type 0} (m : Meaning S) (i : ℕ) (event : NodeEvent) (w : World S) (found : Option (Host S))
+    → host_takes (core_step m) i event (trimmed_world w) (option_map trimmed_host found) ≡ trimmed_world (host_takes (step_of m) i event w found)
+unfolding trimmed_host
+host_takes_same m i event w None = refl
+host_takes_same m i event w (Some h) =
+    ap (λ o. stepped (trimmed_world w) i (trimmed_host h) o) (core_step_same m h.node event) ∙ stepped_same w i h (step_of m h.node event)
+
+-- the node at an index takes an event
+node_takes_same : {S : Type 0} (m : Meaning S) (i : ℕ) (event : NodeEvent) (w : World S) → node_takes (core_step m) i event (trimmed_world w) ≡ trimmed_world (node_takes (step_of m) i event w)
+unfolding node_takes trimmed_world
+node_takes_same m i event w =
+    choice_same trimmed_world (is_some w.ending) _ _ _ _ refl
+    (ap (λ found. host_takes (core_step m) i event (trimmed_world w) found) (map_get trimmed_host w.hosts i) ∙ host_takes_same m i event w (slice_get w.hosts i))
+
+-- what is due at a host
+due_same : {S : Type 0} (h : Host S) → due (trimmed_host h) ≡ due h
+unfolding trimmed_host trimmed
+due_same h = refl
+
+-- what is due at a host, if there is one
+due_found : {S : Type 0} (found : Option (Host S)) → option_and_then due (option_map trimmed_host found) ≡ option_and_then due found
+due_found None = refl
+due_found (Some h) = due_same h
+
+-- a node takes what is due
+takes_due_same : {S : Type 0} (m : Meaning S) (i : ℕ) (w : World S) (event : Option NodeEvent) → takes_due (core_step m) i (trimmed_world w) event ≡ trimmed_world (takes_due (step_of m) i w event)
+takes_due_same m i w None = refl
+takes_due_same m i w (Some event) = node_takes_same m i event w
+
+-- a node settles once
+settle_once_same : {S : Type 0} (m : Meaning S) (i : ℕ) (w : World S) → settle_once (core_step m) i (trimmed_world w) ≡ trimmed_world (settle_once (step_of m) i w)
+unfolding settle_once trimmed_world
+settle_once_same m i w =
+    ap (λ event. takes_due (core_step m) i (trimmed_world w) event) (ap (option_and_then due) (map_get trimmed_host w.hosts i) ∙ due_found (slice_get w.hosts i))
+    ∙ takes_due_same m i w (option_and_then due (slice_get w.hosts i))
+
+-- a node settles
+settle_same : {S : Type 0} (m : Meaning S) (i : ℕ) (w : World S) → settle (core_step m) i (trimmed_world w) ≡ trimmed_world (settle (step_of m) i w)
+settle_same m i w = until_rest_same trimmed_world (settle_once (core_step m) i) (settle_once (step_of m) i) (settle_once_same m i) w
+
+-- there are as many hosts
+hosts_same : {S : Type 0} (w : World S) → length (trimmed_world w).hosts ≡ length w.hosts
+unfolding trimmed_world
+hosts_same w = map_length trimmed_host w.hosts
+
+-- all nodes settle
+settle_all_same : {S : Type 0} (m : Meaning S) (w : World S) → settle_all (core_step m) (trimmed_world w) ≡ trimmed_world (settle_all (step_of m) w)
+settle_all_same m w =
+    ap (λ k. each_from (settle (core_step m)) k 0 (trimmed_world w)) (hosts_same w)
+    ∙ each_from_same trimmed_world (settle (core_step m)) (settle (step_of m)) (settle_same m) (length w.hosts) 0 w
+
+-- a node takes a message and settles
+gives_same : {S : Type 0} (m : Meaning S) (message : Message) (i : ℕ) (w : World S) → gives (core_step m) message i (trimmed_world w) ≡ trimmed_world (gives (step_of m) message i w)
+unfolding gives
+gives_same m message i w =
+    ap (λ v. settle (core_step m) i v) (node_takes_same m i (Arrive message) w) ∙ settle_same m i (node_takes (step_of m) i (Arrive message) w)
+
+-- all nodes take a message
+give_all_same : {S : Type 0} (m : Meaning S) (message : Message) (w : World S) → give_all (core_step m) message (trimmed_world w) ≡ trimmed_world (give_all (step_of m) message w)
+give_all_same m message w =
+    ap (λ k. each_from (gives (core_step m) message) k 0 (trimmed_world w)) (hosts_same w)
+    ∙ each_from_same trimmed_world (gives (core_step m) message) (gives (step_of m) message) (gives_same m message) (length w.hosts) 0 w
+
+-- clients
+
+-- a client that is found hears a message
+client_hears_same : {S : Type 0} (w : World S) (i : ℕ) (message : Message) (found : Option Client) → client_hears (trimmed_world w) i message found ≡ trimmed_world (client_hears w i message found)
+unfolding hearing trimmed_world
+client_hears_same w i message None = refl
+client_hears_same w i (Ask q) (Some c) = refl
+client_hears_same w i (Propose p) (Some c) = refl
+client_hears_same w i (Vote b) (Some c) = refl
+client_hears_same w i (Reply a) (Some c) = refl
+
+-- the client at an index hears a message
+client_takes_same : {S : Type 0} (i : ℕ) (message : Message) (w : World S) → client_takes i message (trimmed_world w) ≡ trimmed_world (client_takes i message w)
+unfolding client_takes trimmed_world
+client_takes_same i message w = choice_same trimmed_world (is_some w.ending) _ _ _ _ refl (client_hears_same w i message (slice_get w.clients i))
+
+-- a client asks, or tells that it is busy
+client_asks_same : {S : Type 0} (w : World S) (i : ℕ) (c : Client) (op : List ℕ) (waiting : Option Request) → client_asks (trimmed_world w) i c op waiting ≡ trimmed_world (client_asks w i c op waiting)
+unfolding trimmed_world
+client_asks_same w i c op (Some q) = refl
+client_asks_same w i c op None =
+    choice_same trimmed_world (nat_lt (c.last + 1) (2 ^ 63)) _ _ _ _
+    (sends_same (record w { clients = slice_set w.clients i (asking c (request_of c op)) }) (origins.Client c.id) targets.View (Ask (request_of c op))) refl
+
+-- a client that is found asks
+ask_found_same : {S : Type 0} (w : World S) (i : ℕ) (op : List ℕ) (found : Option Client) → ask_found (trimmed_world w) i op found ≡ trimmed_world (ask_found w i op found)
+ask_found_same w i op None = refl
+ask_found_same w i op (Some c) = client_asks_same w i c op c.waiting
+
+-- the client at an index asks
+asks_same : {S : Type 0} (i : ℕ) (op : List ℕ) (w : World S) → asks i op (trimmed_world w) ≡ trimmed_world (asks i op w)
+unfolding asks trimmed_world
+asks_same i op w = choice_same trimmed_world (is_some w.ending) _ _ _ _ refl (ask_found_same w i op (slice_get w.clients i))
+
+-- flow
+
+-- a message goes to whom it is for
+goes_same : {S : Type 0} (m : Meaning S) (w : World S) (message : Message) (to : Target) → goes (core_step m) (trimmed_world w) message to ≡ trimmed_world (goes (step_of m) w message to)
+goes_same m w message targets.View = give_all_same m message w
+goes_same m w message (targets.Client id) = client_takes_same id message w
+
+-- the message behind the mark goes, if there is one
+flow_sent_same : {S : Type 0} (m : Meaning S) (w : World S) (found : Option Sent) → flow_sent (core_step m) (trimmed_world w) found ≡ trimmed_world (flow_sent (step_of m) w found)
+unfolding trimmed_world
+flow_sent_same m w None = refl
+flow_sent_same m w (Some s) = goes_same m (record w { mark = w.mark + 1 }) s.message s.to
+
+-- one turn of a flow
+flow_once_same : {S : Type 0} (m : Meaning S) (w : World S) → flow_once (core_step m) (trimmed_world w) ≡ trimmed_world (flow_once (step_of m) w)
+unfolding flow_once trimmed_world
+flow_once_same m w = choice_same trimmed_world (is_some w.ending) _ _ _ _ refl (flow_sent_same m w (slice_get w.sent w.mark))
+
+-- a flow
+flows_same : {S : Type 0} (m : Meaning S) (w : World S) → flows (core_step m) (trimmed_world w) ≡ trimmed_world (flows (step_of m) w)
+flows_same m w =
+    ap (λ v. until_rest (flow_once (core_step m)) v) (settle_all_same m w)
+    ∙ until_rest_same trimmed_world (flow_once (core_step m)) (flow_once (step_of m)) (flow_once_same m) (settle_all (step_of m) w)
+
+-- lines
+
+-- a line of a script
+pub core_line : {S : Type 0} (m : Meaning S) (w : World S) (line : Line) → line_played (core_step m) (trimmed_world w) line ≡ trimmed_world (line_played (step_of m) w line)
+unfolding line_played
+core_line m w lines.Nothing = refl
+core_line m w (lines.Ask client op) = asks_same client op w
+core_line m w lines.Flow = flows_same m w
+
+-- between two lines
+rested_same : {S : Type 0} (w : World S) → rested (trimmed_world w) ≡ trimmed_world (rested w)
+unfolding trimmed_world
+rested_same w = refl
+
+-- a line of a script, and the rest behind it
+line_rested : {S : Type 0} (m : Meaning S) (w : World S) (line : Line) → rested (line_played (core_step m) (trimmed_world w) line) ≡ trimmed_world (rested (line_played (step_of m) w line))
+line_rested m w line = ap (λ v. rested v) (core_line m w line) ∙ rested_same (line_played (step_of m) w line)
+
+-- all lines of a script
+world_after_same : {S : Type 0} (m : Meaning S) (w : World S) (ls : List Line) → world_after (core_step m) (trimmed_world w) ls ≡ trimmed_world (world_after (step_of m) w ls)
+world_after_same m w [] = refl
+world_after_same m w (l ∷ ls) = ap (λ v. world_after (core_step m) v ls) (line_rested m w l) ∙ world_after_same m (rested (line_played (step_of m) w l)) ls
+
+-- what a world of cores has beside its hosts
+pub record Beside {S : Type 0} (cores w : World S) : Type 0 where
+  pub view : cores.view ≡ w.view
+  pub clients : cores.clients ≡ w.clients
+  pub sent : cores.sent ≡ w.sent
+  pub mark : cores.mark ≡ w.mark
+  pub chosen : cores.chosen ≡ w.chosen
+  pub accepted : cores.accepted ≡ w.accepted
+  pub told : cores.told ≡ w.told
+  pub ending : cores.ending ≡ w.ending
+
+-- it is what the world of the nodes has
+pub trimmed_beside : {S : Type 0} (w : World S) → Beside (trimmed_world w) w
+unfolding trimmed_world
+trimmed_beside w = record { view = refl; clients = refl; sent = refl; mark = refl; chosen = refl; accepted = refl; told = refl; ending = refl }
+
+-- what the lines of a script tell
+lines_told_same : {S : Type 0} (m : Meaning S) (w : World S) (ls : List Line) → lines_told (core_step m) (trimmed_world w) ls ≡ lines_told (step_of m) w ls
+lines_told_same m w [] = refl
+lines_told_same m w (l ∷ ls) =
+    let told = ap (λ v. v.told) (core_line m w l) ∙ (trimmed_beside (line_played (step_of m) w l)).told in
+    let rest = ap (λ v. lines_told (core_step m) v ls) (line_rested m w l) ∙ lines_told_same m (rested (line_played (step_of m) w l)) ls in
+    ap (λ ls'. ls' ++ lines_told (core_step m) (rested (line_played (core_step m) (trimmed_world w) l)) ls) told
+    ∙ ap (λ ls'. (line_played (step_of m) w l).told ++ ls') rest
+
+-- the beginning
+
+-- nothing that was kept is dropped at the beginning
+hosts_from_same : {S : Type 0} (m : Meaning S) (view : View) (ids : List ℕ) → map trimmed_host (hosts_from m view ids) ≡ hosts_from m view ids
+unfolding trimmed_host
+hosts_from_same m view [] = refl
+hosts_from_same m view (id ∷ ids) =
+    ap (λ n. record { node = n; delivered = [] } ∷ map trimmed_host (hosts_from m view ids)) (sym (opened_stands m id view).same)
+    ∙ ap (λ hosts. record { node = opened m id view; delivered = [] } ∷ hosts) (hosts_from_same m view ids)
+
+-- the first world is its own world of cores
+pub begun_same : {S : Type 0} (m : Meaning S) (view : View) → trimmed_world (begun m view) ≡ begun m view
+unfolding trimmed_world
+begun_same m view = ap (λ hosts. record (begun m view) { hosts = hosts }) (hosts_from_same m view view.members)
+
+-- all lines of a script, from the beginning
+pub core_world : {S : Type 0} (m : Meaning S) (view : View) (ls : List Line) → world_after (core_step m) (begun m view) ls ≡ trimmed_world (world_after (step_of m) (begun m view) ls)
+core_world m view ls = ap (λ w. world_after (core_step m) w ls) (sym (begun_same m view)) ∙ world_after_same m (begun m view) ls
+
+-- what all lines of a script tell, from the beginning
+pub core_told : {S : Type 0} (m : Meaning S) (view : View) (ls : List Line) → lines_told (core_step m) (begun m view) ls ≡ lines_told (step_of m) (begun m view) ls
+core_told m view ls = ap (λ w. lines_told (core_step m) w ls) (sym (begun_same m view)) ∙ lines_told_same m (begun m view) ls

@@ -1,0 +1,12 @@
+-- A world of which each node keeps no more than it needs.
+use Rattle.std.specs.Prelude.{map}
+use Rattle.world_rules.specs.Worlds.{Host, World}
+use Rattle.kept_arrivals.specs.Kept.{trimmed}
+
+-- the host whose node keeps no more than it needs
+unfoldable pub trimmed_host : {S : Type 0} → Host S → Host S
+trimmed_host h = record h { node = trimmed h.node }
+
+-- the world of such hosts
+unfoldable pub trimmed_world : {S : Type 0} → World S → World S
+trimmed_world w = record w { hosts = map trimmed_host w.hosts }
