@@ -31,11 +31,22 @@ pub enum WorldEnd {
     NoMemory,
 }
 
+impl From<AllocError> for WorldEnd {
+    ghost use Rattle.std.specs.Prelude.{◌≡◌};
+    ghost use Rattle.world_core.specs.declared.world.WorldEnd.TheVariants.{NoMemory};
+
+    ghost from_gives = { λ _ e. e ≡ NoMemory };
+
+    fn from(_: AllocError) -> WorldEnd {
+        WorldEnd::NoMemory
+    }
+}
+
 /// The play of a script over a service: the world, and the lines that it stands for.
 #[derive(Drop)]
 pub struct World<S: Service> {
     group: View,
-    lines: Vec<Line>,
+    lines: Sequence<Line>,
     state: WorldState<S>,
     over: bool,
 }
@@ -46,9 +57,9 @@ impl<S: Service> Model for World<S> {
 
     ghost Value = { Play S };
 
-    ghost view = { λ w. record { group = w.group; lines = w.lines.items; world = w.state; over = w.over } };
+    ghost view = { λ w. record { group = w.group; lines = w.lines; world = w.state; over = w.over } };
 
-    ghost invariant = { λ w. IsPlay (core_step S.meaning) S.meaning (record { group = w.group; lines = w.lines.items; world = w.state; over = w.over }) };
+    ghost invariant = { λ w. IsPlay (core_step S.meaning) S.meaning (record { group = w.group; lines = w.lines; world = w.state; over = w.over }) };
 }
 
 impl<S: Service> World<S> {
@@ -59,7 +70,7 @@ impl<S: Service> World<S> {
         let state = WorldState::begin(alloc, view.duplicate(alloc)?)?;
         Ok(World {
             group: view,
-            lines: Vec::new(alloc),
+            lines: Sequence::new(alloc),
             state,
             over: false,
         })
@@ -75,15 +86,11 @@ impl<S: Service> World<S> {
         ensures over { OnErr result (self.new.over ≡ true) }
     {
         self.over = true;
-        if self.state.play(&line).is_err() {
-            return Err(WorldEnd::NoMemory);
-        }
+        self.state.play(&line)?;
         if self.state.ending().is_some() {
             return Err(WorldEnd::Limit);
         }
-        if self.lines.push(line).is_err() {
-            return Err(WorldEnd::NoMemory);
-        }
+        self.lines.push(line)?;
         let told = self.state.take_told();
         self.over = false;
         Ok(told)
