@@ -1,0 +1,70 @@
+-- What a run of `world` has read and written, by how it ends.
+use Rattle.std.specs.Prelude.{ℕ, ◌≡◌, List, [], ◌++◌, Option, Some, None, take}
+use Rattle.std.specs.Io.KnownBytes.{Appends, Consumes}
+use Rattle.smart_service.specs.Services.{Meaning}
+use Rattle.node_rules.specs.Steps.{step_of}
+use Rattle.world_rules.specs.Worlds.{begun}
+use Rattle.world_rules.specs.Plays.{Play, world_after}
+use Rattle.world_rules.specs.Promises.{OneListThroughout}
+use Rattle.world_rules.specs.Texts.{text_of}
+use Rattle.smart_top.specs.Readings.{unread, whole_lines, script_lines, reading_after, told_after, script_read, end_of, transcript}
+use Rattle.smart_top.specs.declared.status.Status.{Status}
+use Rattle.smart_top.specs.declared.status.Status.TheVariants as ends
+
+-- the input is what the source had left, where it tells
+abbrev pub IsLeft : Option (List ℕ) → List ℕ → Type 0
+IsLeft None input = Unit {0}
+IsLeft (Some left) input = left ≡ input
+
+-- the world of a play is the one behind its lines, and one list holds after each of them
+pub record OneListOf {S : Type 0} (m : Meaning S) (p : Play S) : Type 0 where
+  pub stands : p.world ≡ world_after (step_of m) (begun m p.group) p.lines
+  pub throughout : OneListThroughout m p.group p.lines
+
+-- one list holds of what was played, once the header is whole
+abbrev pub OneListHolds : {S : Type 0} → Meaning S → Option (Play S) → Type 0
+OneListHolds m None = Unit {0}
+OneListHolds m (Some p) = OneListOf m p
+
+-- ends that the input decides
+abbrev pub IsDecided : Status → Type 0
+IsDecided ends.Ok = Unit {0}
+IsDecided (ends.Script line kind) = Unit {0}
+IsDecided (ends.Limit line) = Unit {0}
+IsDecided ends.Words = ⊥
+IsDecided ends.ReadFault = ⊥
+IsDecided ends.WriteFault = ⊥
+IsDecided ends.NoMemory = ⊥
+
+-- a run that the input has ended: its status is the one that this input has, and it has written the input's transcript
+pub record Ends {S : Type 0} (m : Meaning S) (left written written' : Option (List ℕ)) (status : Status) : Type 0 where
+  pub input : List ℕ
+  pub is_left : IsLeft left input
+  pub status_is : status ≡ end_of (script_read (step_of m) m input)
+  pub text : Appends written written' (text_of (transcript (step_of m) m input))
+  pub one_list : OneListHolds m (script_read (step_of m) m input).play
+
+-- a run that has written the transcript of the whole lines that it has read
+pub record WroteAllRead {S : Type 0} (m : Meaning S) (left left' written written' : Option (List ℕ)) : Type 0 where
+  pub read : List ℕ
+  pub consumed : Consumes left left' read
+  pub text : Appends written written' (text_of (told_after (step_of m) m unread (whole_lines [] read)))
+  pub one_list : OneListHolds m (reading_after (step_of m) m unread (whole_lines [] read)).play
+
+-- a run that has written the transcript of the first lines of its input
+pub record WroteLines {S : Type 0} (m : Meaning S) (left written written' : Option (List ℕ)) : Type 0 where
+  pub input : List ℕ
+  pub is_left : IsLeft left input
+  pub front : List (List ℕ)
+  pub rest : List (List ℕ)
+  pub split : script_lines input ≡ front ++ rest
+  pub text : Appends written written' (text_of (told_after (step_of m) m unread front))
+  pub one_list : OneListHolds m (reading_after (step_of m) m unread front).play
+
+-- a run that has written a front of its input's transcript
+pub record WroteFront {S : Type 0} (m : Meaning S) (left written written' : Option (List ℕ)) : Type 0 where
+  pub input : List ℕ
+  pub is_left : IsLeft left input
+  pub count : ℕ
+  pub text : Appends written written' (take count (text_of (transcript (step_of m) m input)))
+  pub one_list : OneListHolds m (script_read (step_of m) m input).play

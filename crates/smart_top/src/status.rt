@@ -1,0 +1,87 @@
+//! How a run ends.
+use smart_io::stream::{Sink, write_all};
+use std::alloc::{AllocError, Global};
+use std::fmt::Write;
+
+/// What is wrong with a script line.
+#[derive(Clone, Copy, Debug, PartialEq, Eq)]
+pub enum Kind {
+    /// It has no meaning.
+    Word,
+}
+
+/// Why a script line is refused.
+#[derive(Clone, Copy, Debug, PartialEq, Eq)]
+pub enum Refusal {
+    Script(Kind),
+    /// It would be a line past the greatest number of lines, or send a message past the greatest
+    /// number of messages.
+    Limit,
+}
+
+/// How a run ends. Lines are counted from 1.
+#[derive(Clone, Copy, Debug, PartialEq, Eq)]
+pub enum Status {
+    /// The input was played to its end.
+    Ok,
+    /// The words are no command.
+    Words,
+    /// This line of the script has no meaning, or the input ended before it while the header was
+    /// not whole.
+    Script(u64, Kind),
+    /// The input failed.
+    ReadFault,
+    /// The output failed.
+    WriteFault,
+    /// This line passes the number of lines or of messages.
+    Limit(u64),
+    /// Memory ran out.
+    NoMemory,
+}
+
+impl Status {
+    /// The exit status of the program.
+    pub fn code(self) -> u8 {
+        match self {
+            Status::Ok => 0,
+            Status::Words => 2,
+            Status::Script(..) => 3,
+            Status::ReadFault => 4,
+            Status::WriteFault => 5,
+            Status::Limit(_) => 8,
+            Status::NoMemory => 11,
+        }
+    }
+}
+
+fn kind_name(kind: Kind) -> &'static str {
+    match kind {
+        Kind::Word => "Word",
+    }
+}
+
+/// What is said of a status; nothing of `Ok`.
+fn text_of(alloc: Global, status: Status) -> Result<String, AllocError> {
+    let mut text = String::new(alloc);
+    match status {
+        Status::Ok => {}
+        Status::Words => text.push_str("smart: bad words\n")?,
+        Status::Script(line, kind) => {
+            let kind = kind_name(kind);
+            write!(&mut text, "smart: line {line}: {kind}\n")?;
+        }
+        Status::ReadFault => text.push_str("smart: read fault\n")?,
+        Status::WriteFault => text.push_str("smart: write fault\n")?,
+        Status::Limit(line) => write!(&mut text, "smart: line {line}: limit\n")?,
+        Status::NoMemory => text.push_str("smart: no memory\n")?,
+    }
+    Ok(text)
+}
+
+/// Says on a sink how a run ended. A fault there changes nothing.
+pub fn report<E: Sink>(alloc: Global, errors: &mut E, status: Status) {
+    if let Ok(text) = text_of(alloc, status) {
+        let _ = write_all(errors, text.as_bytes());
+        let _ = errors.flush();
+    }
+}
