@@ -2,6 +2,7 @@
 #![tactic(auto)]
 
 
+pub mod reader;
 pub mod script;
 pub mod status;
 

@@ -1,0 +1,47 @@
+-- How far a run has come with its input, and how it breaks off.
+use Rattle.std.specs.Prelude.{ℕ, ◌≡◌, ◌≤◌, true, List, [], ◌++◌, Option, None, is_some, take}
+use Rattle.std.specs.Io.KnownBytes.{Appends, Consumes}
+use Rattle.smart_messages.specs.declared.entry.NodeEvent.{NodeEvent}
+use Rattle.smart_service.specs.Services.{Meaning}
+use Rattle.node_rules.specs.Nodes.{Node}
+use Rattle.node_rules.specs.Steps.{Outcome}
+use Rattle.world_rules.specs.Texts.{text_of}
+use Rattle.smart_top.specs.Readings.{Reading, unread, whole_lines, rest_of, reading_after, told_after}
+
+-- what the whole lines of bytes tell, as text
+abbrev pub text_after : {S : Type 0} → (Node S → NodeEvent → Outcome S) → Meaning S → List ℕ → List ℕ
+text_after step m bytes = text_of (told_after step m unread (whole_lines [] bytes))
+
+-- the script behind the whole lines of bytes
+abbrev pub script_after : {S : Type 0} → (Node S → NodeEvent → Outcome S) → Meaning S → List ℕ → Reading S
+script_after step m bytes = reading_after step m unread (whole_lines [] bytes)
+
+-- these bytes were taken: their whole lines were played and told, and none was refused
+pub record HasTaken {S : Type 0} (step : Node S → NodeEvent → Outcome S) (m : Meaning S) (bytes : List ℕ) (written written' : Option (List ℕ)) (line : List ℕ) (script : Reading S) : Type 0 where
+  pub line_is : line ≡ rest_of [] bytes
+  pub script_is : script ≡ script_after step m bytes
+  pub going : script.refused ≡ None
+  pub text : Appends written written' (text_after step m bytes)
+
+-- the last whole line of these bytes was refused, and those before it were told
+pub record HasRefused {S : Type 0} (step : Node S → NodeEvent → Outcome S) (m : Meaning S) (bytes : List ℕ) (written written' : Option (List ℕ)) (script : Reading S) : Type 0 where
+  pub refused : script.refused ≡ (script_after step m bytes).refused
+  pub count : script.count ≡ (script_after step m bytes).count
+  pub is : is_some script.refused ≡ true
+  pub text : Appends written written' (text_after step m bytes)
+
+-- a front of what these bytes tell was written
+pub record HasBroken {S : Type 0} (step : Node S → NodeEvent → Outcome S) (m : Meaning S) (bytes : List ℕ) (written written' : Option (List ℕ)) : Type 0 where
+  pub count : ℕ
+  pub text : Appends written written' (take count (text_after step m bytes))
+
+-- what the whole lines of these bytes tell was written
+pub record HasTold {S : Type 0} (step : Node S → NodeEvent → Outcome S) (m : Meaning S) (bytes : List ℕ) (written written' : Option (List ℕ)) : Type 0 where
+  pub text : Appends written written' (text_after step m bytes)
+
+-- what holds behind a front of bytes and some of a piece that comes next
+pub record Within (bytes piece : List ℕ) (P : List ℕ → Type 0) : Type 0 where
+  pub front : List ℕ
+  pub rest : List ℕ
+  pub split : piece ≡ front ++ rest
+  pub holds : P (bytes ++ front)

@@ -1,0 +1,74 @@
+//! The bytes of a script, taken in pieces: each line is played when it ends, and what it tells is
+//! written at once.
+ghost use Rattle.std.specs.Prelude.{◌≡◌, ◌≤◌, ◌++◌, [], ◌∷◌, List, ℕ, None, IfOk, OnOk, OnErr, IsErrOf, Option, take};
+ghost use Rattle.std.specs.Io.KnownBytes.{Appends};
+ghost use Rattle.faults.specs.Counts.{Rose};
+ghost use Rattle.kept_arrivals.specs.Kept.{core_step};
+ghost use Rattle.world_rules.specs.Texts.{text_of};
+ghost use Rattle.smart_top.specs.Readings.{unread};
+
+use crate::script::Script;
+use faults::Fault;
+use smart_base::sequence::{Bytes, Sequence};
+use smart_io::stream::{Sink, write_all};
+use smart_service::service::Service;
+use std::alloc::{AllocError, Global};
+use world_rules::line::OutLine;
+use world_script::text::text_of;
+
+/// How much of a line is kept: one byte more than a line may have.
+const KEPT: usize = 65537;
+
+/// Why the taking of bytes stops.
+#[derive(Clone, Copy, Debug, PartialEq, Eq)]
+pub enum Halt {
+    /// A line was refused.
+    Refused,
+    /// The output failed.
+    WriteFault,
+    /// The output wanted memory.
+    SinkMemory,
+    /// Memory ran out.
+    NoMemory,
+}
+
+impl From<AllocError> for Halt {
+    ghost use Rattle.std.specs.Prelude.{◌≡◌};
+    ghost use Rattle.smart_top.specs.declared.reader.Halt.TheVariants.{NoMemory};
+
+    ghost from_gives = { λ _ e. e ≡ NoMemory };
+
+    fn from(_: AllocError) -> Halt {
+        Halt::NoMemory
+    }
+}
+
+/// A script, and the line that has begun.
+#[derive(Drop)]
+pub struct Reader<S: Service> {
+    pub alloc: Global,
+    pub script: Script<S>,
+    pub line: Bytes,
+}
+
+/// Writes the text of lines.
+pub fn write_lines<O: Sink>(
+    alloc: Global,
+    output: &mut O,
+    lines: &[OutLine],
+) -> Result<(), Halt>
+    ensures ok { OnOk result (Appends (O.written output.old) (O.written output.new) (text_of lines.now)) }
+    ensures err { OnErr result ((count : ℕ) × Appends (O.written output.old) (O.written output.new) (take count (text_of lines.now))) }
+    ensures memory { IsErrOf result Halt.NoMemory → O.written output.new ≡ O.written output.old }
+    ensures refused { IsErrOf result Halt.Refused → ⊥ }
+    ensures write { IsErrOf result Halt.WriteFault → Rose (O.faults output.old) (O.faults output.new) }
+    ensures want { IsErrOf result Halt.SinkMemory → Rose (O.wants output.old) (O.wants output.new) }
+    ensures later { (O.faults output.old ≤ O.faults output.new) × (O.wants output.old ≤ O.wants output.new) }
+{
+    let text = text_of(alloc, lines)?;
+    match write_all(output, text.as_bytes()) {
+        Ok(()) => Ok(()),
+        Err(Fault::Failed) => Err(Halt::WriteFault),
+        Err(Fault::NoMemory) => Err(Halt::SinkMemory),
+    }
+}
