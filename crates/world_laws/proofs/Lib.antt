@@ -24,3 +24,5 @@ pub mod Hearing
 pub mod Asking
 pub mod Rests
 pub mod Bounded
+pub mod Accepted
+pub mod OneListLaw

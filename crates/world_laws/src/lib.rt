@@ -4,4 +4,5 @@
 
 pub mod execution;
 pub mod laws;
+pub mod one_list;
 pub mod rest;
