@@ -26,3 +26,4 @@ pub mod Rests
 pub mod Bounded
 pub mod Accepted
 pub mod OneListLaw
+pub mod Example
