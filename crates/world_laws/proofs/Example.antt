@@ -1,6 +1,6 @@
 -- In a group of one member, a request is chosen and its reply accepted.
 use Rattle.std.proofs.Common.{◌≡◌, ℕ, ◌+◌, ◌≤◌, Bool, true, false, ◌&&◌, ◌||◌, nat_le, List, [], ◌∷◌, length, refl, ap, ◌∙◌, sym, arith, cond, Some, None, is_some, eq-eqb}
-use Rattle.std.specs.Prelude.{slice_get}
+use Rattle.std.specs.Prelude.{⊤, slice_get}
 use Rattle.std.specs.Option.{option_and_then}
 use Rattle.smart_base.specs.Lists.{same_bytes}
 use Rattle.smart_messages.specs.declared.message.Answer.{Answer}
@@ -60,6 +60,17 @@ given {S = S} step k message origin w le on at one none =
     ∙ (ap (λ hosts. each_from (gives step message) hosts 0 next) one
     ∙ settled step k (node_takes step 0 (Arrive message) next) le none))
 
+-- a message that is for a client is given to it
+given_back : {S : Type 0} (step : Node S → NodeEvent → Outcome S) (message : Message) (origin : Origin) (client : ℕ) (w : World S) → is_some w.ending ≡ false
+    → slice_get w.sent w.mark ≡ Some (record { origin = origin; to = targets.Client client; message = message }) → flow_once step w ≡ client_takes client message (record w { mark = w.mark + 1 })
+unfolding flow_once
+given_back step message origin client w on at = ap (λ over. cond over w (flow_sent step w (slice_get w.sent w.mark))) on ∙ ap (flow_sent step w) at
+
+-- nothing to give is left
+idle : {S : Type 0} (step : Node S → NodeEvent → Outcome S) (w : World S) → is_some w.ending ≡ false → slice_get w.sent w.mark ≡ None → flow_once step w ≡ w
+unfolding flow_once
+idle step w on at = ap (λ over. cond over w (flow_sent step w (slice_get w.sent w.mark))) on ∙ ap (flow_sent step w) at
+
 -- the worlds of the play
 
 -- the slot of the first place
@@ -106,31 +117,36 @@ replied m = turn (step_of m) 2 (first_vote Accept) (accepted m)
 unfoldable answered : {S : Type 0} → Meaning S → World S
 answered m = client_takes 1 (Reply (first_reply m)) (record (replied m) { mark = (replied m).mark + 1 })
 
+-- what the facts on these worlds unfold to compute them
+unfoldable computed : ⊤
+unfolding asks sends clients_from repeated settle_once node_takes stepped step_of votes fired_votes passes fired_pass slot_why signer_why why_ask why_propose why_vote kept execute delivered executed_lines deliver_batch delivery delivers proposing propose_batch proposes writing write_batch writes accepting accept_batch accepts deciding decide_batch decides turn first_slot first_vote first_proposal first_reply asked begins proposed wrote accepted replied client_takes hearing answered
+computed = tt
+
 -- the turns of the play
 
 -- the node settles before any message is given
 turn_begins : {S : Type 0} (m : Meaning S) → settle_all (step_of m) (asked m) ≡ begins m
-unfolding asks sends clients_from repeated settle_once node_takes stepped step_of votes fired_votes passes fired_pass slot_why signer_why why_ask why_propose why_vote kept execute delivered executed_lines deliver_batch delivery delivers proposing propose_batch proposes writing write_batch writes accepting accept_batch accepts deciding decide_batch decides turn first_slot first_vote first_proposal first_reply asked begins proposed wrote accepted replied each_from
+unfolding computed each_from
 turn_begins m = settled (step_of m) 1 (asked m) (omega arith) refl
 
 -- the request is given
 turn_proposed : {S : Type 0} (m : Meaning S) → flow_once (step_of m) (begins m) ≡ proposed m
-unfolding asks sends clients_from repeated settle_once node_takes stepped step_of votes fired_votes passes fired_pass slot_why signer_why why_ask why_propose why_vote kept execute delivered executed_lines deliver_batch delivery delivers proposing propose_batch proposes writing write_batch writes accepting accept_batch accepts deciding decide_batch decides turn first_slot first_vote first_proposal first_reply asked begins proposed wrote accepted replied
+unfolding computed
 turn_proposed m = given (step_of m) 0 (Ask first_request) (origins.Client 1) (begins m) (omega arith) refl refl refl refl
 
 -- the proposal is given
 turn_wrote : {S : Type 0} (m : Meaning S) → flow_once (step_of m) (proposed m) ≡ wrote m
-unfolding asks sends clients_from repeated settle_once node_takes stepped step_of votes fired_votes passes fired_pass slot_why signer_why why_ask why_propose why_vote kept execute delivered executed_lines deliver_batch delivery delivers proposing propose_batch proposes writing write_batch writes accepting accept_batch accepts deciding decide_batch decides turn first_slot first_vote first_proposal first_reply asked begins proposed wrote accepted replied
+unfolding computed
 turn_wrote m = given (step_of m) 1 first_proposal (origins.Node 1) (proposed m) (omega arith) refl refl refl refl
 
 -- the vote to write is given
 turn_accepted : {S : Type 0} (m : Meaning S) → flow_once (step_of m) (wrote m) ≡ accepted m
-unfolding asks sends clients_from repeated settle_once node_takes stepped step_of votes fired_votes passes fired_pass slot_why signer_why why_ask why_propose why_vote kept execute delivered executed_lines deliver_batch delivery delivers proposing propose_batch proposes writing write_batch writes accepting accept_batch accepts deciding decide_batch decides turn first_slot first_vote first_proposal first_reply asked begins proposed wrote accepted replied
+unfolding computed
 turn_accepted m = given (step_of m) 1 (first_vote Write) (origins.Node 1) (wrote m) (omega arith) refl refl refl refl
 
 -- the vote to accept is given
 turn_replied : {S : Type 0} (m : Meaning S) → flow_once (step_of m) (accepted m) ≡ replied m
-unfolding asks sends clients_from repeated settle_once node_takes stepped step_of votes fired_votes passes fired_pass slot_why signer_why why_ask why_propose why_vote kept execute delivered executed_lines deliver_batch delivery delivers proposing propose_batch proposes writing write_batch writes accepting accept_batch accepts deciding decide_batch decides turn first_slot first_vote first_proposal first_reply asked begins proposed wrote accepted replied
+unfolding computed
 turn_replied m = given (step_of m) 2 (first_vote Accept) (origins.Node 1) (accepted m) (omega arith) refl refl refl refl
 
 -- what the client hears
@@ -156,17 +172,12 @@ accepts_first m = one_is_enough (hears.Accepted (first_acceptance m)) _ (same_by
 
 -- the reply is given
 turn_answered : {S : Type 0} (m : Meaning S) → flow_once (step_of m) (replied m) ≡ answered m
-unfolding asks sends clients_from repeated settle_once node_takes stepped step_of votes fired_votes passes fired_pass slot_why signer_why why_ask why_propose why_vote kept execute delivered executed_lines deliver_batch delivery delivers proposing propose_batch proposes writing write_batch writes accepting accept_batch accepts deciding decide_batch decides turn first_slot first_vote first_proposal first_reply asked begins proposed wrote accepted replied flow_once answered
-turn_answered m = refl
-
--- nothing to give is left
-idle : {S : Type 0} (step : Node S → NodeEvent → Outcome S) (w : World S) → is_some w.ending ≡ false → slice_get w.sent w.mark ≡ None → flow_once step w ≡ w
-unfolding flow_once
-idle step w on at = ap (λ over. cond over w (flow_sent step w (slice_get w.sent w.mark))) on ∙ ap (flow_sent step w) at
+unfolding computed
+turn_answered m = given_back (step_of m) (Reply (first_reply m)) (origins.Node 1) 1 (replied m) refl refl
 
 -- no message is left
 turn_over : {S : Type 0} (m : Meaning S) → flow_once (step_of m) (answered m) ≡ answered m
-unfolding asks sends clients_from repeated settle_once node_takes stepped step_of votes fired_votes passes fired_pass slot_why signer_why why_ask why_propose why_vote kept execute delivered executed_lines deliver_batch delivery delivers proposing propose_batch proposes writing write_batch writes accepting accept_batch accepts deciding decide_batch decides turn first_slot first_vote first_proposal first_reply asked begins proposed wrote accepted replied each_from client_takes hearing answered
+unfolding computed
 turn_over m = idle (step_of m) (answered m) refl refl
 
 -- the play
@@ -187,10 +198,10 @@ play_is m = ap rested (ap (until_rest (flow_once (step_of m))) (turn_begins m) �
 
 -- the request is chosen
 pub first_chosen : {S : Type 0} (m : Meaning S) → (world_at m lone ask_and_flow 2).chosen ≡ (first_request ∷ []) ∷ []
-unfolding asks sends clients_from repeated settle_once node_takes stepped step_of votes fired_votes passes fired_pass slot_why signer_why why_ask why_propose why_vote kept execute delivered executed_lines deliver_batch delivery delivers proposing propose_batch proposes writing write_batch writes accepting accept_batch accepts deciding decide_batch decides turn first_slot first_vote first_proposal first_reply asked begins proposed wrote accepted replied each_from client_takes hearing answered
+unfolding computed
 first_chosen {S = S} m = ap (λ (w : World S). w.chosen) (play_is m)
 
 -- its reply is accepted
 pub first_accepted : {S : Type 0} (m : Meaning S) → (world_at m lone ask_and_flow 2).accepted ≡ first_acceptance m ∷ []
-unfolding asks sends clients_from repeated settle_once node_takes stepped step_of votes fired_votes passes fired_pass slot_why signer_why why_ask why_propose why_vote kept execute delivered executed_lines deliver_batch delivery delivers proposing propose_batch proposes writing write_batch writes accepting accept_batch accepts deciding decide_batch decides turn first_slot first_vote first_proposal first_reply asked begins proposed wrote accepted replied each_from client_takes hearing answered
+unfolding computed
 first_accepted {S = S} m = ap (λ (w : World S). w.accepted) (play_is m) ∙ ap acceptance_in (accepts_first m)
