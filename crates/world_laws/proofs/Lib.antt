@@ -26,4 +26,6 @@ pub mod Rests
 pub mod Bounded
 pub mod Accepted
 pub mod OneListLaw
+pub mod Steady
+pub mod Settles
 pub mod Example
