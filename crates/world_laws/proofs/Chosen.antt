@@ -12,13 +12,14 @@ use Rattle.node_rules.specs.declared.node.Delivery.{Delivery}
 use Rattle.world_rules.specs.Worlds.{Host, World, chosen_with}
 use Rattle.world_rules.specs.declared.message.Sent.{Sent}
 use Rattle.world_laws.specs.Books.{decided_of, DeliversInOrder}
+use Rattle.world_laws.specs.Groups.{Distinct}
 use Rattle.world_laws.proofs.Lists.{each_weaker, either, either_by}
 use Rattle.world_laws.proofs.Fronts.{front-same, front-append, front-length, front-get, front-batch_at, batch_at-next}
 use Rattle.world_laws.proofs.Certified.{Certified, AllCertified, SaysOne, certified-front, certified-end, certified-get}
 use Rattle.world_laws.proofs.Said.{Said}
 use Rattle.world_laws.proofs.Sound.{Sound, sound_weaker}
 use Rattle.world_laws.proofs.Follows.{DecidesNext, WasDue}
-use Rattle.world_laws.proofs.Says.{Says, Distinct, hosts-say-one}
+use Rattle.world_laws.proofs.Says.{Says, hosts-say-one}
 
 -- a batch that was delivered is the list's batch at its place
 abbrev pub DeliveredIs : List (List Request) → Delivery → Type 0

@@ -28,6 +28,7 @@ use Rattle.world_rules.specs.declared.message.Origin.{Origin}
 use Rattle.world_rules.specs.declared.message.Origin.TheVariants as origins
 use Rattle.world_rules.specs.declared.message.Sent.{Sent}
 use Rattle.world_laws.specs.Books.{decided_of, DeliversInOrder}
+use Rattle.world_laws.specs.Groups.{Distinct}
 use Rattle.world_laws.proofs.Lists.{each_end, each_append, each_weaker, each_set, each_get, either}
 use Rattle.world_laws.proofs.Keeps.{HasMessage, MayCome, Keeps, keeps-world_after}
 use Rattle.world_laws.proofs.Aligned.{Aligned, AllAligned}
@@ -37,7 +38,7 @@ use Rattle.world_laws.proofs.Said.{Said, EventSaid, OwnSaid, said_weaker}
 use Rattle.world_laws.proofs.Sound.{Sound, sound-step, sound-opened}
 use Rattle.world_laws.proofs.InOrder.{view-in_order, in_order-step, in_order-released, in_order-opened}
 use Rattle.world_laws.proofs.Follows.{Follows, follows-step, next-step, WasDue, due-step}
-use Rattle.world_laws.proofs.Says.{Says, Distinct, says-set, says-here, ids-set}
+use Rattle.world_laws.proofs.Says.{Says, says-set, says-here, ids-set}
 use Rattle.world_laws.proofs.Chosen.{DeliveredIs, HostRight, PartsRight, ChosenRight, chosen-front, within-step, certified-step, host-front, waiting-at, due-agrees, host_weaker}
 
 -- messages leave

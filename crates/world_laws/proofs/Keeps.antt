@@ -263,7 +263,7 @@ live-flow_sent step P k w (Some s) on at p =
     live-goes step P k (record w { mark = w.mark + 1 }) s.message s.to (has_at w.sent w.mark s at) (k.mark w s on at p)
 
 -- one turn of a flow
-live-flow_once : {S : Type 0} (step : Node S → NodeEvent → Outcome S) (P : World S → Type 0) → KeepsLive step P → (w : World S) → P w → P (flow_once step w)
+pub live-flow_once : {S : Type 0} (step : Node S → NodeEvent → Outcome S) (P : World S → Type 0) → KeepsLive step P → (w : World S) → P w → P (flow_once step w)
 unfolding flow_once
 live-flow_once step P k w p = either_by P (is_some w.ending) w _ (λ over. p) (λ on. live-flow_sent step P k w (slice_get w.sent w.mark) (none_is w.ending on) refl p)
 

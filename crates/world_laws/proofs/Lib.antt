@@ -25,3 +25,8 @@ pub mod Asking
 pub mod Rests
 pub mod Bounded
 pub mod CoreWorlds
+pub mod Accepted
+pub mod OneListLaw
+pub mod Steady
+pub mod Settles
+pub mod Example

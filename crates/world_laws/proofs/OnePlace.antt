@@ -11,7 +11,7 @@ use Rattle.smart_service.specs.Tables.{last_seq, with_line}
 use Rattle.smart_service.specs.declared.table.TableLine.{TableLine}
 use Rattle.smart_service.specs.declared.replica.Replica.{Replica}
 use Rattle.node_rules.specs.Replicas.{is_next, line_of, execute, execute_all, line_made, lines_of, at_next, delivered, executed_lines, empty, executions_from, executions, first_line, answer, place_of}
-use Rattle.world_laws.specs.Lines.{HasLine}
+use Rattle.world_laws.specs.Lines.{HasLine, Before, InOrder}
 use Rattle.world_laws.proofs.Lists.{and_true, each_append, each_weaker}
 
 -- the table
@@ -99,16 +99,6 @@ unfolding delivered
 place-delivered m r batch = place-execute_all m (at_next r) 0 batch
 
 -- lines in order
-
--- a line stands before another: at an earlier place or index, with a lower number of the same client
-pub record Before (a b : TableLine) : Type 0 where
-  pub stands : (a.place < b.place) ⊎ ((a.place ≡ b.place) × (a.index < b.index))
-  pub rises : a.client ≡ b.client → a.seq < b.seq
-
--- each line stands before all later ones
-abbrev pub InOrder : List TableLine → Type 0
-InOrder [] = Unit {0}
-InOrder (l ∷ ls) = Each (Before l) ls × InOrder ls
 
 -- lists in order, each line of the first before all of the second, are in order together
 order_append : (xs ys : List TableLine) → InOrder xs → InOrder ys → Each (λ x. Each (Before x) ys) xs → InOrder (xs ++ ys)

@@ -11,6 +11,7 @@ use Rattle.smart_messages.specs.declared.entry.LogEntry.TheVariants.{Opened, Wro
 use Rattle.node_rules.specs.Nodes.{is_accepted}
 use Rattle.world_rules.specs.Worlds.{Host}
 use Rattle.world_laws.specs.Books.{passing, AcceptsOnce}
+use Rattle.world_laws.specs.Groups.{Distinct}
 use Rattle.world_laws.proofs.Lists.{some-equal}
 use Rattle.world_laws.proofs.Equal.{slot-same}
 use Rattle.world_laws.proofs.Said.{HasAccepted}
@@ -21,11 +22,6 @@ use Rattle.world_laws.proofs.Certified.{SaysOne}
 abbrev pub Says : {S : Type 0} → List (Host S) → ℕ → Slot → List Request → Type 0
 Says [] member slot batch = ⊥
 Says (h ∷ hs) member slot batch = ((h.node.id ≡ member) × HasAccepted h.node.entries slot batch) ⊎ Says hs member slot batch
-
--- no member twice
-abbrev pub Distinct : List ℕ → Type 0
-Distinct [] = Unit {0}
-Distinct (x ∷ xs) = (list_any (λ y. y == x) xs ≡ false) × Distinct xs
 
 -- a host in another's place
 

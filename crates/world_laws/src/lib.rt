@@ -5,4 +5,5 @@
 pub mod cores;
 pub mod execution;
 pub mod laws;
+pub mod one_list;
 pub mod rest;

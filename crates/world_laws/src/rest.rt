@@ -1,12 +1,14 @@
 //! Laws of rest: what is repeated until it changes nothing.
 ghost use Rattle.std.specs.Prelude.{◌≡◌, ◌≤◌, ℕ, List};
 ghost use Rattle.smart_base.specs.declared.view.View.{View};
+ghost use Rattle.smart_messages.specs.declared.message.Message.{Message};
 ghost use Rattle.node_rules.specs.Steps.{step_of};
 ghost use Rattle.world_rules.specs.Repeats.{repeated, turns, until_rest};
-ghost use Rattle.world_rules.specs.Worlds.{World, flow_once, begun};
+ghost use Rattle.world_rules.specs.Worlds.{World, settle, gives, flow_once, begun};
 ghost use Rattle.world_rules.specs.Plays.{line_played, world_after};
 ghost use Rattle.world_rules.specs.declared.line.Line.{Line};
 ghost use Rattle.world_rules.specs.declared.line.Line.TheVariants as lines;
+ghost use Rattle.world_laws.specs.Settling.{HasSettled, flow_begins, flow_goes, message_goes};
 
 use smart_service::service::Service;
 
@@ -16,6 +18,15 @@ pub fn flow_rests<S: Service>()
     ensures { (view : View) (ls : List Line) →
         flow_once (step_of S.meaning) (line_played (step_of S.meaning) (world_after (step_of S.meaning) (begun S.meaning view) ls) lines.Flow)
         ≡ line_played (step_of S.meaning) (world_after (step_of S.meaning) (begun S.meaning view) ls) lines.Flow }
+{}
+
+/// A node that settles comes to rest, whenever a play has it settle: as a flow begins, behind the
+/// nodes that settle before it, and in each turn of a flow, whatever message the nodes are given.
+/// One more turn changes nothing.
+pub fn settling_rests<S: Service>()
+    ensures first { (view : View) (ls : List Line) (nodes i : ℕ) → HasSettled S.meaning i (settle (step_of S.meaning) i (flow_begins S.meaning view ls nodes)) }
+    ensures given { (view : View) (ls : List Line) (k : ℕ) (message : Message) (nodes i : ℕ) →
+        HasSettled S.meaning i (gives (step_of S.meaning) message i (message_goes S.meaning message nodes (flow_goes S.meaning view ls k))) }
 {}
 
 /// What changes nothing in a world is the end of its repetition there.

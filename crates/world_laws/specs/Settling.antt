@@ -1,0 +1,26 @@
+-- The worlds of a play in which a node settles.
+use Rattle.std.specs.Prelude.{ℕ, ◌+◌, ◌≡◌, List}
+use Rattle.smart_base.specs.declared.view.View.{View}
+use Rattle.smart_messages.specs.declared.message.Message.{Message}
+use Rattle.smart_service.specs.Services.{Meaning}
+use Rattle.node_rules.specs.Steps.{step_of}
+use Rattle.world_rules.specs.Repeats.{repeated, each_from}
+use Rattle.world_rules.specs.Worlds.{World, settle_once, settle, settle_all, gives, flow_once, begun}
+use Rattle.world_rules.specs.Plays.{world_after}
+use Rattle.world_rules.specs.declared.line.Line.{Line}
+
+-- the node at an index has settled: to take what is due changes nothing
+abbrev pub HasSettled : {S : Type 0} → Meaning S → ℕ → World S → Type 0
+HasSettled m i w = settle_once (step_of m) i w ≡ w
+
+-- a flow begins, and the first nodes have settled
+abbrev pub flow_begins : {S : Type 0} → Meaning S → View → List Line → ℕ → World S
+flow_begins m view ls nodes = each_from (settle (step_of m)) nodes 0 (world_after (step_of m) (begun m view) ls)
+
+-- a flow has had so many turns
+abbrev pub flow_goes : {S : Type 0} → Meaning S → View → List Line → ℕ → World S
+flow_goes m view ls k = repeated (flow_once (step_of m)) k (settle_all (step_of m) (world_after (step_of m) (begun m view) ls))
+
+-- a message is given, and the first nodes have taken it and settled
+abbrev pub message_goes : {S : Type 0} → Meaning S → Message → ℕ → World S → World S
+message_goes m message nodes w = each_from (gives (step_of m) message) nodes 0 (record w { mark = w.mark + 1 })
