@@ -1,8 +1,6 @@
 //! The top call: from a program's words and input to its output and status.
 #![tactic(auto)]
 
-
 pub mod reader;
 pub mod script;
 pub mod status;
-

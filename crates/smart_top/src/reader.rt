@@ -52,11 +52,7 @@ pub struct Reader<S: Service> {
 }
 
 /// Writes the text of lines.
-pub fn write_lines<O: Sink>(
-    alloc: Global,
-    output: &mut O,
-    lines: &[OutLine],
-) -> Result<(), Halt>
+pub fn write_lines<O: Sink>(alloc: Global, output: &mut O, lines: &[OutLine]) -> Result<(), Halt>
     ensures ok { OnOk result (Appends (O.written output.old) (O.written output.new) (text_of lines.now)) }
     ensures err { OnErr result ((count : ℕ) × Appends (O.written output.old) (O.written output.new) (take count (text_of lines.now))) }
     ensures memory { IsErrOf result Halt.NoMemory → O.written output.new ≡ O.written output.old }
