@@ -6,6 +6,8 @@ use Rattle.smart_service.specs.Services.{Meaning}
 use Rattle.node_rules.specs.Nodes.{Node}
 use Rattle.node_rules.specs.Steps.{Outcome}
 use Rattle.world_rules.specs.Texts.{text_of}
+use Rattle.smart_top.specs.declared.reader.Halt.{Halt}
+use Rattle.smart_top.specs.declared.reader.Halt.TheVariants as halts
 use Rattle.smart_top.specs.Readings.{Reading, unread, whole_lines, rest_of, reading_after, told_after}
 
 -- what the whole lines of bytes tell, as text
@@ -45,3 +47,10 @@ pub record Within (bytes piece : List ℕ) (P : List ℕ → Type 0) : Type 0 wh
   pub rest : List ℕ
   pub split : piece ≡ front ++ rest
   pub holds : P (bytes ++ front)
+
+-- why taking a piece that comes behind these bytes stopped, and what stands then
+abbrev pub Halted : {S : Type 0} → (Node S → NodeEvent → Outcome S) → Meaning S → List ℕ → List ℕ → Option (List ℕ) → Option (List ℕ) → Reading S → Halt → Type 0
+Halted step m bytes piece written written' script halts.Refused = Within bytes piece (λ taken. HasRefused step m taken written written' script)
+Halted step m bytes piece written written' script halts.WriteFault = Within bytes piece (λ taken. HasBroken step m taken written written')
+Halted step m bytes piece written written' script halts.SinkMemory = Within bytes piece (λ taken. HasBroken step m taken written written')
+Halted step m bytes piece written written' script halts.NoMemory = Within bytes piece (λ taken. HasTold step m taken written written')

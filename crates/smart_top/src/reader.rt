@@ -1,11 +1,12 @@
 //! The bytes of a script, taken in pieces: each line is played when it ends, and what it tells is
 //! written at once.
-ghost use Rattle.std.specs.Prelude.{◌≡◌, ◌≤◌, ◌++◌, [], ◌∷◌, List, ℕ, None, IfOk, OnOk, OnErr, IsErrOf, Option, take};
+ghost use Rattle.std.specs.Prelude.{◌≡◌, ◌≤◌, ◌++◌, [], ◌∷◌, List, ℕ, None, IfOk, IfErr, OnOk, OnErr, IsErrOf, Option, take};
 ghost use Rattle.std.specs.Io.KnownBytes.{Appends};
 ghost use Rattle.faults.specs.Counts.{Rose};
 ghost use Rattle.kept_arrivals.specs.Kept.{core_step};
 ghost use Rattle.world_rules.specs.Texts.{text_of};
 ghost use Rattle.smart_top.specs.Readings.{unread};
+ghost use Rattle.smart_top.specs.Feeds.{HasTaken, Halted};
 
 use crate::script::Script;
 use faults::Fault;
@@ -67,4 +68,28 @@ pub fn write_lines<O: Sink>(alloc: Global, output: &mut O, lines: &[OutLine]) ->
         Err(Fault::Failed) => Err(Halt::WriteFault),
         Err(Fault::NoMemory) => Err(Halt::SinkMemory),
     }
+}
+
+/// Ends the line that has begun: it is played, and what it tells is written.
+pub fn end_line<S: Service, O: Sink>(
+    reader: &mut Reader<S>,
+    output: &mut O,
+) -> Result<(), Halt>
+    requires { reader.old.script.refused ≡ None }
+    ensures ok { OnOk result ((bytes : List ℕ) (written : Option (List ℕ)) → HasTaken (core_step S.meaning) S.meaning bytes written (O.written output.old) reader.old.line reader.old.script → HasTaken (core_step S.meaning) S.meaning (bytes ++ 10 ∷ []) written (O.written output.new) reader.new.line reader.new.script) }
+    ensures going { OnOk result (reader.new.script.refused ≡ None) }
+    ensures halted { IfErr result (λ halt. (bytes : List ℕ) (written : Option (List ℕ)) → HasTaken (core_step S.meaning) S.meaning bytes written (O.written output.old) reader.old.line reader.old.script → Halted (core_step S.meaning) S.meaning bytes (10 ∷ []) written (O.written output.new) reader.new.script halt) }
+    ensures write { IsErrOf result Halt.WriteFault → Rose (O.faults output.old) (O.faults output.new) }
+    ensures want { IsErrOf result Halt.SinkMemory → Rose (O.wants output.old) (O.wants output.new) }
+    ensures later { (O.faults output.old ≤ O.faults output.new) × (O.wants output.old ≤ O.wants output.new) }
+{
+    let told = reader.script.take_line(reader.line.as_slice())?;
+    if let Err(halt) = write_lines(reader.alloc, output, told.as_slice()) {
+        return Err(halt);
+    }
+    if reader.script.refused().is_some() {
+        return Err(Halt::Refused);
+    }
+    reader.line.truncate(0);
+    Ok(())
 }

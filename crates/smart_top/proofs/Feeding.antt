@@ -1,0 +1,128 @@
+-- Bytes that are taken, one line after the other.
+use Rattle.std.proofs.Common.{◌≡◌, ◌≤◌, ◌++◌, ◌==◌, ◌∙◌, ℕ, true, false, List, [], ◌∷◌, Option, None, Some, is_some, take, refl, ap, sym, subst, append_assoc}
+use Rattle.std.proofs.lemmas.List.{append-nil}
+use Rattle.std.specs.Io.KnownBytes.{Appends}
+use Rattle.smart_messages.specs.declared.entry.NodeEvent.{NodeEvent}
+use Rattle.smart_service.specs.Services.{Meaning}
+use Rattle.node_rules.specs.Nodes.{Node}
+use Rattle.node_rules.specs.Steps.{Outcome}
+use Rattle.world_rules.specs.Texts.{text_of}
+use Rattle.smart_top.specs.declared.reader.Halt.{Halt}
+use Rattle.smart_top.specs.declared.reader.Halt.TheVariants as halts
+use Rattle.smart_top.specs.Readings.{Reading, unread, whole_lines, rest_of, line_with, line_taken, line_told, reading_after, told_after}
+use Rattle.smart_top.specs.Feeds.{text_after, script_after, HasTaken, HasRefused, HasBroken, HasTold, Within, Halted}
+use Rattle.smart_top.proofs.ReadingLaws.{after-append, told-append, text-append, whole-feed, whole-more, rest-feed, rest-more, front_behind}
+
+-- what was written
+
+pub appends-then : (a b c : Option (List ℕ)) (xs ys : List ℕ) → Appends a b xs → Appends b c ys → Appends a c (xs ++ ys)
+appends-then None b c xs ys first next = tt
+appends-then (Some a) None c xs ys first next = absurd first
+appends-then (Some a) (Some b) None xs ys first next = absurd next
+appends-then (Some a) (Some b) (Some c) xs ys first next = next ∙ (ap (λ zs. zs ++ ys) first ∙ append_assoc a xs ys)
+
+pub appends-nothing : (a : Option (List ℕ)) → Appends a a []
+appends-nothing None = tt
+appends-nothing (Some a) = sym (append-nil a)
+
+-- a line that ends
+
+pub script-feed : {S : Type 0} (step : Node S → NodeEvent → Outcome S) (m : Meaning S) (bytes : List ℕ) → script_after step m (bytes ++ 10 ∷ []) ≡ line_taken step m (script_after step m bytes) (rest_of [] bytes)
+script-feed step m bytes =
+    ap (λ ls. reading_after step m unread ls) (whole-feed [] bytes 10 refl) ∙ after-append step m unread (whole_lines [] bytes) (rest_of [] bytes ∷ [])
+
+pub text-feed : {S : Type 0} (step : Node S → NodeEvent → Outcome S) (m : Meaning S) (bytes : List ℕ)
+    → text_after step m (bytes ++ 10 ∷ []) ≡ text_after step m bytes ++ text_of (line_told step (script_after step m bytes) (rest_of [] bytes))
+text-feed step m bytes =
+    ap (λ ls. text_of (told_after step m unread ls)) (whole-feed [] bytes 10 refl)
+    ∙ (ap text_of (told-append step m unread (whole_lines [] bytes) (rest_of [] bytes ∷ []))
+    ∙ (text-append (told_after step m unread (whole_lines [] bytes)) _
+    ∙ ap (λ text. text_after step m bytes ++ text) (ap text_of (append-nil (line_told step (script_after step m bytes) (rest_of [] bytes))))))
+
+-- what a line tells behind bytes that were taken
+told-line : {S : Type 0} (step : Node S → NodeEvent → Outcome S) (m : Meaning S) (bytes : List ℕ) (written now : Option (List ℕ)) (line : List ℕ) (script : Reading S)
+    → HasTaken step m bytes written now line script → text_after step m bytes ++ text_of (line_told step script line) ≡ text_after step m (bytes ++ 10 ∷ [])
+told-line {S = S} step m bytes written now line script taken =
+    ap (λ text. text_after step m bytes ++ text_of text)
+    (ap (λ (r : Reading S). line_told step r line) taken.script_is ∙ ap (λ l. line_told step (script_after step m bytes) l) taken.line_is)
+    ∙ sym (text-feed step m bytes)
+
+taken-line : {S : Type 0} (step : Node S → NodeEvent → Outcome S) (m : Meaning S) (bytes : List ℕ) (written now : Option (List ℕ)) (line : List ℕ) (script : Reading S)
+    → HasTaken step m bytes written now line script → line_taken step m script line ≡ script_after step m (bytes ++ 10 ∷ [])
+taken-line {S = S} step m bytes written now line script taken =
+    ap (λ (r : Reading S). line_taken step m r line) taken.script_is ∙ (ap (λ l. line_taken step m (script_after step m bytes) l) taken.line_is ∙ sym (script-feed step m bytes))
+
+-- a line that was played and told
+pub line-played : {S : Type 0} (step : Node S → NodeEvent → Outcome S) (m : Meaning S) (bytes : List ℕ) (written now now' : Option (List ℕ)) (line line' : List ℕ) (script script' : Reading S)
+    → HasTaken step m bytes written now line script → script' ≡ line_taken step m script line → script'.refused ≡ None → line' ≡ [] → Appends now now' (text_of (line_told step script line))
+    → HasTaken step m (bytes ++ 10 ∷ []) written now' line' script'
+line-played step m bytes written now now' line line' script script' taken is going ended told =
+    record {
+      line_is = ended ∙ sym (rest-feed [] bytes 10 refl);
+      script_is = is ∙ taken-line step m bytes written now line script taken;
+      going = going;
+      text = subst (λ text. Appends written now' text) (told-line step m bytes written now line script taken)
+          (appends-then written now now' (text_after step m bytes) (text_of (line_told step script line)) taken.text told);
+    }
+
+-- a line that was refused
+pub line-refused : {S : Type 0} (step : Node S → NodeEvent → Outcome S) (m : Meaning S) (bytes : List ℕ) (written now now' : Option (List ℕ)) (line : List ℕ) (script script' : Reading S)
+    → HasTaken step m bytes written now line script → script'.refused ≡ (line_taken step m script line).refused → script'.count ≡ (line_taken step m script line).count → is_some script'.refused ≡ true
+    → Appends now now' (text_of (line_told step script line))
+    → Within bytes (10 ∷ []) (λ taken. HasRefused step m taken written now' script')
+line-refused {S = S} step m bytes written now now' line script script' taken refused count is told =
+    let same = taken-line step m bytes written now line script taken in
+    record {
+      front = 10 ∷ [];
+      rest = [];
+      split = refl;
+      holds = record {
+        refused = refused ∙ ap (λ (r : Reading S). r.refused) same;
+        count = count ∙ ap (λ (r : Reading S). r.count) same;
+        is = is;
+        text = subst (λ text. Appends written now' text) (told-line step m bytes written now line script taken)
+            (appends-then written now now' (text_after step m bytes) (text_of (line_told step script line)) taken.text told);
+      };
+    }
+
+-- a line of which only a front was written
+pub line-broken : {S : Type 0} (step : Node S → NodeEvent → Outcome S) (m : Meaning S) (bytes : List ℕ) (written now now' : Option (List ℕ)) (line : List ℕ) (script : Reading S) (count : ℕ)
+    → HasTaken step m bytes written now line script → Appends now now' (take count (text_of (line_told step script line)))
+    → Within bytes (10 ∷ []) (λ taken. HasBroken step m taken written now')
+line-broken step m bytes written now now' line script count taken told =
+    let more = front_behind (text_after step m bytes) (text_of (line_told step script line)) [] count in
+    let whole = ap (λ text. text_after step m bytes ++ text) (append-nil (text_of (line_told step script line))) ∙ told-line step m bytes written now line script taken in
+    record {
+      front = 10 ∷ [];
+      rest = [];
+      split = refl;
+      holds = record {
+        count = more.0;
+        text = subst (λ text. Appends written now' text) (sym more.1 ∙ ap (λ text. take more.0 text) whole)
+            (appends-then written now now' (text_after step m bytes) (take count (text_of (line_told step script line))) taken.text told);
+      };
+    }
+
+-- nothing of a line was written
+pub line-unwritten : {S : Type 0} (step : Node S → NodeEvent → Outcome S) (m : Meaning S) (bytes piece : List ℕ) (written now now' : Option (List ℕ)) (line : List ℕ) (script : Reading S)
+    → HasTaken step m bytes written now line script → now' ≡ now → Within bytes piece (λ taken. HasTold step m taken written now')
+line-unwritten step m bytes piece written now now' line script taken same =
+    record {
+      front = [];
+      rest = piece;
+      split = refl;
+      holds = record { text = subst (λ text. Appends written now' text) (ap (λ b. text_after step m b) (sym (append-nil bytes))) (subst (λ w. Appends written w (text_after step m bytes)) (sym same) taken.text) };
+    }
+
+-- a line that was not written whole
+pub line-halted : {S : Type 0} (step : Node S → NodeEvent → Outcome S) (m : Meaning S) (bytes : List ℕ) (written now now' : Option (List ℕ)) (line : List ℕ) (script script' : Reading S) (halt : Halt)
+    → HasTaken step m bytes written now line script → (halt ≡ halts.Refused → ⊥) → (halt ≡ halts.NoMemory → now' ≡ now) → (count : ℕ) × Appends now now' (take count (text_of (line_told step script line)))
+    → Halted step m bytes (10 ∷ []) written now' script' halt
+line-halted step m bytes written now now' line script script' halts.Refused taken never same told = absurd (never refl)
+line-halted step m bytes written now now' line script script' halts.WriteFault taken never same told = line-broken step m bytes written now now' line script told.0 taken told.1
+line-halted step m bytes written now now' line script script' halts.SinkMemory taken never same told = line-broken step m bytes written now now' line script told.0 taken told.1
+line-halted step m bytes written now now' line script script' halts.NoMemory taken never same told = line-unwritten step m bytes (10 ∷ []) written now now' line script taken (same refl)
+
+pub none_is : {A : Type 0} (x : Option A) → is_some x ≡ false → x ≡ None
+none_is None is = refl
+none_is (Some x) is = absurd (cc)
