@@ -80,24 +80,24 @@ told_at_same : {S : Type 0} (m : Meaning S) (r : Reading S) (l : List ℕ) (play
 told_at_same m r l None = refl
 told_at_same m r l (Some p) = told_done_same m p (line_of l)
 
--- one more line
+-- cores take one more line as the nodes do
 pub core-taken : {S : Type 0} (m : Meaning S) (r : Reading S) (l : List ℕ) → line_taken (core_step m) m (trimmed_reading r) l ≡ trimmed_reading (line_taken (step_of m) m r l)
 unfolding line_taken
 core-taken m r l =
     choice_same trimmed_reading (is_some r.refused) _ _ _ _ refl
     (choice_same trimmed_reading (is_full r) _ _ _ _ refl (taken_at_same m r l r.play))
 
--- what it tells
+-- they tell the same of it
 pub core-told : {S : Type 0} (m : Meaning S) (r : Reading S) (l : List ℕ) → line_told (core_step m) (trimmed_reading r) l ≡ line_told (step_of m) r l
 unfolding line_told
 core-told m r l = choice_told (is_some r.refused) _ _ _ _ refl (choice_told (is_full r) _ _ _ _ refl (told_at_same m r l r.play))
 
--- lines
+-- cores take lines as the nodes do
 pub core-after : {S : Type 0} (m : Meaning S) (r : Reading S) (ls : List (List ℕ)) → reading_after (core_step m) m (trimmed_reading r) ls ≡ trimmed_reading (reading_after (step_of m) m r ls)
 core-after m r [] = refl
 core-after m r (l ∷ ls) = ap (λ q. reading_after (core_step m) m q ls) (core-taken m r l) ∙ core-after m (line_taken (step_of m) m r l) ls
 
--- what they tell
+-- they tell the same of them
 pub core-told_after : {S : Type 0} (m : Meaning S) (r : Reading S) (ls : List (List ℕ)) → told_after (core_step m) m (trimmed_reading r) ls ≡ told_after (step_of m) m r ls
 core-told_after m r [] = refl
 core-told_after m r (l ∷ ls) =
@@ -105,15 +105,15 @@ core-told_after m r (l ∷ ls) =
     ∙ ap (λ told. line_told (step_of m) r l ++ told)
     (ap (λ q. told_after (core_step m) m q ls) (core-taken m r l) ∙ core-told_after m (line_taken (step_of m) m r l) ls)
 
--- where nothing was read, nothing is kept
+-- where nothing was read, both readings are one
 pub core-unread : {S : Type 0} → trimmed_reading (unread {S = S}) ≡ unread
 core-unread = refl
 
--- lines from the first one on
+-- cores take lines from the first one on as the nodes do
 pub core-after-unread : {S : Type 0} (m : Meaning S) (ls : List (List ℕ)) → reading_after (core_step m) m unread ls ≡ trimmed_reading (reading_after (step_of m) m unread ls)
 core-after-unread m ls = core-after m unread ls
 
--- what they tell
+-- they tell the same of them
 pub core-told-unread : {S : Type 0} (m : Meaning S) (ls : List (List ℕ)) → told_after (core_step m) m unread ls ≡ told_after (step_of m) m unread ls
 core-told-unread m ls = core-told_after m unread ls
 
@@ -126,7 +126,7 @@ end_by_same r (Some p) None = refl
 end_by_same r None (Some why) = refl
 end_by_same r (Some p) (Some why) = refl
 
--- how it ends
+-- a script ends alike for both
 pub core-end : {S : Type 0} (r : Reading S) → end_of (trimmed_reading r) ≡ end_of r
 core-end r = end_by_same r r.play r.refused
 
@@ -138,19 +138,19 @@ last_same r (Some p) None = refl
 last_same r None (Some why) = refl
 last_same r (Some p) (Some why) = refl
 
--- the last line
+-- both have the same last line
 pub core-last : {S : Type 0} (r : Reading S) → last_told (trimmed_reading r) (trimmed_reading r).refused ≡ last_told r r.refused
 core-last r = last_same r r.play r.refused
 
--- a whole input
+-- cores read a whole input as the nodes do
 pub core-read : {S : Type 0} (m : Meaning S) (bytes : List ℕ) → script_read (core_step m) m bytes ≡ trimmed_reading (script_read (step_of m) m bytes)
 core-read m bytes = core-after m unread (script_lines bytes)
 
--- it ends alike
+-- a whole input ends alike for both
 pub core-read-end : {S : Type 0} (m : Meaning S) (bytes : List ℕ) → end_of (script_read (core_step m) m bytes) ≡ end_of (script_read (step_of m) m bytes)
 core-read-end m bytes = ap end_of (core-read m bytes) ∙ core-end (script_read (step_of m) m bytes)
 
--- it has the same transcript
+-- a whole input has one transcript
 pub core-transcript : {S : Type 0} (m : Meaning S) (bytes : List ℕ) → transcript (core_step m) m bytes ≡ transcript (step_of m) m bytes
 core-transcript {S = S} m bytes =
     ap (λ told. told ++ last_told (script_read (core_step m) m bytes) (script_read (core_step m) m bytes).refused) (core-told-unread m (script_lines bytes))
