@@ -69,7 +69,7 @@ distinct-group_line bytes =
 -- readings
 
 -- a play that was read stands for its lines, goes on, and has a group of distinct members
-pub record Sound {S : Type 0} (m : Meaning S) (p : Play S) : Type 0 where
+pub record IsSound {S : Type 0} (m : Meaning S) (p : Play S) : Type 0 where
   pub going : p.over ≡ false
   pub stands : p.world ≡ world_after (step_of m) (begun m p.group) p.lines
   pub open_world : p.world.ending ≡ None
@@ -78,7 +78,7 @@ pub record Sound {S : Type 0} (m : Meaning S) (p : Play S) : Type 0 where
 -- a play is sound, if there is one
 abbrev pub SoundPlay : {S : Type 0} → Meaning S → Option (Play S) → Type 0
 SoundPlay m None = Unit {0}
-SoundPlay m (Some p) = Sound m p
+SoundPlay m (Some p) = IsSound m p
 
 -- a reading whose group has distinct members and whose play is sound
 pub record SoundReading {S : Type 0} (m : Meaning S) (r : Reading S) : Type 0 where
@@ -112,13 +112,13 @@ is_none None is = refl
 is_none (Some x) is = absurd (cc)
 
 -- the world behind one more line
-stands-more : {S : Type 0} (m : Meaning S) (p : Play S) (line : Line) → Sound m p
+stands-more : {S : Type 0} (m : Meaning S) (p : Play S) (line : Line) → IsSound m p
     → rested (line_played (step_of m) p.world line) ≡ world_after (step_of m) (begun m p.group) (p.lines ++ line ∷ [])
 stands-more m p line sound =
     ap (λ w. rested (line_played (step_of m) w line)) sound.stands ∙ sym (world_after-append (step_of m) (begun m p.group) p.lines (line ∷ []))
 
 -- a line behind the header
-sound-done : {S : Type 0} (m : Meaning S) (r : Reading S) (p : Play S) (line : Option Line) → Sound m p → SoundReading m r → SoundReading m (line_done (step_of m) r p line)
+sound-done : {S : Type 0} (m : Meaning S) (r : Reading S) (p : Play S) (line : Option Line) → IsSound m p → SoundReading m r → SoundReading m (line_done (step_of m) r p line)
 sound-done m r p None of sound = record { of_group = sound.of_group; of_play = sound.of_play }
 sound-done m r p (Some line) of sound =
     either_by (SoundReading m) (is_some (line_played (step_of m) p.world line).ending) _ _
@@ -147,7 +147,7 @@ pub sound-read : {S : Type 0} (m : Meaning S) (ls : List (List ℕ)) → SoundRe
 sound-read m ls = sound-after m unread ls (record { of_group = tt; of_play = tt })
 
 -- a play that was read is sound
-pub sound-play : {S : Type 0} (m : Meaning S) (ls : List (List ℕ)) (p : Play S) → (reading_after (step_of m) m unread ls).play ≡ Some p → Sound m p
+pub sound-play : {S : Type 0} (m : Meaning S) (ls : List (List ℕ)) (p : Play S) → (reading_after (step_of m) m unread ls).play ≡ Some p → IsSound m p
 sound-play m ls p is = subst (SoundPlay m) is (sound-read m ls).of_play
 
 -- one list holds of a play that is sound, if there is one, by the law of one list
