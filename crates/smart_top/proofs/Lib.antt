@@ -1,2 +1,4 @@
 pub mod ReadingLaws
+pub mod ReadingCores
+pub mod ReadingPlays
 pub mod Feeding

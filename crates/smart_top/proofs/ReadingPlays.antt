@@ -1,0 +1,161 @@
+-- What is read keeps one list.
+use Rattle.std.proofs.Common.{◌≡◌, ℕ, zero, suc, ◌+◌, ◌<◌, Bool, true, false, ◌||◌, ◌==◌, List, [], ◌∷◌, ◌++◌, take, drop, refl, ap, sym, ◌∙◌, arith, Option, Some, None, is_some, subst, eqb-true}
+use Rattle.std.specs.Prelude.{position}
+use Rattle.std.specs.List.{list_any}
+use Rattle.smart_base.specs.Decimals.{number_of}
+use Rattle.smart_base.specs.declared.view.View.{View}
+use Rattle.smart_service.specs.Services.{Meaning}
+use Rattle.node_rules.specs.Steps.{step_of}
+use Rattle.world_rules.specs.Worlds.{begun}
+use Rattle.world_rules.specs.Plays.{Play, line_played, rested, world_after}
+use Rattle.world_rules.specs.Promises.{OneListThroughout}
+use Rattle.world_rules.specs.Scripts.{line_of, members_from, view_for, group_words, group_line, is_app_line}
+use Rattle.world_rules.specs.declared.line.Line.{Line}
+use Rattle.world_laws.proofs.Lists.{either, either_by}
+use Rattle.world_laws.specs.Groups.{Distinct}
+use Rattle.world_laws.proofs.Grows.{world_after-append}
+use Rattle.smart_top.specs.Readings.{Reading, unread, counting, refusing, group_taken, header_taken, line_done, is_blank, taken_at, is_full, line_taken, reading_after}
+use Rattle.smart_top.specs.Runs.{OneListHolds}
+use Rattle.smart_top.specs.declared.status.Refusal.{Refusal}
+use Rattle.smart_top.specs.declared.status.Refusal.TheVariants as refusals
+
+-- members are distinct
+
+-- a number below the first is no member
+none_below : (x first count : ℕ) → x < first → list_any (λ y. y == x) (members_from first count) ≡ false
+unfolding members_from
+none_below x first zero lt = refl
+none_below x first (suc count) lt = or_none (first == x) (list_any (λ y. y == x) (members_from (first + 1) count)) (differ first x lt) (none_below x (first + 1) count (omega arith))
+  where
+    or_none : (a b : Bool) → a ≡ false → b ≡ false → (a || b) ≡ false
+    or_none true b ea eb = absurd (cc)
+    or_none false b ea eb = eb
+
+    is_false : (b : Bool) → (b ≡ true → ⊥) → b ≡ false
+    is_false true h = absurd (h refl)
+    is_false false h = refl
+
+    differ : (first x : ℕ) → x < first → (first == x) ≡ false
+    differ first x lt = is_false (first == x) (λ same. omega (arith, eqb-true first x same))
+
+-- members that count up are distinct
+pub distinct-members_from : (first count : ℕ) → Distinct (members_from first count)
+unfolding members_from
+distinct-members_from first zero = tt
+distinct-members_from first (suc count) = (none_below first (first + 1) count (omega arith), distinct-members_from (first + 1) count)
+
+-- a view, if there is one, has distinct members
+abbrev pub ForView : Option View → Type 0
+ForView None = Unit {0}
+ForView (Some view) = Distinct view.members
+
+-- so has the view for two numbers
+distinct-view_for : (n f : Option ℕ) → ForView (view_for n f)
+distinct-view_for None f = tt
+distinct-view_for (Some n) None = tt
+distinct-view_for (Some n) (Some f) = either ForView _ (Some (record { number = 0; start = 1; f = f; members = members_from 1 n })) None (distinct-members_from 1 n) tt
+
+-- so has the view of two words
+distinct-group_words : (rest : List ℕ) (at : Option ℕ) → ForView (group_words rest at)
+distinct-group_words rest None = tt
+distinct-group_words rest (Some i) = distinct-view_for (number_of (take i rest)) (number_of (drop (i + 1) rest))
+
+-- so has the view of a line
+pub distinct-group_line : (bytes : List ℕ) → ForView (group_line bytes)
+unfolding group_line
+distinct-group_line bytes =
+    either ForView _ (group_words (drop 6 bytes) (position (λ b. b == 32) (drop 6 bytes))) None (distinct-group_words (drop 6 bytes) (position (λ b. b == 32) (drop 6 bytes))) tt
+
+-- readings
+
+-- a play that was read stands for its lines, goes on, and has a group of distinct members
+pub record IsSound {S : Type 0} (m : Meaning S) (p : Play S) : Type 0 where
+  pub going : p.over ≡ false
+  pub stands : p.world ≡ world_after (step_of m) (begun m p.group) p.lines
+  pub open_world : p.world.ending ≡ None
+  pub distinct : Distinct p.group.members
+
+-- a play is sound, if there is one
+abbrev pub SoundPlay : {S : Type 0} → Meaning S → Option (Play S) → Type 0
+SoundPlay m None = Unit {0}
+SoundPlay m (Some p) = IsSound m p
+
+-- a reading whose group has distinct members and whose play is sound
+pub record SoundReading {S : Type 0} (m : Meaning S) (r : Reading S) : Type 0 where
+  pub of_group : ForView r.group
+  pub of_play : SoundPlay m r.play
+
+-- a line that is refused
+sound-refused : {S : Type 0} (m : Meaning S) (r : Reading S) (why : Refusal) → SoundReading m r → SoundReading m (refusing r why)
+sound-refused m r why sound = record { of_group = sound.of_group; of_play = sound.of_play }
+
+-- a line that is counted
+sound-counted : {S : Type 0} (m : Meaning S) (r : Reading S) → SoundReading m r → SoundReading m (counting r)
+sound-counted m r sound = record { of_group = sound.of_group; of_play = sound.of_play }
+
+-- the line that begins a group
+sound-group : {S : Type 0} (m : Meaning S) (r : Reading S) (view : Option View) → ForView view → SoundReading m r → SoundReading m (group_taken r view)
+sound-group m r None distinct sound = record { of_group = sound.of_group; of_play = sound.of_play }
+sound-group m r (Some view) distinct sound = record { of_group = distinct; of_play = sound.of_play }
+
+-- a line of the header
+sound-header : {S : Type 0} (m : Meaning S) (r : Reading S) (l : List ℕ) (group : Option View) → ForView group → SoundReading m r → SoundReading m (header_taken m r l group)
+sound-header m r l None distinct sound = sound-group m r (group_line l) (distinct-group_line l) sound
+sound-header m r l (Some view) distinct sound =
+    either (SoundReading m) (is_app_line l) _ _
+    (record { of_group = sound.of_group; of_play = record { going = refl; stands = refl; open_world = refl; distinct = distinct } })
+    (record { of_group = sound.of_group; of_play = sound.of_play })
+
+-- what is not there
+is_none : {A : Type 0} (x : Option A) → is_some x ≡ false → x ≡ None
+is_none None is = refl
+is_none (Some x) is = absurd (cc)
+
+-- the world behind one more line
+stands-more : {S : Type 0} (m : Meaning S) (p : Play S) (line : Line) → IsSound m p
+    → rested (line_played (step_of m) p.world line) ≡ world_after (step_of m) (begun m p.group) (p.lines ++ line ∷ [])
+stands-more m p line sound =
+    ap (λ w. rested (line_played (step_of m) w line)) sound.stands ∙ sym (world_after-append (step_of m) (begun m p.group) p.lines (line ∷ []))
+
+-- a line behind the header
+sound-done : {S : Type 0} (m : Meaning S) (r : Reading S) (p : Play S) (line : Option Line) → IsSound m p → SoundReading m r → SoundReading m (line_done (step_of m) r p line)
+sound-done m r p None of sound = record { of_group = sound.of_group; of_play = sound.of_play }
+sound-done m r p (Some line) of sound =
+    either_by (SoundReading m) (is_some (line_played (step_of m) p.world line).ending) _ _
+    (λ ends. record { of_group = sound.of_group; of_play = sound.of_play })
+    (λ goes. record { of_group = sound.of_group; of_play = record { going = refl; stands = stands-more m p line of; open_world = is_none (line_played (step_of m) p.world line).ending goes; distinct = of.distinct } })
+
+-- a line by where the script stands
+sound-taken_at : {S : Type 0} (m : Meaning S) (r : Reading S) (l : List ℕ) (play : Option (Play S)) → SoundPlay m play → SoundReading m r → SoundReading m (taken_at (step_of m) m r l play)
+sound-taken_at m r l None of sound = either (SoundReading m) (is_blank l) _ _ (sound-counted m r sound) (sound-header m r l r.group sound.of_group sound)
+sound-taken_at m r l (Some p) of sound = sound-done m r p (line_of l) of sound
+
+-- one more line keeps a reading sound
+pub sound-taken : {S : Type 0} (m : Meaning S) (r : Reading S) (l : List ℕ) → SoundReading m r → SoundReading m (line_taken (step_of m) m r l)
+unfolding line_taken
+sound-taken m r l sound =
+    either (SoundReading m) (is_some r.refused) _ _ sound
+    (either (SoundReading m) (is_full r) _ _ (sound-refused m r refusals.Limit sound) (sound-taken_at m r l r.play sound.of_play sound))
+
+-- lines keep a reading sound
+pub sound-after : {S : Type 0} (m : Meaning S) (r : Reading S) (ls : List (List ℕ)) → SoundReading m r → SoundReading m (reading_after (step_of m) m r ls)
+sound-after m r [] sound = sound
+sound-after m r (l ∷ ls) sound = sound-after m (line_taken (step_of m) m r l) ls (sound-taken m r l sound)
+
+-- whatever is read is sound
+pub sound-read : {S : Type 0} (m : Meaning S) (ls : List (List ℕ)) → SoundReading m (reading_after (step_of m) m unread ls)
+sound-read m ls = sound-after m unread ls (record { of_group = tt; of_play = tt })
+
+-- a play that was read is sound
+pub sound-play : {S : Type 0} (m : Meaning S) (ls : List (List ℕ)) (p : Play S) → (reading_after (step_of m) m unread ls).play ≡ Some p → IsSound m p
+sound-play m ls p is = subst (SoundPlay m) is (sound-read m ls).of_play
+
+-- one list holds of a play that is sound, if there is one, by the law of one list
+one_list-of : {S : Type 0} (m : Meaning S) → ((view : View) → Distinct view.members → (lines : List Line) → OneListThroughout m view lines) → (play : Option (Play S)) → SoundPlay m play → OneListHolds m play
+one_list-of m law None of = tt
+one_list-of m law (Some p) of = record { stands = of.stands; throughout = law p.group of.distinct p.lines }
+
+-- one list holds of whatever is read, by the law of one list
+pub one_list_holds : {S : Type 0} (m : Meaning S) → ((view : View) → Distinct view.members → (lines : List Line) → OneListThroughout m view lines) → (ls : List (List ℕ))
+    → OneListHolds m (reading_after (step_of m) m unread ls).play
+one_list_holds m law ls = one_list-of m law (reading_after (step_of m) m unread ls).play (sound-read m ls).of_play
