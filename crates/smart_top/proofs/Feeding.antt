@@ -1,7 +1,7 @@
 -- Bytes that are taken, one line after the other.
-use Rattle.std.proofs.Common.{◌≡◌, ◌≤◌, ◌++◌, ◌==◌, ◌∙◌, ℕ, true, false, List, [], ◌∷◌, Option, None, Some, is_some, take, refl, ap, sym, subst, append_assoc}
+use Rattle.std.proofs.Common.{Bool, eqb-true, ◌≡◌, ◌<◌, ◌+◌, ◌++◌, ◌==◌, ◌∙◌, ℕ, zero, suc, drop, length, get_or, arith, true, false, List, [], ◌∷◌, Option, None, Some, is_some, take, refl, ap, sym, subst, append_assoc}
 use Rattle.std.proofs.lemmas.List.{append-nil}
-use Rattle.std.specs.Io.KnownBytes.{Appends}
+use Rattle.std.specs.Io.KnownBytes.{Appends, Keeps}
 use Rattle.smart_messages.specs.declared.entry.NodeEvent.{NodeEvent}
 use Rattle.smart_service.specs.Services.{Meaning}
 use Rattle.node_rules.specs.Nodes.{Node}
@@ -126,3 +126,57 @@ line-halted step m bytes written now now' line script script' halts.NoMemory tak
 pub none_is : {A : Type 0} (x : Option A) → is_some x ≡ false → x ≡ None
 none_is None is = refl
 none_is (Some x) is = absurd (cc)
+
+-- a byte that ends no line
+pub byte-taken : {S : Type 0} (step : Node S → NodeEvent → Outcome S) (m : Meaning S) (bytes : List ℕ) (written now : Option (List ℕ)) (line line' : List ℕ) (script : Reading S) (b : ℕ)
+    → (b == 10) ≡ false → line' ≡ line_with line b → HasTaken step m bytes written now line script → HasTaken step m (bytes ++ b ∷ []) written now line' script
+byte-taken step m bytes written now line line' script b other more taken =
+    record {
+      line_is = more ∙ (ap (λ l. line_with l b) taken.line_is ∙ sym (rest-more [] bytes b other));
+      script_is = taken.script_is ∙ ap (λ ls. reading_after step m unread ls) (sym (whole-more [] bytes b other));
+      going = taken.going;
+      text = subst (λ ls. Appends written now (text_of (told_after step m unread ls))) (sym (whole-more [] bytes b other)) taken.text;
+    }
+
+-- a front of a piece behind a front of a longer piece is a front of that
+within-later : (bytes front piece rest whole : List ℕ) (P : List ℕ → Type 0) → whole ≡ front ++ (piece ++ rest) → Within (bytes ++ front) piece P → Within bytes whole P
+within-later bytes front piece rest whole P split w =
+    record {
+      front = front ++ w.front;
+      rest = w.rest ++ rest;
+      split = split ∙ (ap (λ xs. front ++ (xs ++ rest)) w.split ∙ (ap (λ xs. front ++ xs) (append_assoc w.front w.rest rest) ∙ sym (append_assoc front w.front (w.rest ++ rest))));
+      holds = subst P (append_assoc bytes front w.front) w.holds;
+    }
+
+-- what stopped a piece behind a front of a longer piece stopped that
+pub halted-later : {S : Type 0} (step : Node S → NodeEvent → Outcome S) (m : Meaning S) (bytes front piece rest whole : List ℕ) (written now : Option (List ℕ)) (script : Reading S) (halt : Halt)
+    → whole ≡ front ++ (piece ++ rest) → Halted step m (bytes ++ front) piece written now script halt → Halted step m bytes whole written now script halt
+halted-later step m bytes front piece rest whole written now script halts.Refused split w = within-later bytes front piece rest whole _ split w
+halted-later step m bytes front piece rest whole written now script halts.WriteFault split w = within-later bytes front piece rest whole _ split w
+halted-later step m bytes front piece rest whole written now script halts.SinkMemory split w = within-later bytes front piece rest whole _ split w
+halted-later step m bytes front piece rest whole written now script halts.NoMemory split w = within-later bytes front piece rest whole _ split w
+
+-- a list by one of its values
+pub piece-split : (xs : List ℕ) (i d : ℕ) → i < length xs → xs ≡ take i xs ++ ((get_or xs i d ∷ []) ++ drop (suc i) xs)
+piece-split [] i d within = absurd (omega arith)
+piece-split (x ∷ xs) zero d within = refl
+piece-split (x ∷ xs) (suc i) d within = ap (λ ys. x ∷ ys) (piece-split xs i d (omega arith))
+
+-- numbers that differ are found other
+pub is_other : (a b : ℕ) → (a ≡ b → ⊥) → (a == b) ≡ false
+is_other a b differ = by_test (a == b) (λ same. differ (eqb-true a b same))
+  where
+    by_test : (t : Bool) → (t ≡ true → ⊥) → t ≡ false
+    by_test true never = absurd (never refl)
+    by_test false never = refl
+
+pub appends-keeps : (a b c : Option (List ℕ)) (xs : List ℕ) → Appends a b xs → Keeps b c → Appends a c xs
+appends-keeps None b c xs first keeps = tt
+appends-keeps (Some a) None c xs first keeps = absurd first
+appends-keeps (Some a) (Some b) None xs first keeps = absurd keeps
+appends-keeps (Some a) (Some b) (Some c) xs first keeps = keeps ∙ first
+
+-- a list is a front of itself
+pub take-all : (xs : List ℕ) → take (length xs) xs ≡ xs
+take-all [] = refl
+take-all (x ∷ xs) = ap (λ ys. x ∷ ys) (take-all xs)

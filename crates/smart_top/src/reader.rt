@@ -2,10 +2,10 @@
 //! written at once.
 ghost use Rattle.std.specs.Prelude.{◌≡◌, ◌≤◌, ◌++◌, [], ◌∷◌, List, ℕ, None, IfOk, IfErr, OnOk, OnErr, IsErrOf, Option, take};
 ghost use Rattle.std.specs.Io.KnownBytes.{Appends};
-ghost use Rattle.faults.specs.Counts.{Rose};
+ghost use Rattle.faults.specs.Counts.{Rose, HasCause, HasWant};
 ghost use Rattle.kept_arrivals.specs.Kept.{core_step};
 ghost use Rattle.world_rules.specs.Texts.{text_of};
-ghost use Rattle.smart_top.specs.Readings.{unread};
+ghost use Rattle.smart_top.specs.Readings.{line_with};
 ghost use Rattle.smart_top.specs.Feeds.{HasTaken, Halted};
 
 use crate::script::Script;
@@ -52,7 +52,20 @@ pub struct Reader<S: Service> {
     pub line: Bytes,
 }
 
-/// Writes the text of lines.
+/// Writes all bytes, and lets them go on.
+fn write_whole<O: Sink>(output: &mut O, bytes: &[u8]) -> Result<(), Fault>
+    ensures ok { OnOk result (Appends (O.written output.old) (O.written output.new) bytes.now) }
+    ensures err { OnErr result ((count : ℕ) × Appends (O.written output.old) (O.written output.new) (take count bytes.now)) }
+    ensures cause { HasCause (O.faults output.old) (O.faults output.new) result }
+    ensures want { HasWant (O.wants output.old) (O.wants output.new) result }
+{
+    match write_all(output, bytes) {
+        Ok(()) => output.flush(),
+        Err(fault) => Err(fault),
+    }
+}
+
+/// Writes the text of lines, and lets it go on.
 pub fn write_lines<O: Sink>(alloc: Global, output: &mut O, lines: &[OutLine]) -> Result<(), Halt>
     ensures ok { OnOk result (Appends (O.written output.old) (O.written output.new) (text_of lines.now)) }
     ensures err { OnErr result ((count : ℕ) × Appends (O.written output.old) (O.written output.new) (take count (text_of lines.now))) }
@@ -62,8 +75,11 @@ pub fn write_lines<O: Sink>(alloc: Global, output: &mut O, lines: &[OutLine]) ->
     ensures want { IsErrOf result Halt.SinkMemory → Rose (O.wants output.old) (O.wants output.new) }
     ensures later { (O.faults output.old ≤ O.faults output.new) × (O.wants output.old ≤ O.wants output.new) }
 {
+    if lines.is_empty() {
+        return Ok(());
+    }
     let text = text_of(alloc, lines)?;
-    match write_all(output, text.as_bytes()) {
+    match write_whole(output, text.as_bytes()) {
         Ok(()) => Ok(()),
         Err(Fault::Failed) => Err(Halt::WriteFault),
         Err(Fault::NoMemory) => Err(Halt::SinkMemory),
@@ -91,5 +107,58 @@ pub fn end_line<S: Service, O: Sink>(
         return Err(Halt::Refused);
     }
     reader.line.truncate(0);
+    Ok(())
+}
+
+/// A byte comes to a line. Of a line that is too long no more than that is kept.
+fn extend_line(line: &mut Bytes, byte: u8) -> Result<(), AllocError>
+    ensures { OnOk result (line.new ≡ line_with line.old byte) }
+{
+    if line.len() < KEPT {
+        line.push(byte)?;
+    }
+    Ok(())
+}
+
+/// Takes a byte: a line feed ends the line, any other comes to it.
+pub fn take_byte<S: Service, O: Sink>(
+    reader: &mut Reader<S>,
+    output: &mut O,
+    byte: u8,
+) -> Result<(), Halt>
+    requires { reader.old.script.refused ≡ None }
+    ensures ok { OnOk result ((bytes : List ℕ) (written : Option (List ℕ)) → HasTaken (core_step S.meaning) S.meaning bytes written (O.written output.old) reader.old.line reader.old.script → HasTaken (core_step S.meaning) S.meaning (bytes ++ byte ∷ []) written (O.written output.new) reader.new.line reader.new.script) }
+    ensures going { OnOk result (reader.new.script.refused ≡ None) }
+    ensures halted { IfErr result (λ halt. (bytes : List ℕ) (written : Option (List ℕ)) → HasTaken (core_step S.meaning) S.meaning bytes written (O.written output.old) reader.old.line reader.old.script → Halted (core_step S.meaning) S.meaning bytes (byte ∷ []) written (O.written output.new) reader.new.script halt) }
+    ensures write { IsErrOf result Halt.WriteFault → Rose (O.faults output.old) (O.faults output.new) }
+    ensures want { IsErrOf result Halt.SinkMemory → Rose (O.wants output.old) (O.wants output.new) }
+    ensures later { (O.faults output.old ≤ O.faults output.new) × (O.wants output.old ≤ O.wants output.new) }
+{
+    if byte == b'\n' {
+        return end_line(reader, output);
+    }
+    extend_line(&mut reader.line, byte)?;
+    Ok(())
+}
+
+/// Takes the bytes of a piece, in order.
+pub fn feed<S: Service, O: Sink>(
+    reader: &mut Reader<S>,
+    output: &mut O,
+    piece: &[u8],
+) -> Result<(), Halt>
+    requires { reader.old.script.refused ≡ None }
+    ensures ok { OnOk result ((bytes : List ℕ) (written : Option (List ℕ)) → HasTaken (core_step S.meaning) S.meaning bytes written (O.written output.old) reader.old.line reader.old.script → HasTaken (core_step S.meaning) S.meaning (bytes ++ piece.now) written (O.written output.new) reader.new.line reader.new.script) }
+    ensures going { OnOk result (reader.new.script.refused ≡ None) }
+    ensures halted { IfErr result (λ halt. (bytes : List ℕ) (written : Option (List ℕ)) → HasTaken (core_step S.meaning) S.meaning bytes written (O.written output.old) reader.old.line reader.old.script → Halted (core_step S.meaning) S.meaning bytes piece.now written (O.written output.new) reader.new.script halt) }
+    ensures write { IsErrOf result Halt.WriteFault → Rose (O.faults output.old) (O.faults output.new) }
+    ensures want { IsErrOf result Halt.SinkMemory → Rose (O.wants output.old) (O.wants output.new) }
+    ensures later { (O.faults output.old ≤ O.faults output.new) × (O.wants output.old ≤ O.wants output.new) }
+{
+    for byte in piece {
+        if let Err(halt) = take_byte(reader, output, *byte) {
+            return Err(halt);
+        }
+    }
     Ok(())
 }

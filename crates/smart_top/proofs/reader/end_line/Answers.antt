@@ -4,6 +4,12 @@ use Rattle.kept_arrivals.specs.Kept.{core_step}
 use Rattle.smart_top.proofs.Feeding.{line-played, line-refused, line-halted, none_is}
 use Rattle.smart_top.proofs.reader.end_line.Goals as goal
 
+pub returns-in-Err-clause-halted : goal.returns-in-Err-clause-halted
+returns-in-Err-clause-halted g c = λ bytes written taken.
+    line-halted (core_step g.S.Service.meaning) g.S.Service.meaning bytes written _ _ _ _ c.take_line.new.self c.in-Err.halt taken
+    (λ is. c.in-Err.ensures.refused (ap (λ halt. Err halt) is)) (λ is. c.in-Err.ensures.memory (ap (λ halt. Err halt) is))
+    (rw (c.as_slice-2.ensures, c.in_ok-told.ensures.told, c.as_slice.ensures) at c.in-Err.ensures.err)
+
 pub returns-then-is_some-clause-halted : goal.returns-then-is_some-clause-halted
 returns-then-is_some-clause-halted g c = λ bytes written taken.
     line-refused (core_step g.S.Service.meaning) g.S.Service.meaning bytes written _ _ _ _ c.take_line.new.self taken
