@@ -2,3 +2,5 @@ pub mod ReadingLaws
 pub mod ReadingCores
 pub mod ReadingPlays
 pub mod Feeding
+pub mod Ending
+pub mod Closing

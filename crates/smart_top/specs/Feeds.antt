@@ -6,9 +6,11 @@ use Rattle.smart_service.specs.Services.{Meaning}
 use Rattle.node_rules.specs.Nodes.{Node}
 use Rattle.node_rules.specs.Steps.{Outcome}
 use Rattle.world_rules.specs.Texts.{text_of}
+use Rattle.smart_top.specs.declared.status.Status.{Status}
+use Rattle.smart_top.specs.declared.status.Status.TheVariants as ends
 use Rattle.smart_top.specs.declared.reader.Halt.{Halt}
 use Rattle.smart_top.specs.declared.reader.Halt.TheVariants as halts
-use Rattle.smart_top.specs.Readings.{Reading, unread, whole_lines, rest_of, reading_after, told_after}
+use Rattle.smart_top.specs.Readings.{Reading, unread, whole_lines, rest_of, reading_after, told_after, end_of}
 
 -- what the whole lines of bytes tell, as text
 abbrev pub text_after : {S : Type 0} → (Node S → NodeEvent → Outcome S) → Meaning S → List ℕ → List ℕ
@@ -54,3 +56,20 @@ Halted step m bytes piece written written' script halts.Refused = Within bytes p
 Halted step m bytes piece written written' script halts.WriteFault = Within bytes piece (λ taken. HasBroken step m taken written written')
 Halted step m bytes piece written written' script halts.SinkMemory = Within bytes piece (λ taken. HasBroken step m taken written written')
 Halted step m bytes piece written written' script halts.NoMemory = Within bytes piece (λ taken. HasTold step m taken written written')
+
+-- a run goes on: it has consumed and taken these bytes
+pub record GoesOn {S : Type 0} (step : Node S → NodeEvent → Outcome S) (m : Meaning S) (bytes : List ℕ) (left left' written written' : Option (List ℕ)) (line : List ℕ) (script : Reading S) : Type 0 where
+  pub consumed : Consumes left left' bytes
+  pub taken : HasTaken step m bytes written written' line script
+
+-- a run goes on behind these bytes and more
+pub record GoesOnBehind {S : Type 0} (step : Node S → NodeEvent → Outcome S) (m : Meaning S) (bytes : List ℕ) (left left' written written' : Option (List ℕ)) (line : List ℕ) (script : Reading S) : Type 0 where
+  pub more : List ℕ
+  pub going : GoesOn step m (bytes ++ more) left left' written written' line script
+
+-- how a halt ends a run
+abbrev pub halt_end : {S : Type 0} → Reading S → Halt → Status
+halt_end r halts.Refused = end_of r
+halt_end r halts.WriteFault = ends.WriteFault
+halt_end r halts.SinkMemory = ends.NoMemory
+halt_end r halts.NoMemory = ends.NoMemory

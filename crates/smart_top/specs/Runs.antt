@@ -1,6 +1,8 @@
 -- What a run of `world` has read and written, by how it ends.
-use Rattle.std.specs.Prelude.{ℕ, ◌≡◌, List, [], ◌++◌, Option, Some, None, take}
-use Rattle.std.specs.Io.KnownBytes.{Appends, Consumes}
+use Rattle.smart_base.specs.Lists.{same_bytes}
+use Rattle.std.specs.Prelude.{Bool, false, ◌∷◌, codes, ℕ, ◌≡◌, List, [], ◌++◌, Option, Some, None, take, ◌⊎◌}
+use Rattle.std.specs.Io.KnownBytes.{Appends, Consumes, IsAtEnd}
+use Rattle.faults.specs.Counts.{Rose}
 use Rattle.smart_service.specs.Services.{Meaning}
 use Rattle.node_rules.specs.Steps.{step_of}
 use Rattle.world_rules.specs.Worlds.{begun}
@@ -25,16 +27,6 @@ pub record OneListOf {S : Type 0} (m : Meaning S) (p : Play S) : Type 0 where
 abbrev pub OneListHolds : {S : Type 0} → Meaning S → Option (Play S) → Type 0
 OneListHolds m None = Unit {0}
 OneListHolds m (Some p) = OneListOf m p
-
--- ends that the input decides
-abbrev pub IsDecided : Status → Type 0
-IsDecided ends.Ok = Unit {0}
-IsDecided (ends.Script line kind) = Unit {0}
-IsDecided (ends.Limit line) = Unit {0}
-IsDecided ends.Words = ⊥
-IsDecided ends.ReadFault = ⊥
-IsDecided ends.WriteFault = ⊥
-IsDecided ends.NoMemory = ⊥
 
 -- a run that the input has ended: its status is the one that this input has, and it has written the input's transcript
 pub record Ends {S : Type 0} (m : Meaning S) (left written written' : Option (List ℕ)) (status : Status) : Type 0 where
@@ -68,3 +60,19 @@ pub record WroteFront {S : Type 0} (m : Meaning S) (left written written' : Opti
   pub count : ℕ
   pub text : Appends written written' (take count (text_of (transcript (step_of m) m input)))
   pub one_list : OneListHolds m (script_read (step_of m) m input).play
+
+-- what a run has read and written, by its status. Where memory ran out it has written whole lines, or the sink wanted memory
+abbrev pub RunEnd : {S : Type 0} → Meaning S → Option (List ℕ) → Option (List ℕ) → Option (List ℕ) → Option (List ℕ) → ℕ → ℕ → Status → Type 0
+RunEnd m left left' written written' wants wants' ends.Ok = Ends m left written written' ends.Ok × IsAtEnd left'
+RunEnd m left left' written written' wants wants' ends.Words = ⊥
+RunEnd m left left' written written' wants wants' (ends.Script line kind) = Ends m left written written' (ends.Script line kind)
+RunEnd m left left' written written' wants wants' ends.ReadFault = WroteAllRead m left left' written written'
+RunEnd m left left' written written' wants wants' ends.WriteFault = WroteFront m left written written'
+RunEnd m left left' written written' wants wants' (ends.Limit line) = Ends m left written written' (ends.Limit line)
+RunEnd m left left' written written' wants wants' ends.NoMemory = WroteLines m left written written' ⊎ (Rose wants wants' × WroteFront m left written written')
+
+-- words are a command where they are the one word `world`
+abbrev pub is_command : List (List ℕ) → Bool
+is_command [] = false
+is_command (word ∷ []) = same_bytes word (codes "world")
+is_command (word ∷ next ∷ words) = false

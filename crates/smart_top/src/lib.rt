@@ -4,3 +4,4 @@
 pub mod reader;
 pub mod script;
 pub mod status;
+pub mod top;

@@ -1,0 +1,141 @@
+-- How runs end where their input does.
+use Rattle.std.proofs.Common.{◌≡◌, ◌+◌, ◌++◌, ◌∙◌, ℕ, List, [], ◌∷◌, Option, None, Some, take, refl, ap, sym, subst, inl, inr, zero, suc}
+use Rattle.std.proofs.lemmas.List.{append-nil}
+use Rattle.std.specs.Io.KnownBytes.{Appends, Consumes, IsAtEnd}
+use Rattle.faults.specs.Counts.{Rose}
+use Rattle.smart_service.specs.Services.{Meaning}
+use Rattle.kept_arrivals.specs.Kept.{core_step}
+use Rattle.node_rules.specs.Steps.{step_of}
+use Rattle.world_rules.specs.Plays.{Play}
+use Rattle.world_rules.specs.Texts.{text_of}
+use Rattle.world_rules.specs.declared.line.OutLine.{OutLine}
+use Rattle.smart_top.specs.declared.status.Refusal.{Refusal}
+use Rattle.smart_top.specs.declared.status.Status.{Status}
+use Rattle.smart_top.specs.declared.reader.Halt.{Halt}
+use Rattle.smart_top.specs.declared.reader.Halt.TheVariants as halts
+use Rattle.smart_top.specs.Readings.{Reading, unread, whole_lines, rest_of, last_line, script_lines, reading_after, told_after, script_read, end_of, end_by, end_at, end_told, last_told, transcript}
+use Rattle.smart_top.specs.Feeds.{text_after, script_after, HasTaken, HasTold, Halted, Within, GoesOn, halt_end}
+use Rattle.smart_top.specs.Runs.{IsLeft, Ends, WroteLines, WroteFront, RunEnd}
+use Rattle.smart_top.proofs.ReadingLaws.{text-append, front_behind, whole-feed, lines-front}
+use Rattle.smart_top.proofs.ReadingCores.{trimmed_reading, core-after-unread, core-end, core-last}
+use Rattle.smart_top.proofs.Feeding.{appends-then}
+use Rattle.smart_top.proofs.Ending.{Begins, one_list, same-text, told-lines, broken-front, refused-run, refused-ends}
+
+-- the lines of an input that were all taken
+
+-- a script that took all lines ends as the input does
+all-read : {S : Type 0} (m : Meaning S) (written now : Option (List ℕ)) (bytes input line : List ℕ) (script : Reading S) → script_lines input ≡ whole_lines [] bytes
+    → HasTaken (core_step m) m bytes written now line script → script ≡ trimmed_reading (script_read (step_of m) m input)
+all-read m written now bytes input line script all taken =
+    taken.script_is ∙ (core-after-unread m (whole_lines [] bytes) ∙ ap (λ ls. trimmed_reading (reading_after (step_of m) m unread ls)) (sym all))
+
+-- the transcript is what the lines told, and the end
+all-told : {S : Type 0} (m : Meaning S) (written now : Option (List ℕ)) (bytes input line : List ℕ) (script : Reading S) → script_lines input ≡ whole_lines [] bytes
+    → HasTaken (core_step m) m bytes written now line script → text_after (core_step m) m bytes ++ text_of (end_told script.count script.play) ≡ text_of (transcript (step_of m) m input)
+all-told {S = S} m written now bytes input line script all taken =
+    let r : Reading S = script_read (step_of m) m input in
+    let read : script ≡ trimmed_reading r = all-read m written now bytes input line script all taken in
+    let last : end_told script.count script.play ≡ last_told r r.refused =
+    ap (λ x. last_told script x) (sym taken.going) ∙ (ap (λ (q : Reading S). last_told q q.refused) read ∙ core-last r) in
+    ap (λ lines. text_after (core_step m) m bytes ++ text_of lines) last
+    ∙ (ap (λ text. text ++ text_of (last_told r r.refused)) (same-text m bytes ∙ ap (λ ls. text_of (told_after (step_of m) m unread ls)) (sym all))
+    ∙ sym (text-append (told_after (step_of m) m unread (script_lines input)) (last_told r r.refused)))
+
+ended-play : {S : Type 0} (m : Meaning S) (left left' written now : Option (List ℕ)) (wants wants' count : ℕ) (play : Option (Play S)) → IsAtEnd left' → Ends m left written now (end_at count play)
+    → RunEnd m left left' written now wants wants' (end_at count play)
+ended-play m left left' written now wants wants' count None end e = e
+ended-play m left left' written now wants wants' count (Some p) end e = (e, end)
+
+ended-run : {S : Type 0} (m : Meaning S) (left left' written now : Option (List ℕ)) (wants wants' : ℕ) (r : Reading S) (x : Option Refusal) → x ≡ None → IsAtEnd left'
+    → Ends m left written now (end_by r x) → RunEnd m left left' written now wants wants' (end_by r x)
+ended-run m left left' written now wants wants' r None is end e = ended-play m left left' written now wants wants' r.count r.play end e
+ended-run m left left' written now wants wants' r (Some why) is end e = absurd (cc)
+
+-- a run that has written its whole transcript
+pub close-ended : {S : Type 0} (m : Meaning S) (left left' written now now' : Option (List ℕ)) (wants wants' : ℕ) (bytes input line : List ℕ) (script : Reading S)
+    → script_lines input ≡ whole_lines [] bytes → IsLeft left input → IsAtEnd left' → HasTaken (core_step m) m bytes written now line script → Appends now now' (text_of (end_told script.count script.play))
+    → RunEnd m left left' written now' wants wants' (end_of script)
+close-ended {S = S} m left left' written now now' wants wants' bytes input line script all is_left end taken told =
+    let r : Reading S = script_read (step_of m) m input in
+    let read : script ≡ trimmed_reading r = all-read m written now bytes input line script all taken in
+    ended-run m left left' written now' wants wants' script script.refused taken.going end
+    (record {
+      input = input;
+      is_left = is_left;
+      status_is = ap (λ (q : Reading S). end_of q) read ∙ core-end r;
+      text = subst (λ text. Appends written now' text) (all-told m written now bytes input line script all taken)
+          (appends-then written now now' (text_after (core_step m) m bytes) (text_of (end_told script.count script.play)) taken.text told);
+      one_list = one_list m (script_lines input);
+    })
+
+-- a run whose end was not written
+pub close-unwritten : {S : Type 0} (m : Meaning S) (left written now now' : Option (List ℕ)) (bytes input line : List ℕ) (script : Reading S)
+    → script_lines input ≡ whole_lines [] bytes → IsLeft left input → now' ≡ now → HasTaken (core_step m) m bytes written now line script → WroteLines m left written now'
+close-unwritten m left written now now' bytes input line script all is_left same taken =
+    told-lines m left written now' bytes input (record { more = []; split = all ∙ sym (append-nil (whole_lines [] bytes)) }) is_left
+    (record { text = subst (λ w. Appends written w (text_after (core_step m) m bytes)) (sym same) taken.text })
+
+-- a run of whose end only a front was written
+close-broken : {S : Type 0} (m : Meaning S) (left written now now' : Option (List ℕ)) (bytes input line : List ℕ) (script : Reading S) (count : ℕ)
+    → script_lines input ≡ whole_lines [] bytes → IsLeft left input → HasTaken (core_step m) m bytes written now line script → Appends now now' (take count (text_of (end_told script.count script.play)))
+    → WroteFront m left written now'
+close-broken m left written now now' bytes input line script count all is_left taken told =
+    let some = front_behind (text_after (core_step m) m bytes) (text_of (end_told script.count script.play)) [] count in
+    let whole = ap (λ text. text_after (core_step m) m bytes ++ text) (append-nil (text_of (end_told script.count script.play))) ∙ all-told m written now bytes input line script all taken in
+    record {
+      input = input;
+      is_left = is_left;
+      count = some.0;
+      text = subst (λ text. Appends written now' text) (sym some.1 ∙ ap (λ text. take some.0 text) whole)
+          (appends-then written now now' (text_after (core_step m) m bytes) (take count (text_of (end_told script.count script.play))) taken.text told);
+      one_list = one_list m (script_lines input);
+    }
+
+-- a run that stopped at its end
+pub close-halted : {S : Type 0} (m : Meaning S) (left left' written now now' : Option (List ℕ)) (wants wants' : ℕ) (bytes input line : List ℕ) (script : Reading S) (halt : Halt)
+    → script_lines input ≡ whole_lines [] bytes → IsLeft left input → HasTaken (core_step m) m bytes written now line script → (halt ≡ halts.Refused → ⊥) → (halt ≡ halts.NoMemory → now' ≡ now)
+    → (halt ≡ halts.SinkMemory → Rose wants wants') → (count : ℕ) × Appends now now' (take count (text_of (end_told script.count script.play)))
+    → RunEnd m left left' written now' wants wants' (halt_end script halt)
+close-halted m left left' written now now' wants wants' bytes input line script halts.Refused all is_left taken never same rose told = absurd (never refl)
+close-halted m left left' written now now' wants wants' bytes input line script halts.WriteFault all is_left taken never same rose told =
+    close-broken m left written now now' bytes input line script told.0 all is_left taken told.1
+close-halted m left left' written now now' wants wants' bytes input line script halts.SinkMemory all is_left taken never same rose told =
+    inr (rose refl, close-broken m left written now now' bytes input line script told.0 all is_left taken told.1)
+close-halted m left left' written now now' wants wants' bytes input line script halts.NoMemory all is_left taken never same rose told =
+    inl (close-unwritten m left written now now' bytes input line script all is_left (same refl) taken)
+
+-- the last line
+
+-- where no line has begun, the lines are those that ended
+pub lines-ended : (bytes : List ℕ) → rest_of [] bytes ≡ [] → script_lines bytes ≡ whole_lines [] bytes
+lines-ended bytes none = ap (λ rest. whole_lines [] bytes ++ last_line rest) none ∙ append-nil (whole_lines [] bytes)
+
+last-there : (rest : List ℕ) → (rest ≡ [] → ⊥) → last_line rest ≡ rest ∷ []
+last-there [] some = absurd (some refl)
+last-there (b ∷ bs) some = refl
+
+-- where one has, its end may be taken for a line feed
+pub lines-begun : (bytes : List ℕ) → (rest_of [] bytes ≡ [] → ⊥) → script_lines bytes ≡ whole_lines [] (bytes ++ 10 ∷ [])
+lines-begun bytes some = ap (λ rest. whole_lines [] bytes ++ rest) (last-there (rest_of [] bytes) some) ∙ sym (whole-feed [] bytes 10 refl)
+
+-- what stopped the last line
+last-begins : (bytes : List ℕ) (P : List ℕ → Type 0) → (rest_of [] bytes ≡ [] → ⊥) → (w : Within bytes (10 ∷ []) P) → Begins (bytes ++ w.front) bytes
+last-begins bytes P some w = of_front w.front w.rest w.split
+  where
+    of_front : (front rest : List ℕ) → 10 ∷ [] ≡ front ++ rest → Begins (bytes ++ front) bytes
+    of_front [] rest split = record { more = last_line (rest_of [] bytes); split = ap (λ bs. whole_lines [] bs ++ last_line (rest_of [] bytes)) (sym (append-nil bytes)) }
+    of_front (b ∷ []) rest split =
+        let ten : 10 ≡ b = cc in
+        record { more = []; split = lines-begun bytes some ∙ (ap (λ x. whole_lines [] (bytes ++ x ∷ [])) ten ∙ sym (append-nil (whole_lines [] (bytes ++ b ∷ [])))) }
+    of_front (b ∷ c ∷ front) rest split = absurd (cc)
+
+-- a run that the last line has stopped
+pub last-halted : {S : Type 0} (m : Meaning S) (left left' written now : Option (List ℕ)) (wants wants' : ℕ) (bytes : List ℕ) (script : Reading S) (halt : Halt)
+    → (rest_of [] bytes ≡ [] → ⊥) → IsLeft left bytes → (halt ≡ halts.SinkMemory → Rose wants wants') → Halted (core_step m) m bytes (10 ∷ []) written now script halt
+    → RunEnd m left left' written now wants wants' (halt_end script halt)
+last-halted m left left' written now wants wants' bytes script halts.Refused some is_left rose w =
+    refused-run m left left' written now wants wants' script script.refused w.holds.is (refused-ends m left written now (bytes ++ w.front) bytes script (last-begins bytes _ some w) is_left w.holds)
+last-halted m left left' written now wants wants' bytes script halts.WriteFault some is_left rose w = broken-front m left written now (bytes ++ w.front) bytes (last-begins bytes _ some w) is_left w.holds
+last-halted m left left' written now wants wants' bytes script halts.SinkMemory some is_left rose w =
+    inr (rose refl, broken-front m left written now (bytes ++ w.front) bytes (last-begins bytes _ some w) is_left w.holds)
+last-halted m left left' written now wants wants' bytes script halts.NoMemory some is_left rose w = inl (told-lines m left written now (bytes ++ w.front) bytes (last-begins bytes _ some w) is_left w.holds)
