@@ -1,5 +1,5 @@
 -- How runs end where their input does.
-use Rattle.std.proofs.Common.{◌≡◌, ◌+◌, ◌++◌, ◌∙◌, ℕ, List, [], ◌∷◌, Option, None, Some, take, refl, ap, sym, subst, inl, inr, zero, suc}
+use Rattle.std.proofs.Common.{◌≡◌, ◌≤◌, ◌==◌, ◌+◌, ◌++◌, ◌∙◌, ℕ, true, false, length, arith, eqb-true, List, [], ◌∷◌, Option, None, Some, take, refl, ap, sym, subst, inl, inr, zero, suc}
 use Rattle.std.proofs.lemmas.List.{append-nil}
 use Rattle.std.specs.Io.KnownBytes.{Appends, Consumes, IsAtEnd}
 use Rattle.faults.specs.Counts.{Rose}
@@ -139,3 +139,20 @@ last-halted m left left' written now wants wants' bytes script halts.WriteFault 
 last-halted m left left' written now wants wants' bytes script halts.SinkMemory some is_left rose w =
     inr (rose refl, broken-front m left written now (bytes ++ w.front) bytes (last-begins bytes _ some w) is_left w.holds)
 last-halted m left left' written now wants wants' bytes script halts.NoMemory some is_left rose w = inl (told-lines m left written now (bytes ++ w.front) bytes (last-begins bytes _ some w) is_left w.holds)
+
+-- a line that is not empty is one
+pub not_empty : (line : List ℕ) → (length line == 0) ≡ false → line ≡ [] → ⊥
+not_empty [] is none = absurd (cc)
+not_empty (b ∷ bs) is none = absurd (cc)
+
+-- a line without bytes is empty
+pub is_empty : (line : List ℕ) → (length line == 0) ≡ true → line ≡ []
+is_empty [] is = refl
+is_empty (b ∷ bs) is = absurd (no (length bs) (eqb-true (length (b ∷ bs)) 0 is))
+  where
+    no : (n : ℕ) → suc n ≡ 0 → ⊥
+    no n same = omega (arith, same)
+
+-- a count that rose later has risen
+pub rose-later : (a b c : ℕ) → a ≤ b → Rose b c → Rose a c
+rose-later a b c le rose = omega (arith, le, rose)

@@ -1,11 +1,12 @@
 //! The top call.
-ghost use Rattle.std.specs.Prelude.{◌≡◌, ◌≤◌, ◌++◌, ◌↔◌, List, ℕ, IsTrue, IsErrOf, IfErr, IfOk, Option, None, true, false, map, string_bytes};
+ghost use Rattle.std.specs.Prelude.{◌≡◌, ◌<◌, ◌≤◌, ◌++◌, ◌↔◌, length, List, ℕ, IsTrue, IsErrOf, IfErr, IfOk, Option, None, [], true, false, map, string_bytes};
 ghost use Rattle.std.specs.Io.KnownBytes.{IsAtEnd};
 ghost use Rattle.faults.specs.Counts.{Rose};
+ghost use Rattle.app_count.specs.Counts.{counting};
 ghost use Rattle.kept_arrivals.specs.Kept.{core_step};
-ghost use Rattle.smart_top.specs.Readings.{end_of};
-ghost use Rattle.smart_top.specs.Feeds.{GoesOn, GoesOnBehind, halt_end};
-ghost use Rattle.smart_top.specs.Runs.{RunEnd, is_command};
+ghost use Rattle.smart_top.specs.Readings.{end_of, script_lines, whole_lines};
+ghost use Rattle.smart_top.specs.Feeds.{HasTaken, GoesOn, GoesOnBehind, halt_end};
+ghost use Rattle.smart_top.specs.Runs.{IsLeft, RunEnd, is_command};
 
 use crate::reader::{Halt, Reader, end_line, feed, write_lines};
 use crate::script::Script;
@@ -50,4 +51,129 @@ pub fn is_command(words: &[String]) -> bool
         [word] => same_bytes(word.as_bytes(), b"world"),
         _ => false,
     }
+}
+
+/// Ends a script whose lines were all taken: the end is told and written.
+fn close<S: Service, O: Sink>(reader: &Reader<S>, output: &mut O) -> Status
+    ensures ended { (bytes input : List ℕ) (left left' written : Option (List ℕ)) (wants : ℕ) → script_lines input ≡ whole_lines [] bytes → IsLeft left input → IsAtEnd left'
+        → HasTaken (core_step S.meaning) S.meaning bytes written (O.written output.old) reader.now.line reader.now.script → wants ≤ O.wants output.old
+        → RunEnd S.meaning left left' written (O.written output.new) wants (O.wants output.new) result }
+    ensures read { result ≡ Status.ReadFault → ⊥ }
+    ensures write { result ≡ Status.WriteFault → Rose (O.faults output.old) (O.faults output.new) }
+    ensures later { O.faults output.old ≤ O.faults output.new }
+{
+    let told = match reader.script.last_told() {
+        Err(_) => return Status::NoMemory,
+        Ok(told) => told,
+    };
+    match write_lines(reader.alloc, output, told.as_slice()) {
+        Err(halt) => halt_end(&reader.script, halt),
+        Ok(()) => script_end(&reader.script),
+    }
+}
+
+/// Ends a script where its input ends. The last line may lack its line feed.
+fn finish<S: Service, O: Sink>(reader: &mut Reader<S>, output: &mut O) -> Status
+    requires { reader.old.script.refused ≡ None }
+    ensures ended { (bytes : List ℕ) (left left' written : Option (List ℕ)) (wants : ℕ) → IsLeft left bytes → IsAtEnd left'
+        → HasTaken (core_step S.meaning) S.meaning bytes written (O.written output.old) reader.old.line reader.old.script → wants ≤ O.wants output.old
+        → RunEnd S.meaning left left' written (O.written output.new) wants (O.wants output.new) result }
+    ensures read { result ≡ Status.ReadFault → ⊥ }
+    ensures write { result ≡ Status.WriteFault → Rose (O.faults output.old) (O.faults output.new) }
+{
+    if reader.line.is_empty() {
+        return close(reader, output);
+    }
+    if let Err(halt) = end_line(reader, output) {
+        return halt_end(&reader.script, halt);
+    }
+    close(reader, output)
+}
+
+/// Reads a piece of the input and takes its bytes. Answers whether there was one: the input ends
+/// where there was none.
+fn take_piece<S: Service, I: Source, O: Sink>(
+    reader: &mut Reader<S>,
+    input: &mut I,
+    output: &mut O,
+    buffer: &mut [u8],
+) -> Result<bool, Status>
+    requires room { 0 < length buffer.old }
+    requires going { reader.old.script.refused ≡ None }
+    ensures more { IfOk result (λ more. more ≡ true → reader.new.script.refused ≡ None × ((bytes : List ℕ) (left written : Option (List ℕ)) → GoesOn (core_step S.meaning) S.meaning bytes left (I.left input.old) written (O.written output.old) reader.old.line reader.old.script → GoesOnBehind (core_step S.meaning) S.meaning bytes left (I.left input.new) written (O.written output.new) reader.new.line reader.new.script)) }
+    ensures none { IfOk result (λ more. more ≡ false → IsAtEnd (I.left input.new) × (reader.new ≡ reader.old) × (output.new ≡ output.old) × ((bytes : List ℕ) (left written : Option (List ℕ)) → GoesOn (core_step S.meaning) S.meaning bytes left (I.left input.old) written (O.written output.old) reader.old.line reader.old.script → GoesOn (core_step S.meaning) S.meaning bytes left (I.left input.new) written (O.written output.new) reader.new.line reader.new.script)) }
+    ensures ended { IfErr result (λ status. (bytes : List ℕ) (left written : Option (List ℕ)) (wants : ℕ) → GoesOn (core_step S.meaning) S.meaning bytes left (I.left input.old) written (O.written output.old) reader.old.line reader.old.script → wants ≤ O.wants output.old → RunEnd S.meaning left (I.left input.new) written (O.written output.new) wants (O.wants output.new) status) }
+    ensures read { IsErrOf result Status.ReadFault → Rose (I.faults input.old) (I.faults input.new) }
+    ensures write { IsErrOf result Status.WriteFault → Rose (O.faults output.old) (O.faults output.new) }
+    ensures later { (I.faults input.old ≤ I.faults input.new) × (O.faults output.old ≤ O.faults output.new) × (O.wants output.old ≤ O.wants output.new) }
+{
+    let count = match input.read(buffer) {
+        Ok(count) => count,
+        Err(Fault::Failed) => return Err(Status::ReadFault),
+        Err(Fault::NoMemory) => return Err(Status::NoMemory),
+    };
+    if count == 0 {
+        return Ok(false);
+    }
+    let (piece, _) = buffer.split_at(count);
+    match feed(reader, output, piece) {
+        Ok(()) => Ok(true),
+        Err(halt) => Err(halt_end(&reader.script, halt)),
+    }
+}
+
+/// Plays the script of an input over a service, and writes its transcript: each line's as it is
+/// played. Neither the input nor the transcript is kept.
+pub fn play_script<S: Service, I: Source, O: Sink>(
+    alloc: Global,
+    input: &mut I,
+    output: &mut O,
+) -> Status
+    ensures ended { RunEnd S.meaning (I.left input.old) (I.left input.new) (O.written output.old) (O.written output.new) (O.wants output.old) (O.wants output.new) result }
+    ensures read { result ≡ Status.ReadFault → Rose (I.faults input.old) (I.faults input.new) }
+    ensures write { result ≡ Status.WriteFault → Rose (O.faults output.old) (O.faults output.new) }
+{
+    let mut reader: Reader<S> = Reader {
+        alloc,
+        script: Script::new(alloc),
+        line: Sequence::new(alloc),
+    };
+    let mut buffer = [0u8; PIECE];
+    for _ in 0..u64::MAX {
+        match take_piece(&mut reader, input, output, &mut buffer) {
+            Ok(true) => {}
+            Ok(false) => return finish(&mut reader, output),
+            Err(status) => return status,
+        }
+    }
+    // So many pieces are more than any memory holds.
+    Status::NoMemory
+}
+
+/// Runs the program: `world` reads a script from the input and writes its transcript to the
+/// output. Of a status other than `Ok` a line is said on `errors`, whose faults change nothing.
+pub fn run<H, I: Source, O: Sink, E: Sink>(
+    _rt: &H,
+    alloc: Global,
+    words: &[String],
+    input: &mut I,
+    output: &mut O,
+    errors: &mut E,
+) -> Status
+    // The words are no command exactly where the status says so; nothing is read or written then.
+    ensures words { (result ≡ Status.Words) ↔ (is_command (map string_bytes words.now) ≡ false) }
+    ensures untouched { result ≡ Status.Words → (input.new ≡ input.old) × (output.new ≡ output.old) }
+    // What was read and written, by the status; one list holds of it.
+    ensures ended { is_command (map string_bytes words.now) ≡ true → RunEnd counting (I.left input.old) (I.left input.new) (O.written output.old) (O.written output.new) (O.wants output.old) (O.wants output.new) result }
+    // Faults come only where their count rose.
+    ensures read { result ≡ Status.ReadFault → Rose (I.faults input.old) (I.faults input.new) }
+    ensures write { result ≡ Status.WriteFault → Rose (O.faults output.old) (O.faults output.new) }
+{
+    let status = if is_command(words) {
+        play_script::<Count, _, _>(alloc, input, output)
+    } else {
+        Status::Words
+    };
+    report(alloc, errors, status);
+    status
 }
