@@ -42,12 +42,13 @@ transcript-front : {S : Type 0} (m : Meaning S) (bytes input : List ℕ) → Beg
 transcript-front {S = S} m bytes input b =
     let told : List OutLine = told_after (step_of m) m unread (whole_lines [] bytes) in
     let behind : List OutLine = told_after (step_of m) m (script_after (step_of m) m bytes) b.more in
-    let last : List OutLine = last_told (script_read (step_of m) m input) (script_read (step_of m) m input).refused in
-    (text_of behind ++ text_of last,
-    text-append (told_after (step_of m) m unread (script_lines input)) last
-    ∙ (ap (λ ls. text_of (told_after (step_of m) m unread ls) ++ text_of last) b.split
-    ∙ (ap (λ lines. text_of lines ++ text_of last) (told-append (step_of m) m unread (whole_lines [] bytes) b.more)
-    ∙ (ap (λ text. text ++ text_of last) (text-append told behind) ∙ append_assoc (text_of told) (text_of behind) (text_of last)))))
+    let last : List OutLine = last_told (script_read (step_of m) m input) (script_read (step_of m) m input).refused in (
+      text_of behind ++ text_of last,
+      text-append (told_after (step_of m) m unread (script_lines input)) last
+          ∙ (ap (λ ls. text_of (told_after (step_of m) m unread ls) ++ text_of last) b.split
+          ∙ (ap (λ lines. text_of lines ++ text_of last) (told-append (step_of m) m unread (whole_lines [] bytes) b.more)
+          ∙ (ap (λ text. text ++ text_of last) (text-append told behind) ∙ append_assoc (text_of told) (text_of behind) (text_of last)))),
+    )
 
 -- a run that broke off has written a front of the transcript
 pub broken-front : {S : Type 0} (m : Meaning S) (left written now : Option (List ℕ)) (bytes input : List ℕ) → Begins bytes input → IsLeft left input
@@ -157,12 +158,13 @@ within-begins : (left left' : Option (List ℕ)) (bytes piece : List ℕ) (P : L
     → (input : List ℕ) × Begins (bytes ++ w.front) input × IsLeft left input
 within-begins left left' bytes piece P consumed w =
     let some = input_of left left' (bytes ++ piece) consumed in
-    let front = lines-front (bytes ++ w.front) (w.rest ++ some.0) in
-    ((bytes ++ w.front) ++ (w.rest ++ some.0),
-    record { more = front.0; split = front.1 },
-    subst (λ input. IsLeft left input)
-    (ap (λ xs. (bytes ++ xs) ++ some.0) w.split ∙ (append_assoc bytes (w.front ++ w.rest) some.0 ∙ (ap (λ xs. bytes ++ xs) (append_assoc w.front w.rest some.0) ∙ sym (append_assoc bytes w.front (w.rest ++ some.0)))))
-    some.1)
+    let front = lines-front (bytes ++ w.front) (w.rest ++ some.0) in (
+      (bytes ++ w.front) ++ (w.rest ++ some.0),
+      record { more = front.0; split = front.1 },
+      subst (λ input. IsLeft left input)
+          (ap (λ xs. (bytes ++ xs) ++ some.0) w.split ∙ (append_assoc bytes (w.front ++ w.rest) some.0 ∙ (ap (λ xs. bytes ++ xs) (append_assoc w.front w.rest some.0) ∙ sym (append_assoc bytes w.front (w.rest ++ some.0)))))
+          some.1,
+    )
 
 pub halted-end : {S : Type 0} (m : Meaning S) (left left' written now : Option (List ℕ)) (wants wants' : ℕ) (bytes piece : List ℕ) (script : Reading S) (halt : Halt)
     → Consumes left left' (bytes ++ piece) → (halt ≡ halts.SinkMemory → Rose wants wants') → Halted (core_step m) m bytes piece written now script halt

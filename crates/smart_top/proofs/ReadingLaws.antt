@@ -120,12 +120,11 @@ rest-more line xs b is = rest-end line xs b ∙ chosen_false (b == 10) _ _ is
 
 -- the lines of a longer input begin with the whole lines of its front
 pub lines-front : (xs ys : List ℕ) → (more : List (List ℕ)) × (script_lines (xs ++ ys) ≡ whole_lines [] xs ++ more)
-lines-front xs ys =
-    (
-      whole_lines (rest_of [] xs) ys ++ last_line (rest_of [] (xs ++ ys)),
-      ap (λ ls. ls ++ last_line (rest_of [] (xs ++ ys))) (whole-append [] xs ys)
+lines-front xs ys = (
+  whole_lines (rest_of [] xs) ys ++ last_line (rest_of [] (xs ++ ys)),
+  ap (λ ls. ls ++ last_line (rest_of [] (xs ++ ys))) (whole-append [] xs ys)
       ∙ append_assoc (whole_lines [] xs) (whole_lines (rest_of [] xs) ys) (last_line (rest_of [] (xs ++ ys))),
-    )
+)
 
 -- texts
 

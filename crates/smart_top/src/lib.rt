@@ -4,4 +4,6 @@
 pub mod reader;
 pub mod script;
 pub mod status;
+#[cfg(test)]
+mod tests;
 pub mod top;

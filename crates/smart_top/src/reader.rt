@@ -87,10 +87,7 @@ pub fn write_lines<O: Sink>(alloc: Global, output: &mut O, lines: &[OutLine]) ->
 }
 
 /// Ends the line that has begun: it is played, and what it tells is written.
-pub fn end_line<S: Service, O: Sink>(
-    reader: &mut Reader<S>,
-    output: &mut O,
-) -> Result<(), Halt>
+pub fn end_line<S: Service, O: Sink>(reader: &mut Reader<S>, output: &mut O) -> Result<(), Halt>
     requires { reader.old.script.refused ≡ None }
     ensures ok { OnOk result ((bytes : List ℕ) (written : Option (List ℕ)) → HasTaken (core_step S.meaning) S.meaning bytes written (O.written output.old) reader.old.line reader.old.script → HasTaken (core_step S.meaning) S.meaning (bytes ++ 10 ∷ []) written (O.written output.new) reader.new.line reader.new.script) }
     ensures going { OnOk result (reader.new.script.refused ≡ None) }

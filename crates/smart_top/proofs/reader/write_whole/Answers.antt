@@ -10,7 +10,8 @@ on_err (Err e) P p = p
 
 pub returns-in-Ok-clause-err : goal.returns-in-Ok-clause-err
 returns-in-Ok-clause-err g c =
-    on_err c.flush.result _
-    (length c.args.bytes.now,
-    subst (λ (text : List ℕ). Appends (g.O.Sink.written c.args.output.now) (g.O.Sink.written c.flush.new.self) text) (sym (take-all c.args.bytes.now))
-    (appends-keeps _ _ _ c.args.bytes.now c.in-Ok.ensures.ok c.flush.ensures.bytes))
+    on_err c.flush.result _ (
+      length c.args.bytes.now,
+      subst (λ (text : List ℕ). Appends (g.O.Sink.written c.args.output.now) (g.O.Sink.written c.flush.new.self) text) (sym (take-all c.args.bytes.now))
+          (appends-keeps _ _ _ c.args.bytes.now c.in-Ok.ensures.ok c.flush.ensures.bytes),
+    )
