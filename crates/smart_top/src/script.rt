@@ -182,7 +182,10 @@ impl<S: Service> Script<S> {
         if self.world.is_some() {
             Status::Ok
         } else {
-            Status::Script(self.count + 1, Kind::Word)
+            Status::Script {
+                line: self.count + 1,
+                kind: Kind::Word,
+            }
         }
     }
 }

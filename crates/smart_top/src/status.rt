@@ -28,13 +28,13 @@ pub enum Status {
     Words,
     /// This line of the script has no meaning, or the input ended before it while the header was
     /// not whole.
-    Script(u64, Kind),
+    Script { line: u64, kind: Kind },
     /// The input failed.
     ReadFault,
     /// The output failed.
     WriteFault,
     /// This line passes the number of lines or of messages.
-    Limit(u64),
+    Limit { line: u64 },
     /// Memory ran out.
     NoMemory,
 }
@@ -45,10 +45,10 @@ impl Status {
         match self {
             Status::Ok => 0,
             Status::Words => 2,
-            Status::Script(..) => 3,
+            Status::Script { .. } => 3,
             Status::ReadFault => 4,
             Status::WriteFault => 5,
-            Status::Limit(_) => 8,
+            Status::Limit { .. } => 8,
             Status::NoMemory => 11,
         }
     }
@@ -66,13 +66,13 @@ fn text_of(alloc: Global, status: Status) -> Result<String, AllocError> {
     match status {
         Status::Ok => {}
         Status::Words => text.push_str("smart: bad words\n")?,
-        Status::Script(line, kind) => {
+        Status::Script { line, kind } => {
             let kind = kind_name(kind);
             write!(&mut text, "smart: line {line}: {kind}\n")?;
         }
         Status::ReadFault => text.push_str("smart: read fault\n")?,
         Status::WriteFault => text.push_str("smart: write fault\n")?,
-        Status::Limit(line) => write!(&mut text, "smart: line {line}: limit\n")?,
+        Status::Limit { line } => write!(&mut text, "smart: line {line}: limit\n")?,
         Status::NoMemory => text.push_str("smart: no memory\n")?,
     }
     Ok(text)

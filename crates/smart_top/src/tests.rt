@@ -139,14 +139,26 @@ fn ends_have_their_causes(rt: HostRuntime) -> Result<(), Fail> {
         &[],
         &[],
     )?;
-    assert_eq!(rt; line.status, Status::Script(3, Kind::Word));
+    assert_eq!(rt;
+        line.status,
+        Status::Script {
+            line: 3,
+            kind: Kind::Word
+        }
+    );
     assert_eq!(rt;
         line.written.as_slice(),
         b"group 4 1 count 1024\n".as_slice()
     );
     assert_eq!(rt; line.said.as_slice(), b"smart: line 3: Word\n".as_slice());
     let header = run_word(&rt, "world", b"group 4 1\n", &[], &[])?;
-    assert_eq!(rt; header.status, Status::Script(2, Kind::Word));
+    assert_eq!(rt;
+        header.status,
+        Status::Script {
+            line: 2,
+            kind: Kind::Word
+        }
+    );
     assert_eq!(rt; header.written.len(), 0);
     let words = run_word(&rt, "word", FOUR, &[], &[])?;
     assert_eq!(rt; words.status, Status::Words);
@@ -162,10 +174,16 @@ fn lines_have_a_limit(rt: HostRuntime) -> Result<(), Fail> {
         script.push(b'\n')?;
     }
     let full = run_word(&rt, "world", script.as_slice(), &[], &[])?;
-    assert_eq!(rt; full.status, Status::Script(1048577, Kind::Word));
+    assert_eq!(rt;
+        full.status,
+        Status::Script {
+            line: 1048577,
+            kind: Kind::Word
+        }
+    );
     script.push(b'\n')?;
     let over = run_word(&rt, "world", script.as_slice(), &[], &[])?;
-    assert_eq!(rt; over.status, Status::Limit(1048577));
+    assert_eq!(rt; over.status, Status::Limit { line: 1048577 });
     assert_eq!(rt;
         over.said.as_slice(),
         b"smart: line 1048577: limit\n".as_slice()

@@ -28,8 +28,13 @@ fn script_end<S: Service>(script: &Script<S>) -> Status
 {
     match script.refused() {
         None => script.end(),
-        Some(Refusal::Script(kind)) => Status::Script(script.count() + 1, kind),
-        Some(Refusal::Limit) => Status::Limit(script.count() + 1),
+        Some(Refusal::Script(kind)) => Status::Script {
+            line: script.count() + 1,
+            kind,
+        },
+        Some(Refusal::Limit) => Status::Limit {
+            line: script.count() + 1,
+        },
     }
 }
 
