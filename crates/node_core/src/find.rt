@@ -139,8 +139,8 @@ pub fn is_wrote(slot: &Slot, entry: &LogEntry) -> bool
     ensures { result ≡ is_wrote slot.now entry.now }
 {
     match entry {
-        LogEntry::Wrote(made, _) => same_slot(*made, *slot),
-        LogEntry::Opened | LogEntry::Accepted(..) | LogEntry::Decided(..) => false,
+        LogEntry::Wrote { slot: made, .. } => same_slot(*made, *slot),
+        LogEntry::Opened | LogEntry::Accepted { .. } | LogEntry::Decided { .. } => false,
     }
 }
 
@@ -149,8 +149,8 @@ pub fn is_accepted(slot: &Slot, entry: &LogEntry) -> bool
     ensures { result ≡ is_accepted slot.now entry.now }
 {
     match entry {
-        LogEntry::Accepted(made, _, _) => same_slot(*made, *slot),
-        LogEntry::Opened | LogEntry::Wrote(..) | LogEntry::Decided(..) => false,
+        LogEntry::Accepted { slot: made, .. } => same_slot(*made, *slot),
+        LogEntry::Opened | LogEntry::Wrote { .. } | LogEntry::Decided { .. } => false,
     }
 }
 

@@ -10,11 +10,22 @@ pub enum LogEntry {
     /// The book begins.
     Opened,
     /// The member has written for a batch in a slot.
-    Wrote(Slot, Digest),
+    Wrote {
+        slot: Slot,
+        digest: Digest,
+    },
     /// The member has accepted a batch in a slot, since these members wrote for it.
-    Accepted(Slot, Sequence<MemberId>, Batch),
+    Accepted {
+        slot: Slot,
+        voters: Sequence<MemberId>,
+        batch: Batch,
+    },
     /// A batch is decided in a slot, since these members accepted it.
-    Decided(Slot, Sequence<MemberId>, Batch),
+    Decided {
+        slot: Slot,
+        voters: Sequence<MemberId>,
+        batch: Batch,
+    },
 }
 
 /// What happens to a member's node.

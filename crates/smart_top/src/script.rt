@@ -76,7 +76,10 @@ impl<S: Service> Script<S> {
             },
             Some(view) => {
                 if is_app_line(bytes) {
-                    told.push(OutLine::Group(view.members.len() as u64, view.f))?;
+                    told.push(OutLine::Group {
+                        members: view.members.len() as u64,
+                        faulty: view.f,
+                    })?;
                     let world = World::begin(self.alloc, view.duplicate(self.alloc)?)?;
                     self.world = Some(world);
                     self.count += 1;
@@ -170,7 +173,10 @@ impl<S: Service> Script<S> {
     {
         let mut told = Sequence::new(self.alloc);
         if let Some(world) = &self.world {
-            told.push(OutLine::End(self.count, world.sent().len() as u64))?;
+            told.push(OutLine::End {
+                lines: self.count,
+                messages: world.sent().len() as u64,
+            })?;
         }
         Ok(told)
     }

@@ -144,7 +144,10 @@ fn count(
         Ok(Heard::Accepted(accepted))
     } else {
         client.waiting = Some(request);
-        Ok(Heard::Counted(count as u64, need as u64))
+        Ok(Heard::Counted {
+            have: count as u64,
+            need: need as u64,
+        })
     }
 }
 

@@ -46,7 +46,7 @@ fn tell_step(
     ensures { OnOk result (told.new.items ≡ told.old.items ++ (told_drop id dropped ++ flat_map (told_fired id) fired.now)) }
 {
     if let Some(why) = dropped {
-        told.push(OutLine::Dropped(id, why))?;
+        told.push(OutLine::Dropped { member: id, why })?;
     }
     tell_fired(told, id, fired)?;
     Ok(())
@@ -57,10 +57,17 @@ fn tell_rule(told: &mut Vec<OutLine>, id: MemberId, rule: &Fired) -> Result<(), 
 {
     match rule {
         Fired::Delivered(delivery) => {
-            let line = OutLine::Delivered(id, delivery.place, delivery.executed);
+            let line = OutLine::Delivered {
+                member: id,
+                place: delivery.place,
+                executed: delivery.executed,
+            };
             told.push(line)?;
         }
-        Fired::Decided(place) => told.push(OutLine::Decided(id, *place))?,
+        Fired::Decided(place) => told.push(OutLine::Decided {
+            member: id,
+            place: *place,
+        })?,
         Fired::Proposed | Fired::Wrote | Fired::Accepted => {}
     }
     Ok(())

@@ -15,8 +15,16 @@ fn vote_summary(ballot: &Ballot) -> Summary
 {
     let slot = ballot.slot;
     match ballot.kind {
-        VoteKind::Write => Summary::Write(slot.view, slot.place, slot.regency),
-        VoteKind::Accept => Summary::Accept(slot.view, slot.place, slot.regency),
+        VoteKind::Write => Summary::Write {
+            view: slot.view,
+            place: slot.place,
+            regency: slot.regency,
+        },
+        VoteKind::Accept => Summary::Accept {
+            view: slot.view,
+            place: slot.place,
+            regency: slot.regency,
+        },
     }
 }
 
@@ -25,17 +33,26 @@ pub fn summary_of(message: &Message) -> Summary
     ensures { result ≡ summary_of message.now }
 {
     match message {
-        Message::Ask(q) => Summary::Ask(q.client, q.seq, q.after),
+        Message::Ask(q) => Summary::Ask {
+            client: q.client,
+            seq: q.seq,
+            after: q.after,
+        },
         Message::Propose(p) => {
-            Summary::Propose(
-                p.slot.view,
-                p.slot.place,
-                p.slot.regency,
-                p.batch.len() as u64,
-            )
+            Summary::Propose {
+                view: p.slot.view,
+                place: p.slot.place,
+                regency: p.slot.regency,
+                requests: p.batch.len() as u64,
+            }
         }
         Message::Vote(ballot) => vote_summary(ballot),
-        Message::Reply(a) => Summary::Reply(a.client, a.seq, a.place, a.index),
+        Message::Reply(a) => Summary::Reply {
+            client: a.client,
+            seq: a.seq,
+            place: a.place,
+            index: a.index,
+        },
     }
 }
 
@@ -43,7 +60,11 @@ pub fn summary_of(message: &Message) -> Summary
 pub fn sent_line(number: u64, origin: &Origin, message: &Message) -> OutLine
     ensures { result ≡ OutLine.Sent number origin.now (summary_of message.now) }
 {
-    OutLine::Sent(number, *origin, summary_of(message))
+    OutLine::Sent {
+        number,
+        origin: *origin,
+        summary: summary_of(message),
+    }
 }
 
 /// What a transcript tells of what a client heard.
@@ -51,11 +72,24 @@ pub fn told_heard(alloc: Global, id: ClientId, heard: &Heard) -> Result<OutLine,
     ensures { IfOk result (λ line. line ≡ told_heard id heard.now) }
 {
     match heard {
-        Heard::Counted(count, need) => Ok(OutLine::Counted(id, *count, *need)),
+        Heard::Counted { have, need } => Ok(OutLine::Counted {
+            client: id,
+            have: *have,
+            need: *need,
+        }),
         Heard::Accepted(a) => {
             let reply = a.reply.duplicate(alloc)?;
-            Ok(OutLine::Accepted(id, a.request.seq, a.place, a.index, reply))
+            Ok(OutLine::Accepted {
+                client: id,
+                seq: a.request.seq,
+                place: a.place,
+                index: a.index,
+                reply,
+            })
         }
-        Heard::Ignored(why) => Ok(OutLine::Ignored(id, *why)),
+        Heard::Ignored(why) => Ok(OutLine::Ignored {
+            client: id,
+            why: *why,
+        }),
     }
 }

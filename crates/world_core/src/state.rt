@@ -279,7 +279,10 @@ impl<S: Service> WorldState<S> {
             }
             Message::Ask(_) | Message::Propose(_) | Message::Vote(_) => {
                 let id = self.clients[i].id;
-                self.tell(OutLine::Ignored(id, Ignored::Unread))?;
+                self.tell(OutLine::Ignored {
+                    client: id,
+                    why: Ignored::Unread,
+                })?;
             }
         }
         Ok(())
@@ -296,7 +299,7 @@ impl<S: Service> WorldState<S> {
         let id = self.clients[i].id;
         if let Some(waiting) = &self.clients[i].waiting {
             let seq = waiting.seq;
-            self.tell(OutLine::Busy(id, seq))?;
+            self.tell(OutLine::Busy { client: id, seq })?;
             return Ok(());
         }
         if self.clients[i].last >= (1 << 63) - 1 {
@@ -371,7 +374,7 @@ impl<S: Service> WorldState<S> {
     {
         match line {
             Line::Nothing => Ok(()),
-            Line::Ask(client, op) => {
+            Line::Ask { client, op } => {
                 self.ask(client.get() as usize, op)?;
                 Ok(())
             }

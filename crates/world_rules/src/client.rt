@@ -41,7 +41,7 @@ pub enum Ignored {
 #[derive(Drop)]
 pub enum Heard {
     /// So many members gave this reply, of the so many that are needed.
-    Counted(u64, u64),
+    Counted { have: u64, need: u64 },
     Accepted(Acceptance),
     Ignored(Ignored),
 }

@@ -12,7 +12,7 @@ pub enum Line {
     /// An empty line or a comment.
     Nothing,
     /// `ask C OP`: client C asks for the operation.
-    Ask(ClientId, Bytes),
+    Ask { client: ClientId, op: Bytes },
     /// `flow`: every message that was sent is given to whom it is for, until nothing is due.
     Flow,
 }
@@ -20,34 +20,92 @@ pub enum Line {
 /// What a transcript tells of a message.
 #[derive(Clone, Copy, Debug, PartialEq, Eq)]
 pub enum Summary {
-    Ask(ClientId, u64, u64),
-    Propose(ViewNo, Place, Regency, u64),
-    Write(ViewNo, Place, Regency),
-    Accept(ViewNo, Place, Regency),
-    Reply(ClientId, u64, Place, u64),
+    Ask {
+        client: ClientId,
+        seq: u64,
+        after: u64,
+    },
+    Propose {
+        view: ViewNo,
+        place: Place,
+        regency: Regency,
+        requests: u64,
+    },
+    Write {
+        view: ViewNo,
+        place: Place,
+        regency: Regency,
+    },
+    Accept {
+        view: ViewNo,
+        place: Place,
+        regency: Regency,
+    },
+    Reply {
+        client: ClientId,
+        seq: u64,
+        place: Place,
+        index: u64,
+    },
 }
 
 /// A line of the transcript.
 #[derive(Drop)]
 pub enum OutLine {
     /// The header: members, and how many of them may be faulty.
-    Group(u64, u8),
+    Group {
+        members: u64,
+        faulty: u8,
+    },
     /// A message left: its number, its sender, and what it is.
-    Sent(u64, Origin, Summary),
+    Sent {
+        number: u64,
+        origin: Origin,
+        summary: Summary,
+    },
     /// A node decided a place.
-    Decided(MemberId, Place),
+    Decided {
+        member: MemberId,
+        place: Place,
+    },
     /// A node delivered a place, and executed so many requests.
-    Delivered(MemberId, Place, u64),
+    Delivered {
+        member: MemberId,
+        place: Place,
+        executed: u64,
+    },
     /// A node dropped an arrival.
-    Dropped(MemberId, Why),
+    Dropped {
+        member: MemberId,
+        why: Why,
+    },
     /// A client counted a reply: so many members gave it, so many are needed.
-    Counted(ClientId, u64, u64),
+    Counted {
+        client: ClientId,
+        have: u64,
+        need: u64,
+    },
     /// A client accepted a reply: its request's number, place and index, and the reply.
-    Accepted(ClientId, u64, Place, u64, Bytes),
+    Accepted {
+        client: ClientId,
+        seq: u64,
+        place: Place,
+        index: u64,
+        reply: Bytes,
+    },
     /// A client ignored a message.
-    Ignored(ClientId, Ignored),
+    Ignored {
+        client: ClientId,
+        why: Ignored,
+    },
     /// A client asked while its request of this number waits.
-    Busy(ClientId, u64),
+    Busy {
+        client: ClientId,
+        seq: u64,
+    },
     /// The input ended: lines read, messages sent.
-    End(u64, u64),
+    End {
+        lines: u64,
+        messages: u64,
+    },
 }

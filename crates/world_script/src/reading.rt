@@ -57,7 +57,10 @@ fn ask_of(alloc: Global, client: Option<u64>, op: &[u8]) -> Result<Option<Line>,
         Some(client) => {
             if 1 <= client && client <= 1024 && op.len() <= 4096 {
                 let op = Sequence::from_slice(alloc, op)?;
-                Ok(Some(Line::Ask(ClientId::new(client as u16), op)))
+                Ok(Some(Line::Ask {
+                    client: ClientId::new(client as u16),
+                    op,
+                }))
             } else {
                 Ok(None)
             }

@@ -63,23 +63,41 @@ fn push_summary(out: &mut String, summary: Summary) -> Result<(), AllocError>
     ensures { OnOk result (string_bytes out.new ≡ string_bytes out.old ++ summary_text summary) }
 {
     match summary {
-        Summary::Ask(client, seq, after) => {
+        Summary::Ask { client, seq, after } => {
             let client = client.get();
             write!(out, "ask {client} {seq} {after}")
         }
-        Summary::Propose(view, place, regency, count) => {
+        Summary::Propose {
+            view,
+            place,
+            regency,
+            requests,
+        } => {
             let (view, place, regency) = (view.get(), place.get(), regency.get());
-            write!(out, "propose {view} {place} {regency} {count}")
+            write!(out, "propose {view} {place} {regency} {requests}")
         }
-        Summary::Write(view, place, regency) => {
+        Summary::Write {
+            view,
+            place,
+            regency,
+        } => {
             let (view, place, regency) = (view.get(), place.get(), regency.get());
             write!(out, "write {view} {place} {regency}")
         }
-        Summary::Accept(view, place, regency) => {
+        Summary::Accept {
+            view,
+            place,
+            regency,
+        } => {
             let (view, place, regency) = (view.get(), place.get(), regency.get());
             write!(out, "accept {view} {place} {regency}")
         }
-        Summary::Reply(client, seq, place, index) => {
+        Summary::Reply {
+            client,
+            seq,
+            place,
+            index,
+        } => {
             let (client, place) = (client.get(), place.get());
             write!(out, "reply {client} {seq} {place} {index}")
         }
@@ -138,39 +156,53 @@ fn push_words(out: &mut String, line: &OutLine) -> Result<(), AllocError>
     ensures { OnOk result (string_bytes out.new ≡ string_bytes out.old ++ words_of line.now) }
 {
     match line {
-        OutLine::Group(members, faulty) => write!(out, "group {members} {faulty} count 1024"),
-        OutLine::Sent(number, origin, summary) => {
+        OutLine::Group { members, faulty } => write!(out, "group {members} {faulty} count 1024"),
+        OutLine::Sent {
+            number,
+            origin,
+            summary,
+        } => {
             write!(out, "sent {number} ")?;
             push_origin(out, *origin)?;
             write!(out, " ")?;
             push_summary(out, *summary)
         }
-        OutLine::Decided(id, place) => push_decided(out, id.get(), place.get()),
-        OutLine::Delivered(id, place, count) => push_delivered(out, id.get(), place.get(), *count),
-        OutLine::Dropped(id, why) => {
-            let id = id.get();
+        OutLine::Decided { member, place } => push_decided(out, member.get(), place.get()),
+        OutLine::Delivered {
+            member,
+            place,
+            executed,
+        } => { push_delivered(out, member.get(), place.get(), *executed) }
+        OutLine::Dropped { member, why } => {
+            let id = member.get();
             let why = why_text(*why);
             write!(out, "dropped n{id} {why}")
         }
-        OutLine::Counted(id, have, need) => {
-            let id = id.get();
+        OutLine::Counted { client, have, need } => {
+            let id = client.get();
             write!(out, "counted c{id} {have} {need}")
         }
-        OutLine::Accepted(id, seq, place, index, reply) => {
-            let (id, place) = (id.get(), place.get());
+        OutLine::Accepted {
+            client,
+            seq,
+            place,
+            index,
+            reply,
+        } => {
+            let (id, place) = (client.get(), place.get());
             write!(out, "accepted c{id} {seq} {place} {index} ")?;
             push_reply(out, reply.as_slice())
         }
-        OutLine::Ignored(id, why) => {
-            let id = id.get();
+        OutLine::Ignored { client, why } => {
+            let id = client.get();
             let why = ignored_text(*why);
             write!(out, "ignored c{id} {why}")
         }
-        OutLine::Busy(id, seq) => {
-            let id = id.get();
+        OutLine::Busy { client, seq } => {
+            let id = client.get();
             write!(out, "busy c{id} {seq}")
         }
-        OutLine::End(lines, messages) => write!(out, "end {lines} {messages}"),
+        OutLine::End { lines, messages } => write!(out, "end {lines} {messages}"),
     }
 }
 

@@ -188,7 +188,7 @@ impl<S: Service> NodeCore<S> {
     {
         let slot = self.open_slot();
         let vote = self.ballot(VoteKind::Write, digest.duplicate(self.alloc)?);
-        self.record(LogEntry::Wrote(slot, digest))?;
+        self.record(LogEntry::Wrote { slot, digest })?;
         self.hold(Target::View, vote)?;
         Ok(())
     }
@@ -262,7 +262,11 @@ impl<S: Service> NodeCore<S> {
         let digest = digest_of(self.alloc, &batch)?;
         let members = self.backers(VoteKind::Write, &digest)?;
         let vote = self.ballot(VoteKind::Accept, digest);
-        self.record(LogEntry::Accepted(slot, members, batch))?;
+        self.record(LogEntry::Accepted {
+            slot,
+            voters: members,
+            batch,
+        })?;
         self.hold(Target::View, vote)?;
         Ok(())
     }
@@ -303,7 +307,11 @@ impl<S: Service> NodeCore<S> {
         let digest = digest_of(self.alloc, &batch)?;
         let members = self.backers(VoteKind::Accept, &digest)?;
         let copy = batch.duplicate(self.alloc)?;
-        self.record(LogEntry::Decided(slot, members, copy))?;
+        self.record(LogEntry::Decided {
+            slot,
+            voters: members,
+            batch: copy,
+        })?;
         self.waiting = Some(batch);
         Ok(())
     }
