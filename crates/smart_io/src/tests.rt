@@ -26,10 +26,9 @@ impl Write for Broken {
 }
 
 #[test]
-fn calls_fail_and_are_counted(rt: HostRuntime) -> Result<(), Fail> {
+fn a_source_in_memory_fails_as_told(rt: HostRuntime) -> Result<(), Fail> {
     let alloc = rt.alloc();
     let mut piece = [0; 2];
-
     let mut source = MemSource::new(b"abc".to_vec(alloc)?, [2].to_vec(alloc)?);
     assert_eq!(rt; source.read(&mut piece), Ok(2));
     assert_eq!(rt; piece, *b"ab");
@@ -39,7 +38,12 @@ fn calls_fail_and_are_counted(rt: HostRuntime) -> Result<(), Fail> {
     assert_eq!(rt; piece, *b"cb");
     assert_eq!(rt; source.read(&mut piece), Ok(0));
     assert_eq!(rt; source.faults, 1);
+    Ok(())
+}
 
+#[test]
+fn a_sink_in_memory_fails_as_told(rt: HostRuntime) -> Result<(), Fail> {
+    let alloc = rt.alloc();
     let mut sink = MemSink::new(b"a".to_vec(alloc)?, [2, 4].to_vec(alloc)?);
     assert_eq!(rt; write_all(&mut sink, b"bc"), Ok(()));
     assert_eq!(rt; write_all(&mut sink, b"de"), Err(Fault::Failed));
@@ -47,7 +51,12 @@ fn calls_fail_and_are_counted(rt: HostRuntime) -> Result<(), Fail> {
     assert_eq!(rt; sink.flush(), Err(Fault::Failed));
     assert_eq!(rt; sink.bytes.as_slice(), b"abc".as_slice());
     assert_eq!(rt; (sink.faults, sink.wants), (2, 0));
+    Ok(())
+}
 
+#[test]
+fn a_source_fails_with_its_reader(rt: HostRuntime) {
+    let mut piece = [0; 2];
     let mut source = StdSource {
         inner: b"abc".as_slice(),
         faults: 0,
@@ -61,7 +70,10 @@ fn calls_fail_and_are_counted(rt: HostRuntime) -> Result<(), Fail> {
     };
     assert_eq!(rt; source.read(&mut piece), Err(Fault::Failed));
     assert_eq!(rt; source.faults, 4);
+}
 
+#[test]
+fn a_sink_fails_with_its_writer(rt: HostRuntime) {
     let mut sink = StdSink {
         inner: io::Cursor::new([0; 3]),
         faults: 0,
@@ -79,5 +91,4 @@ fn calls_fail_and_are_counted(rt: HostRuntime) -> Result<(), Fail> {
     assert_eq!(rt; write_all(&mut sink, b"ab"), Err(Fault::Failed));
     assert_eq!(rt; sink.flush(), Err(Fault::Failed));
     assert_eq!(rt; sink.faults, 2);
-    Ok(())
 }
