@@ -79,6 +79,7 @@ fn a_sink_fails_with_its_writer(rt: HostRuntime) {
         faults: 0,
     };
     assert_eq!(rt; write_all(&mut sink, b"ab"), Ok(()));
+    assert_eq!(rt; sink.write(b""), Ok(0));
     assert_eq!(rt; sink.flush(), Ok(()));
     assert_eq!(rt; sink.faults, 0);
     assert_eq!(rt; write_all(&mut sink, b"cd"), Err(Fault::Failed));
