@@ -34,3 +34,28 @@ impl Service for Count {
         }
     }
 }
+
+#[cfg(test)]
+mod tests {
+    use super::*;
+    use std::test::Fail;
+
+    #[test]
+    fn sums_are_told(rt: HostRuntime) -> Result<(), Fail> {
+        let alloc = rt.alloc();
+        let mut count = Count::first(alloc)?;
+        for (op, reply) in [
+            ("5", "5"),
+            ("7", "12"),
+            ("07", "?"),
+            ("18446744073709551616", "?"),
+            ("0", "12"),
+            ("18446744073709551615", "18446744073709551615"),
+            ("1", "18446744073709551615"),
+        ] {
+            let told = count.run(alloc, op.as_bytes())?;
+            assert_eq!(rt; told.as_slice(), reply.as_bytes(), "at {op}");
+        }
+        Ok(())
+    }
+}

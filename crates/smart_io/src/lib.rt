@@ -4,3 +4,5 @@
 pub mod memory;
 pub mod standard;
 pub mod stream;
+#[cfg(test)]
+mod tests;

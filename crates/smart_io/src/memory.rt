@@ -1,5 +1,6 @@
 //! Sources and sinks in memory, for tests and for callers that hold their bytes.
-ghost use Rattle.std.specs.Prelude.{◌≡◌, Some, drop};
+ghost use Rattle.std.specs.Prelude.{◌≡◌, ◌==◌, ◌+◌, ◌-◌, ◌^◌, min, Some, drop};
+ghost use Rattle.std.specs.List.{list_any};
 
 use crate::stream::{Sink, Source};
 use faults::Fault;
@@ -19,8 +20,7 @@ pub struct MemSource {
 impl MemSource {
     /// A source of these bytes that fails at these calls.
     pub fn new(bytes: Vec<u8>, failing: Vec<u64>) -> Self
-        ensures bytes { result.bytes.items ≡ bytes.items }
-        ensures start { result.at ≡ 0 }
+        ensures { result ≡ record { bytes = bytes; at = 0; failing = failing; calls = 0; faults = 0 } }
     {
         MemSource {
             bytes,
@@ -69,7 +69,7 @@ pub struct MemSink {
 impl MemSink {
     /// A sink behind these bytes that fails at these calls.
     pub fn new(bytes: Vec<u8>, failing: Vec<u64>) -> Self
-        ensures { result.bytes.items ≡ bytes.items }
+        ensures { result ≡ record { bytes = bytes; failing = failing; calls = 0; faults = 0; wants = 0 } }
     {
         MemSink {
             bytes,
@@ -80,11 +80,10 @@ impl MemSink {
         }
     }
 
-    /// Counts a call, and whether it is to fail.
+    /// Counts a call, and tells whether it is to fail.
     fn is_failing(&mut self) -> bool
-        ensures bytes { self.new.bytes ≡ self.old.bytes }
-        ensures wants { self.new.wants ≡ self.old.wants }
-        ensures faults { self.new.faults ≡ self.old.faults }
+        ensures call { self.new ≡ record self.old { calls = min (self.old.calls + 1) (2 ^ 64 - 1) } }
+        ensures answer { result ≡ list_any (λ call. call == self.new.calls) self.old.failing.items }
     {
         self.calls = self.calls.saturating_add(1);
         self.failing.contains(&self.calls)

@@ -45,7 +45,7 @@ impl<W: Write> Sink for StdSink<W> {
     fn write(&mut self, piece: &[u8]) -> Result<usize, Fault> {
         match self.inner.write(piece) {
             Ok(count) => {
-                if count == 0 {
+                if count == 0 && !piece.is_empty() {
                     self.faults = self.faults.saturating_add(1);
                 }
                 Ok(count)
