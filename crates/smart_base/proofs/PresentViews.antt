@@ -1,5 +1,5 @@
 -- The view in force is the last.
-use Rattle.std.proofs.Common.{◌≡◌, ℕ, ◌+◌, List, [], ◌∷◌, length, get_or, zero, suc, refl, arith, ap}
+use Rattle.std.proofs.Common.{◌≡◌, ℕ, ◌+◌, List, [], ◌∷◌, length, get_or, zero, suc, refl, arith}
 use Rattle.smart_base.specs.Views.{present}
 use Rattle.smart_base.specs.declared.view.View.{View}
 
