@@ -1,5 +1,5 @@
 //! Sources and sinks of bytes.
-ghost use Rattle.std.specs.Prelude.{◌≡◌, ◌≤◌, ◌<◌, List, ℕ, IfOk, OnOk, OnErr, IsErrOf, Option, take, length};
+ghost use Rattle.std.specs.Prelude.{◌≡◌, ◌≤◌, ◌<◌, List, ℕ, IfOk, OnOk, OnErr, Option, take, length};
 ghost use Rattle.std.specs.Io.{ReadsAtMost, WritesAtMost};
 ghost use Rattle.std.specs.Io.KnownBytes.{ReadConsumes, WriteAppends, Appends, Keeps};
 ghost use Rattle.faults.specs.Counts.{Rose, HasCause, HasWant};
@@ -15,12 +15,11 @@ pub trait Source {
     ghost faults: { Self → ℕ };
 
     /// Reads into a piece and gives the number of bytes read. 0 for a piece that is not empty is
-    /// the end of the input. A read that fails consumes nothing, and no read wants memory.
+    /// the end of the input. A read that fails consumes nothing.
     fn read(&mut self, piece: &mut [u8]) -> Result<usize, Fault>
         ensures bound { ReadsAtMost result piece.new }
         ensures bytes { ReadConsumes (left self.old) (left self.new) result piece.new }
-        ensures cause { HasCause (faults self.old) (faults self.new) result }
-        ensures want { IsErrOf result Fault.NoMemory → ⊥ };
+        ensures cause { HasCause (faults self.old) (faults self.new) result };
 }
 
 /// A sink of bytes.
