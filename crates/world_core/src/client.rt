@@ -1,7 +1,8 @@
 //! What a client asks, and when it accepts a reply.
-ghost use Rattle.std.specs.Prelude.{◌≡◌, ◌+◌, ◌^◌, ◌<◌, ◌==◌, ◌&&◌, IfOk, OnOk, None, Some};
+ghost use Rattle.std.specs.Prelude.{◌≡◌, ◌+◌, ◌^◌, ◌<◌, ◌==◌, ◌&&◌, ◌++◌, ◌∷◌, [], List, IfOk, OnOk, OnErr, None, Some};
 ghost use Rattle.std.specs.List.{list_any};
-ghost use Rattle.world_rules.specs.Clients.{fresh, request_of, asking, same_answer, has_answer, have, is_waited_for, why_ignored, acceptance, count_heard, heard_unless, heard, after_heard};
+ghost use Rattle.smart_messages.specs.declared.message.Answer.{Answer};
+ghost use Rattle.world_rules.specs.Clients.{fresh, request_of, asking, same_answer, has_answer, have, is_waited_for, why_ignored, count_heard, heard_unless, heard, after_heard};
 
 use smart_base::duplicate::Duplicate;
 use smart_base::name::{ClientId, MemberId};
@@ -31,6 +32,7 @@ pub fn ask(alloc: Global, client: &mut Client, op: &Bytes) -> Result<Request, Al
     requires { client.old.last + 1 < 2 ^ 63 }
     ensures request { IfOk result (λ q. q ≡ request_of client.old op.now) }
     ensures client { OnOk result (client.new ≡ asking client.old (request_of client.old op.now)) }
+    ensures unasked { OnErr result (client.new ≡ client.old) }
 {
     let request = Request {
         client: client.id,
@@ -110,48 +112,42 @@ fn why_ignored(view: &View, client: &Client, answer: &Answer) -> Option<Ignored>
     }
 }
 
-fn acceptance(alloc: Global, request: Request, answer: &Answer) -> Result<Acceptance, AllocError>
-    ensures { IfOk result (λ a. a ≡ acceptance request answer.now) }
-{
-    Ok(Acceptance {
-        request,
-        view: answer.view,
-        place: answer.place,
-        index: answer.index,
-        reply: answer.reply.duplicate(alloc)?,
-    })
-}
-
-/// Counts a reply to the request that waited, and accepts it where a quorum has given it.
+/// Counts the last reply to the request that waited, and accepts it where a quorum has given it.
 fn count(
     alloc: Global,
     view: &View,
     client: &mut Client,
     answer: &Answer,
     request: Request,
-) -> Result<Heard, AllocError>
-    ensures heard { IfOk result (λ h. h ≡ count_heard view.now client.old answer.now request) }
-    ensures client { OnOk result (client.new ≡ after_heard (record client.old { waiting = Some request }) answer.now (count_heard view.now client.old answer.now request)) }
+    reply: Bytes,
+) -> Heard
+    requires { reply ≡ answer.now.reply }
+    ensures heard { (replies : List Answer) → client.old.replies ≡ replies ++ answer.now ∷ [] → result ≡ count_heard view.now (record client.old { replies = replies }) answer.now request }
+    ensures client { (replies : List Answer) → client.old.replies ≡ replies ++ answer.now ∷ [] → client.new ≡ after_heard (record client.old { waiting = Some request; replies = replies }) answer.now result }
 {
-    client.replies.push(answer.duplicate(alloc)?)?;
     let count = have(view, client.replies.as_slice(), answer);
     let need = view.quorum();
     if need <= count {
-        let accepted = acceptance(alloc, request, answer)?;
         client.seen = client.seen.max(answer.place);
         client.replies = Sequence::new(alloc);
         client.waiting = None;
-        Ok(Heard::Accepted(accepted))
+        Heard::Accepted(Acceptance {
+            request,
+            view: answer.view,
+            place: answer.place,
+            index: answer.index,
+            reply,
+        })
     } else {
         client.waiting = Some(request);
-        Ok(Heard::Counted {
+        Heard::Counted {
             have: count as u64,
             need: need as u64,
-        })
+        }
     }
 }
 
-/// The client hears a reply.
+/// The client hears a reply. Without memory it has not heard it.
 #[tactic(auto, unfolding(world_rules::specs::Clients::heard))]
 pub fn hear(
     alloc: Global,
@@ -161,15 +157,21 @@ pub fn hear(
 ) -> Result<Heard, AllocError>
     ensures heard { IfOk result (λ h. h ≡ heard view.now client.old answer.now) }
     ensures client { OnOk result (client.new ≡ after_heard client.old answer.now (heard view.now client.old answer.now)) }
+    ensures unheard { OnErr result (client.new ≡ client.old) }
 {
     if let Some(why) = why_ignored(view, client, answer) {
         return Ok(Heard::Ignored(why));
     }
+    let kept = answer.duplicate(alloc)?;
+    let reply = answer.reply.duplicate(alloc)?;
     match client.waiting.take() {
         None => Ok(Heard::Ignored(Ignored::Settled)),
-        Some(request) => {
-            let heard = count(alloc, view, client, answer, request)?;
-            Ok(heard)
-        }
+        Some(request) => match client.replies.push(kept) {
+            Err(error) => {
+                client.waiting = Some(request);
+                Err(error)
+            }
+            Ok(()) => Ok(count(alloc, view, client, answer, request, reply)),
+        },
     }
 }
