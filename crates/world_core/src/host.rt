@@ -86,9 +86,8 @@ fn tell_fired(told: &mut Vec<OutLine>, id: MemberId, fired: &[Fired]) -> Result<
 fn keep_deliveries(delivered: &mut Vec<Delivery>, fired: Sequence<Fired>) -> Result<(), AllocError>
     ensures { OnOk result (delivered.new.items ≡ delivered.old.items ++ flat_map delivery_in fired) }
 {
-    let mut fired = fired;
-    while 0 < fired.len() {
-        if let Fired::Delivered(delivery) = fired.take_first() {
+    for rule in fired.into_vec() {
+        if let Fired::Delivered(delivery) = rule {
             delivered.push(delivery)?;
         }
     }

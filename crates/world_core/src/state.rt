@@ -162,10 +162,8 @@ impl<S: Service> WorldState<S> {
     fn send_all(&mut self, id: MemberId, held: Sequence<Held>) -> Result<(), AllocError>
         ensures { OnOk result (self.new ≡ sends_all id self.old held) }
     {
-        let mut held = held;
-        'messages: while 0 < held.len() {
-            let first = held.take_first();
-            self.send(Origin::Node(id), first.to, first.message)?;
+        for message in held.into_vec() {
+            self.send(Origin::Node(id), message.to, message.message)?;
         }
         Ok(())
     }

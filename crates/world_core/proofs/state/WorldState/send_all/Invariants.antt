@@ -1,10 +1,7 @@
-use Rattle.std.proofs.Common.{◌≡◌, length}
+use Rattle.std.proofs.Common.{◌≡◌}
 use Rattle.world_rules.specs.Worlds.{sends_all}
 use Rattle.world_core.proofs.state.WorldState.send_all.Given as goal
 
 -- sending what is left sends all
-abbrev pub invariant-messages : goal.invariant-messages
-invariant-messages g l = sends_all l.id l.self l.held ≡ sends_all l.id l.fn.self l.fn.held
-
-abbrev pub decreases-messages : goal.decreases-messages
-decreases-messages g l = length l.held
+abbrev pub invariant-loop-message : goal.invariant-loop-message
+invariant-loop-message g l = sends_all l.id l.self l.message-iterator.rest.items ≡ sends_all l.id l.fn.self l.fn.held
