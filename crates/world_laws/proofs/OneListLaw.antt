@@ -46,11 +46,11 @@ one_list-at m view distinct ls k =
       rising = (right-after m (step_of m) view (take k ls)).all.rising;
     }
 
--- each line of an accepted reply that was told until then tells of the list
+-- each line that told of an accepted reply until then tells its answer
 pub told-at : {S : Type 0} (m : Meaning S) (view : View) → Distinct view.members → (ls : List Line) (k : ℕ)
     → Each (IsAnswered m view (world_at m view ls k).chosen) (lines_told (step_of m) (begun m view) (take k ls))
 told-at m view distinct ls k = lines-answered m view (take k ls) (accepted-at m view distinct ls k)
 
--- one list holds throughout a script, only grows, and is what the lines of accepted replies tell of
+-- one list holds throughout a script and only grows, and the lines of accepted replies tell its answers
 pub one_list-throughout : {S : Type 0} (m : Meaning S) (view : View) → Distinct view.members → (ls : List Line) → OneListThroughout m view ls
 one_list-throughout m view distinct ls = record { one_list = one_list-at m view distinct ls; grows = list-grows m view ls; told = told-at m view distinct ls }

@@ -68,7 +68,7 @@ IsAnswered m view chosen (outs.End lines messages) = Unit {0}
 abbrev pub world_at : {S : Type 0} → Meaning S → View → List Line → ℕ → World S
 world_at m view ls k = world_after (step_of m) (begun m view) (take k ls)
 
--- one list holds after each line, the list only grows, and each transcript line of an accepted reply that was told until then tells of it
+-- one list holds after each line, the list only grows, and each transcript line that tells of an accepted reply tells its answer there
 pub record OneListThroughout {S : Type 0} (m : Meaning S) (view : View) (ls : List Line) : Type 0 where
   pub one_list : (k : ℕ) → OneList m (world_at m view ls k)
   pub grows : (j k : ℕ) → j ≤ k → take (length (world_at m view ls j).chosen) (world_at m view ls k).chosen ≡ (world_at m view ls j).chosen
