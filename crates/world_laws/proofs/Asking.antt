@@ -270,7 +270,8 @@ keeps-right step =
       hear = λ w i c a on at has is. record { all = right-heard w.sent w.ending w.clients w.accepted w.view i c a (heard w.view c a) at on refl is.all };
       ask = λ w i c op on at free is. right-asks w i c op at is;
       mark = λ w s on at is. record { all = is.all };
-      tell = λ w told is. record { all = is.all };
+      tell = λ w line beside is. record { all = is.all };
+      rest = λ w is. record { all = is.all };
     }
 
 -- the beginning

@@ -70,7 +70,8 @@ keeps-passed step low =
           passed-sends low (record w { clients = slice_set w.clients i (asking c (request_of c op)) }) (origins.Client c.id) targets.View (Ask (request_of c op))
           (record { past = is.past; mark = is.mark; sent = is.sent });
       mark = λ w s on at is. record { past = omega (arith, is.past); mark = omega (arith, slice_get_within w.sent w.mark s at); sent = is.sent };
-      tell = λ w told is. record { past = is.past; mark = is.mark; sent = is.sent };
+      tell = λ w line beside is. record { past = is.past; mark = is.mark; sent = is.sent };
+      rest = λ w is. record { past = is.past; mark = is.mark; sent = is.sent };
     }
 
 -- the mark and the messages are bounded, whatever happens
@@ -82,7 +83,8 @@ keeps-bounded step =
       hear = λ w i c a on at has is. bounded (k.hear w i c a on at has (passed is));
       ask = λ w i c op on at free is. bounded (k.ask w i c op on at free (passed is));
       mark = λ w s on at is. bounded (k.mark w s on at (passed is));
-      tell = λ w told is. bounded (k.tell w told (passed is));
+      tell = λ w line beside is. bounded (k.tell w line beside (passed is));
+      rest = λ w is. bounded (k.rest w (passed is));
     }
   where
     passed : {S : Type 0} {w : World S} → BoundedWorld w → Passed 0 w

@@ -14,13 +14,14 @@ use Rattle.node_rules.specs.declared.node.Held.{Held}
 use Rattle.node_rules.specs.declared.node.Target.{Target}
 use Rattle.node_rules.specs.declared.node.Target.TheVariants as targets
 use Rattle.world_rules.specs.Clients.{request_of, asking, heard}
-use Rattle.world_rules.specs.Worlds.{Host, World, sends, sends_all, stepped, host_takes, node_takes, due, takes_due, settle_once, settle, settle_all, gives, give_all, hearing, client_hears, client_takes, client_asks, ask_found, asks, goes, flow_sent, flow_once}
+use Rattle.world_rules.specs.Worlds.{Host, World, telling, sends, sends_all, stepped, host_takes, node_takes, due, takes_due, settle_once, settle, settle_all, gives, give_all, hearing, client_hears, client_takes, client_asks, ask_found, asks, goes, flow_sent, flow_once}
 use Rattle.world_rules.specs.Plays.{line_played, rested, world_after}
 use Rattle.world_rules.specs.declared.client.Client.{Client}
 use Rattle.world_rules.specs.declared.client.Heard.{Heard}
 use Rattle.world_rules.specs.declared.line.Line.{Line}
 use Rattle.world_rules.specs.declared.line.Line.TheVariants as lines
 use Rattle.world_rules.specs.declared.line.OutLine.{OutLine}
+use Rattle.world_rules.specs.declared.line.OutLine.TheVariants as outs
 use Rattle.world_rules.specs.declared.message.Origin.{Origin}
 use Rattle.world_rules.specs.declared.message.Origin.TheVariants as origins
 use Rattle.world_rules.specs.declared.message.Sent.{Sent}
@@ -37,6 +38,19 @@ MayCome w h (Arrive message) = HasMessage w.sent message
 MayCome w h Tick = Unit {0}
 MayCome w h Deliver = Unit {0}
 MayCome w h (Firm count) = count ≡ length h.node.entries
+
+-- a transcript line that tells of no accepted reply
+abbrev pub IsBeside : OutLine → Type 0
+IsBeside (outs.Group members faulty) = Unit {0}
+IsBeside (outs.Sent number origin summary) = Unit {0}
+IsBeside (outs.Decided member place) = Unit {0}
+IsBeside (outs.Delivered member place executed) = Unit {0}
+IsBeside (outs.Dropped member why) = Unit {0}
+IsBeside (outs.Counted client have need) = Unit {0}
+IsBeside (outs.Accepted client seq place index reply) = ⊥
+IsBeside (outs.Ignored client why) = Unit {0}
+IsBeside (outs.Busy client seq) = Unit {0}
+IsBeside (outs.End lines messages) = Unit {0}
 
 -- a fact on worlds that each event keeps
 pub record Keeps {S : Type 0} (step : Node S → NodeEvent → Outcome S) (P : World S → Type 0) : Type 0 where
@@ -61,8 +75,10 @@ pub record KeepsLive {S : Type 0} (step : Node S → NodeEvent → Outcome S) (P
       → P (sends (record w { clients = slice_set w.clients i (asking c (request_of c op)) }) (origins.Client c.id) targets.View (Ask (request_of c op)))
   -- a flow goes on to the message behind the mark
   pub mark : (w : World S) (s : Sent) → w.ending ≡ None → slice_get w.sent w.mark ≡ Some s → P w → P (record w { mark = w.mark + 1 })
-  -- nothing but the transcript changes
-  pub tell : (w : World S) (told : List OutLine) → P w → P (record w { told = told })
+  -- a line is told that tells of no accepted reply, and nothing else changes
+  pub tell : (w : World S) (line : OutLine) → IsBeside line → P w → P (telling w line)
+  -- a script line is over
+  pub rest : (w : World S) → P w → P (rested w)
 
 -- what each event keeps whatever was said of the ending, it keeps while nothing has ended the play
 pub live : {S : Type 0} (step : Node S → NodeEvent → Outcome S) (P : World S → Type 0) → Keeps step P → KeepsLive step P
@@ -72,7 +88,8 @@ live step P k =
       hear = λ w i c a on at has p. k.hear w i c a at has p;
       ask = λ w i c op on at free p. k.ask w i c op at free p;
       mark = λ w s on at p. k.same w (w.mark + 1) w.told p;
-      tell = λ w told p. k.same w w.mark told p;
+      tell = λ w line beside p. k.same w w.mark (w.told ++ line ∷ []) p;
+      rest = λ w p. k.same w w.mark [] p;
     }
 
 -- two facts that are kept, are kept together
@@ -83,7 +100,8 @@ live-both step P Q k l =
       hear = λ w i c a on at has is. (k.hear w i c a on at has is.0, l.hear w i c a on at has is.1);
       ask = λ w i c op on at free is. (k.ask w i c op on at free is.0, l.ask w i c op on at free is.1);
       mark = λ w s on at is. (k.mark w s on at is.0, l.mark w s on at is.1);
-      tell = λ w told is. (k.tell w told is.0, l.tell w told is.1);
+      tell = λ w line beside is. (k.tell w line beside is.0, l.tell w line beside is.1);
+      rest = λ w is. (k.rest w is.0, l.rest w is.1);
     }
 
 -- messages stay
@@ -130,7 +148,8 @@ live-carries step P x k =
       hear = λ w i c a on at has p. (k.hear w i c a on at has p.0, has-hearing w i c a (heard w.view c a) x p.1);
       ask = λ w i c op on at free p. (k.ask w i c op on at free p.0, has-sends (record w { clients = slice_set w.clients i (asking c (request_of c op)) }) (origins.Client c.id) targets.View (Ask (request_of c op)) x p.1);
       mark = λ w s on at p. (k.mark w s on at p.0, p.1);
-      tell = λ w told p. (k.tell w told p.0, p.1);
+      tell = λ w line beside p. (k.tell w line beside p.0, p.1);
+      rest = λ w p. (k.rest w p.0, p.1);
     }
 
 -- what is not there is nothing
@@ -216,9 +235,9 @@ live-give_all {S = S} step P k message w has p =
 live-client_hears : {S : Type 0} (step : Node S → NodeEvent → Outcome S) (P : World S → Type 0) → KeepsLive step P → (i : ℕ) (message : Message) (w : World S) (found : Option Client)
     → w.ending ≡ None → slice_get w.clients i ≡ found → HasMessage w.sent message → P w → P (client_hears w i message found)
 live-client_hears step P k i message w None on at has p = p
-live-client_hears step P k i (Ask q) w (Some c) on at has p = k.tell w _ p
-live-client_hears step P k i (Propose o) w (Some c) on at has p = k.tell w _ p
-live-client_hears step P k i (Vote b) w (Some c) on at has p = k.tell w _ p
+live-client_hears step P k i (Ask q) w (Some c) on at has p = k.tell w _ tt p
+live-client_hears step P k i (Propose o) w (Some c) on at has p = k.tell w _ tt p
+live-client_hears step P k i (Vote b) w (Some c) on at has p = k.tell w _ tt p
 live-client_hears step P k i (Reply a) w (Some c) on at has p = k.hear w i c a on at has p
 
 -- the client at an index hears a message
@@ -229,7 +248,7 @@ live-client_takes step P k i message w has p = either_by P (is_some w.ending) w 
 -- a client asks, or tells that it is busy
 live-client_asks : {S : Type 0} (step : Node S → NodeEvent → Outcome S) (P : World S → Type 0) → KeepsLive step P → (w : World S) (i : ℕ) (c : Client) (op : List ℕ) (waiting : Option Request)
     → w.ending ≡ None → slice_get w.clients i ≡ Some c → c.waiting ≡ waiting → P w → P (client_asks w i c op waiting)
-live-client_asks step P k w i c op (Some q) on at is p = k.tell w _ p
+live-client_asks step P k w i c op (Some q) on at is p = k.tell w _ tt p
 live-client_asks step P k w i c op None on at is p = either P (nat_lt (c.last + 1) (2 ^ 63)) _ w (k.ask w i c op on at is p) p
 
 -- a client that is found asks
@@ -280,7 +299,7 @@ live-line_played step P k w lines.Flow p = until_rest_keeps P (flow_once step) (
 pub live-world_after : {S : Type 0} (step : Node S → NodeEvent → Outcome S) (P : World S → Type 0) → KeepsLive step P → (w : World S) (ls : List Line) → P w → P (world_after step w ls)
 live-world_after step P k w [] p = p
 live-world_after step P k w (l ∷ ls) p =
-    live-world_after step P k (rested (line_played step w l)) ls (k.tell (line_played step w l) [] (live-line_played step P k w l p))
+    live-world_after step P k (rested (line_played step w l)) ls (k.rest (line_played step w l) (live-line_played step P k w l p))
 
 -- the same of what is kept whatever was said of the ending
 

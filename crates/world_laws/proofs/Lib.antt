@@ -26,6 +26,7 @@ pub mod Rests
 pub mod Bounded
 pub mod CoreWorlds
 pub mod Accepted
+pub mod Told
 pub mod OneListLaw
 pub mod Steady
 pub mod Settles

@@ -1,10 +1,12 @@
 -- One list holds throughout a script.
 use Rattle.std.proofs.Common.{ℕ, List, take}
+use Rattle.smart_base.specs.Lists.{Each}
 use Rattle.smart_base.specs.declared.view.View.{View}
 use Rattle.smart_service.specs.Services.{Meaning}
 use Rattle.node_rules.specs.Steps.{step_of}
 use Rattle.world_rules.specs.Worlds.{World, begun}
-use Rattle.world_rules.specs.Promises.{OneList, OneListThroughout, world_at}
+use Rattle.world_rules.specs.Plays.{lines_told}
+use Rattle.world_rules.specs.Promises.{IsAnswered, OneList, OneListThroughout, world_at}
 use Rattle.world_rules.specs.declared.line.Line.{Line}
 use Rattle.world_laws.specs.Groups.{Distinct}
 use Rattle.world_laws.proofs.Keeps.{Keeps, keeps-world_after}
@@ -15,6 +17,7 @@ use Rattle.world_laws.proofs.Replies.{RepliesRight, keeps-replies, replies-begun
 use Rattle.world_laws.proofs.Asked.{asked-after}
 use Rattle.world_laws.proofs.Asking.{right-after}
 use Rattle.world_laws.proofs.Accepted.{AcceptedTold, AcceptedRight, keeps-told, told-begun, accepted-right}
+use Rattle.world_laws.proofs.Told.{lines-answered}
 
 -- the list is right, and all replies tell of it, those that were sent and those that were accepted
 abbrev pub ToldRight : {S : Type 0} → Meaning S → World S → Type 0
@@ -43,6 +46,11 @@ one_list-at m view distinct ls k =
       rising = (right-after m (step_of m) view (take k ls)).all.rising;
     }
 
--- one list holds throughout a script, and only grows
+-- each line that told of an accepted reply until then tells its answer
+pub told-at : {S : Type 0} (m : Meaning S) (view : View) → Distinct view.members → (ls : List Line) (k : ℕ)
+    → Each (IsAnswered m view (world_at m view ls k).chosen) (lines_told (step_of m) (begun m view) (take k ls))
+told-at m view distinct ls k = lines-answered m view (take k ls) (accepted-at m view distinct ls k)
+
+-- one list holds throughout a script and only grows, and the lines of accepted replies tell its answers
 pub one_list-throughout : {S : Type 0} (m : Meaning S) (view : View) → Distinct view.members → (ls : List Line) → OneListThroughout m view ls
-one_list-throughout m view distinct ls = record { one_list = one_list-at m view distinct ls; grows = list-grows m view ls }
+one_list-throughout m view distinct ls = record { one_list = one_list-at m view distinct ls; grows = list-grows m view ls; told = told-at m view distinct ls }

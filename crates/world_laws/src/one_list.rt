@@ -13,8 +13,10 @@ use smart_service::service::Service;
 /// views are those after that front, and each batch that it ever delivered is the list's at its
 /// place. Each reply that a client accepted is the service's answer at the one place where its
 /// request stands in the list, the request there is the one that the client asked, the reply states
-/// the view in force there, and that place is past every place that the client knew. And the list
-/// only grows: what it holds after one line, it begins with after every later one.
+/// the view in force there, and that place is past every place that the client knew. The list
+/// only grows: what it holds after one line, it begins with after every later one. Each line of the
+/// transcript that tells of an accepted reply names the one place of its request in the list, and
+/// tells the service's answer there.
 pub fn one_list_throughout<S: Service>()
     ensures { (view : View) (ls : List Line) → Distinct view.members → OneListThroughout S.meaning view ls }
 {}

@@ -9,9 +9,11 @@ use Rattle.node_rules.specs.Replicas.{state, answer, place_of, batch_at, request
 use Rattle.node_rules.specs.Steps.{step_of}
 use Rattle.node_rules.specs.declared.node.Target.TheVariants as targets
 use Rattle.world_rules.specs.Worlds.{Host, World, begun}
-use Rattle.world_rules.specs.Plays.{world_after}
+use Rattle.world_rules.specs.Plays.{world_after, lines_told}
 use Rattle.world_rules.specs.declared.client.Acceptance.{Acceptance}
 use Rattle.world_rules.specs.declared.line.Line.{Line}
+use Rattle.world_rules.specs.declared.line.OutLine.{OutLine}
+use Rattle.world_rules.specs.declared.line.OutLine.TheVariants as outs
 use Rattle.world_rules.specs.declared.message.Sent.{Sent}
 use Rattle.world_rules.specs.declared.message.Origin.TheVariants as origins
 
@@ -49,11 +51,25 @@ pub record OneList {S : Type 0} (m : Meaning S) (w : World S) : Type 0 where
   pub accepted : Each (IsRight m w.view w.sent w.chosen) w.accepted
   pub rising : Rises w.accepted
 
+-- a transcript line that tells of an accepted reply names the one place of its request in the list, and tells the service's answer there
+abbrev pub IsAnswered : {S : Type 0} → Meaning S → View → List (List Request) → OutLine → Type 0
+IsAnswered m view chosen (outs.Accepted client seq place index reply) = (place_of m view chosen client seq ≡ Some (place, index)) × (answer m view chosen place index ≡ Some reply)
+IsAnswered m view chosen (outs.Group members faulty) = Unit {0}
+IsAnswered m view chosen (outs.Sent number origin summary) = Unit {0}
+IsAnswered m view chosen (outs.Decided member place) = Unit {0}
+IsAnswered m view chosen (outs.Delivered member place executed) = Unit {0}
+IsAnswered m view chosen (outs.Dropped member why) = Unit {0}
+IsAnswered m view chosen (outs.Counted client have need) = Unit {0}
+IsAnswered m view chosen (outs.Ignored client why) = Unit {0}
+IsAnswered m view chosen (outs.Busy client seq) = Unit {0}
+IsAnswered m view chosen (outs.End lines messages) = Unit {0}
+
 -- the world after the first lines of a script over a group
 abbrev pub world_at : {S : Type 0} → Meaning S → View → List Line → ℕ → World S
 world_at m view ls k = world_after (step_of m) (begun m view) (take k ls)
 
--- one list holds after each line, and the list only grows
+-- one list holds after each line, the list only grows, and each transcript line that tells of an accepted reply tells its answer there
 pub record OneListThroughout {S : Type 0} (m : Meaning S) (view : View) (ls : List Line) : Type 0 where
   pub one_list : (k : ℕ) → OneList m (world_at m view ls k)
   pub grows : (j k : ℕ) → j ≤ k → take (length (world_at m view ls j).chosen) (world_at m view ls k).chosen ≡ (world_at m view ls j).chosen
+  pub told : (k : ℕ) → Each (IsAnswered m view (world_at m view ls k).chosen) (lines_told (step_of m) (begun m view) (take k ls))

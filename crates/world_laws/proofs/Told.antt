@@ -1,0 +1,250 @@
+-- Each line of a transcript that tells of an accepted reply tells the service's answer.
+use Rattle.std.proofs.Common.{◌≡◌, ℕ, ◌^◌, ◌++◌, List, [], ◌∷◌, length, refl, ap, ◌∙◌, sym, Option, Some, None, nat_lt, inl, inr, ◌⊎◌, subst}
+use Rattle.std.specs.Prelude.{slice_get, slice_set}
+use Rattle.std.specs.List.{flat_map}
+use Rattle.smart_base.specs.Lists.{Each}
+use Rattle.smart_base.specs.declared.view.View.{View}
+use Rattle.smart_messages.specs.declared.message.Request.{Request}
+use Rattle.smart_messages.specs.declared.message.Answer.{Answer}
+use Rattle.smart_messages.specs.declared.message.Message.{Message}
+use Rattle.smart_messages.specs.declared.message.Message.TheVariants.{Ask}
+use Rattle.smart_messages.specs.declared.entry.NodeEvent.{NodeEvent}
+use Rattle.smart_service.specs.Services.{Meaning}
+use Rattle.node_rules.specs.Nodes.{Node}
+use Rattle.node_rules.specs.Steps.{Outcome, step_of, leaving}
+use Rattle.node_rules.specs.declared.node.Why.{Why}
+use Rattle.node_rules.specs.declared.node.Held.{Held}
+use Rattle.node_rules.specs.declared.node.Target.{Target}
+use Rattle.node_rules.specs.declared.node.Target.TheVariants as targets
+use Rattle.node_rules.specs.declared.node.Fired.{Fired}
+use Rattle.node_rules.specs.declared.node.Fired.TheVariants as fires
+use Rattle.world_rules.specs.Clients.{request_of, asking, heard}
+use Rattle.world_rules.specs.Promises.{IsRight, IsAnswered}
+use Rattle.world_rules.specs.Worlds.{Host, World, sends, sends_all, told_drop, told_fired, stepped, told_heard, acceptance_in, hearing, begun}
+use Rattle.world_rules.specs.Plays.{line_played, rested, world_after, lines_told}
+use Rattle.world_rules.specs.declared.client.Client.{Client}
+use Rattle.world_rules.specs.declared.client.Acceptance.{Acceptance}
+use Rattle.world_rules.specs.declared.client.Heard.{Heard}
+use Rattle.world_rules.specs.declared.client.Heard.TheVariants as hears
+use Rattle.world_rules.specs.declared.line.Line.{Line}
+use Rattle.world_rules.specs.declared.line.OutLine.{OutLine}
+use Rattle.world_rules.specs.declared.line.OutLine.TheVariants as outs
+use Rattle.world_rules.specs.declared.message.Origin.{Origin}
+use Rattle.world_rules.specs.declared.message.Origin.TheVariants as origins
+use Rattle.world_rules.specs.declared.message.Sent.{Sent}
+use Rattle.world_laws.proofs.Lists.{either, each_end, each_append, each_weaker}
+use Rattle.world_laws.proofs.Numbered.{each_at_get}
+use Rattle.world_laws.proofs.Keeps.{IsBeside, Keeps, KeepsLive, live-line_played, keeps-world_after}
+use Rattle.world_laws.proofs.Hearing.{Accepts, accepts_waiting}
+use Rattle.world_laws.proofs.Asking.{ClientRight, ClientsRight, keeps-right, right-begun}
+use Rattle.world_laws.proofs.Accepted.{AcceptedRight}
+use Rattle.world_laws.proofs.Grows.{view-stays}
+
+-- the line that tells of an accepted reply
+abbrev line_of : Acceptance → OutLine
+line_of a = outs.Accepted a.request.client a.request.seq a.place a.index a.reply
+
+-- a line tells of one of the accepted replies
+abbrev IsOf : List Acceptance → OutLine → Type 0
+IsOf [] line = ⊥
+IsOf (a ∷ accepted) line = (line_of a ≡ line) ⊎ IsOf accepted line
+
+-- a line tells of no accepted reply, or of one that was accepted
+abbrev Stems : List Acceptance → OutLine → Type 0
+Stems accepted line = IsBeside line ⊎ IsOf accepted line
+
+-- all lines of the present script line do
+record ToldStems {S : Type 0} (w : World S) : Type 0 where
+  all : Each (Stems w.accepted) w.told
+
+-- more is accepted
+
+-- what a line tells of stays accepted
+of_more : (accepted more : List Acceptance) (line : OutLine) → IsOf accepted line → IsOf (accepted ++ more) line
+of_more [] more line is = absurd is
+of_more (a ∷ accepted) more line is = elim is [ inl here ↦ inl here | inr later ↦ inr (of_more accepted more line later) ]
+
+-- a line that stems from accepted replies stems from more of them
+stems_more : (accepted more : List Acceptance) (line : OutLine) → Stems accepted line → Stems (accepted ++ more) line
+stems_more accepted more line stems = elim stems [ inl beside ↦ inl beside | inr is ↦ inr (of_more accepted more line is) ]
+
+-- the line of what is accepted last
+of_last : (accepted : List Acceptance) (a : Acceptance) (line : OutLine) → line_of a ≡ line → IsOf (accepted ++ a ∷ []) line
+of_last [] a line is = inl is
+of_last (b ∷ accepted) a line is = inr (of_last accepted a line is)
+
+-- messages that leave
+
+-- a message that leaves tells of no accepted reply
+stems-sends : {S : Type 0} (w : World S) (origin : Origin) (to : Target) (message : Message) → ToldStems w → ToldStems (sends w origin to message)
+unfolding sends
+stems-sends w origin to message is =
+    either ToldStems (nat_lt (length w.sent) (2 ^ 24)) _ _ (record { all = each_end (Stems w.accepted) w.told _ is.all (inl tt) }) (record { all = is.all })
+
+-- nor do many
+stems-sends_all : {S : Type 0} (id : ℕ) (w : World S) (held : List Held) → ToldStems w → ToldStems (sends_all id w held)
+stems-sends_all id w [] is = is
+stems-sends_all id w (h ∷ hs) is = stems-sends_all id (sends w (origins.Node id) h.to h.message) hs (stems-sends w (origins.Node id) h.to h.message is)
+
+-- a node's step
+
+-- an arrival that is dropped tells of no accepted reply
+stems-drop : (accepted : List Acceptance) (id : ℕ) (why : Option Why) → Each (Stems accepted) (told_drop id why)
+stems-drop accepted id None = tt
+stems-drop accepted id (Some why) = (inl tt, tt)
+
+-- nor does a rule that fired
+stems-fired : (accepted : List Acceptance) (id : ℕ) (fired : Fired) → Each (Stems accepted) (told_fired id fired)
+stems-fired accepted id (fires.Delivered d) = (inl tt, tt)
+stems-fired accepted id fires.Proposed = tt
+stems-fired accepted id fires.Wrote = tt
+stems-fired accepted id fires.Accepted = tt
+stems-fired accepted id (fires.Decided place) = (inl tt, tt)
+
+-- nor do all that fired
+stems-all_fired : (accepted : List Acceptance) (id : ℕ) (fired : List Fired) → Each (Stems accepted) (flat_map (told_fired id) fired)
+stems-all_fired accepted id [] = tt
+stems-all_fired accepted id (f ∷ fired) = each_append (Stems accepted) (told_fired id f) (flat_map (told_fired id) fired) (stems-fired accepted id f) (stems-all_fired accepted id fired)
+
+-- a host's node steps
+stems-stepped : {S : Type 0} (w : World S) (i : ℕ) (h : Host S) (o : Outcome S) → ToldStems w → ToldStems (stepped w i h o)
+unfolding stepped
+stems-stepped w i h o is =
+    stems-sends_all h.node.id _ (leaving o.node.firm o.node.held)
+    (record {
+      all = each_append (Stems w.accepted) w.told _ is.all
+          (each_append (Stems w.accepted) (told_drop h.node.id o.dropped) (flat_map (told_fired h.node.id) o.fired) (stems-drop w.accepted h.node.id o.dropped) (stems-all_fired w.accepted h.node.id o.fired));
+    })
+
+-- a client hears
+
+-- what a client tells of a reply that it hears
+stems-heard : (accepted : List Acceptance) (v : View) (c : Client) (a : Answer) (h : Heard) → heard v c a ≡ h → ((q : Request) → c.waiting ≡ Some q → q.client ≡ c.id) → Stems (accepted ++ acceptance_in h) (told_heard c.id h)
+stems-heard accepted v c a (hears.Counted count need) is own = inl tt
+stems-heard accepted v c a (hears.Ignored why) is own = inl tt
+stems-heard accepted v c a (hears.Accepted acc) is own =
+    let taken : Accepts v c a acc = accepts_waiting v c a acc is in
+    let client : acc.request.client ≡ c.id = ap (λ (b : Acceptance). b.request.client) taken.is ∙ own taken.request taken.counts.waits in
+    inr (of_last accepted acc (outs.Accepted c.id acc.request.seq acc.place acc.index acc.reply) (ap (λ (id : ℕ). outs.Accepted id acc.request.seq acc.place acc.index acc.reply) client))
+
+-- the request that waits at a client is its own
+waits_own : {S : Type 0} (w : World S) (i : ℕ) (c : Client) → slice_get w.clients i ≡ Some c → ClientsRight w → (q : Request) → c.waiting ≡ Some q → q.client ≡ c.id
+waits_own w i c at right q waits =
+    let own : ClientRight w.sent w.ending w.accepted i c = each_at_get (ClientRight w.sent w.ending w.accepted) w.clients i c right.all.each at in
+    (own.waits q waits).client ∙ sym own.id
+
+-- a client hears a reply
+stems-hearing : {S : Type 0} (w : World S) (i : ℕ) (c : Client) (a : Answer) → ((q : Request) → c.waiting ≡ Some q → q.client ≡ c.id) → ToldStems w → ToldStems (hearing w i c a (heard w.view c a))
+unfolding hearing
+stems-hearing w i c a own is =
+    let h : Heard = heard w.view c a in
+    let more : List Acceptance = w.accepted ++ acceptance_in h in
+    record {
+      all = each_end (Stems more) w.told (told_heard c.id h) (each_weaker (Stems w.accepted) (Stems more) (stems_more w.accepted (acceptance_in h)) w.told is.all) (stems-heard w.accepted w.view c a h refl own);
+    }
+
+-- all that is told stems from what was accepted, whatever happens
+
+-- clients are right, and what is told stems from what was accepted
+abbrev Stemming : {S : Type 0} → World S → Type 0
+Stemming w = ClientsRight w × ToldStems w
+
+-- each event keeps that
+keeps-stemming : {S : Type 0} (step : Node S → NodeEvent → Outcome S) → KeepsLive step Stemming
+keeps-stemming step =
+    let k = keeps-right step in
+    record {
+      event = λ w i h event on at may is. (k.event w i h event on at may is.0, stems-stepped w i h (step h.node event) is.1);
+      hear = λ w i c a on at has is. (k.hear w i c a on at has is.0, stems-hearing w i c a (waits_own w i c at is.0) is.1);
+      ask = λ w i c op on at free is. (
+        k.ask w i c op on at free is.0,
+        stems-sends (record w { clients = slice_set w.clients i (asking c (request_of c op)) }) (origins.Client c.id) targets.View (Ask (request_of c op)) (record { all = is.1.all }),
+      );
+      mark = λ w s on at is. (k.mark w s on at is.0, record { all = is.1.all });
+      tell = λ w line beside is. (k.tell w line beside is.0, record { all = each_end (Stems w.accepted) w.told line is.1.all (inl beside) });
+      rest = λ w is. (k.rest w is.0, record { all = tt });
+    }
+
+-- what was accepted stays so
+
+-- where a message leaves
+accepted-sends : {S : Type 0} (w : World S) (origin : Origin) (to : Target) (message : Message) → (sends w origin to message).accepted ≡ w.accepted
+unfolding sends
+accepted-sends {S = S} w origin to message = either (λ (v : World S). v.accepted ≡ w.accepted) (nat_lt (length w.sent) (2 ^ 24)) _ _ refl refl
+
+-- where many leave
+accepted-sends_all : {S : Type 0} (id : ℕ) (w : World S) (held : List Held) → (sends_all id w held).accepted ≡ w.accepted
+accepted-sends_all id w [] = refl
+accepted-sends_all id w (h ∷ hs) = accepted-sends_all id (sends w (origins.Node id) h.to h.message) hs ∙ accepted-sends w (origins.Node id) h.to h.message
+
+-- where a node steps
+accepted-stepped : {S : Type 0} (w : World S) (i : ℕ) (h : Host S) (o : Outcome S) → (stepped w i h o).accepted ≡ w.accepted
+unfolding stepped
+accepted-stepped w i h o = accepted-sends_all h.node.id _ (leaving o.node.firm o.node.held)
+
+-- where a client hears, more is accepted
+accepted-hearing : {S : Type 0} (w : World S) (i : ℕ) (c : Client) (a : Answer) (h : Heard) → (hearing w i c a h).accepted ≡ w.accepted ++ acceptance_in h
+unfolding hearing
+accepted-hearing w i c a h = refl
+
+-- so a line goes on to stem from what was accepted
+keeps-stems : {S : Type 0} (step : Node S → NodeEvent → Outcome S) (line : OutLine) → Keeps step (λ w. Stems w.accepted line)
+keeps-stems step line =
+    record {
+      event = λ w i h event at may stems. rw accepted-stepped stems;
+      hear = λ w i c a at has stems. rw accepted-hearing (stems_more w.accepted (acceptance_in (heard w.view c a)) line stems);
+      ask = λ w i c op at free stems. rw accepted-sends stems;
+      same = λ w mark told stems. stems;
+    }
+
+-- lines
+
+-- what lines tell stems from what was accepted until after them
+lines-stem : {S : Type 0} (step : Node S → NodeEvent → Outcome S) (w : World S) (ls : List Line) → Stemming w → Each (Stems (world_after step w ls).accepted) (lines_told step w ls)
+lines-stem step w [] is = tt
+lines-stem {S = S} step w (l ∷ ls) is =
+    let played : World S = line_played step w l in
+    let after : World S = world_after step (rested played) ls in
+    let stemming : Stemming played = live-line_played step Stemming (keeps-stemming step) w l is in
+    each_append (Stems after.accepted) played.told (lines_told step (rested played) ls)
+    (each_weaker (Stems played.accepted) (Stems after.accepted) (λ line stems. keeps-world_after step (λ (v : World S). Stems v.accepted line) (keeps-stems step line) (rested played) ls stems) played.told stemming.1.all)
+    (lines-stem step (rested played) ls ((keeps-stemming step).rest played stemming))
+
+-- a line that tells of no accepted reply
+beside-answered : {S : Type 0} (m : Meaning S) (view : View) (chosen : List (List Request)) (line : OutLine) → IsBeside line → IsAnswered m view chosen line
+beside-answered m view chosen (outs.Group members faulty) beside = tt
+beside-answered m view chosen (outs.Sent number origin summary) beside = tt
+beside-answered m view chosen (outs.Decided member place) beside = tt
+beside-answered m view chosen (outs.Delivered member place executed) beside = tt
+beside-answered m view chosen (outs.Dropped member why) beside = tt
+beside-answered m view chosen (outs.Counted client have need) beside = tt
+beside-answered m view chosen (outs.Accepted client seq place index reply) beside = absurd beside
+beside-answered m view chosen (outs.Ignored client why) beside = tt
+beside-answered m view chosen (outs.Busy client seq) beside = tt
+beside-answered m view chosen (outs.End lines messages) beside = tt
+
+-- a line that tells of an accepted reply that is right
+of-answered : {S : Type 0} (m : Meaning S) (view : View) (sent : List Sent) (chosen : List (List Request)) (accepted : List Acceptance) (line : OutLine)
+    → Each (IsRight m view sent chosen) accepted → IsOf accepted line → IsAnswered m view chosen line
+of-answered m view sent chosen [] line right is = absurd is
+of-answered m view sent chosen (a ∷ accepted) line right is =
+    elim is [
+      | inl here ↦ subst (IsAnswered m view chosen) here (right.0.place_is, right.0.reply_is)
+      | inr later ↦ of-answered m view sent chosen accepted line right.1 later
+    ]
+
+-- a line that stems from accepted replies that are right
+stems-answered : {S : Type 0} (m : Meaning S) (view : View) (sent : List Sent) (chosen : List (List Request)) (accepted : List Acceptance) → Each (IsRight m view sent chosen) accepted
+    → (line : OutLine) → Stems accepted line → IsAnswered m view chosen line
+stems-answered m view sent chosen accepted right line stems =
+    elim stems [ inl beside ↦ beside-answered m view chosen line beside | inr is ↦ of-answered m view sent chosen accepted line right is ]
+
+-- where all accepted replies are right, each line that tells of one tells the service's answer
+pub lines-answered : {S : Type 0} (m : Meaning S) (view : View) (ls : List Line) → AcceptedRight m (world_after (step_of m) (begun m view) ls)
+    → Each (IsAnswered m view (world_after (step_of m) (begun m view) ls).chosen) (lines_told (step_of m) (begun m view) ls)
+lines-answered {S = S} m view ls right =
+    let after : World S = world_after (step_of m) (begun m view) ls in
+    let same : after.view ≡ view = view-stays m (begun m view) ls in
+    each_weaker (Stems after.accepted) (IsAnswered m view after.chosen)
+    (stems-answered m view after.sent after.chosen after.accepted (subst (λ (v : View). Each (IsRight m v after.sent after.chosen) after.accepted) same right.all))
+    (lines_told (step_of m) (begun m view) ls) (lines-stem (step_of m) (begun m view) ls (right-begun m view, record { all = tt }))
