@@ -1,8 +1,8 @@
 -- Tests of equality that say yes.
-use Rattle.std.proofs.Common.{◌≡◌, ℕ, Bool, true, false, ◌&&◌, ◌==◌, List, refl, ap, ◌∙◌, eqb-true, eq-eqb, subst}
+use Rattle.std.proofs.Common.{◌≡◌, ℕ, Bool, true, false, ◌&&◌, ◌==◌, List, [], ◌∷◌, refl, ap, ◌∙◌, eqb-true, eq-eqb, subst}
 use Rattle.smart_base.proofs.SameLists.{same_list-equal}
 use Rattle.smart_messages.specs.Equality.{same_slot, same_kind, same_request, same_batch}
-use Rattle.smart_base.specs.Lists.{same_bytes}
+use Rattle.smart_base.specs.Lists.{same_list, same_bytes}
 use Rattle.smart_messages.specs.declared.message.Request.{Request}
 use Rattle.smart_messages.specs.declared.message.Slot.{Slot}
 use Rattle.smart_messages.specs.declared.message.VoteKind.{VoteKind}
@@ -46,12 +46,12 @@ same_slot-equal a b same =
     slots-equal a b (eqb-true a.view b.view inner.0) (eqb-true a.place b.place inner.1) (eqb-true a.regency b.regency outer.1)
 
 -- two tests that say yes
-and_intro : (a b : Bool) → a ≡ true → b ≡ true → (a && b) ≡ true
+pub and_intro : (a b : Bool) → a ≡ true → b ≡ true → (a && b) ≡ true
 and_intro true b ea eb = eb
 and_intro false b ea eb = absurd (cc)
 
 -- a slot is the same as itself
-slot-itself : (slot : Slot) → same_slot slot slot ≡ true
+pub slot-itself : (slot : Slot) → same_slot slot slot ≡ true
 slot-itself slot =
     and_intro ((slot.view == slot.view) && (slot.place == slot.place)) (slot.regency == slot.regency)
     (and_intro (slot.view == slot.view) (slot.place == slot.place) (eq-eqb slot.view slot.view refl) (eq-eqb slot.place slot.place refl))
@@ -60,3 +60,21 @@ slot-itself slot =
 -- slots that are equal are the same
 pub slot-same : (s slot : Slot) → s ≡ slot → same_slot s slot ≡ true
 slot-same s slot same = subst (λ (x : Slot). same_slot s x ≡ true) same (slot-itself s)
+
+-- lists are alike themselves where each value is
+same_list-itself : {A : Type 0} (alike : A → A → Bool) → ((x : A) → alike x x ≡ true) → (xs : List A) → same_list alike xs xs ≡ true
+same_list-itself alike itself [] = refl
+same_list-itself alike itself (x ∷ xs) = and_intro (alike x x) (same_list alike xs xs) (itself x) (same_list-itself alike itself xs)
+
+-- a request is the same as itself
+request-itself : (q : Request) → same_request q q ≡ true
+request-itself q =
+    and_intro ((q.client == q.client) && (q.seq == q.seq) && (q.after == q.after)) (same_bytes q.op q.op)
+    (and_intro ((q.client == q.client) && (q.seq == q.seq)) (q.after == q.after)
+    (and_intro (q.client == q.client) (q.seq == q.seq) (eq-eqb q.client q.client refl) (eq-eqb q.seq q.seq refl))
+    (eq-eqb q.after q.after refl))
+    (same_list-itself (λ x y. x == y) (λ x. eq-eqb x x refl) q.op)
+
+-- a batch is the same as itself
+pub batch-itself : (batch : List Request) → same_batch batch batch ≡ true
+batch-itself batch = same_list-itself same_request request-itself batch

@@ -110,15 +110,15 @@ executed-at m v list k batch l at has = executed_from m (empty m v) list k batch
 -- what a line says
 
 -- the request that a line is of, among requests that stand from an index on
-record OfRequest {S : Type 0} (r : Replica S) (from : ℕ) (qs : List Request) (l : TableLine) : Type 0 where
-  request : Request
-  step : ℕ
-  at_place : l.place ≡ r.place
-  at_index : l.index ≡ from + step
-  in_view : l.view ≡ (present r.views).number
-  there : slice_get qs step ≡ Some request
-  own_client : request.client ≡ l.client
-  own_seq : request.seq ≡ l.seq
+pub record OfRequest {S : Type 0} (r : Replica S) (from : ℕ) (qs : List Request) (l : TableLine) : Type 0 where
+  pub request : Request
+  pub step : ℕ
+  pub at_place : l.place ≡ r.place
+  pub at_index : l.index ≡ from + step
+  pub in_view : l.view ≡ (present r.views).number
+  pub there : slice_get qs step ≡ Some request
+  pub own_client : request.client ≡ l.client
+  pub own_seq : request.seq ≡ l.seq
 
 -- the line of the first request
 of_one : {S : Type 0} (m : Meaning S) (r : Replica S) (i : ℕ) (q : Request) (qs : List Request) (next : Bool) → Each (OfRequest r i (q ∷ qs)) (option_to_list (cond next (Some (line_of m r i q)) None))
@@ -147,7 +147,7 @@ of_all m r i (q ∷ qs) =
     (each_weaker (OfRequest (execute m r i q) (i + 1) qs) (OfRequest r i (q ∷ qs)) (of_later m r i q qs) _ (of_all m (execute m r i q) (i + 1) qs))
 
 -- each line of a batch is of one of its requests
-of_delivered : {S : Type 0} (m : Meaning S) (r : Replica S) (batch : List Request) → Each (OfRequest (at_next r) 0 batch) (executed_lines m r batch)
+pub of_delivered : {S : Type 0} (m : Meaning S) (r : Replica S) (batch : List Request) → Each (OfRequest (at_next r) 0 batch) (executed_lines m r batch)
 unfolding executed_lines
 of_delivered m r batch = of_all m (at_next r) 0 batch
 

@@ -40,7 +40,7 @@ test_failed true x none = absurd (cc)
 test_failed false x none = refl
 
 -- a reply that no reason ignores counts for the request that waits
-counts_where_not_ignored : (v : View) (c : Client) (a : Answer) (q : Request) → c.waiting ≡ Some q → why_ignored v c a ≡ None → CountsFor v c a q
+pub counts_where_not_ignored : (v : View) (c : Client) (a : Answer) (q : Request) → c.waiting ≡ Some q → why_ignored v c a ≡ None → CountsFor v c a q
 unfolding why_ignored
 counts_where_not_ignored v c a q waits none =
     let one = test_passed (is_waited_for c.waiting a) reasons.Settled _ none in

@@ -106,7 +106,7 @@ live-both step P Q k l =
 
 -- messages stay
 
-has_end : (sent : List Sent) (s : Sent) (x : Message) → HasMessage sent x → HasMessage (sent ++ s ∷ []) x
+pub has_end : (sent : List Sent) (s : Sent) (x : Message) → HasMessage sent x → HasMessage (sent ++ s ∷ []) x
 has_end [] s x has = absurd has
 has_end (t ∷ sent) s x has = elim has [ inl here ↦ inl here | inr later ↦ inr (has_end sent s x later) ]
 

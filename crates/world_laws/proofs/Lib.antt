@@ -31,3 +31,5 @@ pub mod OneListLaw
 pub mod Steady
 pub mod Settles
 pub mod Example
+pub mod Onward
+pub mod Replied

@@ -84,7 +84,7 @@ accepted_end (Decided s vs b ∷ es) voters slot batch = accepted_end es voters 
 -- a vote that came says what is so
 
 -- one of two tests says yes
-or_true : (a b : Bool) → (a || b) ≡ true → (a ≡ true) ⊎ (b ≡ true)
+pub or_true : (a b : Bool) → (a || b) ≡ true → (a ≡ true) ⊎ (b ≡ true)
 or_true true b is = inl refl
 or_true false b is = inr is
 

@@ -94,12 +94,12 @@ one_accepted (Decided s vs c ∷ es) slot a b once has other = one_accepted es s
 -- each member is one host
 
 -- the second of two tests
-or_right : (a b : Bool) → b ≡ true → (a || b) ≡ true
+pub or_right : (a b : Bool) → b ≡ true → (a || b) ≡ true
 or_right true b is = refl
 or_right false b is = is
 
 -- the first of two tests
-or_left : (a b : Bool) → a ≡ true → (a || b) ≡ true
+pub or_left : (a b : Bool) → a ≡ true → (a || b) ≡ true
 or_left true b is = refl
 or_left false b is = absurd (cc)
 

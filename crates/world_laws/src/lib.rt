@@ -6,4 +6,5 @@ pub mod cores;
 pub mod execution;
 pub mod laws;
 pub mod one_list;
+pub mod promises;
 pub mod rest;

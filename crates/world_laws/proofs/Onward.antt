@@ -1,0 +1,300 @@
+-- Each message that a node holds is its own and rests on entries that it waits for; and a node's book only grows.
+use Rattle.std.proofs.Common.{◌≡◌, ℕ, zero, suc, ◌≤◌, ◌++◌, ◌==◌, Bool, true, false, ◌||◌, List, [], ◌∷◌, length, refl, ap, ◌∙◌, sym, arith, Option, Some, None, subst, append-nil, append_assoc, eq-eqb}
+use Rattle.std.proofs.lemmas.List.{take_all}
+use Rattle.std.specs.Prelude.{take, slice_get}
+use Rattle.std.specs.List.{list_any}
+use Rattle.smart_base.specs.Lists.{Each}
+use Rattle.smart_base.specs.Views.{is_member}
+use Rattle.smart_base.specs.declared.view.View.{View}
+use Rattle.smart_messages.specs.Equality.{same_slot, same_digest, digest_of}
+use Rattle.smart_messages.specs.declared.message.Request.{Request}
+use Rattle.smart_messages.specs.declared.message.Slot.{Slot}
+use Rattle.smart_messages.specs.declared.message.Message.{Message}
+use Rattle.smart_messages.specs.declared.message.Message.TheVariants.{Ask, Propose, Vote, Reply}
+use Rattle.smart_messages.specs.declared.message.VoteKind.TheVariants.{Write, Accept}
+use Rattle.smart_messages.specs.declared.entry.LogEntry.{LogEntry}
+use Rattle.smart_messages.specs.declared.entry.LogEntry.TheVariants.{Wrote, Accepted, Decided}
+use Rattle.smart_messages.specs.declared.entry.NodeEvent.{NodeEvent}
+use Rattle.smart_messages.specs.declared.entry.NodeEvent.TheVariants.{Arrive, Tick, Deliver, Firm}
+use Rattle.smart_service.specs.Services.{Meaning}
+use Rattle.smart_service.specs.declared.table.TableLine.{TableLine}
+use Rattle.node_rules.specs.Replicas.{is_next, delivered, executed_lines, at_next}
+use Rattle.node_rules.specs.Nodes.{Node, view_of, next_place, open_slot, holding, recording}
+use Rattle.node_rules.specs.Arrivals.{why_dropped, offered, kept}
+use Rattle.node_rules.specs.Rules.{settled, reply_of, replying, lines_to_answer, deliver_batch, delivers, proposing, propose_batch, proposes, ballot, writing, write_batch, writes, backers, accepting, accept_batch, accepts, deciding, decide_batch, decides}
+use Rattle.node_rules.specs.Steps.{votes, passes, arrival_outcome, step_of, released, opened}
+use Rattle.node_rules.specs.declared.node.Why.{Why}
+use Rattle.node_rules.specs.declared.node.Held.{Held}
+use Rattle.node_rules.specs.declared.node.Target.{Target}
+use Rattle.node_rules.specs.declared.node.Target.TheVariants as targets
+use Rattle.world_rules.specs.declared.message.Origin.{Origin}
+use Rattle.world_rules.specs.declared.message.Origin.TheVariants as origins
+use Rattle.world_laws.specs.Sending.{votes_for, decides_for, rests_on}
+use Rattle.world_laws.proofs.Lists.{either, each_end, each_weaker}
+use Rattle.world_laws.proofs.Equal.{and_intro, slot-itself, batch-itself}
+use Rattle.world_laws.proofs.Executions.{OfRequest, of_delivered}
+use Rattle.world_laws.proofs.Authentic.{each-staying}
+
+-- tests on books
+
+-- what passes in the one list passes in the other
+abbrev pub Includes : List LogEntry → List LogEntry → Type 0
+Includes xs ys = (p : LogEntry → Bool) → list_any p xs ≡ true → list_any p ys ≡ true
+
+-- one of two tests says yes
+or_more : (a b c : Bool) → (b ≡ true → c ≡ true) → (a || b) ≡ true → (a || c) ≡ true
+or_more true b c more is = refl
+or_more false b c more is = more is
+
+-- a longer list includes its front
+pub includes-append : (xs ys : List LogEntry) → Includes xs (xs ++ ys)
+includes-append [] ys p is = absurd (cc)
+includes-append (x ∷ xs) ys p is = or_more (p x) (list_any p xs) (list_any p (xs ++ ys)) (includes-append xs ys p) is
+
+-- so do fronts of the same length
+pub includes-take : (k : ℕ) (xs ys : List LogEntry) → Includes (take k xs) (take k (xs ++ ys))
+includes-take zero xs ys p is = is
+includes-take (suc k) [] ys p is = absurd (cc)
+includes-take (suc k) (x ∷ xs) ys p is = or_more (p x) (list_any p (take k xs)) (list_any p (take k (xs ++ ys))) (includes-take k xs ys p) is
+
+-- a longer front includes a shorter one
+pub includes-longer : (k j : ℕ) (xs : List LogEntry) → k ≤ j → Includes (take k xs) (take j xs)
+includes-longer zero j xs le p is = absurd (cc)
+includes-longer (suc k) zero xs le p is = absurd (omega (arith, le))
+includes-longer (suc k) (suc j) [] le p is = is
+includes-longer (suc k) (suc j) (x ∷ xs) le p is = or_more (p x) (list_any p (take k xs)) (list_any p (take j xs)) (includes-longer k j xs (omega (arith, le)) p) is
+
+-- the entry at the end passes
+pub end_passes : (p : LogEntry → Bool) (xs : List LogEntry) (x : LogEntry) → p x ≡ true → list_any p (xs ++ x ∷ []) ≡ true
+end_passes p [] x is = here (p x) is
+  where
+    here : (b : Bool) → b ≡ true → (b || false) ≡ true
+    here true is = refl
+    here false is = absurd (cc)
+end_passes p (y ∷ xs) x is = later (p y) (list_any p (xs ++ x ∷ [])) (end_passes p xs x is)
+  where
+    later : (a b : Bool) → b ≡ true → (a || b) ≡ true
+    later true b is = refl
+    later false b is = is
+
+-- where the one list includes the other, a message rests on it
+pub rests-more : (xs ys : List LogEntry) → Includes xs ys → (message : Message) → rests_on xs message ≡ true → rests_on ys message ≡ true
+rests-more xs ys more (Ask q) is = refl
+rests-more xs ys more (Propose p) is = refl
+rests-more xs ys more (Vote b) is = more (votes_for b b.kind) is
+rests-more xs ys more (Reply a) is = more (decides_for a) is
+
+-- nodes
+
+-- a message names who sends it, and a reply goes to the client that it names
+abbrev pub IsOwn : Origin → Target → Message → Type 0
+IsOwn origin to (Ask q) = origin ≡ origins.Client q.client
+IsOwn origin to (Propose p) = origin ≡ origins.Node p.signer
+IsOwn origin to (Vote b) = origin ≡ origins.Node b.signer
+IsOwn origin to (Reply a) = (origin ≡ origins.Node a.signer) × (to ≡ targets.Client a.client)
+
+-- a held message is its node's own, and rests on the entries that it waits for
+pub record HoldsRight (id : ℕ) (entries : List LogEntry) (h : Held) : Type 0 where
+  pub own : IsOwn (origins.Node id) h.to h.message
+  pub rests : rests_on (take h.needs entries) h.message ≡ true
+
+-- a book has decided the batch that waits, if one does, at a place
+abbrev pub IsDecided : ℕ → List LogEntry → Option (List Request) → Type 0
+IsDecided place entries None = Unit {0}
+IsDecided place entries (Some batch) = (p : LogEntry → Bool) → ((slot : Slot) (voters : List ℕ) → slot.place ≡ place → p (Decided slot voters batch) ≡ true) → list_any p entries ≡ true
+
+-- all held messages are right, and the batch that waits is decided
+pub record NodeRests {S : Type 0} (n : Node S) : Type 0 where
+  pub held : Each (HoldsRight n.id n.entries) n.held
+  pub waits : IsDecided (next_place n) n.entries n.waiting
+
+-- a node whose book has grown, and is right
+pub record Onward {S : Type 0} (n n' : Node S) : Type 0 where
+  pub id : n'.id ≡ n.id
+  pub firm : n'.firm ≡ n.firm
+  pub more : List LogEntry
+  pub book : n'.entries ≡ n.entries ++ more
+  pub rests : NodeRests n'
+
+onward-same : {S : Type 0} (n : Node S) → NodeRests n → Onward n n
+onward-same n is = record { id = refl; firm = refl; more = []; book = sym (append-nil n.entries); rests = is }
+
+pub onward-then : {S : Type 0} (a b c : Node S) → Onward a b → Onward b c → Onward a c
+onward-then a b c f g =
+    record {
+      id = g.id ∙ f.id;
+      firm = g.firm ∙ f.firm;
+      more = f.more ++ g.more;
+      book = g.book ∙ (ap (λ es. es ++ g.more) f.book ∙ append_assoc a.entries f.more g.more);
+      rests = g.rests;
+    }
+
+-- a batch that is decided is so in a longer book
+decided-more : (place : ℕ) (entries more : List LogEntry) (waiting : Option (List Request)) → IsDecided place entries waiting → IsDecided place (entries ++ more) waiting
+decided-more place entries more None is = tt
+decided-more place entries more (Some batch) is = λ p all. includes-append entries more p (is p all)
+
+-- messages that wait, of a longer book
+holds-more : (id : ℕ) (entries more : List LogEntry) (held : List Held) → Each (HoldsRight id entries) held → Each (HoldsRight id (entries ++ more)) held
+holds-more id entries more held each =
+    each_weaker (HoldsRight id entries) (HoldsRight id (entries ++ more))
+    (λ h right. record { own = right.own; rests = rests-more (take h.needs entries) (take h.needs (entries ++ more)) (includes-take h.needs entries more) h.message right.rests }) held each
+
+-- a message is held that rests on the book
+rests-holding : {S : Type 0} (n : Node S) (to : Target) (message : Message) → IsOwn (origins.Node n.id) to message → rests_on n.entries message ≡ true → NodeRests n → NodeRests (holding n to message)
+rests-holding n to message own rests is =
+    record {
+      held = each_end (HoldsRight n.id n.entries) n.held _ is.held
+          (record { own = own; rests = subst (λ (es : List LogEntry). rests_on es message ≡ true) (sym (take_all (length n.entries) n.entries (omega arith))) rests });
+      waits = is.waits;
+    }
+
+-- an entry is recorded
+rests-recording : {S : Type 0} (n : Node S) (e : LogEntry) → NodeRests n → NodeRests (recording n e)
+rests-recording n e is = record { held = holds-more n.id n.entries (e ∷ []) n.held is.held; waits = decided-more (next_place n) n.entries (e ∷ []) n.waiting is.waits }
+
+-- a reply rests on the decision of its place
+rests-reply : (entries : List LogEntry) (id place : ℕ) (batch : List Request) (l : TableLine) → IsDecided place entries (Some batch)
+    → l.place ≡ place → (q : Request) → slice_get batch l.index ≡ Some q → q.client ≡ l.client → q.seq ≡ l.seq → rests_on entries (reply_of id l) ≡ true
+rests-reply entries id place batch l decided at q there client seq =
+    decided _ (λ slot voters same. and_intro (slot.place == l.place) _ (eq-eqb slot.place l.place (same ∙ sym at))
+    (rw there (and_intro (q.client == l.client) (q.seq == l.seq) (eq-eqb q.client l.client client) (eq-eqb q.seq l.seq seq))))
+
+-- replies are held
+onward-replying : {S : Type 0} (n : Node S) (lines : List TableLine) → Each (λ l. rests_on n.entries (reply_of n.id l) ≡ true) lines → NodeRests n → Onward n (replying n lines)
+onward-replying n [] each is = onward-same n is
+onward-replying n (l ∷ ls) each is =
+    let f = onward-replying (holding n (targets.Client l.client) (reply_of n.id l)) ls each.1
+        (rests-holding n (targets.Client l.client) (reply_of n.id l) (refl, refl) each.0 is) in
+    record { id = f.id; firm = f.firm; more = f.more; book = f.book; rests = f.rests }
+
+-- the replies to a batch that is decided rest on its decision
+replies_rest : {S : Type 0} (m : Meaning S) (n : Node S) (batch : List Request) → IsDecided (next_place n) n.entries (Some batch)
+    → Each (λ l. rests_on n.entries (reply_of n.id l) ≡ true) (lines_to_answer m n batch)
+replies_rest m n batch decided =
+    either (λ (ls : List TableLine). Each (λ l. rests_on n.entries (reply_of n.id l) ≡ true) ls) (is_member (view_of n) n.id) (executed_lines m n.replica batch) []
+    (each_weaker (OfRequest (at_next n.replica) 0 batch) (λ l. rests_on n.entries (reply_of n.id l) ≡ true)
+    (λ l of. rests-reply n.entries n.id (next_place n) batch l decided of.at_place of.request
+    (subst (λ (i : ℕ). slice_get batch i ≡ Some of.request) (sym (of.at_index ∙ omega arith)) of.there) of.own_client of.own_seq)
+    (executed_lines m n.replica batch) (of_delivered m n.replica batch))
+    tt
+
+-- the batch that waits is delivered
+onward-deliver_batch : {S : Type 0} (m : Meaning S) (n : Node S) (batch : Option (List Request)) → n.waiting ≡ batch → NodeRests n → Onward n (deliver_batch m n batch)
+unfolding deliver_batch
+onward-deliver_batch m n None at is = onward-same n is
+onward-deliver_batch m n (Some batch) at is =
+    let decided : IsDecided (next_place n) n.entries (Some batch) = subst (IsDecided (next_place n) n.entries) at is.waits in
+    let f = onward-replying
+        (record n { replica = delivered m n.replica batch; waiting = None; pool = settled (delivered m n.replica batch).table n.pool })
+        (lines_to_answer m n batch) (replies_rest m n batch decided) (record { held = is.held; waits = tt }) in
+    record { id = f.id; firm = f.firm; more = f.more; book = f.book; rests = f.rests }
+
+onward-delivers : {S : Type 0} (m : Meaning S) (n : Node S) → NodeRests n → Onward n (delivers m n)
+unfolding delivers
+onward-delivers m n is = onward-deliver_batch m n n.waiting refl is
+
+-- an arrival is kept
+onward-kept : {S : Type 0} (n : Node S) (message : Message) → NodeRests n → Onward n (kept n message)
+unfolding kept
+onward-kept {S = S} n (Ask q) is =
+    either (λ (x : Node S). Onward n x) (is_next n.replica.table q) (record n { pool = offered n.pool q }) n
+    (record { id = refl; firm = refl; more = []; book = sym (append-nil n.entries); rests = record { held = is.held; waits = is.waits } })
+    (onward-same n is)
+onward-kept n (Propose p) is = record { id = refl; firm = refl; more = []; book = sym (append-nil n.entries); rests = record { held = is.held; waits = is.waits } }
+onward-kept n (Vote b) is = record { id = refl; firm = refl; more = []; book = sym (append-nil n.entries); rests = record { held = is.held; waits = is.waits } }
+onward-kept n (Reply a) is = onward-same n is
+
+-- a batch is proposed
+onward-propose_batch : {S : Type 0} (n : Node S) (batch : Option (List Request)) → NodeRests n → Onward n (propose_batch n batch)
+unfolding propose_batch
+onward-propose_batch n None is = onward-same n is
+onward-propose_batch n (Some batch) is =
+    let r = rests-holding (record n { proposed = n.proposed ++ open_slot n ∷ [] }) targets.View (Propose (record { signer = n.id; slot = open_slot n; batch = batch })) refl refl
+        (record { held = is.held; waits = is.waits }) in
+    record { id = refl; firm = refl; more = []; book = sym (append-nil n.entries); rests = record { held = r.held; waits = r.waits } }
+
+-- a batch is written, and the vote rests on the entry
+onward-write_batch : {S : Type 0} (n : Node S) (batch : Option (List Request)) → NodeRests n → Onward n (write_batch n batch)
+unfolding write_batch
+onward-write_batch n None is = onward-same n is
+onward-write_batch n (Some batch) is =
+    let entry : LogEntry = Wrote (open_slot n) (digest_of batch) in
+    let r = rests-holding (recording n entry) targets.View (ballot n Write batch) refl
+        (end_passes _ n.entries entry (and_intro (same_slot (open_slot n) (open_slot n)) (same_digest batch batch) (slot-itself (open_slot n)) (batch-itself batch)))
+        (rests-recording n entry is) in
+    record { id = refl; firm = refl; more = entry ∷ []; book = refl; rests = record { held = r.held; waits = r.waits } }
+
+-- so is one that is accepted
+onward-accept_batch : {S : Type 0} (n : Node S) (batch : Option (List Request)) → NodeRests n → Onward n (accept_batch n batch)
+unfolding accept_batch
+onward-accept_batch n None is = onward-same n is
+onward-accept_batch n (Some batch) is =
+    let entry : LogEntry = Accepted (open_slot n) (backers n Write batch) batch in
+    let r = rests-holding (recording n entry) targets.View (ballot n Accept batch) refl
+        (end_passes _ n.entries entry (and_intro (same_slot (open_slot n) (open_slot n)) (same_digest batch batch) (slot-itself (open_slot n)) (batch-itself batch)))
+        (rests-recording n entry is) in
+    record { id = refl; firm = refl; more = entry ∷ []; book = refl; rests = record { held = r.held; waits = r.waits } }
+
+-- a batch is decided, and waits
+onward-decide_batch : {S : Type 0} (n : Node S) (batch : Option (List Request)) → NodeRests n → Onward n (decide_batch n batch)
+unfolding decide_batch
+onward-decide_batch n None is = onward-same n is
+onward-decide_batch n (Some batch) is =
+    let entry : LogEntry = Decided (open_slot n) (backers n Accept batch) batch in
+    let r = rests-recording n entry is in
+    record {
+      id = refl;
+      firm = refl;
+      more = entry ∷ [];
+      book = refl;
+      rests = record { held = r.held; waits = λ p all. end_passes p n.entries entry (all (open_slot n) (backers n Accept batch) refl) };
+    }
+
+-- the voting rules
+onward-votes : {S : Type 0} (n : Node S) → NodeRests n → Onward n (votes n)
+unfolding votes proposes writes accepts
+onward-votes n is =
+    let proposed : Onward n (proposes n) = onward-propose_batch n (proposing n) is in
+    let wrote : Onward (proposes n) (writes (proposes n)) = onward-write_batch (proposes n) (writing (proposes n)) proposed.rests in
+    let accepted : Onward (writes (proposes n)) (votes n) = onward-accept_batch (writes (proposes n)) (accepting (writes (proposes n))) wrote.rests in
+    onward-then n (proposes n) (votes n) proposed (onward-then (proposes n) (writes (proposes n)) (votes n) wrote accepted)
+
+-- a pass of the rules
+onward-passes : {S : Type 0} (n : Node S) → NodeRests n → Onward n (passes n)
+unfolding passes decides
+onward-passes n is =
+    let voted : Onward n (votes n) = onward-votes n is in
+    onward-then n (votes n) (passes n) voted (onward-decide_batch (votes n) (deciding (votes n)) voted.rests)
+
+-- an arrival and its pass
+onward-arrival : {S : Type 0} (n : Node S) (message : Message) (why : Option Why) → NodeRests n → Onward n (arrival_outcome n message why).node
+onward-arrival n message None is =
+    let f : Onward n (kept n message) = onward-kept n message is in
+    onward-then n (kept n message) (passes (kept n message)) f (onward-passes (kept n message) f.rests)
+onward-arrival n message (Some why) is = onward-same n is
+
+-- the node as an event finds it: firmness is what the event says
+abbrev pub told_firm : {S : Type 0} → Node S → NodeEvent → Node S
+told_firm n (Arrive message) = n
+told_firm n Tick = n
+told_firm n Deliver = n
+told_firm n (Firm count) = record n { firm = count }
+
+-- a step
+pub onward-step : {S : Type 0} (m : Meaning S) (n : Node S) (event : NodeEvent) → NodeRests n → Onward (told_firm n event) (step_of m n event).node
+unfolding step_of
+onward-step m n (Arrive message) is = onward-arrival n message (why_dropped n message) is
+onward-step m n Tick is = onward-passes n is
+onward-step m n Deliver is =
+    let f : Onward n (delivers m n) = onward-delivers m n is in
+    onward-then n (delivers m n) (passes (delivers m n)) f (onward-passes (delivers m n) f.rests)
+onward-step m n (Firm count) is = onward-passes (record n { firm = count }) (record { held = is.held; waits = is.waits })
+
+-- what is firm has left
+pub rests-released : {S : Type 0} (n : Node S) → NodeRests n → NodeRests (released n)
+rests-released n is = record { held = each-staying (HoldsRight n.id n.entries) n.firm n.held is.held; waits = is.waits }
+
+-- a node that has opened holds nothing
+pub rests-opened : {S : Type 0} (m : Meaning S) (id : ℕ) (view : View) → NodeRests (opened m id view)
+rests-opened m id view = record { held = tt; waits = tt }

@@ -1,0 +1,89 @@
+-- Who sends a message, and the entries on which it rests.
+use Rattle.std.specs.Prelude.{ℕ, ◌≤◌, ◌==◌, Bool, true, false, ◌&&◌, List, length, filter, slice_get}
+use Rattle.std.specs.List.{list_any}
+use Rattle.smart_base.specs.Lists.{Each, same_bytes}
+use Rattle.smart_base.specs.Views.{quorum}
+use Rattle.smart_base.specs.declared.view.View.{View}
+use Rattle.smart_messages.specs.Equality.{same_slot, same_digest, digest_of}
+use Rattle.smart_messages.specs.declared.message.VoteKind.{VoteKind}
+use Rattle.smart_messages.specs.declared.message.VoteKind.TheVariants.{Write, Accept}
+use Rattle.smart_messages.specs.declared.message.Ballot.{Ballot}
+use Rattle.smart_messages.specs.declared.message.Answer.{Answer}
+use Rattle.smart_messages.specs.declared.message.Message.{Message}
+use Rattle.smart_messages.specs.declared.message.Message.TheVariants.{Ask, Propose, Vote, Reply}
+use Rattle.smart_messages.specs.declared.entry.LogEntry.{LogEntry}
+use Rattle.smart_messages.specs.declared.entry.LogEntry.TheVariants.{Opened, Wrote, Accepted, Decided}
+use Rattle.node_rules.specs.declared.node.Target.{Target}
+use Rattle.node_rules.specs.declared.node.Target.TheVariants as targets
+use Rattle.world_rules.specs.Clients.{is_waited_for}
+use Rattle.world_rules.specs.Worlds.{World}
+use Rattle.world_rules.specs.declared.client.Acceptance.{Acceptance}
+use Rattle.world_rules.specs.declared.message.Origin.{Origin}
+use Rattle.world_rules.specs.declared.message.Origin.TheVariants as origins
+use Rattle.world_rules.specs.declared.message.Sent.{Sent}
+
+-- the replies behind an acceptance
+
+-- a member sent it
+abbrev pub is_of : ℕ → Origin → Bool
+is_of member (origins.Node id) = id == member
+is_of member (origins.Client id) = false
+
+-- it is for a client
+abbrev pub is_for : ℕ → Target → Bool
+is_for client targets.View = false
+is_for client (targets.Client id) = id == client
+
+-- a message is the reply that was accepted
+abbrev pub is_reply : Acceptance → Message → Bool
+is_reply a (Ask q) = false
+is_reply a (Propose p) = false
+is_reply a (Vote b) = false
+is_reply a (Reply r) =
+    (r.client == a.request.client) && (r.seq == a.request.seq) && (r.view == a.view) && (r.place == a.place) && (r.index == a.index) && same_bytes r.reply a.reply
+
+-- a member has sent the client the reply that it accepted
+abbrev pub has_replied : List Sent → Acceptance → ℕ → Bool
+has_replied sent a member = list_any (λ s. is_of member s.origin && is_for a.request.client s.to && is_reply a s.message) sent
+
+-- the members of the view that have are a quorum
+abbrev pub QuorumReplied : View → List Sent → Acceptance → Type 0
+QuorumReplied view sent a = quorum view ≤ length (filter (has_replied sent a) view.members)
+
+-- of each reply that a client accepted
+pub record QuorumsReplied {S : Type 0} (w : World S) : Type 0 where
+  pub each : Each (QuorumReplied w.view w.sent) w.accepted
+
+-- the entries behind a message
+
+-- an entry writes for what a vote names
+abbrev pub writes_for : Ballot → LogEntry → Bool
+writes_for b Opened = false
+writes_for b (Wrote s digest) = same_slot s b.slot && same_digest digest b.digest
+writes_for b (Accepted s voters batch) = false
+writes_for b (Decided s voters batch) = false
+
+-- an entry accepts what a vote names
+abbrev pub accepts_for : Ballot → LogEntry → Bool
+accepts_for b Opened = false
+accepts_for b (Wrote s digest) = false
+accepts_for b (Accepted s voters batch) = same_slot s b.slot && same_digest (digest_of batch) b.digest
+accepts_for b (Decided s voters batch) = false
+
+abbrev pub votes_for : Ballot → VoteKind → LogEntry → Bool
+votes_for b Write entry = writes_for b entry
+votes_for b Accept entry = accepts_for b entry
+
+-- an entry decides the request that a reply answers, at the reply's place and index
+abbrev pub decides_for : Answer → LogEntry → Bool
+decides_for a Opened = false
+decides_for a (Wrote s digest) = false
+decides_for a (Accepted s voters batch) = false
+decides_for a (Decided s voters batch) = (s.place == a.place) && is_waited_for (slice_get batch a.index) a
+
+-- entries have the one on which a message rests: of a vote its own, of a reply the decision of its request
+abbrev pub rests_on : List LogEntry → Message → Bool
+rests_on entries (Ask q) = true
+rests_on entries (Propose p) = true
+rests_on entries (Vote b) = list_any (votes_for b b.kind) entries
+rests_on entries (Reply a) = list_any (decides_for a) entries
