@@ -19,7 +19,7 @@ use Rattle.smart_top.specs.Runs.{IsLeft, Ends, WroteLines, WroteFront, RunEnd}
 use Rattle.smart_top.proofs.ReadingLaws.{text-append, front_behind, whole-feed, lines-front}
 use Rattle.smart_top.proofs.ReadingCores.{trimmed_reading, core-after-unread, core-end, core-last}
 use Rattle.smart_top.proofs.Feeding.{appends-then}
-use Rattle.smart_top.proofs.Ending.{Begins, one_list, same-text, told-lines, broken-front, refused-run, refused-ends}
+use Rattle.smart_top.proofs.Ending.{Begins, played, same-text, told-lines, broken-front, refused-run, refused-ends}
 
 -- the lines of an input that were all taken
 
@@ -65,7 +65,7 @@ close-ended {S = S} m left left' written now now' wants wants' bytes input line 
       status_is = ap (λ (q : Reading S). end_of q) read ∙ core-end r;
       text = subst (λ text. Appends written now' text) (all-told m written now bytes input line script all taken)
           (appends-then written now now' (text_after (core_step m) m bytes) (text_of (end_told script.count script.play)) taken.text told);
-      one_list = one_list m (script_lines input);
+      played = played m (script_lines input);
     })
 
 -- a run whose end was not written
@@ -88,7 +88,7 @@ close-broken m left written now now' bytes input line script count all is_left t
       count = some.0;
       text = subst (λ text. Appends written now' text) (sym some.1 ∙ ap (λ text. take some.0 text) whole)
           (appends-then written now now' (text_after (core_step m) m bytes) (take count (text_of (end_told script.count script.play))) taken.text told);
-      one_list = one_list m (script_lines input);
+      played = played m (script_lines input);
     }
 
 -- a run that stopped at its end

@@ -19,19 +19,20 @@ use Rattle.smart_top.specs.declared.reader.Halt.{Halt}
 use Rattle.smart_top.specs.declared.reader.Halt.TheVariants as halts
 use Rattle.smart_top.specs.Readings.{Reading, unread, whole_lines, rest_of, script_lines, reading_after, told_after, script_read, end_of, last_told, end_by, refused_end, transcript}
 use Rattle.smart_top.specs.Feeds.{text_after, script_after, HasTaken, HasRefused, HasBroken, HasTold, Within, Halted, GoesOn, halt_end}
-use Rattle.smart_top.specs.Runs.{IsLeft, OneListHolds, Ends, WroteAllRead, WroteLines, WroteFront, RunEnd}
+use Rattle.smart_top.specs.Runs.{IsLeft, ArePlayed, Ends, WroteAllRead, WroteLines, WroteFront, RunEnd}
 use Rattle.smart_top.proofs.ReadingLaws.{after-append, told-append, after-refused, told_after-refused, text-append, lines-front, front_of}
 use Rattle.smart_top.proofs.ReadingCores.{core-after-unread, core-told-unread, core-refused, core-count}
 use Rattle.smart_top.proofs.ReadingPlays.{one_list_holds}
+use Rattle.smart_top.proofs.ReadingTells.{tells-read}
 
 -- the whole lines of some bytes are the first lines of an input
 pub record Begins (bytes input : List ℕ) : Type 0 where
   pub more : List (List ℕ)
   pub split : script_lines input ≡ whole_lines [] bytes ++ more
 
--- one list holds of what was read
-pub one_list : {S : Type 0} (m : Meaning S) (ls : List (List ℕ)) → OneListHolds m (reading_after (step_of m) m unread ls).play
-one_list m ls = one_list_holds m (λ view distinct lines. one_list-throughout m view distinct lines) ls
+-- lines that were read are played
+pub played : {S : Type 0} (m : Meaning S) (ls : List (List ℕ)) → ArePlayed m ls
+played m ls = record { tell = tells-read m ls; one_list = one_list_holds m (λ view distinct lines. one_list-throughout m view distinct lines) ls }
 
 -- the text that cores tell is the text that nodes tell
 pub same-text : {S : Type 0} (m : Meaning S) (bytes : List ℕ) → text_after (core_step m) m bytes ≡ text_after (step_of m) m bytes
@@ -62,7 +63,7 @@ broken-front m left written now bytes input b is_left broken =
       count = some.0;
       text = subst (λ text. Appends written now text)
           (ap (λ text. take broken.count text) (same-text m bytes) ∙ (sym some.1 ∙ ap (λ text. take some.0 text) (sym front.1))) broken.text;
-      one_list = one_list m (script_lines input);
+      played = played m (script_lines input);
     }
 
 -- a run that told whole lines has written the transcript of the input's first lines
@@ -76,7 +77,7 @@ told-lines m left written now bytes input b is_left told =
       rest = b.more;
       split = b.split;
       text = subst (λ text. Appends written now text) (same-text m bytes) told.text;
-      one_list = one_list m (whole_lines [] bytes);
+      played = played m (whole_lines [] bytes);
     }
 
 -- a refused line's status depends on the refusal and the count alone
@@ -116,7 +117,7 @@ refused-ends {S = S} m left written now bytes input script b is_left refused =
       is_left = is_left;
       status_is = end-refused script r refused.is why (refused.count ∙ core-count m whole) ∙ sym (ap (λ (q : Reading S). end_of q) read);
       text = subst (λ x. Appends written now x) (same-text m bytes ∙ sym text) refused.text;
-      one_list = one_list m (script_lines input);
+      played = played m (script_lines input);
     }
 
 -- a refused line ends a run by its status
@@ -182,12 +183,13 @@ halted-end m left left' written now wants wants' bytes piece script halts.NoMemo
 -- a read that failed
 pub read-failed : {S : Type 0} (m : Meaning S) (left now_left left' written now : Option (List ℕ)) (bytes line : List ℕ) (script : Reading S) → Keeps now_left left'
     → GoesOn (core_step m) m bytes left now_left written now line script → WroteAllRead m left left' written now
-read-failed m left now_left left' written now bytes line script keeps g =
+read-failed {S = S} m left now_left left' written now bytes line script keeps g =
     record {
       read = bytes;
       consumed = consumes-keeps left now_left left' bytes g.consumed keeps;
+      going = sym (core-refused m (whole_lines [] bytes)) ∙ (ap (λ (r : Reading S). r.refused) (sym g.taken.script_is) ∙ g.taken.going);
       text = subst (λ text. Appends written now text) (same-text m bytes) g.taken.text;
-      one_list = one_list m (whole_lines [] bytes);
+      played = played m (whole_lines [] bytes);
     }
 
 -- a read that wanted memory

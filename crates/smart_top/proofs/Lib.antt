@@ -1,6 +1,7 @@
 pub mod ReadingLaws
 pub mod ReadingCores
 pub mod ReadingPlays
+pub mod ReadingTells
 pub mod Feeding
 pub mod Ending
 pub mod Closing
