@@ -4,9 +4,8 @@
 use smart_io::standard::{StdSink, StdSource};
 use smart_top::status::{Status, report};
 use smart_top::top::run;
-use std::env;
-use std::io;
 use std::process::ExitCode;
+use std::{env, io};
 
 /// The words after the program's name. Words that are not UTF-8 are no command.
 fn program_words(rt: &HostRuntime) -> Result<Vec<String>, Status> {

@@ -165,7 +165,7 @@ onward-replying : {S : Type 0} (n : Node S) (lines : List TableLine) → Each (�
 onward-replying n [] each is = onward-same n is
 onward-replying n (l ∷ ls) each is =
     let f = onward-replying (holding n (targets.Client l.client) (reply_of n.id l)) ls each.1
-        (rests-holding n (targets.Client l.client) (reply_of n.id l) (refl, refl) each.0 is) in
+    (rests-holding n (targets.Client l.client) (reply_of n.id l) (refl, refl) each.0 is) in
     record { id = f.id; firm = f.firm; more = f.more; book = f.book; rests = f.rests }
 
 -- the replies to a batch that is decided rest on its decision
@@ -186,8 +186,8 @@ onward-deliver_batch m n None at is = onward-same n is
 onward-deliver_batch m n (Some batch) at is =
     let decided : IsDecided (next_place n) n.entries (Some batch) = subst (IsDecided (next_place n) n.entries) at is.waits in
     let f = onward-replying
-        (record n { replica = delivered m n.replica batch; waiting = None; pool = settled (delivered m n.replica batch).table n.pool })
-        (lines_to_answer m n batch) (replies_rest m n batch decided) (record { held = is.held; waits = tt }) in
+    (record n { replica = delivered m n.replica batch; waiting = None; pool = settled (delivered m n.replica batch).table n.pool })
+    (lines_to_answer m n batch) (replies_rest m n batch decided) (record { held = is.held; waits = tt }) in
     record { id = f.id; firm = f.firm; more = f.more; book = f.book; rests = f.rests }
 
 onward-delivers : {S : Type 0} (m : Meaning S) (n : Node S) → NodeRests n → Onward n (delivers m n)
@@ -211,7 +211,7 @@ unfolding propose_batch
 onward-propose_batch n None is = onward-same n is
 onward-propose_batch n (Some batch) is =
     let r = rests-holding (record n { proposed = n.proposed ++ open_slot n ∷ [] }) targets.View (Propose (record { signer = n.id; slot = open_slot n; batch = batch })) refl refl
-        (record { held = is.held; waits = is.waits }) in
+    (record { held = is.held; waits = is.waits }) in
     record { id = refl; firm = refl; more = []; book = sym (append-nil n.entries); rests = record { held = r.held; waits = r.waits } }
 
 -- a batch is written, and the vote rests on the entry
@@ -221,8 +221,8 @@ onward-write_batch n None is = onward-same n is
 onward-write_batch n (Some batch) is =
     let entry : LogEntry = Wrote (open_slot n) (digest_of batch) in
     let r = rests-holding (recording n entry) targets.View (ballot n Write batch) refl
-        (end_passes _ n.entries entry (and_intro (same_slot (open_slot n) (open_slot n)) (same_digest batch batch) (slot-itself (open_slot n)) (batch-itself batch)))
-        (rests-recording n entry is) in
+    (end_passes _ n.entries entry (and_intro (same_slot (open_slot n) (open_slot n)) (same_digest batch batch) (slot-itself (open_slot n)) (batch-itself batch)))
+    (rests-recording n entry is) in
     record { id = refl; firm = refl; more = entry ∷ []; book = refl; rests = record { held = r.held; waits = r.waits } }
 
 -- so is one that is accepted
@@ -232,8 +232,8 @@ onward-accept_batch n None is = onward-same n is
 onward-accept_batch n (Some batch) is =
     let entry : LogEntry = Accepted (open_slot n) (backers n Write batch) batch in
     let r = rests-holding (recording n entry) targets.View (ballot n Accept batch) refl
-        (end_passes _ n.entries entry (and_intro (same_slot (open_slot n) (open_slot n)) (same_digest batch batch) (slot-itself (open_slot n)) (batch-itself batch)))
-        (rests-recording n entry is) in
+    (end_passes _ n.entries entry (and_intro (same_slot (open_slot n) (open_slot n)) (same_digest batch batch) (slot-itself (open_slot n)) (batch-itself batch)))
+    (rests-recording n entry is) in
     record { id = refl; firm = refl; more = entry ∷ []; book = refl; rests = record { held = r.held; waits = r.waits } }
 
 -- a batch is decided, and waits
