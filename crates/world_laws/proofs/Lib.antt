@@ -32,3 +32,4 @@ pub mod Settles
 pub mod Example
 pub mod Onward
 pub mod Replied
+pub mod Borne

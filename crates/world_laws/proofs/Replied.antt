@@ -27,7 +27,7 @@ use Rattle.world_rules.specs.declared.line.Line.{Line}
 use Rattle.world_rules.specs.declared.message.Origin.{Origin}
 use Rattle.world_rules.specs.declared.message.Origin.TheVariants as origins
 use Rattle.world_rules.specs.declared.message.Sent.{Sent}
-use Rattle.world_laws.specs.Sending.{is_of, is_for, is_reply, has_replied, QuorumReplied, QuorumsReplied}
+use Rattle.world_laws.specs.Sending.{IsOwn, is_of, is_for, is_reply, has_replied, QuorumReplied, QuorumsReplied}
 use Rattle.world_laws.proofs.Lists.{and_true, either, each_end, each_weaker, each_set, each_get}
 use Rattle.world_laws.proofs.Equal.{and_intro}
 use Rattle.world_laws.proofs.Keeps.{HasMessage, Keeps, has_end, keeps-world_after}
@@ -36,7 +36,7 @@ use Rattle.world_laws.proofs.Authentic.{each-leaving}
 use Rattle.world_laws.proofs.Said.{or_true}
 use Rattle.world_laws.proofs.Says.{or_left, or_right}
 use Rattle.world_laws.proofs.Follows.{follows-step}
-use Rattle.world_laws.proofs.Onward.{IsOwn, HoldsRight, NodeRests, onward-step, rests-released, rests-opened}
+use Rattle.world_laws.proofs.Onward.{HoldsRight, NodeRests, onward-step, rests-released, rests-opened}
 
 -- a reply that a client keeps was sent, and is to the request that waits
 pub record IsKept (sent : List Sent) (waiting : Option Request) (r : Answer) : Type 0 where

@@ -1,5 +1,5 @@
 -- Who sends a message, and the entries on which it rests.
-use Rattle.std.specs.Prelude.{ℕ, ◌≤◌, ◌==◌, Bool, true, false, ◌&&◌, List, length, filter, slice_get}
+use Rattle.std.specs.Prelude.{ℕ, ◌≡◌, ◌≤◌, ◌==◌, Bool, true, false, ◌&&◌, List, length, filter, take, slice_get}
 use Rattle.std.specs.List.{list_any}
 use Rattle.smart_base.specs.Lists.{Each, same_bytes}
 use Rattle.smart_base.specs.Views.{quorum}
@@ -13,14 +13,23 @@ use Rattle.smart_messages.specs.declared.message.Message.{Message}
 use Rattle.smart_messages.specs.declared.message.Message.TheVariants.{Ask, Propose, Vote, Reply}
 use Rattle.smart_messages.specs.declared.entry.LogEntry.{LogEntry}
 use Rattle.smart_messages.specs.declared.entry.LogEntry.TheVariants.{Opened, Wrote, Accepted, Decided}
+use Rattle.node_rules.specs.Nodes.{Node}
+use Rattle.node_rules.specs.Steps.{leaving}
 use Rattle.node_rules.specs.declared.node.Target.{Target}
 use Rattle.node_rules.specs.declared.node.Target.TheVariants as targets
 use Rattle.world_rules.specs.Clients.{is_waited_for}
-use Rattle.world_rules.specs.Worlds.{World}
+use Rattle.world_rules.specs.Worlds.{Host, World}
 use Rattle.world_rules.specs.declared.client.Acceptance.{Acceptance}
 use Rattle.world_rules.specs.declared.message.Origin.{Origin}
 use Rattle.world_rules.specs.declared.message.Origin.TheVariants as origins
 use Rattle.world_rules.specs.declared.message.Sent.{Sent}
+
+-- a message names who sends it, and a reply goes to the client that it names
+abbrev pub IsOwn : Origin → Target → Message → Type 0
+IsOwn origin to (Ask q) = origin ≡ origins.Client q.client
+IsOwn origin to (Propose p) = origin ≡ origins.Node p.signer
+IsOwn origin to (Vote b) = origin ≡ origins.Node b.signer
+IsOwn origin to (Reply a) = (origin ≡ origins.Node a.signer) × (to ≡ targets.Client a.client)
 
 -- the replies behind an acceptance
 
@@ -87,3 +96,17 @@ rests_on entries (Ask q) = true
 rests_on entries (Propose p) = true
 rests_on entries (Vote b) = list_any (votes_for b b.kind) entries
 rests_on entries (Reply a) = list_any (decides_for a) entries
+
+-- the messages that leave a node rest on entries that are firm
+abbrev pub LeavesFirm : {S : Type 0} → Node S → Type 0
+LeavesFirm n = Each (λ h. rests_on (take n.firm n.entries) h.message ≡ true) (leaving n.firm n.held)
+
+-- a message of a member rests on entries that are firm at that member's node
+abbrev pub IsBorne : {S : Type 0} → List (Host S) → Origin → Message → Type 0
+IsBorne hosts (origins.Node id) message = list_any (λ h. (h.node.id == id) && rests_on (take h.node.firm h.node.entries) message) hosts ≡ true
+IsBorne hosts (origins.Client id) message = Unit {0}
+
+-- each message that was sent names who sent it, and rests on entries that are firm
+pub record SentFirm {S : Type 0} (w : World S) : Type 0 where
+  pub own : Each (λ s. IsOwn s.origin s.to s.message) w.sent
+  pub borne : Each (λ s. IsBorne w.hosts s.origin s.message) w.sent
