@@ -201,12 +201,12 @@ live-takes_due step P k i w None may p = p
 live-takes_due step P k i w (Some event) may p = live-node_takes step P k i event w may p
 
 -- a node settles once
-live-settle_once : {S : Type 0} (step : Node S → NodeEvent → Outcome S) (P : World S → Type 0) → KeepsLive step P → (i : ℕ) (w : World S) → P w → P (settle_once step i w)
+pub live-settle_once : {S : Type 0} (step : Node S → NodeEvent → Outcome S) (P : World S → Type 0) → KeepsLive step P → (i : ℕ) (w : World S) → P w → P (settle_once step i w)
 unfolding settle_once
 live-settle_once step P k i w p = live-takes_due step P k i w (option_and_then due (slice_get w.hosts i)) (due_may_be w (slice_get w.hosts i)) p
 
 -- a node settles
-live-settle : {S : Type 0} (step : Node S → NodeEvent → Outcome S) (P : World S → Type 0) → KeepsLive step P → (i : ℕ) (w : World S) → P w → P (settle step i w)
+pub live-settle : {S : Type 0} (step : Node S → NodeEvent → Outcome S) (P : World S → Type 0) → KeepsLive step P → (i : ℕ) (w : World S) → P w → P (settle step i w)
 live-settle step P k i w p = until_rest_keeps P (settle_once step i) (live-settle_once step P k i) w p
 
 -- all nodes settle

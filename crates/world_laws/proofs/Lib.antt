@@ -33,3 +33,6 @@ pub mod Settles
 pub mod Example
 pub mod Onward
 pub mod Replied
+pub mod Borne
+pub mod Voters
+pub mod WritesOnce

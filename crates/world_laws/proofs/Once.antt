@@ -66,12 +66,12 @@ entries-propose_batch n (Some batch) = refl
 -- rules that record an entry
 
 -- how many pass with one more at the end
-passing-end : {A : Type 0} (p : A → Bool) (xs : List A) (x : A) → passing p (xs ++ x ∷ []) ≡ passing p xs + passing p (x ∷ [])
+pub passing-end : {A : Type 0} (p : A → Bool) (xs : List A) (x : A) → passing p (xs ++ x ∷ []) ≡ passing p xs + passing p (x ∷ [])
 passing-end p [] x = omega arith
 passing-end p (y ∷ xs) x = omega (arith, passing-end p xs x)
 
 -- a test counted
-abbrev passed : Bool → ℕ
+abbrev pub passed : Bool → ℕ
 passed b = cond b 1 0
 
 -- an entry that accepts nothing
@@ -79,7 +79,7 @@ pub once_more : (entries : List LogEntry) (entry : LogEntry) → ((slot : Slot) 
 once_more entries entry none once slot = omega (arith, passing-end (is_accepted slot) entries entry, ap (λ b. passed b) (none slot), once slot)
 
 -- where none passes, the count is 0
-none_passes : {A : Type 0} (p : A → Bool) (xs : List A) → list_any p xs ≡ false → passing p xs ≡ 0
+pub none_passes : {A : Type 0} (p : A → Bool) (xs : List A) → list_any p xs ≡ false → passing p xs ≡ 0
 none_passes p [] none = refl
 none_passes p (x ∷ xs) none =
     let parts = or_false (p x) (list_any p xs) none in

@@ -27,9 +27,8 @@ use Rattle.node_rules.specs.declared.node.Why.{Why}
 use Rattle.node_rules.specs.declared.node.Held.{Held}
 use Rattle.node_rules.specs.declared.node.Target.{Target}
 use Rattle.node_rules.specs.declared.node.Target.TheVariants as targets
-use Rattle.world_rules.specs.declared.message.Origin.{Origin}
 use Rattle.world_rules.specs.declared.message.Origin.TheVariants as origins
-use Rattle.world_laws.specs.Sending.{votes_for, decides_for, rests_on}
+use Rattle.world_laws.specs.Sending.{IsOwn, votes_for, decides_for, rests_on}
 use Rattle.world_laws.proofs.Lists.{either, each_end, each_weaker}
 use Rattle.world_laws.proofs.Equal.{and_intro, slot-itself, batch-itself}
 use Rattle.world_laws.proofs.Executions.{OfRequest, of_delivered}
@@ -85,13 +84,6 @@ rests-more xs ys more (Vote b) is = more (votes_for b b.kind) is
 rests-more xs ys more (Reply a) is = more (decides_for a) is
 
 -- nodes
-
--- a message names who sends it, and a reply goes to the client that it names
-abbrev pub IsOwn : Origin → Target → Message → Type 0
-IsOwn origin to (Ask q) = origin ≡ origins.Client q.client
-IsOwn origin to (Propose p) = origin ≡ origins.Node p.signer
-IsOwn origin to (Vote b) = origin ≡ origins.Node b.signer
-IsOwn origin to (Reply a) = (origin ≡ origins.Node a.signer) × (to ≡ targets.Client a.client)
 
 -- a held message is its node's own, and rests on the entries that it waits for
 pub record HoldsRight (id : ℕ) (entries : List LogEntry) (h : Held) : Type 0 where

@@ -1,10 +1,11 @@
 -- Who sends a message, and the entries on which it rests.
-use Rattle.std.specs.Prelude.{ℕ, ◌≤◌, ◌==◌, Bool, true, false, ◌&&◌, List, length, filter, slice_get}
+use Rattle.std.specs.Prelude.{ℕ, ◌≡◌, ◌≤◌, ◌==◌, Bool, true, false, ◌&&◌, List, [], ◌∷◌, length, filter, take, slice_get}
 use Rattle.std.specs.List.{list_any}
 use Rattle.smart_base.specs.Lists.{Each, same_bytes}
 use Rattle.smart_base.specs.Views.{quorum}
 use Rattle.smart_base.specs.declared.view.View.{View}
 use Rattle.smart_messages.specs.Equality.{same_slot, same_digest, digest_of}
+use Rattle.smart_messages.specs.declared.message.Request.{Request}
 use Rattle.smart_messages.specs.declared.message.VoteKind.{VoteKind}
 use Rattle.smart_messages.specs.declared.message.VoteKind.TheVariants.{Write, Accept}
 use Rattle.smart_messages.specs.declared.message.Ballot.{Ballot}
@@ -13,16 +14,48 @@ use Rattle.smart_messages.specs.declared.message.Message.{Message}
 use Rattle.smart_messages.specs.declared.message.Message.TheVariants.{Ask, Propose, Vote, Reply}
 use Rattle.smart_messages.specs.declared.entry.LogEntry.{LogEntry}
 use Rattle.smart_messages.specs.declared.entry.LogEntry.TheVariants.{Opened, Wrote, Accepted, Decided}
+use Rattle.node_rules.specs.Nodes.{Node}
+use Rattle.node_rules.specs.Steps.{leaving}
 use Rattle.node_rules.specs.declared.node.Target.{Target}
 use Rattle.node_rules.specs.declared.node.Target.TheVariants as targets
-use Rattle.world_rules.specs.Clients.{is_waited_for}
-use Rattle.world_rules.specs.Worlds.{World}
+use Rattle.world_rules.specs.Clients.{is_waited_for, heard, after_heard}
+use Rattle.world_rules.specs.Worlds.{Host, World}
+use Rattle.world_rules.specs.declared.client.Client.{Client}
 use Rattle.world_rules.specs.declared.client.Acceptance.{Acceptance}
 use Rattle.world_rules.specs.declared.message.Origin.{Origin}
 use Rattle.world_rules.specs.declared.message.Origin.TheVariants as origins
 use Rattle.world_rules.specs.declared.message.Sent.{Sent}
 
+-- a message names who sends it, and a reply goes to the client that it names
+abbrev pub IsOwn : Origin → Target → Message → Type 0
+IsOwn origin to (Ask q) = origin ≡ origins.Client q.client
+IsOwn origin to (Propose p) = origin ≡ origins.Node p.signer
+IsOwn origin to (Vote b) = origin ≡ origins.Node b.signer
+IsOwn origin to (Reply a) = (origin ≡ origins.Node a.signer) × (to ≡ targets.Client a.client)
+
 -- the replies behind an acceptance
+
+-- a message is the reply that was accepted
+abbrev pub is_reply : Acceptance → Message → Bool
+is_reply a (Ask q) = false
+is_reply a (Propose p) = false
+is_reply a (Vote b) = false
+is_reply a (Reply r) =
+    (r.client == a.request.client) && (r.seq == a.request.seq) && (r.view == a.view) && (r.place == a.place) && (r.index == a.index) && same_bytes r.reply a.reply
+
+-- a member has given the reply
+abbrev pub has_given : List Answer → Acceptance → ℕ → Bool
+has_given answers a member = list_any (λ r. (r.signer == member) && is_reply a (Reply r)) answers
+
+-- the client behind answers that it hears one after the other
+abbrev pub hears_all : View → Client → List Answer → Client
+hears_all view c [] = c
+hears_all view c (a ∷ answers) = hears_all view (after_heard c a (heard view c a)) answers
+
+-- what is accepted is to a client's request, and the members of the view that gave it are a quorum
+pub record IsGiven (view : View) (q : Request) (answers : List Answer) (a : Acceptance) : Type 0 where
+  pub request : a.request ≡ q
+  pub enough : quorum view ≤ length (filter (has_given answers a) view.members)
 
 -- a member sent it
 abbrev pub is_of : ℕ → Origin → Bool
@@ -33,14 +66,6 @@ is_of member (origins.Client id) = false
 abbrev pub is_for : ℕ → Target → Bool
 is_for client targets.View = false
 is_for client (targets.Client id) = id == client
-
--- a message is the reply that was accepted
-abbrev pub is_reply : Acceptance → Message → Bool
-is_reply a (Ask q) = false
-is_reply a (Propose p) = false
-is_reply a (Vote b) = false
-is_reply a (Reply r) =
-    (r.client == a.request.client) && (r.seq == a.request.seq) && (r.view == a.view) && (r.place == a.place) && (r.index == a.index) && same_bytes r.reply a.reply
 
 -- a member has sent the client the reply that it accepted
 abbrev pub has_replied : List Sent → Acceptance → ℕ → Bool
@@ -87,3 +112,17 @@ rests_on entries (Ask q) = true
 rests_on entries (Propose p) = true
 rests_on entries (Vote b) = list_any (votes_for b b.kind) entries
 rests_on entries (Reply a) = list_any (decides_for a) entries
+
+-- the messages that leave a node rest on entries that are firm
+abbrev pub LeavesFirm : {S : Type 0} → Node S → Type 0
+LeavesFirm n = Each (λ h. rests_on (take n.firm n.entries) h.message ≡ true) (leaving n.firm n.held)
+
+-- a message of a member rests on entries that are firm at that member's node
+abbrev pub IsBorne : {S : Type 0} → List (Host S) → Origin → Message → Type 0
+IsBorne hosts (origins.Node id) message = list_any (λ h. (h.node.id == id) && rests_on (take h.node.firm h.node.entries) message) hosts ≡ true
+IsBorne hosts (origins.Client id) message = Unit {0}
+
+-- each message that was sent names who sent it, and rests on entries that are firm
+pub record SentFirm {S : Type 0} (w : World S) : Type 0 where
+  pub own : Each (λ s. IsOwn s.origin s.to s.message) w.sent
+  pub borne : Each (λ s. IsBorne w.hosts s.origin s.message) w.sent

@@ -2,10 +2,11 @@
 use Rattle.std.specs.Prelude.{ℕ, ◌+◌, ◌≡◌, List}
 use Rattle.smart_base.specs.declared.view.View.{View}
 use Rattle.smart_messages.specs.declared.message.Message.{Message}
+use Rattle.smart_messages.specs.declared.entry.NodeEvent.TheVariants.{Arrive}
 use Rattle.smart_service.specs.Services.{Meaning}
 use Rattle.node_rules.specs.Steps.{step_of}
 use Rattle.world_rules.specs.Repeats.{repeated, each_from}
-use Rattle.world_rules.specs.Worlds.{World, settle_once, settle, settle_all, gives, flow_once, begun}
+use Rattle.world_rules.specs.Worlds.{World, node_takes, settle_once, settle, settle_all, gives, flow_once, begun}
 use Rattle.world_rules.specs.Plays.{world_after}
 use Rattle.world_rules.specs.declared.line.Line.{Line}
 
@@ -24,3 +25,7 @@ flow_goes m view ls k = repeated (flow_once (step_of m)) k (settle_all (step_of 
 -- a message is given, and the first nodes have taken it and settled
 abbrev pub message_goes : {S : Type 0} → Meaning S → Message → ℕ → World S → World S
 message_goes m message nodes w = each_from (gives (step_of m) message) nodes 0 (record w { mark = w.mark + 1 })
+
+-- a node has taken a message, and for so many turns what was due
+abbrev pub node_goes : {S : Type 0} → Meaning S → Message → ℕ → ℕ → World S → World S
+node_goes m message i k w = repeated (settle_once (step_of m) i) k (node_takes (step_of m) i (Arrive message) w)

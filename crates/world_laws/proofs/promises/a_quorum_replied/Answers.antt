@@ -1,5 +1,8 @@
-use Rattle.world_laws.proofs.Replied.{quorums_replied}
+use Rattle.world_laws.proofs.Replied.{quorum_given, quorums_replied}
 use Rattle.world_laws.proofs.promises.a_quorum_replied.Goals as goal
 
 pub returns : goal.returns
-returns g c = λ view ls. quorums_replied g.S.Service.meaning view ls
+returns g c = record {
+  client = λ view c q answers a accepted is. quorum_given view c q answers a accepted is;
+  world = λ view ls. quorums_replied g.S.Service.meaning view ls;
+}
