@@ -190,3 +190,45 @@ fn lines_have_a_limit(rt: HostRuntime) -> Result<(), Fail> {
     );
     Ok(())
 }
+
+#[test]
+fn a_long_line_is_refused_before_it_ends(rt: HostRuntime) -> Result<(), Fail> {
+    let mut script = Vec::new(rt.alloc());
+    for byte in b"group 4 1\napp count\n" {
+        script.push(*byte)?;
+    }
+    for _ in 0..70000 {
+        script.push(b'a')?;
+    }
+    // The 18th read would fail: the line is refused with the 17th.
+    let long = run_word(&rt, "world", script.as_slice(), &[18], &[])?;
+    assert_eq!(rt;
+        long.status,
+        Status::Script {
+            line: 3,
+            kind: Kind::Word
+        }
+    );
+    assert_eq!(rt;
+        long.written.as_slice(),
+        b"group 4 1 count 1024\n".as_slice()
+    );
+    assert_eq!(rt; long.said.as_slice(), b"smart: line 3: Word\n".as_slice());
+    // A comment of 65,536 bytes counts, and one of a byte more has no meaning.
+    let mut comments = Vec::new(rt.alloc());
+    for length in 65536..65538 {
+        for _ in 0..length {
+            comments.push(b'#')?;
+        }
+        comments.push(b'\n')?;
+    }
+    let second = run_word(&rt, "world", comments.as_slice(), &[], &[])?;
+    assert_eq!(rt;
+        second.status,
+        Status::Script {
+            line: 2,
+            kind: Kind::Word
+        }
+    );
+    Ok(())
+}
