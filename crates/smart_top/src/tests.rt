@@ -1,5 +1,5 @@
 //! Runs over inputs and outputs in memory.
-use crate::status::{Kind, Status};
+use crate::status::{Kind, Status, report};
 use crate::top::run;
 use smart_io::memory::{MemSink, MemSource};
 use std::alloc::Global;
@@ -230,5 +230,15 @@ fn a_long_line_is_refused_before_it_ends(rt: HostRuntime) -> Result<(), Fail> {
             kind: Kind::Word
         }
     );
+    Ok(())
+}
+
+#[test]
+fn a_want_of_memory_is_said(rt: HostRuntime) -> Result<(), Fail> {
+    let alloc: Global = rt.alloc();
+    let mut errors = MemSink::new(Vec::new(alloc), Vec::new(alloc));
+    report(alloc, &mut errors, Status::NoMemory);
+    assert_eq!(rt; errors.bytes.as_slice(), b"smart: no memory\n".as_slice());
+    assert_eq!(rt; Status::NoMemory.code(), 11);
     Ok(())
 }
