@@ -16,10 +16,10 @@ use Rattle.smart_top.specs.declared.reader.Halt.TheVariants as halts
 use Rattle.smart_top.specs.Readings.{Reading, unread, whole_lines, rest_of, last_line, script_lines, reading_after, told_after, script_read, end_of, end_by, end_at, end_told, last_told, transcript}
 use Rattle.smart_top.specs.Feeds.{text_after, script_after, HasTaken, HasTold, Halted, Within, GoesOn, halt_end}
 use Rattle.smart_top.specs.Runs.{IsLeft, Ends, WroteLines, WroteFront, RunEnd}
-use Rattle.smart_top.proofs.ReadingLaws.{text-append, front_behind, whole-feed, lines-front}
+use Rattle.smart_top.proofs.ReadingLaws.{text-append, front_behind, whole-feed, rest-feed, lines-front}
 use Rattle.smart_top.proofs.ReadingCores.{trimmed_reading, core-after-unread, core-end, core-last}
 use Rattle.smart_top.proofs.Feeding.{appends-then}
-use Rattle.smart_top.proofs.Ending.{Begins, played, same-text, told-lines, broken-front, refused-run, refused-ends}
+use Rattle.smart_top.proofs.Ending.{Starts, begins, played, same-text, told-lines, broken-front, refused-run, refused-ends}
 
 -- the lines of an input that were all taken
 
@@ -119,14 +119,19 @@ pub lines-begun : (bytes : List ℕ) → (rest_of [] bytes ≡ [] → ⊥) → s
 lines-begun bytes some = ap (λ rest. whole_lines [] bytes ++ rest) (last-there (rest_of [] bytes) some) ∙ sym (whole-feed [] bytes 10 refl)
 
 -- what stopped the last line
-last-begins : (bytes : List ℕ) (P : List ℕ → Type 0) → (rest_of [] bytes ≡ [] → ⊥) → (w : Within bytes (10 ∷ []) P) → Begins (bytes ++ w.front) bytes
-last-begins bytes P some w = of_front w.front w.rest w.split
+last-starts : (bytes : List ℕ) (P : List ℕ → Type 0) → (rest_of [] bytes ≡ [] → ⊥) → (w : Within bytes (10 ∷ []) P) → Starts (bytes ++ w.front) bytes
+last-starts bytes P some w = of_front w.front w.rest w.split
   where
-    of_front : (front rest : List ℕ) → 10 ∷ [] ≡ front ++ rest → Begins (bytes ++ front) bytes
-    of_front [] rest split = record { more = last_line (rest_of [] bytes); split = ap (λ bs. whole_lines [] bs ++ last_line (rest_of [] bytes)) (sym (append-nil bytes)) }
+    of_front : (front rest : List ℕ) → 10 ∷ [] ≡ front ++ rest → Starts (bytes ++ front) bytes
+    of_front [] rest split = record { rest = []; same = ap script_lines (sym (append-nil bytes) ∙ sym (append-nil (bytes ++ []))) }
     of_front (b ∷ []) rest split =
         let ten : 10 ≡ b = cc in
-        record { more = []; split = lines-begun bytes some ∙ (ap (λ x. whole_lines [] (bytes ++ x ∷ [])) ten ∙ sym (append-nil (whole_lines [] (bytes ++ b ∷ [])))) }
+        record {
+          rest = [];
+          same = lines-begun bytes some
+              ∙ (ap (λ x. whole_lines [] (bytes ++ x ∷ [])) ten
+              ∙ (sym (lines-ended (bytes ++ b ∷ []) (rest-feed [] bytes b (sym ten))) ∙ ap script_lines (sym (append-nil (bytes ++ b ∷ [])))));
+        }
     of_front (b ∷ c ∷ front) rest split = absurd (cc)
 
 -- a run that the last line has stopped
@@ -134,11 +139,11 @@ pub last-halted : {S : Type 0} (m : Meaning S) (left left' written now : Option 
     → (rest_of [] bytes ≡ [] → ⊥) → IsLeft left bytes → (halt ≡ halts.SinkMemory → Rose wants wants') → Halted (core_step m) m bytes (10 ∷ []) written now script halt
     → RunEnd m left left' written now wants wants' (halt_end script halt)
 last-halted m left left' written now wants wants' bytes script halts.Refused some is_left rose w =
-    refused-run m left left' written now wants wants' script script.refused w.holds.is (refused-ends m left written now (bytes ++ w.front) bytes script (last-begins bytes _ some w) is_left w.holds)
-last-halted m left left' written now wants wants' bytes script halts.WriteFault some is_left rose w = broken-front m left written now (bytes ++ w.front) bytes (last-begins bytes _ some w) is_left w.holds
+    refused-run m left left' written now wants wants' script script.refused w.holds.is (refused-ends m left written now (bytes ++ w.front) bytes script (last-starts bytes _ some w) is_left w.holds)
+last-halted m left left' written now wants wants' bytes script halts.WriteFault some is_left rose w = broken-front m left written now (bytes ++ w.front) bytes (begins _ _ (last-starts bytes _ some w)) is_left w.holds
 last-halted m left left' written now wants wants' bytes script halts.SinkMemory some is_left rose w =
-    inr (rose refl, broken-front m left written now (bytes ++ w.front) bytes (last-begins bytes _ some w) is_left w.holds)
-last-halted m left left' written now wants wants' bytes script halts.NoMemory some is_left rose w = inl (told-lines m left written now (bytes ++ w.front) bytes (last-begins bytes _ some w) is_left w.holds)
+    inr (rose refl, broken-front m left written now (bytes ++ w.front) bytes (begins _ _ (last-starts bytes _ some w)) is_left w.holds)
+last-halted m left left' written now wants wants' bytes script halts.NoMemory some is_left rose w = inl (told-lines m left written now (bytes ++ w.front) bytes (begins _ _ (last-starts bytes _ some w)) is_left w.holds)
 
 -- a line that is not empty is one
 pub not_empty : (line : List ℕ) → (length line == 0) ≡ false → line ≡ [] → ⊥

@@ -1,5 +1,5 @@
 -- How runs end.
-use Rattle.std.proofs.Common.{◌≡◌, ◌≤◌, ◌+◌, ◌++◌, ◌∙◌, ℕ, true, List, [], ◌∷◌, Option, None, Some, is_some, take, refl, ap, sym, subst, append_assoc, inl, inr}
+use Rattle.std.proofs.Common.{◌≡◌, ◌≤◌, ◌+◌, ◌++◌, ◌∙◌, ℕ, true, List, [], ◌∷◌, Option, None, Some, is_some, take, refl, ap, sym, subst, append_assoc, inl, inr, arith}
 use Rattle.std.proofs.lemmas.List.{append-nil}
 use Rattle.std.specs.Io.KnownBytes.{Appends, Consumes, IsAtEnd, Keeps}
 use Rattle.faults.specs.Counts.{Rose}
@@ -18,9 +18,10 @@ use Rattle.smart_top.specs.declared.status.Status.TheVariants as ends
 use Rattle.smart_top.specs.declared.reader.Halt.{Halt}
 use Rattle.smart_top.specs.declared.reader.Halt.TheVariants as halts
 use Rattle.smart_top.specs.Readings.{Reading, unread, whole_lines, rest_of, script_lines, reading_after, told_after, script_read, end_of, last_told, end_by, refused_end, transcript}
-use Rattle.smart_top.specs.Feeds.{text_after, script_after, HasTaken, HasRefused, HasBroken, HasTold, Within, Halted, GoesOn, halt_end}
+use Rattle.smart_top.specs.Feeds.{text_after, script_after, HasTaken, Closes, HasRefused, HasBroken, HasTold, Within, Halted, GoesOn, halt_end}
 use Rattle.smart_top.specs.Runs.{IsLeft, ArePlayed, Ends, WroteAllRead, WroteLines, WroteFront, RunEnd}
-use Rattle.smart_top.proofs.ReadingLaws.{after-append, told-append, after-refused, told_after-refused, text-append, lines-front, front_of}
+use Rattle.smart_top.proofs.ReadingLaws.{after-append, told-append, after-refused, told_after-refused, text-append, whole-feed, lines-front, front_of}
+use Rattle.smart_top.proofs.LongLines.{IsLong, long-read, long-untold, long-more, lines-behind}
 use Rattle.smart_top.proofs.ReadingCores.{core-after-unread, core-told-unread, core-refused, core-count}
 use Rattle.smart_top.proofs.ReadingPlays.{one_list_holds}
 use Rattle.smart_top.proofs.ReadingTells.{tells-read}
@@ -29,6 +30,15 @@ use Rattle.smart_top.proofs.ReadingTells.{tells-read}
 pub record Begins (bytes input : List ℕ) : Type 0 where
   pub more : List (List ℕ)
   pub split : script_lines input ≡ whole_lines [] bytes ++ more
+
+-- some bytes begin an input, as far as its lines tell
+pub record Starts (bytes input : List ℕ) : Type 0 where
+  pub rest : List ℕ
+  pub same : script_lines input ≡ script_lines (bytes ++ rest)
+
+-- their whole lines are its first lines
+pub begins : (bytes input : List ℕ) → Starts bytes input → Begins bytes input
+begins bytes input s = let front = lines-front bytes s.rest in record { more = front.0; split = s.same ∙ front.1 }
 
 -- lines that were read are played
 pub played : {S : Type 0} (m : Meaning S) (ls : List (List ℕ)) → ArePlayed m ls
@@ -93,30 +103,64 @@ last-refused : {S : Type 0} (r : Reading S) (x : Option Refusal) → is_some x �
 last-refused r None is = absurd (cc)
 last-refused r (Some why) is = refl
 
+-- an input reads as the whole lines of these bytes
+record ReadsAs {S : Type 0} (m : Meaning S) (closed input : List ℕ) : Type 0 where
+  read : script_read (step_of m) m input ≡ script_after (step_of m) m closed
+  told : told_after (step_of m) m unread (script_lines input) ≡ told_after (step_of m) m unread (whole_lines [] closed)
+
+-- what comes behind a refused line is not read
+reads-ended : {S : Type 0} (m : Meaning S) (bytes input : List ℕ) → Begins bytes input → is_some (script_after (step_of m) m bytes).refused ≡ true → ReadsAs m bytes input
+reads-ended m bytes input b is =
+    let r = script_after (step_of m) m bytes in
+    let whole = whole_lines [] bytes in
+    record {
+      read = ap (λ ls. reading_after (step_of m) m unread ls) b.split ∙ (after-append (step_of m) m unread whole b.more ∙ after-refused (step_of m) m r b.more is);
+      told = ap (λ ls. told_after (step_of m) m unread ls) b.split
+          ∙ (told-append (step_of m) m unread whole b.more
+          ∙ (ap (λ lines. told_after (step_of m) m unread whole ++ lines) (told_after-refused (step_of m) m r b.more is) ∙ append-nil (told_after (step_of m) m unread whole)));
+    }
+
+-- nor what comes behind the bytes of a line that is too long
+reads-long : {S : Type 0} (m : Meaning S) (bytes input : List ℕ) → Starts bytes input → IsLong (rest_of [] bytes) → ReadsAs m (bytes ++ 10 ∷ []) input
+reads-long m bytes input s long =
+    let whole = whole_lines [] bytes in
+    let line = rest_of [] bytes in
+    let on = lines-behind bytes s.rest (omega (arith, long)) in
+    let all = s.same ∙ on.2 in
+    let closed = whole-feed [] bytes 10 refl in
+    record {
+      read = ap (λ ls. reading_after (step_of m) m unread ls) all
+          ∙ (long-read (step_of m) m whole on.1 line (line ++ on.0) long (long-more line on.0 long) ∙ ap (λ ls. reading_after (step_of m) m unread ls) (sym closed));
+      told = ap (λ ls. told_after (step_of m) m unread ls) all
+          ∙ (long-untold (step_of m) m whole on.1 (line ++ on.0) (long-more line on.0 long)
+          ∙ (sym (long-untold (step_of m) m whole [] line long) ∙ ap (λ ls. told_after (step_of m) m unread ls) (sym closed)));
+    }
+
+-- so an input reads as far as the line that is refused
+reads-closed : {S : Type 0} (m : Meaning S) (bytes closed input : List ℕ) → Starts bytes input → Closes bytes closed → is_some (script_after (step_of m) m closed).refused ≡ true → ReadsAs m closed input
+reads-closed {S = S} m bytes closed input s (inl same) is =
+    subst (λ c. ReadsAs m c input) (sym same) (reads-ended m bytes input (begins bytes input s) (ap (λ c. is_some (script_after (step_of m) m c).refused) (sym same) ∙ is))
+reads-closed m bytes closed input s (inr long) is = subst (λ c. ReadsAs m c input) (sym long.0) (reads-long m bytes input s long.1)
+
 -- a run that a refused line has ended
-pub refused-ends : {S : Type 0} (m : Meaning S) (left written now : Option (List ℕ)) (bytes input : List ℕ) (script : Reading S) → Begins bytes input → IsLeft left input
+pub refused-ends : {S : Type 0} (m : Meaning S) (left written now : Option (List ℕ)) (bytes input : List ℕ) (script : Reading S) → Starts bytes input → IsLeft left input
     → HasRefused (core_step m) m bytes written now script → Ends m left written now (end_of script)
-refused-ends {S = S} m left written now bytes input script b is_left refused =
-    let r : Reading S = script_after (step_of m) m bytes in
-    let whole : List (List ℕ) = whole_lines [] bytes in
+refused-ends {S = S} m left written now bytes input script s is_left refused =
+    let r : Reading S = script_after (step_of m) m refused.closed in
+    let whole : List (List ℕ) = whole_lines [] refused.closed in
     let why : script.refused ≡ r.refused = refused.refused ∙ core-refused m whole in
     let is : is_some r.refused ≡ true = sym (ap (λ x. is_some x) why) ∙ refused.is in
-    let read : script_read (step_of m) m input ≡ r =
-    ap (λ ls. reading_after (step_of m) m unread ls) b.split ∙ (after-append (step_of m) m unread whole b.more ∙ after-refused (step_of m) m r b.more is) in
-    let told : told_after (step_of m) m unread (script_lines input) ≡ told_after (step_of m) m unread whole =
-    ap (λ ls. told_after (step_of m) m unread ls) b.split
-    ∙ (told-append (step_of m) m unread whole b.more
-    ∙ (ap (λ lines. told_after (step_of m) m unread whole ++ lines) (told_after-refused (step_of m) m r b.more is) ∙ append-nil (told_after (step_of m) m unread whole))) in
+    let reads : ReadsAs m refused.closed input = reads-closed m bytes refused.closed input s refused.closes is in
     let last : last_told (script_read (step_of m) m input) (script_read (step_of m) m input).refused ≡ [] =
-    last-refused (script_read (step_of m) m input) (script_read (step_of m) m input).refused (ap (λ (q : Reading S). is_some q.refused) read ∙ is) in
-    let text : text_of (transcript (step_of m) m input) ≡ text_after (step_of m) m bytes =
+    last-refused (script_read (step_of m) m input) (script_read (step_of m) m input).refused (ap (λ (q : Reading S). is_some q.refused) reads.read ∙ is) in
+    let text : text_of (transcript (step_of m) m input) ≡ text_after (step_of m) m refused.closed =
     ap (λ lines. text_of (told_after (step_of m) m unread (script_lines input) ++ lines)) last
-    ∙ (ap text_of (append-nil (told_after (step_of m) m unread (script_lines input))) ∙ ap text_of told) in
+    ∙ (ap text_of (append-nil (told_after (step_of m) m unread (script_lines input))) ∙ ap text_of reads.told) in
     record {
       input = input;
       is_left = is_left;
-      status_is = end-refused script r refused.is why (refused.count ∙ core-count m whole) ∙ sym (ap (λ (q : Reading S). end_of q) read);
-      text = subst (λ x. Appends written now x) (same-text m bytes ∙ sym text) refused.text;
+      status_is = end-refused script r refused.is why (refused.count ∙ core-count m whole) ∙ sym (ap (λ (q : Reading S). end_of q) reads.read);
+      text = subst (λ x. Appends written now x) (same-text m refused.closed ∙ sym text) refused.text;
       played = played m (script_lines input);
     }
 
@@ -155,13 +199,12 @@ input_at_end (Some a) (Some b) bytes consumed end = consumed ∙ (ap (λ ys. byt
 
 -- a run that stopped within a piece
 
-within-begins : (left left' : Option (List ℕ)) (bytes piece : List ℕ) (P : List ℕ → Type 0) → Consumes left left' (bytes ++ piece) → (w : Within bytes piece P)
-    → (input : List ℕ) × Begins (bytes ++ w.front) input × IsLeft left input
-within-begins left left' bytes piece P consumed w =
-    let some = input_of left left' (bytes ++ piece) consumed in
-    let front = lines-front (bytes ++ w.front) (w.rest ++ some.0) in (
+within-starts : (left left' : Option (List ℕ)) (bytes piece : List ℕ) (P : List ℕ → Type 0) → Consumes left left' (bytes ++ piece) → (w : Within bytes piece P)
+    → (input : List ℕ) × Starts (bytes ++ w.front) input × IsLeft left input
+within-starts left left' bytes piece P consumed w =
+    let some = input_of left left' (bytes ++ piece) consumed in (
       (bytes ++ w.front) ++ (w.rest ++ some.0),
-      record { more = front.0; split = front.1 },
+      record { rest = w.rest ++ some.0; same = refl },
       subst (λ input. IsLeft left input)
           (ap (λ xs. (bytes ++ xs) ++ some.0) w.split ∙ (append_assoc bytes (w.front ++ w.rest) some.0 ∙ (ap (λ xs. bytes ++ xs) (append_assoc w.front w.rest some.0) ∙ sym (append_assoc bytes w.front (w.rest ++ some.0)))))
           some.1,
@@ -171,14 +214,14 @@ pub halted-end : {S : Type 0} (m : Meaning S) (left left' written now : Option (
     → Consumes left left' (bytes ++ piece) → (halt ≡ halts.SinkMemory → Rose wants wants') → Halted (core_step m) m bytes piece written now script halt
     → RunEnd m left left' written now wants wants' (halt_end script halt)
 halted-end m left left' written now wants wants' bytes piece script halts.Refused consumed rose w =
-    let i = within-begins left left' bytes piece _ consumed w in
+    let i = within-starts left left' bytes piece _ consumed w in
     refused-run m left left' written now wants wants' script script.refused w.holds.is (refused-ends m left written now (bytes ++ w.front) i.0 script i.1 i.2 w.holds)
 halted-end m left left' written now wants wants' bytes piece script halts.WriteFault consumed rose w =
-    let i = within-begins left left' bytes piece _ consumed w in broken-front m left written now (bytes ++ w.front) i.0 i.1 i.2 w.holds
+    let i = within-starts left left' bytes piece _ consumed w in broken-front m left written now (bytes ++ w.front) i.0 (begins _ _ i.1) i.2 w.holds
 halted-end m left left' written now wants wants' bytes piece script halts.SinkMemory consumed rose w =
-    let i = within-begins left left' bytes piece _ consumed w in inr (rose refl, broken-front m left written now (bytes ++ w.front) i.0 i.1 i.2 w.holds)
+    let i = within-starts left left' bytes piece _ consumed w in inr (rose refl, broken-front m left written now (bytes ++ w.front) i.0 (begins _ _ i.1) i.2 w.holds)
 halted-end m left left' written now wants wants' bytes piece script halts.NoMemory consumed rose w =
-    let i = within-begins left left' bytes piece _ consumed w in inl (told-lines m left written now (bytes ++ w.front) i.0 i.1 i.2 w.holds)
+    let i = within-starts left left' bytes piece _ consumed w in inl (told-lines m left written now (bytes ++ w.front) i.0 (begins _ _ i.1) i.2 w.holds)
 
 -- a read that failed
 pub read-failed : {S : Type 0} (m : Meaning S) (left now_left left' written now : Option (List ℕ)) (bytes line : List ℕ) (script : Reading S) → Keeps now_left left'

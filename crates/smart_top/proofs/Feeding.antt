@@ -1,5 +1,5 @@
 -- Bytes that are taken, one line after the other.
-use Rattle.std.proofs.Common.{Bool, eqb-true, ◌≡◌, ◌<◌, ◌+◌, ◌++◌, ◌==◌, ◌∙◌, ℕ, zero, suc, drop, length, get_or, arith, true, false, List, [], ◌∷◌, Option, None, Some, is_some, take, refl, ap, sym, subst, append_assoc}
+use Rattle.std.proofs.Common.{Bool, eqb-true, ◌≡◌, ◌<◌, ◌+◌, ◌++◌, ◌==◌, ◌∙◌, ℕ, zero, suc, drop, length, get_or, arith, true, false, List, [], ◌∷◌, Option, None, Some, is_some, take, refl, ap, sym, subst, append_assoc, inl, inr}
 use Rattle.std.proofs.lemmas.List.{append-nil}
 use Rattle.std.specs.Io.KnownBytes.{Appends, Keeps}
 use Rattle.smart_messages.specs.declared.entry.NodeEvent.{NodeEvent}
@@ -9,8 +9,9 @@ use Rattle.node_rules.specs.Steps.{Outcome}
 use Rattle.world_rules.specs.Texts.{text_of}
 use Rattle.smart_top.specs.declared.reader.Halt.{Halt}
 use Rattle.smart_top.specs.declared.reader.Halt.TheVariants as halts
-use Rattle.smart_top.specs.Readings.{Reading, unread, whole_lines, rest_of, line_with, line_taken, line_told, reading_after, told_after}
+use Rattle.smart_top.specs.Readings.{Reading, unread, whole_lines, rest_of, line_taken, line_told, reading_after, told_after}
 use Rattle.smart_top.specs.Feeds.{text_after, script_after, HasTaken, HasRefused, HasBroken, HasTold, Within, Halted}
+use Rattle.smart_top.proofs.LongLines.{IsLong, long-told, long-refused}
 use Rattle.smart_top.proofs.ReadingLaws.{after-append, told-append, text-append, whole-feed, whole-more, rest-feed, rest-more, front_behind}
 
 -- what was written
@@ -77,6 +78,8 @@ line-refused {S = S} step m bytes written now now' line script script' taken ref
       rest = [];
       split = refl;
       holds = record {
+        closed = bytes ++ 10 ∷ [];
+        closes = inl refl;
         refused = refused ∙ ap (λ (r : Reading S). r.refused) same;
         count = count ∙ ap (λ (r : Reading S). r.count) same;
         is = is;
@@ -129,13 +132,39 @@ none_is (Some x) is = absurd (cc)
 
 -- a byte that ends no line
 pub byte-taken : {S : Type 0} (step : Node S → NodeEvent → Outcome S) (m : Meaning S) (bytes : List ℕ) (written now : Option (List ℕ)) (line line' : List ℕ) (script : Reading S) (b : ℕ)
-    → (b == 10) ≡ false → line' ≡ line_with line b → HasTaken step m bytes written now line script → HasTaken step m (bytes ++ b ∷ []) written now line' script
+    → (b == 10) ≡ false → line' ≡ line ++ b ∷ [] → HasTaken step m bytes written now line script → HasTaken step m (bytes ++ b ∷ []) written now line' script
 byte-taken step m bytes written now line line' script b other more taken =
     record {
-      line_is = more ∙ (ap (λ l. line_with l b) taken.line_is ∙ sym (rest-more [] bytes b other));
+      line_is = more ∙ (ap (λ l. l ++ b ∷ []) taken.line_is ∙ sym (rest-more [] bytes b other));
       script_is = taken.script_is ∙ ap (λ ls. reading_after step m unread ls) (sym (whole-more [] bytes b other));
       going = taken.going;
       text = subst (λ ls. Appends written now (text_of (told_after step m unread ls))) (sym (whole-more [] bytes b other)) taken.text;
+    }
+
+-- a byte that makes a line too long, which was refused then
+pub byte-refused : {S : Type 0} (step : Node S → NodeEvent → Outcome S) (m : Meaning S) (bytes : List ℕ) (written now : Option (List ℕ)) (line line' : List ℕ) (script script' : Reading S) (b : ℕ)
+    → (b == 10) ≡ false → line' ≡ line ++ b ∷ [] → IsLong line' → HasTaken step m bytes written now line script
+    → script'.refused ≡ (line_taken step m script line').refused → script'.count ≡ (line_taken step m script line').count
+    → Within bytes (b ∷ []) (λ taken. HasRefused step m taken written now script')
+byte-refused {S = S} step m bytes written now line line' script script' b other more long taken refused count =
+    let closed : List ℕ = (bytes ++ b ∷ []) ++ 10 ∷ [] in
+    let begun : HasTaken step m (bytes ++ b ∷ []) written now line' script = byte-taken step m bytes written now line line' script b other more taken in
+    let same : line_taken step m script line' ≡ script_after step m closed = taken-line step m (bytes ++ b ∷ []) written now line' script begun in
+    let told : text_after step m (bytes ++ b ∷ []) ≡ text_after step m closed =
+    sym (append-nil (text_after step m (bytes ++ b ∷ [])))
+    ∙ (ap (λ lines. text_after step m (bytes ++ b ∷ []) ++ text_of lines) (sym (long-told step script line' long)) ∙ told-line step m (bytes ++ b ∷ []) written now line' script begun) in
+    record {
+      front = b ∷ [];
+      rest = [];
+      split = refl;
+      holds = record {
+        closed = closed;
+        closes = inr (refl, subst (λ l. IsLong l) begun.line_is long);
+        refused = refused ∙ ap (λ (r : Reading S). r.refused) same;
+        count = count ∙ ap (λ (r : Reading S). r.count) same;
+        is = ap (λ x. is_some x) refused ∙ long-refused step m script line' long;
+        text = subst (λ text. Appends written now text) told begun.text;
+      };
     }
 
 -- a front of a piece behind a front of a longer piece is a front of that

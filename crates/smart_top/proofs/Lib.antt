@@ -1,5 +1,6 @@
 pub mod ReadingLaws
 pub mod ReadingCores
+pub mod LongLines
 pub mod ReadingPlays
 pub mod ReadingTells
 pub mod Feeding

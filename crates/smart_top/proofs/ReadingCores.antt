@@ -1,17 +1,17 @@
 -- A script that is read by cores is read as by the nodes that keep all.
 use Rattle.std.proofs.Common.{◌≡◌, ℕ, ◌+◌, ◌++◌, Bool, true, false, List, [], ◌∷◌, refl, ap, sym, ◌∙◌, cond, Option, Some, None, is_some}
-use Rattle.std.specs.Prelude.{option_map}
+use Rattle.std.specs.Prelude.{not, option_map}
 use Rattle.smart_base.specs.declared.view.View.{View}
 use Rattle.smart_service.specs.Services.{Meaning}
 use Rattle.node_rules.specs.Steps.{step_of}
 use Rattle.kept_arrivals.specs.Kept.{core_step}
 use Rattle.world_rules.specs.Worlds.{World}
 use Rattle.world_rules.specs.Plays.{Play, line_played}
-use Rattle.world_rules.specs.Scripts.{line_of, group_line, is_app_line}
+use Rattle.world_rules.specs.Scripts.{is_text, is_nothing, line_of, group_line, is_app_line}
 use Rattle.world_rules.specs.declared.line.Line.{Line}
 use Rattle.world_laws.specs.Cores.{trimmed_world}
 use Rattle.world_laws.proofs.CoreWorlds.{core_line, begun_same}
-use Rattle.smart_top.specs.Readings.{Reading, unread, group_taken, play_begun, header_taken, played_into, line_done, told_by, told_done, is_blank, taken_at, told_at, is_full, line_taken, line_told, script_lines, reading_after, told_after, script_read, end_by, end_of, last_told, transcript}
+use Rattle.smart_top.specs.Readings.{Reading, unread, group_taken, play_begun, header_taken, played_into, line_done, told_by, told_done, taken_at, told_at, is_full, line_taken, line_told, script_lines, reading_after, told_after, script_read, end_by, end_of, last_told, transcript}
 use Rattle.smart_top.specs.declared.status.Refusal.{Refusal}
 
 -- a play of which each node keeps no more than it needs
@@ -71,7 +71,9 @@ told_done_same m p (Some line) = ap told_by (core_line m p.world line) ∙ told_
 -- a line by where the script stands
 taken_at_same : {S : Type 0} (m : Meaning S) (r : Reading S) (l : List ℕ) (play : Option (Play S))
     → taken_at (core_step m) m (trimmed_reading r) l (option_map trimmed_play play) ≡ trimmed_reading (taken_at (step_of m) m r l play)
-taken_at_same m r l None = choice_same trimmed_reading (is_blank l) _ _ _ _ refl (header_same m r l r.group)
+taken_at_same m r l None =
+    choice_same trimmed_reading (not (is_text l)) _ _ _ _ refl
+    (choice_same trimmed_reading (is_nothing l) _ _ _ _ refl (header_same m r l r.group))
 taken_at_same m r l (Some p) = done_same m r p (line_of l)
 
 -- what it tells

@@ -9,10 +9,10 @@ use Rattle.node_rules.specs.Nodes.{Node}
 use Rattle.node_rules.specs.Steps.{Outcome}
 use Rattle.world_rules.specs.Texts.{line_text, text_of}
 use Rattle.world_rules.specs.declared.line.OutLine.{OutLine}
-use Rattle.smart_top.specs.Readings.{Reading, line_with, whole_lines, rest_of, last_line, script_lines, line_taken, line_told, reading_after, told_after}
+use Rattle.smart_top.specs.Readings.{Reading, whole_lines, rest_of, last_line, script_lines, line_taken, line_told, reading_after, told_after}
 
 -- the branch that is taken
-chosen_true : {A : Type 0} (t : Bool) (x y : A) → t ≡ true → cond t x y ≡ x
+pub chosen_true : {A : Type 0} (t : Bool) (x y : A) → t ≡ true → cond t x y ≡ x
 chosen_true true x y is = refl
 chosen_true false x y is = absurd (cc)
 
@@ -71,8 +71,8 @@ whole_step false line a b c d e f ys ended further = further
 pub whole-append : (line xs ys : List ℕ) → whole_lines line (xs ++ ys) ≡ whole_lines line xs ++ whole_lines (rest_of line xs) ys
 whole-append line [] ys = refl
 whole-append line (b ∷ xs) ys =
-    whole_step (b == 10) line (whole_lines [] (xs ++ ys)) (whole_lines (line_with line b) (xs ++ ys)) (whole_lines [] xs) (whole_lines (line_with line b) xs)
-    (rest_of [] xs) (rest_of (line_with line b) xs) ys (whole-append [] xs ys) (whole-append (line_with line b) xs ys)
+    whole_step (b == 10) line (whole_lines [] (xs ++ ys)) (whole_lines (line ++ b ∷ []) (xs ++ ys)) (whole_lines [] xs) (whole_lines (line ++ b ∷ []) xs)
+    (rest_of [] xs) (rest_of (line ++ b ∷ []) xs) ys (whole-append [] xs ys) (whole-append (line ++ b ∷ []) xs ys)
 
 -- what stands behind the last line feed of more bytes, by whether the first byte ends its line
 rest_step : (t : Bool) (a b c d ys : List ℕ) → a ≡ rest_of c ys → b ≡ rest_of d ys → cond t a b ≡ rest_of (cond t c d) ys
@@ -83,8 +83,8 @@ rest_step false a b c d ys ended further = further
 pub rest-append : (line xs ys : List ℕ) → rest_of line (xs ++ ys) ≡ rest_of (rest_of line xs) ys
 rest-append line [] ys = refl
 rest-append line (b ∷ xs) ys =
-    rest_step (b == 10) (rest_of [] (xs ++ ys)) (rest_of (line_with line b) (xs ++ ys)) (rest_of [] xs) (rest_of (line_with line b) xs) ys
-    (rest-append [] xs ys) (rest-append (line_with line b) xs ys)
+    rest_step (b == 10) (rest_of [] (xs ++ ys)) (rest_of (line ++ b ∷ []) (xs ++ ys)) (rest_of [] xs) (rest_of (line ++ b ∷ []) xs) ys
+    (rest-append [] xs ys) (rest-append (line ++ b ∷ []) xs ys)
 
 -- one more byte
 
@@ -99,7 +99,7 @@ pub whole-end : (line xs : List ℕ) (b : ℕ) → whole_lines line (xs ++ b ∷
 whole-end line xs b = whole-append line xs (b ∷ []) ∙ one_more (b == 10) (whole_lines line xs) (rest_of line xs)
 
 -- one more byte begins a line or comes to the present one
-pub rest-end : (line xs : List ℕ) (b : ℕ) → rest_of line (xs ++ b ∷ []) ≡ (if b == 10 then [] else line_with (rest_of line xs) b)
+pub rest-end : (line xs : List ℕ) (b : ℕ) → rest_of line (xs ++ b ∷ []) ≡ (if b == 10 then [] else rest_of line xs ++ b ∷ [])
 rest-end line xs b = rest-append line xs (b ∷ [])
 
 -- a line feed ends a line
@@ -115,7 +115,7 @@ pub rest-feed : (line xs : List ℕ) (b : ℕ) → b ≡ 10 → rest_of line (xs
 rest-feed line xs b is = rest-end line xs b ∙ chosen_true (b == 10) _ _ (eq-eqb b 10 is)
 
 -- another byte comes to the present line
-pub rest-more : (line xs : List ℕ) (b : ℕ) → (b == 10) ≡ false → rest_of line (xs ++ b ∷ []) ≡ line_with (rest_of line xs) b
+pub rest-more : (line xs : List ℕ) (b : ℕ) → (b == 10) ≡ false → rest_of line (xs ++ b ∷ []) ≡ rest_of line xs ++ b ∷ []
 rest-more line xs b is = rest-end line xs b ∙ chosen_false (b == 10) _ _ is
 
 -- the lines of a longer input begin with the whole lines of its front

@@ -1,6 +1,6 @@
 -- What is read keeps one list.
 use Rattle.std.proofs.Common.{◌≡◌, ℕ, zero, suc, ◌+◌, ◌<◌, Bool, true, false, ◌||◌, ◌==◌, List, [], ◌∷◌, ◌++◌, take, drop, refl, ap, sym, ◌∙◌, arith, Option, Some, None, is_some, subst, eqb-true}
-use Rattle.std.specs.Prelude.{position}
+use Rattle.std.specs.Prelude.{not, position}
 use Rattle.std.specs.List.{list_any}
 use Rattle.smart_base.specs.Decimals.{number_of}
 use Rattle.smart_base.specs.declared.view.View.{View}
@@ -9,13 +9,14 @@ use Rattle.node_rules.specs.Steps.{step_of}
 use Rattle.world_rules.specs.Worlds.{begun}
 use Rattle.world_rules.specs.Plays.{Play, line_played, rested, world_after}
 use Rattle.world_rules.specs.Promises.{OneListThroughout}
-use Rattle.world_rules.specs.Scripts.{line_of, members_from, view_for, group_words, group_line, is_app_line}
+use Rattle.world_rules.specs.Scripts.{is_text, is_nothing, line_of, members_from, view_for, group_words, group_line, is_app_line}
 use Rattle.world_rules.specs.declared.line.Line.{Line}
 use Rattle.world_laws.proofs.Lists.{either, either_by}
 use Rattle.world_laws.specs.Groups.{Distinct}
 use Rattle.world_laws.proofs.Grows.{world_after-append}
-use Rattle.smart_top.specs.Readings.{Reading, unread, counting, refusing, group_taken, header_taken, line_done, is_blank, taken_at, is_full, line_taken, reading_after}
+use Rattle.smart_top.specs.Readings.{Reading, unread, counting, refusing, group_taken, header_taken, line_done, taken_at, is_full, line_taken, reading_after}
 use Rattle.smart_top.specs.Runs.{OneListHolds}
+use Rattle.smart_top.specs.declared.status.Kind.TheVariants.{Word}
 use Rattle.smart_top.specs.declared.status.Refusal.{Refusal}
 use Rattle.smart_top.specs.declared.status.Refusal.TheVariants as refusals
 
@@ -127,7 +128,9 @@ sound-done m r p (Some line) of sound =
 
 -- a line by where the script stands
 sound-taken_at : {S : Type 0} (m : Meaning S) (r : Reading S) (l : List ℕ) (play : Option (Play S)) → SoundPlay m play → SoundReading m r → SoundReading m (taken_at (step_of m) m r l play)
-sound-taken_at m r l None of sound = either (SoundReading m) (is_blank l) _ _ (sound-counted m r sound) (sound-header m r l r.group sound.of_group sound)
+sound-taken_at m r l None of sound =
+    either (SoundReading m) (not (is_text l)) _ _ (sound-refused m r (refusals.Script Word) sound)
+    (either (SoundReading m) (is_nothing l) _ _ (sound-counted m r sound) (sound-header m r l r.group sound.of_group sound))
 sound-taken_at m r l (Some p) of sound = sound-done m r p (line_of l) of sound
 
 -- one more line keeps a reading sound

@@ -1,5 +1,5 @@
 -- How far a run has come with its input, and how it breaks off.
-use Rattle.std.specs.Prelude.{ℕ, ◌≡◌, ◌≤◌, true, List, [], ◌++◌, Option, None, is_some, take}
+use Rattle.std.specs.Prelude.{ℕ, ◌≡◌, ◌<◌, ◌⊎◌, true, List, [], ◌∷◌, ◌++◌, length, Option, None, is_some, take}
 use Rattle.std.specs.Io.KnownBytes.{Appends, Consumes}
 use Rattle.smart_messages.specs.declared.entry.NodeEvent.{NodeEvent}
 use Rattle.smart_service.specs.Services.{Meaning}
@@ -27,12 +27,18 @@ pub record HasTaken {S : Type 0} (step : Node S → NodeEvent → Outcome S) (m 
   pub going : script.refused ≡ None
   pub text : Appends written written' (text_after step m bytes)
 
--- the last whole line of these bytes was refused, and those before it were told
+-- bytes as they are; or with a line feed behind them, where the line that they have begun is too long already
+abbrev pub Closes : List ℕ → List ℕ → Type 0
+Closes bytes closed = (closed ≡ bytes) ⊎ ((closed ≡ bytes ++ 10 ∷ []) × (65536 < length (rest_of [] bytes)))
+
+-- the last line of these bytes was refused, and those before it were told. It has ended, or it is too long whatever follows
 pub record HasRefused {S : Type 0} (step : Node S → NodeEvent → Outcome S) (m : Meaning S) (bytes : List ℕ) (written written' : Option (List ℕ)) (script : Reading S) : Type 0 where
-  pub refused : script.refused ≡ (script_after step m bytes).refused
-  pub count : script.count ≡ (script_after step m bytes).count
+  pub closed : List ℕ
+  pub closes : Closes bytes closed
+  pub refused : script.refused ≡ (script_after step m closed).refused
+  pub count : script.count ≡ (script_after step m closed).count
   pub is : is_some script.refused ≡ true
-  pub text : Appends written written' (text_after step m bytes)
+  pub text : Appends written written' (text_after step m closed)
 
 -- a front of what these bytes tell was written
 pub record HasBroken {S : Type 0} (step : Node S → NodeEvent → Outcome S) (m : Meaning S) (bytes : List ℕ) (written written' : Option (List ℕ)) : Type 0 where

@@ -1,5 +1,5 @@
 -- How the bytes of a script are read: line by line, each line played as it is read.
-use Rattle.std.specs.Prelude.{ℕ, ◌+◌, ◌^◌, ◌==◌, nat_lt, nat_le, Bool, false, ◌&&◌, List, [], ◌∷◌, ◌++◌, length, if◌then◌else◌, Option, Some, None, is_some}
+use Rattle.std.specs.Prelude.{ℕ, ◌+◌, ◌^◌, ◌==◌, nat_le, Bool, false, not, List, [], ◌∷◌, ◌++◌, length, if◌then◌else◌, Option, Some, None, is_some}
 use Rattle.smart_base.specs.declared.view.View.{View}
 use Rattle.smart_messages.specs.declared.entry.NodeEvent.{NodeEvent}
 use Rattle.smart_service.specs.Services.{Meaning}
@@ -20,19 +20,15 @@ use Rattle.smart_top.specs.declared.status.Status.TheVariants as ends
 
 -- lines of bytes
 
--- a line with one more byte. Of a line that is too long, 65,537 bytes are kept, which tell that it is
-abbrev pub line_with : List ℕ → ℕ → List ℕ
-line_with line b = if nat_lt (length line) 65537 then line ++ b ∷ [] else line
-
 -- the lines that end with a line feed, where a line has begun
 abbrev pub whole_lines : List ℕ → List ℕ → List (List ℕ)
 whole_lines line [] = []
-whole_lines line (b ∷ bs) = if b == 10 then line ∷ whole_lines [] bs else whole_lines (line_with line b) bs
+whole_lines line (b ∷ bs) = if b == 10 then line ∷ whole_lines [] bs else whole_lines (line ++ b ∷ []) bs
 
 -- what stands behind the last line feed, where a line has begun
 abbrev pub rest_of : List ℕ → List ℕ → List ℕ
 rest_of line [] = line
-rest_of line (b ∷ bs) = if b == 10 then rest_of [] bs else rest_of (line_with line b) bs
+rest_of line (b ∷ bs) = if b == 10 then rest_of [] bs else rest_of (line ++ b ∷ []) bs
 
 -- the last line may lack its line feed
 abbrev pub last_line : List ℕ → List (List ℕ)
@@ -99,17 +95,19 @@ abbrev pub told_done : {S : Type 0} → (Node S → NodeEvent → Outcome S) →
 told_done step p None = []
 told_done step p (Some line) = told_by (line_played step p.world line)
 
--- an empty line or a comment
-abbrev pub is_blank : List ℕ → Bool
-is_blank bytes = is_text bytes && is_nothing bytes
-
 -- a line by where the script stands
 abbrev pub taken_at : {S : Type 0} → (Node S → NodeEvent → Outcome S) → Meaning S → Reading S → List ℕ → Option (Play S) → Reading S
-taken_at step m r bytes None = if is_blank bytes then counting r else header_taken m r bytes r.group
+taken_at step m r bytes None =
+    if not (is_text bytes) then refusing r (refusals.Script Word)
+    else if is_nothing bytes then counting r
+    else header_taken m r bytes r.group
 taken_at step m r bytes (Some p) = line_done step r p (line_of bytes)
 
 abbrev pub told_at : {S : Type 0} → (Node S → NodeEvent → Outcome S) → Reading S → List ℕ → Option (Play S) → List OutLine
-told_at step r bytes None = if is_blank bytes then [] else header_told bytes r.group
+told_at step r bytes None =
+    if not (is_text bytes) then []
+    else if is_nothing bytes then []
+    else header_told bytes r.group
 told_at step r bytes (Some p) = told_done step p (line_of bytes)
 
 -- a script has at most 2 ^ 20 lines

@@ -5,7 +5,6 @@ ghost use Rattle.std.specs.Io.KnownBytes.{Appends};
 ghost use Rattle.faults.specs.Counts.{Rose, HasCause, HasWant};
 ghost use Rattle.kept_arrivals.specs.Kept.{core_step};
 ghost use Rattle.world_rules.specs.Texts.{text_of};
-ghost use Rattle.smart_top.specs.Readings.{line_with};
 ghost use Rattle.smart_top.specs.Feeds.{HasTaken, Halted};
 
 use crate::script::Script;
@@ -17,8 +16,8 @@ use std::alloc::{AllocError, Global};
 use world_rules::line::OutLine;
 use world_script::text::text_of;
 
-/// How much of a line is kept: one byte more than a line may have.
-const KEPT: usize = 65537;
+/// How many bytes a line may have.
+const LONGEST: usize = 65536;
 
 /// Why the taking of bytes stops.
 #[derive(Clone, Copy, Debug, PartialEq, Eq)]
@@ -107,17 +106,8 @@ pub fn end_line<S: Service, O: Sink>(reader: &mut Reader<S>, output: &mut O) -> 
     Ok(())
 }
 
-/// A byte comes to a line. Of a line that is too long no more than that is kept.
-fn extend_line(line: &mut Bytes, byte: u8) -> Result<(), AllocError>
-    ensures { OnOk result (line.new ≡ line_with line.old byte) }
-{
-    if line.len() < KEPT {
-        line.push(byte)?;
-    }
-    Ok(())
-}
-
-/// Takes a byte: a line feed ends the line, any other comes to it.
+/// Takes a byte: a line feed ends the line, any other comes to it. A line that gets too long is
+/// refused at once, since it has no meaning whatever follows.
 pub fn take_byte<S: Service, O: Sink>(
     reader: &mut Reader<S>,
     output: &mut O,
@@ -134,7 +124,11 @@ pub fn take_byte<S: Service, O: Sink>(
     if byte == b'\n' {
         return end_line(reader, output);
     }
-    extend_line(&mut reader.line, byte)?;
+    reader.line.push(byte)?;
+    if reader.line.len() > LONGEST {
+        let _ = reader.script.take_line(reader.line.as_slice())?;
+        return Err(Halt::Refused);
+    }
     Ok(())
 }
 

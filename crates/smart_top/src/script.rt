@@ -62,7 +62,11 @@ impl<S: Service> Script<S> {
         ensures taken { OnOk result (self.new ≡ taken_at (core_step S.meaning) S.meaning self.old bytes.now None) }
     {
         let mut told = Sequence::new(self.alloc);
-        if is_text(bytes) && is_nothing(bytes) {
+        if !is_text(bytes) {
+            self.refused = Some(Refusal::Script(Kind::Word));
+            return Ok(told);
+        }
+        if is_nothing(bytes) {
             self.count += 1;
             return Ok(told);
         }

@@ -1,4 +1,7 @@
 //! How a run ends.
+ghost use Rattle.std.specs.Prelude.{◌≡◌};
+ghost use Rattle.smart_top.specs.Statuses.{code_of};
+
 use smart_io::stream::{Sink, write_all};
 use std::alloc::{AllocError, Global};
 use std::fmt::Write;
@@ -41,7 +44,9 @@ pub enum Status {
 
 impl Status {
     /// The exit status of the program.
-    pub fn code(self) -> u8 {
+    pub fn code(self) -> u8
+        ensures { result ≡ code_of self }
+    {
         match self {
             Status::Ok => 0,
             Status::Words => 2,

@@ -1,5 +1,5 @@
 //! Runs over inputs and outputs in memory.
-use crate::status::{Kind, Status};
+use crate::status::{Kind, Status, report};
 use crate::top::run;
 use smart_io::memory::{MemSink, MemSource};
 use std::alloc::Global;
@@ -188,5 +188,57 @@ fn lines_have_a_limit(rt: HostRuntime) -> Result<(), Fail> {
         over.said.as_slice(),
         b"smart: line 1048577: limit\n".as_slice()
     );
+    Ok(())
+}
+
+#[test]
+fn a_long_line_is_refused_before_it_ends(rt: HostRuntime) -> Result<(), Fail> {
+    let mut script = Vec::new(rt.alloc());
+    for byte in b"group 4 1\napp count\n" {
+        script.push(*byte)?;
+    }
+    for _ in 0..70000 {
+        script.push(b'a')?;
+    }
+    // The 18th read would fail: the line is refused with the 17th.
+    let long = run_word(&rt, "world", script.as_slice(), &[18], &[])?;
+    assert_eq!(rt;
+        long.status,
+        Status::Script {
+            line: 3,
+            kind: Kind::Word
+        }
+    );
+    assert_eq!(rt;
+        long.written.as_slice(),
+        b"group 4 1 count 1024\n".as_slice()
+    );
+    assert_eq!(rt; long.said.as_slice(), b"smart: line 3: Word\n".as_slice());
+    // A comment of 65,536 bytes counts, and one of a byte more has no meaning.
+    let mut comments = Vec::new(rt.alloc());
+    for length in 65536..65538 {
+        for _ in 0..length {
+            comments.push(b'#')?;
+        }
+        comments.push(b'\n')?;
+    }
+    let second = run_word(&rt, "world", comments.as_slice(), &[], &[])?;
+    assert_eq!(rt;
+        second.status,
+        Status::Script {
+            line: 2,
+            kind: Kind::Word
+        }
+    );
+    Ok(())
+}
+
+#[test]
+fn a_want_of_memory_is_said(rt: HostRuntime) -> Result<(), Fail> {
+    let alloc: Global = rt.alloc();
+    let mut errors = MemSink::new(Vec::new(alloc), Vec::new(alloc));
+    report(alloc, &mut errors, Status::NoMemory);
+    assert_eq!(rt; errors.bytes.as_slice(), b"smart: no memory\n".as_slice());
+    assert_eq!(rt; Status::NoMemory.code(), 11);
     Ok(())
 }

@@ -1,0 +1,110 @@
+-- A line that is too long has no meaning, whatever follows.
+use Rattle.std.proofs.Common.{◌≡◌, ◌<◌, ◌≤◌, ◌+◌, ◌==◌, ◌∙◌, ℕ, suc, Bool, true, false, ◌&&◌, nat_le, List, [], ◌∷◌, ◌++◌, length, refl, ap, sym, cond, arith, subst, Option, Some, None, is_some}
+use Rattle.std.specs.Prelude.{not, if◌then◌else◌}
+use Rattle.std.specs.List.{list_all}
+use Rattle.std.proofs.lemmas.Bool.{lt-leb}
+use Rattle.std.proofs.lemmas.List.{append_assoc, append-nil, length-append}
+use Rattle.smart_messages.specs.declared.entry.NodeEvent.{NodeEvent}
+use Rattle.smart_service.specs.Services.{Meaning}
+use Rattle.node_rules.specs.Nodes.{Node}
+use Rattle.node_rules.specs.Steps.{Outcome}
+use Rattle.world_rules.specs.Plays.{Play}
+use Rattle.world_rules.specs.Scripts.{is_text, line_of}
+use Rattle.world_laws.proofs.Lists.{either, either_by}
+use Rattle.smart_top.specs.declared.status.Kind.TheVariants.{Word}
+use Rattle.smart_top.specs.declared.status.Refusal.TheVariants as refusals
+use Rattle.smart_top.specs.Readings.{Reading, unread, refusing, whole_lines, rest_of, last_line, script_lines, line_done, told_done, taken_at, told_at, is_full, line_taken, line_told, reading_after, told_after}
+use Rattle.smart_top.proofs.ReadingLaws.{chosen_true, after-append, told-append, after-refused, told_after-refused, whole-append, rest-append}
+
+-- a line of more than 65,536 bytes
+abbrev pub IsLong : List ℕ → Type 0
+IsLong l = 65536 < length l
+
+-- it is no text
+no-text : (l : List ℕ) → IsLong l → not (is_text l) ≡ true
+no-text l long = ap (λ t. not (t && list_all (λ b. nat_le 32 b && nat_le b 126) l)) (lt-leb (length l) 65536 long)
+
+-- so it has no meaning
+no-meaning : (l : List ℕ) → IsLong l → line_of l ≡ None
+unfolding line_of
+no-meaning l long = chosen_true (not (is_text l)) _ _ (no-text l long)
+
+-- it is refused where it stands
+refused-at : {S : Type 0} (step : Node S → NodeEvent → Outcome S) (m : Meaning S) (r : Reading S) (l : List ℕ) (play : Option (Play S)) → IsLong l → taken_at step m r l play ≡ refusing r (refusals.Script Word)
+refused-at step m r l None long = chosen_true (not (is_text l)) _ _ (no-text l long)
+refused-at step m r l (Some p) long = ap (λ line. line_done step r p line) (no-meaning l long)
+
+-- there it tells nothing
+untold-at : {S : Type 0} (step : Node S → NodeEvent → Outcome S) (r : Reading S) (l : List ℕ) (play : Option (Play S)) → IsLong l → told_at step r l play ≡ []
+untold-at step r l None long = chosen_true (not (is_text l)) _ _ (no-text l long)
+untold-at step r l (Some p) long = ap (λ line. told_done step p line) (no-meaning l long)
+
+-- a script behind it
+pub long-taken : {S : Type 0} (step : Node S → NodeEvent → Outcome S) (m : Meaning S) (r : Reading S) (l : List ℕ) → IsLong l
+    → line_taken step m r l ≡ (if is_some r.refused then r else if is_full r then refusing r refusals.Limit else refusing r (refusals.Script Word))
+unfolding line_taken
+long-taken step m r l long = ap (λ q. cond (is_some r.refused) r (cond (is_full r) (refusing r refusals.Limit) q)) (refused-at step m r l r.play long)
+
+-- it tells nothing
+pub long-told : {S : Type 0} (step : Node S → NodeEvent → Outcome S) (r : Reading S) (l : List ℕ) → IsLong l → line_told step r l ≡ []
+unfolding line_told
+long-told step r l long = either (λ told. told ≡ []) (is_some r.refused) _ _ refl (either (λ told. told ≡ []) (is_full r) _ _ refl (untold-at step r l r.play long))
+
+-- it is refused
+pub long-refused : {S : Type 0} (step : Node S → NodeEvent → Outcome S) (m : Meaning S) (r : Reading S) (l : List ℕ) → IsLong l → is_some (line_taken step m r l).refused ≡ true
+long-refused {S = S} step m r l long =
+    subst (λ (q : Reading S). is_some q.refused ≡ true) (sym (long-taken step m r l long))
+    (either_by (λ (q : Reading S). is_some q.refused ≡ true) (is_some r.refused) _ _ (λ is. is)
+    (λ going. either (λ (q : Reading S). is_some q.refused ≡ true) (is_full r) _ _ refl refl))
+
+-- all such lines leave a script alike
+pub long-alike : {S : Type 0} (step : Node S → NodeEvent → Outcome S) (m : Meaning S) (r : Reading S) (k l : List ℕ) → IsLong k → IsLong l → line_taken step m r k ≡ line_taken step m r l
+long-alike step m r k l long_k long_l = long-taken step m r k long_k ∙ sym (long-taken step m r l long_l)
+
+-- lines whose last one is too long read as those with another such line in its place, and more behind it
+pub long-read : {S : Type 0} (step : Node S → NodeEvent → Outcome S) (m : Meaning S) (ls more : List (List ℕ)) (k l : List ℕ) → IsLong k → IsLong l
+    → reading_after step m unread (ls ++ l ∷ more) ≡ reading_after step m unread (ls ++ k ∷ [])
+long-read step m ls more k l long_k long_l =
+    let r = reading_after step m unread ls in
+    after-append step m unread ls (l ∷ more)
+    ∙ (after-refused step m (line_taken step m r l) more (long-refused step m r l long_l)
+    ∙ (long-alike step m r l k long_l long_k ∙ sym (after-append step m unread ls (k ∷ []))))
+
+-- of such lines nothing is told
+pub long-untold : {S : Type 0} (step : Node S → NodeEvent → Outcome S) (m : Meaning S) (ls more : List (List ℕ)) (l : List ℕ) → IsLong l
+    → told_after step m unread (ls ++ l ∷ more) ≡ told_after step m unread ls
+long-untold step m ls more l long =
+    let r = reading_after step m unread ls in
+    told-append step m unread ls (l ∷ more)
+    ∙ (ap (λ told. told_after step m unread ls ++ told)
+    (ap (λ told. told ++ told_after step m (line_taken step m r l) more) (long-told step r l long) ∙ told_after-refused step m (line_taken step m r l) more (long-refused step m r l long))
+    ∙ append-nil (told_after step m unread ls))
+
+-- the lines that a line which has begun goes on to, by whether the next byte ends it
+lines_step : (t : Bool) (line : List ℕ) (b : ℕ) (ys : List ℕ) (a c : List (List ℕ)) (e : List ℕ) → ((x : List ℕ) × (more : List (List ℕ)) × (c ++ last_line e ≡ ((line ++ b ∷ []) ++ x) ∷ more))
+    → (x : List ℕ) × (more : List (List ℕ)) × (cond t (line ∷ a) c ++ last_line (cond t (rest_of [] ys) e) ≡ (line ++ x) ∷ more)
+lines_step true line b ys a c e further = ([], a ++ last_line (rest_of [] ys), ap (λ l. l ∷ (a ++ last_line (rest_of [] ys))) (sym (append-nil line)))
+lines_step false line b ys a c e further = (b ∷ further.0, further.1, further.2 ∙ ap (λ l. l ∷ further.1) (append_assoc line (b ∷ []) further.0))
+
+-- a line that has begun goes on to the first of the lines behind it
+pub lines-go_on : (line ys : List ℕ) → 0 < length line → (x : List ℕ) × (more : List (List ℕ)) × (whole_lines line ys ++ last_line (rest_of line ys) ≡ (line ++ x) ∷ more)
+lines-go_on [] [] some = absurd (omega (arith, some))
+lines-go_on (b ∷ line) [] some = ([], [], ap (λ l. l ∷ []) (sym (append-nil (b ∷ line))))
+lines-go_on line (b ∷ ys) some =
+    lines_step (b == 10) line b ys (whole_lines [] ys) (whole_lines (line ++ b ∷ []) ys) (rest_of (line ++ b ∷ []) ys)
+    (lines-go_on (line ++ b ∷ []) ys (omega (arith, length-append line (b ∷ []))))
+
+-- the lines of an input go on with the line that its front has begun
+pub lines-behind : (xs ys : List ℕ) → 0 < length (rest_of [] xs) → (x : List ℕ) × (more : List (List ℕ)) × (script_lines (xs ++ ys) ≡ whole_lines [] xs ++ (rest_of [] xs ++ x) ∷ more)
+lines-behind xs ys some =
+    let on = lines-go_on (rest_of [] xs) ys some in (
+      on.0,
+      on.1,
+      ap (λ ls. ls ++ last_line (rest_of [] (xs ++ ys))) (whole-append [] xs ys)
+          ∙ (append_assoc (whole_lines [] xs) (whole_lines (rest_of [] xs) ys) (last_line (rest_of [] (xs ++ ys)))
+          ∙ ap (λ ls. whole_lines [] xs ++ ls) (ap (λ rest. whole_lines (rest_of [] xs) ys ++ last_line rest) (rest-append [] xs ys) ∙ on.2)),
+    )
+
+-- a line that is too long stays so
+pub long-more : (l x : List ℕ) → IsLong l → IsLong (l ++ x)
+long-more l x long = omega (arith, long, length-append l x)

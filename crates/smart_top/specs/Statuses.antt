@@ -1,0 +1,14 @@
+-- What a program answers for the status of its run.
+use Rattle.std.specs.Prelude.{ℕ}
+use Rattle.smart_top.specs.declared.status.Status.{Status}
+use Rattle.smart_top.specs.declared.status.Status.TheVariants as ends
+
+-- its exit status
+abbrev pub code_of : Status → ℕ
+code_of ends.Ok = 0
+code_of ends.Words = 2
+code_of (ends.Script line kind) = 3
+code_of ends.ReadFault = 4
+code_of ends.WriteFault = 5
+code_of (ends.Limit line) = 8
+code_of ends.NoMemory = 11
