@@ -269,5 +269,5 @@ firm-given {S = S} m view ls turn message nodes i k =
     let w : World S = flow_goes m view ls turn in
     let is : Borne w = borne-flow m view ls turn in
     let given : Borne (message_goes m message nodes w) = each_from_keeps Borne (gives (step_of m) message) (borne-gives m message) nodes 0 (record w { mark = w.mark + 1 })
-        (record { hosts = is.hosts; sent = record { own = is.sent.own; borne = is.sent.borne } }) in
+    (record { hosts = is.hosts; sent = record { own = is.sent.own; borne = is.sent.borne } }) in
     (borne-turns m i k (node_takes (step_of m) i (Arrive message) (message_goes m message nodes w)) (borne-node_takes m i message (message_goes m message nodes w) given)).sent

@@ -203,8 +203,12 @@ quorum_gave Given test gives v c a acc given kept taken =
     subst (λ (waiting : Option Request). Each (IsKept Given waiting) (c.replies ++ a ∷ [])) taken.counts.waits (each_end (IsKept Given c.waiting) c.replies a kept last) in
     let enough : quorum v ≤ length (filter (has_answer (c.replies ++ a ∷ []) a) v.members) = leb-true (quorum v) (have v (c.replies ++ a ∷ []) a) taken.enough in
     subst (λ (b : Acceptance). quorum v ≤ length (filter (test b) v.members)) (sym taken.is)
-    (omega (arith, enough, filter_more (has_answer (c.replies ++ a ∷ []) a) (test (acceptance q a))
-    (λ member is. kept_reply Given (test (acceptance q a)) q a (gives q a) member (c.replies ++ a ∷ []) all is) v.members))
+    (omega (
+      arith,
+      enough,
+      filter_more (has_answer (c.replies ++ a ∷ []) a) (test (acceptance q a))
+          (λ member is. kept_reply Given (test (acceptance q a)) q a (gives q a) member (c.replies ++ a ∷ []) all is) v.members,
+    ))
 
 -- a client that hears whatever comes
 
