@@ -1,22 +1,20 @@
 -- How runs end where their input does.
-use Rattle.std.proofs.Common.{◌≡◌, ◌≤◌, ◌==◌, ◌+◌, ◌++◌, ◌∙◌, ℕ, true, false, length, arith, eqb-true, List, [], ◌∷◌, Option, None, Some, take, refl, ap, sym, subst, inl, inr, zero, suc}
+use Rattle.std.proofs.Common.{◌≡◌, ◌≤◌, ◌==◌, ◌++◌, ◌∙◌, ℕ, true, false, length, arith, eqb-true, List, [], ◌∷◌, Option, None, Some, take, refl, ap, sym, subst, inl, inr, suc}
 use Rattle.std.proofs.lemmas.List.{append-nil}
-use Rattle.std.specs.Io.KnownBytes.{Appends, Consumes, IsAtEnd}
+use Rattle.std.specs.Io.KnownBytes.{Appends, IsAtEnd}
 use Rattle.faults.specs.Counts.{Rose}
 use Rattle.smart_service.specs.Services.{Meaning}
 use Rattle.kept_arrivals.specs.Kept.{core_step}
 use Rattle.node_rules.specs.Steps.{step_of}
 use Rattle.world_rules.specs.Plays.{Play}
 use Rattle.world_rules.specs.Texts.{text_of}
-use Rattle.world_rules.specs.declared.line.OutLine.{OutLine}
 use Rattle.smart_top.specs.declared.status.Refusal.{Refusal}
-use Rattle.smart_top.specs.declared.status.Status.{Status}
 use Rattle.smart_top.specs.declared.reader.Halt.{Halt}
 use Rattle.smart_top.specs.declared.reader.Halt.TheVariants as halts
 use Rattle.smart_top.specs.Readings.{Reading, unread, whole_lines, rest_of, last_line, script_lines, reading_after, told_after, script_read, end_of, end_by, end_at, end_told, last_told, transcript}
-use Rattle.smart_top.specs.Feeds.{text_after, script_after, HasTaken, HasTold, Halted, Within, GoesOn, halt_end}
+use Rattle.smart_top.specs.Feeds.{text_after, HasTaken, Halted, Within, halt_end}
 use Rattle.smart_top.specs.Runs.{IsLeft, Ends, WroteLines, WroteFront, RunEnd}
-use Rattle.smart_top.proofs.ReadingLaws.{text-append, front_behind, whole-feed, rest-feed, lines-front}
+use Rattle.smart_top.proofs.ReadingLaws.{text-append, front_behind, whole-feed, rest-feed}
 use Rattle.smart_top.proofs.ReadingCores.{trimmed_reading, core-after-unread, core-end, core-last}
 use Rattle.smart_top.proofs.Feeding.{appends-then}
 use Rattle.smart_top.proofs.Ending.{Starts, begins, played, same-text, told-lines, broken-front, refused-run, refused-ends}

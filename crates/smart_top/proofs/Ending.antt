@@ -1,28 +1,24 @@
 -- How runs end.
-use Rattle.std.proofs.Common.{◌≡◌, ◌≤◌, ◌+◌, ◌++◌, ◌∙◌, ℕ, true, List, [], ◌∷◌, Option, None, Some, is_some, take, refl, ap, sym, subst, append_assoc, inl, inr, arith}
+use Rattle.std.proofs.Common.{◌≡◌, ◌+◌, ◌++◌, ◌∙◌, ℕ, true, List, [], ◌∷◌, Option, None, Some, is_some, take, refl, ap, sym, subst, append_assoc, inl, inr, arith}
 use Rattle.std.proofs.lemmas.List.{append-nil}
 use Rattle.std.specs.Io.KnownBytes.{Appends, Consumes, IsAtEnd, Keeps}
 use Rattle.faults.specs.Counts.{Rose}
-use Rattle.smart_base.specs.declared.view.View.{View}
 use Rattle.smart_service.specs.Services.{Meaning}
 use Rattle.kept_arrivals.specs.Kept.{core_step}
 use Rattle.node_rules.specs.Steps.{step_of}
 use Rattle.world_rules.specs.Texts.{text_of}
-use Rattle.world_rules.specs.declared.line.Line.{Line}
 use Rattle.world_rules.specs.declared.line.OutLine.{OutLine}
 use Rattle.world_laws.proofs.OneListLaw.{one_list-throughout}
 use Rattle.smart_top.specs.declared.status.Refusal.{Refusal}
 use Rattle.smart_top.specs.declared.status.Refusal.TheVariants as refusals
-use Rattle.smart_top.specs.declared.status.Status.{Status}
-use Rattle.smart_top.specs.declared.status.Status.TheVariants as ends
 use Rattle.smart_top.specs.declared.reader.Halt.{Halt}
 use Rattle.smart_top.specs.declared.reader.Halt.TheVariants as halts
 use Rattle.smart_top.specs.Readings.{Reading, unread, whole_lines, rest_of, script_lines, reading_after, told_after, script_read, end_of, last_told, end_by, refused_end, transcript}
-use Rattle.smart_top.specs.Feeds.{text_after, script_after, HasTaken, Closes, HasRefused, HasBroken, HasTold, Within, Halted, GoesOn, halt_end}
+use Rattle.smart_top.specs.Feeds.{text_after, script_after, Closes, HasRefused, HasBroken, HasTold, Within, Halted, GoesOn, halt_end}
 use Rattle.smart_top.specs.Runs.{IsLeft, ArePlayed, Ends, WroteAllRead, WroteLines, WroteFront, RunEnd}
 use Rattle.smart_top.proofs.ReadingLaws.{after-append, told-append, after-refused, told_after-refused, text-append, whole-feed, lines-front, front_of}
 use Rattle.smart_top.proofs.LongLines.{IsLong, long-read, long-untold, long-more, lines-behind}
-use Rattle.smart_top.proofs.ReadingCores.{core-after-unread, core-told-unread, core-refused, core-count}
+use Rattle.smart_top.proofs.ReadingCores.{core-told-unread, core-refused, core-count}
 use Rattle.smart_top.proofs.ReadingPlays.{one_list_holds}
 use Rattle.smart_top.proofs.ReadingTells.{tells-read}
 

@@ -1,6 +1,6 @@
 -- Bytes that are taken, one line after the other.
-use Rattle.std.proofs.Common.{Bool, eqb-true, ◌≡◌, ◌<◌, ◌+◌, ◌++◌, ◌==◌, ◌∙◌, ℕ, zero, suc, drop, length, get_or, arith, true, false, List, [], ◌∷◌, Option, None, Some, is_some, take, refl, ap, sym, subst, append_assoc, inl, inr}
-use Rattle.std.proofs.lemmas.List.{append-nil}
+use Rattle.std.proofs.Common.{Bool, eqb-true, ◌≡◌, ◌<◌, ◌≤◌, ◌++◌, ◌==◌, ◌∙◌, ℕ, zero, suc, drop, length, get_or, arith, true, false, List, [], ◌∷◌, Option, None, Some, is_some, take, refl, ap, sym, subst, append_assoc, inl, inr}
+use Rattle.std.proofs.lemmas.List.{append-nil, length-append}
 use Rattle.std.specs.Io.KnownBytes.{Appends, Keeps}
 use Rattle.smart_messages.specs.declared.entry.NodeEvent.{NodeEvent}
 use Rattle.smart_service.specs.Services.{Meaning}
@@ -12,6 +12,7 @@ use Rattle.smart_top.specs.declared.reader.Halt.TheVariants as halts
 use Rattle.smart_top.specs.Readings.{Reading, unread, whole_lines, rest_of, line_taken, line_told, reading_after, told_after}
 use Rattle.smart_top.specs.Feeds.{text_after, script_after, HasTaken, HasRefused, HasBroken, HasTold, Within, Halted}
 use Rattle.smart_top.proofs.LongLines.{IsLong, long-told, long-refused}
+use Rattle.smart_top.proofs.ReadingCounts.{taken-counts}
 use Rattle.smart_top.proofs.ReadingLaws.{after-append, told-append, text-append, whole-feed, whole-more, rest-feed, rest-more, front_behind}
 
 -- what was written
@@ -41,29 +42,34 @@ text-feed step m bytes =
     ∙ ap (λ text. text_after step m bytes ++ text) (ap text_of (append-nil (line_told step (script_after step m bytes) (rest_of [] bytes))))))
 
 -- what a line tells behind bytes that were taken
-told-line : {S : Type 0} (step : Node S → NodeEvent → Outcome S) (m : Meaning S) (bytes : List ℕ) (written now : Option (List ℕ)) (line : List ℕ) (script : Reading S)
-    → HasTaken step m bytes written now line script → text_after step m bytes ++ text_of (line_told step script line) ≡ text_after step m (bytes ++ 10 ∷ [])
-told-line {S = S} step m bytes written now line script taken =
+told-line : {S : Type 0} (step : Node S → NodeEvent → Outcome S) (m : Meaning S) (bytes line : List ℕ) (script : Reading S) → line ≡ rest_of [] bytes → script ≡ script_after step m bytes
+    → text_after step m bytes ++ text_of (line_told step script line) ≡ text_after step m (bytes ++ 10 ∷ [])
+told-line {S = S} step m bytes line script line_is script_is =
     ap (λ text. text_after step m bytes ++ text_of text)
-    (ap (λ (r : Reading S). line_told step r line) taken.script_is ∙ ap (λ l. line_told step (script_after step m bytes) l) taken.line_is)
+    (ap (λ (r : Reading S). line_told step r line) script_is ∙ ap (λ l. line_told step (script_after step m bytes) l) line_is)
     ∙ sym (text-feed step m bytes)
 
-taken-line : {S : Type 0} (step : Node S → NodeEvent → Outcome S) (m : Meaning S) (bytes : List ℕ) (written now : Option (List ℕ)) (line : List ℕ) (script : Reading S)
-    → HasTaken step m bytes written now line script → line_taken step m script line ≡ script_after step m (bytes ++ 10 ∷ [])
-taken-line {S = S} step m bytes written now line script taken =
-    ap (λ (r : Reading S). line_taken step m r line) taken.script_is ∙ (ap (λ l. line_taken step m (script_after step m bytes) l) taken.line_is ∙ sym (script-feed step m bytes))
+taken-line : {S : Type 0} (step : Node S → NodeEvent → Outcome S) (m : Meaning S) (bytes line : List ℕ) (script : Reading S) → line ≡ rest_of [] bytes → script ≡ script_after step m bytes
+    → line_taken step m script line ≡ script_after step m (bytes ++ 10 ∷ [])
+taken-line {S = S} step m bytes line script line_is script_is =
+    ap (λ (r : Reading S). line_taken step m r line) script_is ∙ (ap (λ l. line_taken step m (script_after step m bytes) l) line_is ∙ sym (script-feed step m bytes))
 
 -- a line that was played and told
 pub line-played : {S : Type 0} (step : Node S → NodeEvent → Outcome S) (m : Meaning S) (bytes : List ℕ) (written now now' : Option (List ℕ)) (line line' : List ℕ) (script script' : Reading S)
     → HasTaken step m bytes written now line script → script' ≡ line_taken step m script line → script'.refused ≡ None → line' ≡ [] → Appends now now' (text_of (line_told step script line))
     → HasTaken step m (bytes ++ 10 ∷ []) written now' line' script'
-line-played step m bytes written now now' line line' script script' taken is going ended told =
+line-played {S = S} step m bytes written now now' line line' script script' taken is going ended told =
+    let count : script'.count ≡ (line_taken step m script line).count = ap (λ (r : Reading S). r.count) is in
+    let counts = taken-counts step m script line (ap (λ (r : Reading S). r.refused) (sym is) ∙ going) in
     record {
       line_is = ended ∙ sym (rest-feed [] bytes 10 refl);
-      script_is = is ∙ taken-line step m bytes written now line script taken;
+      script_is = is ∙ taken-line step m bytes line script taken.line_is taken.script_is;
       going = going;
-      text = subst (λ text. Appends written now' text) (told-line step m bytes written now line script taken)
+      text = subst (λ text. Appends written now' text) (told-line step m bytes line script taken.line_is taken.script_is)
           (appends-then written now now' (text_after step m bytes) (text_of (line_told step script line)) taken.text told);
+      short = omega (arith, ap (λ l. length l) ended);
+      within = omega (arith, counts.0, counts.1, count);
+      few = omega (arith, counts.0, count, taken.few, taken.short, length-append bytes (10 ∷ []));
     }
 
 -- a line that was refused
@@ -72,7 +78,7 @@ pub line-refused : {S : Type 0} (step : Node S → NodeEvent → Outcome S) (m :
     → Appends now now' (text_of (line_told step script line))
     → Within bytes (10 ∷ []) (λ taken. HasRefused step m taken written now' script')
 line-refused {S = S} step m bytes written now now' line script script' taken refused count is told =
-    let same = taken-line step m bytes written now line script taken in
+    let same = taken-line step m bytes line script taken.line_is taken.script_is in
     record {
       front = 10 ∷ [];
       rest = [];
@@ -83,7 +89,7 @@ line-refused {S = S} step m bytes written now now' line script script' taken ref
         refused = refused ∙ ap (λ (r : Reading S). r.refused) same;
         count = count ∙ ap (λ (r : Reading S). r.count) same;
         is = is;
-        text = subst (λ text. Appends written now' text) (told-line step m bytes written now line script taken)
+        text = subst (λ text. Appends written now' text) (told-line step m bytes line script taken.line_is taken.script_is)
             (appends-then written now now' (text_after step m bytes) (text_of (line_told step script line)) taken.text told);
       };
     }
@@ -94,7 +100,7 @@ pub line-broken : {S : Type 0} (step : Node S → NodeEvent → Outcome S) (m : 
     → Within bytes (10 ∷ []) (λ taken. HasBroken step m taken written now')
 line-broken step m bytes written now now' line script count taken told =
     let more = front_behind (text_after step m bytes) (text_of (line_told step script line)) [] count in
-    let whole = ap (λ text. text_after step m bytes ++ text) (append-nil (text_of (line_told step script line))) ∙ told-line step m bytes written now line script taken in
+    let whole = ap (λ text. text_after step m bytes ++ text) (append-nil (text_of (line_told step script line))) ∙ told-line step m bytes line script taken.line_is taken.script_is in
     record {
       front = 10 ∷ [];
       rest = [];
@@ -131,14 +137,27 @@ none_is None is = refl
 none_is (Some x) is = absurd (cc)
 
 -- a byte that ends no line
+
+byte-line : (bytes line line' : List ℕ) (b : ℕ) → (b == 10) ≡ false → line' ≡ line ++ b ∷ [] → line ≡ rest_of [] bytes → line' ≡ rest_of [] (bytes ++ b ∷ [])
+byte-line bytes line line' b other more is = more ∙ (ap (λ l. l ++ b ∷ []) is ∙ sym (rest-more [] bytes b other))
+
+byte-script : {S : Type 0} (step : Node S → NodeEvent → Outcome S) (m : Meaning S) (bytes : List ℕ) (b : ℕ) → (b == 10) ≡ false → script_after step m bytes ≡ script_after step m (bytes ++ b ∷ [])
+byte-script step m bytes b other = ap (λ ls. reading_after step m unread ls) (sym (whole-more [] bytes b other))
+
+byte-text : {S : Type 0} (step : Node S → NodeEvent → Outcome S) (m : Meaning S) (bytes : List ℕ) (b : ℕ) → (b == 10) ≡ false → text_after step m bytes ≡ text_after step m (bytes ++ b ∷ [])
+byte-text step m bytes b other = ap (λ ls. text_of (told_after step m unread ls)) (sym (whole-more [] bytes b other))
+
 pub byte-taken : {S : Type 0} (step : Node S → NodeEvent → Outcome S) (m : Meaning S) (bytes : List ℕ) (written now : Option (List ℕ)) (line line' : List ℕ) (script : Reading S) (b : ℕ)
-    → (b == 10) ≡ false → line' ≡ line ++ b ∷ [] → HasTaken step m bytes written now line script → HasTaken step m (bytes ++ b ∷ []) written now line' script
-byte-taken step m bytes written now line line' script b other more taken =
+    → (b == 10) ≡ false → line' ≡ line ++ b ∷ [] → length line' ≤ 65536 → HasTaken step m bytes written now line script → HasTaken step m (bytes ++ b ∷ []) written now line' script
+byte-taken step m bytes written now line line' script b other more short taken =
     record {
-      line_is = more ∙ (ap (λ l. l ++ b ∷ []) taken.line_is ∙ sym (rest-more [] bytes b other));
-      script_is = taken.script_is ∙ ap (λ ls. reading_after step m unread ls) (sym (whole-more [] bytes b other));
+      line_is = byte-line bytes line line' b other more taken.line_is;
+      script_is = taken.script_is ∙ byte-script step m bytes b other;
       going = taken.going;
-      text = subst (λ ls. Appends written now (text_of (told_after step m unread ls))) (sym (whole-more [] bytes b other)) taken.text;
+      text = subst (λ text. Appends written now text) (byte-text step m bytes b other) taken.text;
+      short = short;
+      within = taken.within;
+      few = omega (arith, taken.few, length-append bytes (b ∷ []), ap (λ l. length l) more, length-append line (b ∷ []));
     }
 
 -- a byte that makes a line too long, which was refused then
@@ -147,23 +166,26 @@ pub byte-refused : {S : Type 0} (step : Node S → NodeEvent → Outcome S) (m :
     → script'.refused ≡ (line_taken step m script line').refused → script'.count ≡ (line_taken step m script line').count
     → Within bytes (b ∷ []) (λ taken. HasRefused step m taken written now script')
 byte-refused {S = S} step m bytes written now line line' script script' b other more long taken refused count =
-    let closed : List ℕ = (bytes ++ b ∷ []) ++ 10 ∷ [] in
-    let begun : HasTaken step m (bytes ++ b ∷ []) written now line' script = byte-taken step m bytes written now line line' script b other more taken in
-    let same : line_taken step m script line' ≡ script_after step m closed = taken-line step m (bytes ++ b ∷ []) written now line' script begun in
-    let told : text_after step m (bytes ++ b ∷ []) ≡ text_after step m closed =
-    sym (append-nil (text_after step m (bytes ++ b ∷ [])))
-    ∙ (ap (λ lines. text_after step m (bytes ++ b ∷ []) ++ text_of lines) (sym (long-told step script line' long)) ∙ told-line step m (bytes ++ b ∷ []) written now line' script begun) in
+    let begun : List ℕ = bytes ++ b ∷ [] in
+    let closed : List ℕ = begun ++ 10 ∷ [] in
+    let line_is : line' ≡ rest_of [] begun = byte-line bytes line line' b other more taken.line_is in
+    let script_is : script ≡ script_after step m begun = taken.script_is ∙ byte-script step m bytes b other in
+    let same : line_taken step m script line' ≡ script_after step m closed = taken-line step m begun line' script line_is script_is in
+    let told : text_after step m bytes ≡ text_after step m closed =
+    byte-text step m bytes b other
+    ∙ (sym (append-nil (text_after step m begun))
+    ∙ (ap (λ lines. text_after step m begun ++ text_of lines) (sym (long-told step script line' long)) ∙ told-line step m begun line' script line_is script_is)) in
     record {
       front = b ∷ [];
       rest = [];
       split = refl;
       holds = record {
         closed = closed;
-        closes = inr (refl, subst (λ l. IsLong l) begun.line_is long);
+        closes = inr (refl, subst (λ l. IsLong l) line_is long);
         refused = refused ∙ ap (λ (r : Reading S). r.refused) same;
         count = count ∙ ap (λ (r : Reading S). r.count) same;
         is = ap (λ x. is_some x) refused ∙ long-refused step m script line' long;
-        text = subst (λ text. Appends written now text) told begun.text;
+        text = subst (λ text. Appends written now text) told taken.text;
       };
     }
 

@@ -1,6 +1,7 @@
 pub mod ReadingLaws
 pub mod ReadingCores
 pub mod LongLines
+pub mod ReadingCounts
 pub mod ReadingPlays
 pub mod ReadingTells
 pub mod Feeding

@@ -1,5 +1,5 @@
 -- How far a run has come with its input, and how it breaks off.
-use Rattle.std.specs.Prelude.{ℕ, ◌≡◌, ◌<◌, ◌⊎◌, true, List, [], ◌∷◌, ◌++◌, length, Option, None, is_some, take}
+use Rattle.std.specs.Prelude.{ℕ, ◌≡◌, ◌<◌, ◌≤◌, ◌+◌, ◌*◌, ◌^◌, ◌⊎◌, true, List, [], ◌∷◌, ◌++◌, length, Option, None, is_some, take}
 use Rattle.std.specs.Io.KnownBytes.{Appends, Consumes}
 use Rattle.smart_messages.specs.declared.entry.NodeEvent.{NodeEvent}
 use Rattle.smart_service.specs.Services.{Meaning}
@@ -26,6 +26,10 @@ pub record HasTaken {S : Type 0} (step : Node S → NodeEvent → Outcome S) (m 
   pub script_is : script ≡ script_after step m bytes
   pub going : script.refused ≡ None
   pub text : Appends written written' (text_after step m bytes)
+  -- so each line is short, and they are few: the bytes are no more than these lines have
+  pub short : length line ≤ 65536
+  pub within : script.count ≤ 2 ^ 20
+  pub few : length bytes ≤ 65537 * script.count + length line
 
 -- bytes as they are; or with a line feed behind them, where the line that they have begun is too long already
 abbrev pub Closes : List ℕ → List ℕ → Type 0
@@ -71,6 +75,7 @@ pub record GoesOn {S : Type 0} (step : Node S → NodeEvent → Outcome S) (m : 
 -- a run goes on behind these bytes and more
 pub record GoesOnBehind {S : Type 0} (step : Node S → NodeEvent → Outcome S) (m : Meaning S) (bytes : List ℕ) (left left' written written' : Option (List ℕ)) (line : List ℕ) (script : Reading S) : Type 0 where
   pub more : List ℕ
+  pub some : 0 < length more
   pub going : GoesOn step m (bytes ++ more) left left' written written' line script
 
 -- how a halt ends a run

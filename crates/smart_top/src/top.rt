@@ -22,6 +22,9 @@ use std::alloc::Global;
 /// How many bytes are read at a time.
 const PIECE: usize = 4096;
 
+/// More reads than any input takes: a script has fewer bytes.
+const READS: u64 = 1 << 37;
+
 /// The status of a script a line of which was refused, or that has ended.
 fn script_end<S: Service>(script: &Script<S>) -> Status
     ensures { result ≡ end_of script.now }
@@ -144,15 +147,14 @@ pub fn play_script<S: Service, I: Source, O: Sink>(
         line: Sequence::new(alloc),
     };
     let mut buffer = [0u8; PIECE];
-    for _ in 0..u64::MAX {
+    for _ in 0..READS {
         match take_piece(&mut reader, input, output, &mut buffer) {
             Ok(true) => {}
             Ok(false) => return finish(&mut reader, output),
             Err(status) => return status,
         }
     }
-    // So many pieces are more than any memory holds.
-    Status::NoMemory
+    unreachable!()
 }
 
 /// Runs the program: `world` reads a script from the input and writes its transcript to the

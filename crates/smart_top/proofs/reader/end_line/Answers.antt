@@ -1,5 +1,5 @@
-use Rattle.std.proofs.Common.{◌≡◌, ◌∙◌, sym, ap, refl, Option, None, Some, List, ℕ, Err}
-use Rattle.std.specs.Prelude.{is_some, false}
+use Rattle.std.proofs.Common.{◌∙◌, sym, ap, Err}
+use Rattle.std.specs.Prelude.{is_some}
 use Rattle.kept_arrivals.specs.Kept.{core_step}
 use Rattle.smart_top.proofs.Feeding.{line-played, line-refused, line-halted, none_is}
 use Rattle.smart_top.proofs.reader.end_line.Goals as goal

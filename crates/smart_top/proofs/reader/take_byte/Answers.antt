@@ -1,5 +1,3 @@
-use Rattle.std.proofs.Common.{◌≡◌}
-use Rattle.std.proofs.lemmas.Grind.{common_steps}
 use Rattle.std.proofs.Common.{arith}
 use Rattle.kept_arrivals.specs.Kept.{core_step}
 use Rattle.smart_top.proofs.Feeding.{byte-taken, byte-refused, is_other}
@@ -7,7 +5,7 @@ use Rattle.smart_top.proofs.reader.take_byte.Goals as goal
 
 pub returns-clause-ok : goal.returns-clause-ok
 returns-clause-ok g c = λ bytes written taken.
-    byte-taken (core_step g.S.Service.meaning) g.S.Service.meaning bytes written _ _ _ _ c.args.byte (is_other c.args.byte 10 c.if-byte-eq10.false) c.in_ok-push.ensures.ok taken
+    byte-taken (core_step g.S.Service.meaning) g.S.Service.meaning bytes written _ _ _ _ c.args.byte (is_other c.args.byte 10 c.if-byte-eq10.false) c.in_ok-push.ensures.ok (omega (arith, c.if-len-gt-LONGEST.false, c.len.ensures.value)) taken
 
 pub returns-then-len-gt-LONGEST-clause-halted : goal.returns-then-len-gt-LONGEST-clause-halted
 returns-then-len-gt-LONGEST-clause-halted g c = λ bytes written taken.

@@ -1,4 +1,4 @@
-use Rattle.std.proofs.Common.{Result, Ok, Err, length, sym, subst, take, List, ℕ}
+use Rattle.std.proofs.Common.{Result, Ok, Err, length, sym, subst, List, ℕ}
 use Rattle.std.specs.Prelude.{OnErr}
 use Rattle.std.specs.Io.KnownBytes.{Appends}
 use Rattle.smart_top.proofs.Feeding.{appends-keeps, take-all}

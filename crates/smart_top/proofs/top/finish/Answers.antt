@@ -1,4 +1,4 @@
-use Rattle.std.proofs.Common.{ap, sym, refl, Err, ◌∙◌, ◌≡◌, arith, ◌++◌, ◌∷◌, []}
+use Rattle.std.proofs.Common.{ap, sym, Err, ◌∙◌, arith, ◌++◌, ◌∷◌, []}
 use Rattle.smart_top.proofs.Closing.{last-halted, lines-begun, lines-ended, not_empty, is_empty, rose-later}
 use Rattle.smart_top.proofs.top.finish.Goals as goal
 

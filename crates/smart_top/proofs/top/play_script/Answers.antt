@@ -1,5 +1,6 @@
-use Rattle.std.proofs.Common.{arith, inl, ◌++◌}
-use Rattle.smart_top.proofs.Ending.{read-unread, input_at_end}
+use Rattle.std.proofs.Common.{arith, ◌++◌}
+use Rattle.std.proofs.lemmas.List.{length-append}
+use Rattle.smart_top.proofs.Ending.{input_at_end}
 use Rattle.smart_top.proofs.top.play_script.Goals as goal
 
 pub returns-in-Ok-false-clause-ended : goal.returns-in-Ok-false-clause-ended
@@ -21,11 +22,13 @@ loop-preserved g c =
     let later = c.in-Ok-true.ensures.later in
     record {
       going = more.0;
-      taken = (c.loop.invariant.taken.0 ++ behind.more, behind.going);
+      taken = (c.loop.invariant.taken.0 ++ behind.more, behind.going, omega (arith, c.loop.invariant.taken.2, behind.some, length-append c.loop.invariant.taken.0 behind.more));
       reads = omega (arith, c.loop.invariant.reads, later.0);
       faults = omega (arith, c.loop.invariant.faults, later.1);
       wants = omega (arith, c.loop.invariant.wants, later.2);
     }
 
-pub returns-clause-ended : goal.returns-clause-ended
-returns-clause-ended g c = inl (read-unread g.S.Service.meaning _ _ (g.O.Sink.written c.args.output.now) _ c.loop.invariant.taken.0 _ _ c.loop.invariant.taken.1)
+pub unreachable-requires : goal.unreachable-requires
+unreachable-requires g c =
+    let taken = c.loop.invariant.taken.1.taken in
+    omega (arith, c.loop-test.false, c.loop.invariant.taken.2, taken.few, taken.within, taken.short)

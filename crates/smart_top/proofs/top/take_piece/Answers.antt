@@ -1,5 +1,4 @@
-use Rattle.std.proofs.Common.{ap, sym, refl, inl, Err, arith, subst}
-use Rattle.std.specs.Io.KnownBytes.{Consumes}
+use Rattle.std.proofs.Common.{ap, inl, Err}
 use Rattle.smart_top.proofs.Ending.{read-failed, read-unread, halted-end, consumes-keeps, consumes-then}
 use Rattle.smart_top.proofs.Closing.{rose-later}
 use Rattle.smart_top.proofs.top.take_piece.Goals as goal
