@@ -37,6 +37,8 @@ impl Source for MemSource {
 
     ghost faults = { λ s. s.faults };
 
+    ghost wants = { λ s. 0 };
+
     fn read(&mut self, piece: &mut [u8]) -> Result<usize, Fault> {
         self.calls = self.calls.saturating_add(1);
         if self.failing.contains(&self.calls) {

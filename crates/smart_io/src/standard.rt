@@ -17,6 +17,8 @@ impl<R: Read> Source for StdSource<R> {
 
     ghost faults = { λ s. s.faults };
 
+    ghost wants = { λ s. 0 };
+
     fn read(&mut self, piece: &mut [u8]) -> Result<usize, Fault> {
         match self.inner.read(piece) {
             Ok(count) => Ok(count),

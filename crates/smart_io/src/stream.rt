@@ -14,12 +14,16 @@ pub trait Source {
     /// How often it has failed.
     ghost faults: { Self → ℕ };
 
+    /// How often it has wanted memory.
+    ghost wants: { Self → ℕ };
+
     /// Reads into a piece and gives the number of bytes read. 0 for a piece that is not empty is
     /// the end of the input. A read that fails consumes nothing.
     fn read(&mut self, piece: &mut [u8]) -> Result<usize, Fault>
         ensures bound { ReadsAtMost result piece.new }
         ensures bytes { ReadConsumes (left self.old) (left self.new) result piece.new }
-        ensures cause { HasCause (faults self.old) (faults self.new) result };
+        ensures cause { HasCause (faults self.old) (faults self.new) result }
+        ensures want { HasWant (wants self.old) (wants self.new) result };
 }
 
 /// A sink of bytes.
