@@ -1,7 +1,7 @@
 -- The view in force is the last.
 use Rattle.std.proofs.Common.{◌≡◌, ℕ, ◌+◌, List, [], ◌∷◌, length, get_or, zero, suc, refl, arith}
 use Rattle.smart_base.specs.Views.{present}
-use Rattle.smart_base.specs.declared.view.View.{View}
+use Rattle.smart_base.specs.Views.{View}
 
 pub present-last : (views : List View) (i : ℕ) (d : View) → i + 1 ≡ length views → get_or views i d ≡ present views
 present-last [] i d last = absurd (omega arith)

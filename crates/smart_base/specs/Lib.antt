@@ -1,3 +1,10 @@
+pub mod Bytes
+pub mod Cuts
 pub mod Decimals
+pub mod FieldLaws
+pub mod Fields
+pub mod Laws
 pub mod Lists
+pub mod Spelling
+pub mod ViewBytes
 pub mod Views

@@ -1,5 +1,6 @@
 -- Words on lists that several layers use.
-use Rattle.std.specs.Prelude.{ℕ, ◌==◌, Bool, true, false, ◌&&◌, List, [], ◌∷◌, Option, Some, None}
+use Rattle.std.specs.Prelude.{◌≡◌, ℕ, ◌==◌, Bool, true, false, ◌&&◌, List, [], ◌∷◌, Option, Some, None}
+use Rattle.std.specs.List.{list_any}
 
 -- the first of two that is there
 abbrev pub or_else : {A : Type 0} → Option A → Option A → Option A
@@ -20,3 +21,8 @@ same_bytes a b = same_list (λ x y. x == y) a b
 abbrev pub Each : {A : Type 0} → (A → Type 0) → List A → Type 0
 Each P [] = Unit {0}
 Each P (x ∷ xs) = P x × Each P xs
+
+-- numbers none of which is there twice
+abbrev pub Distinct : List ℕ → Type 0
+Distinct [] = Unit {0}
+Distinct (x ∷ xs) = (list_any (λ y. y == x) xs ≡ false) × Distinct xs

@@ -1,7 +1,25 @@
 -- Views, quorums and leaders.
-use Rattle.std.specs.Prelude.{ℕ, ◌+◌, ◌/◌, ◌%◌, ◌==◌, nat_le, Bool, List, [], ◌∷◌, length, filter, take, slice_index}
+use Rattle.std.specs.Prelude.{ℕ, ◌+◌, ◌*◌, ◌/◌, ◌%◌, ◌^◌, ◌==◌, nat_lt, nat_le, Bool, true, ◌&&◌, List, [], ◌∷◌, length, filter, take, slice_index}
 use Rattle.std.specs.List.{list_any}
-use Rattle.smart_base.specs.declared.view.View.{View}
+
+-- the members of a group from a place on, and how many of them may be faulty
+pub record View : Type 0 where
+  pub number : ℕ
+  -- the first place that is decided in this view
+  pub start : ℕ
+  pub f : ℕ
+  pub members : List ℕ
+
+-- names above a last one, each above the one before
+abbrev pub ascends : ℕ → List ℕ → Bool
+ascends last [] = true
+ascends last (m ∷ ms) = nat_lt last m && nat_le m 65535 && ascends m ms
+
+-- what a view may be: at least 3f+1 members, ascending, and no number past its limit
+unfoldable pub is_view : View → Bool
+is_view v =
+    nat_le v.number 1023 && nat_le 1 v.start && nat_le v.start (2 ^ 63) && nat_le v.f 10
+    && nat_le (3 * v.f + 1) (length v.members) && nat_le (length v.members) 31 && ascends 0 v.members
 
 -- what members weigh together
 abbrev pub weight_of : View → List ℕ → ℕ

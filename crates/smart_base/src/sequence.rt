@@ -1,5 +1,5 @@
 //! A list of values that contracts see as a list.
-ghost use Rattle.std.specs.Prelude.{◌≡◌, ◌^◌, ◌<◌, ◌==◌, List, [], ◌∷◌, ◌++◌, length, take, IfOk, OnOk, OnErr, slice_set};
+ghost use Rattle.std.specs.Prelude.{◌≡◌, ◌^◌, ◌<◌, ◌==◌, List, [], ◌∷◌, ◌++◌, length, take, IfOk, OnOk, OnErr};
 
 use crate::duplicate::Duplicate;
 use std::alloc::{AllocError, Global};
@@ -63,16 +63,6 @@ impl<T> Sequence<T> {
         ensures { result ≡ (length self.now == 0) }
     {
         self.items.is_empty()
-    }
-
-    /// Puts a value at an index.
-    pub fn set(&mut self, index: usize, value: T)
-    where
-        T: Drop,
-        requires { index < length self.old }
-        ensures { self.new ≡ slice_set self.old index value }
-    {
-        self.items[index] = value;
     }
 
     /// Takes the first value out.

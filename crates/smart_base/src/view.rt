@@ -1,6 +1,6 @@
 //! Views of a group.
-ghost use Rattle.std.specs.Prelude.{◌≡◌, [], ◌∷◌, IfOk};
-ghost use Rattle.smart_base.specs.Views.{quorum, is_member, leader, present};
+ghost use Rattle.std.specs.Prelude.{◌≡◌, [], ◌∷◌, IfOk, Option, if◌then◌else◌, Some, None, true, length, ◌≤◌};
+ghost use Rattle.smart_base.specs.Views.{is_view, ascends, quorum, is_member, leader, present};
 
 use crate::duplicate::Duplicate;
 use crate::name::MemberId;
@@ -9,15 +9,36 @@ use crate::sequence::Sequence;
 use std::alloc::{AllocError, Global};
 use std::marker::Model;
 
-/// The members of a group from a place on, ascending, and how many of them may be faulty
-/// (Mod-SMaRt, EDCC 2012; views that change: BFT-SMaRt, DSN 2014).
+/// The most members of a view.
+pub const MEMBERS: usize = 31;
+
+/// The most members of a view that may be faulty.
+pub const FAULTY: u8 = 10;
+
+/// The greatest number of a view.
+pub const LAST_VIEW: u32 = 1023;
+
+/// The members of a group from a place on, and how many of them may be faulty
+/// (Mod-SMaRt, EDCC 2012; views that change: BFT-SMaRt, DSN 2014). There are at most 31 members,
+/// at least 3f+1, ascending and each at least 1; f is at most 10, the number at most 1,023, and the
+/// first place from 1 to 2^63.
 #[derive(Drop)]
 pub struct View {
-    pub number: ViewNo,
-    /// The first place that is decided in this view, from 1 to 2^63.
-    pub start: u64,
-    pub f: u8,
-    pub members: Sequence<MemberId>,
+    number: ViewNo,
+    start: u64,
+    f: u8,
+    members: Sequence<MemberId>,
+}
+
+impl Model for View {
+    ghost use Rattle.std.specs.Prelude.{◌≡◌, true};
+    ghost use Rattle.smart_base.specs.Views.{View, is_view};
+
+    ghost Value = { View };
+
+    ghost view = { λ v. record { number = v.number; start = v.start; f = v.f; members = v.members } };
+
+    ghost invariant = { λ v. is_view (record { number = v.number; start = v.start; f = v.f; members = v.members }) ≡ true };
 }
 
 impl Duplicate for View {
@@ -31,7 +52,87 @@ impl Duplicate for View {
     }
 }
 
+fn ascends(members: &[MemberId]) -> bool
+    ensures { result ≡ ascends 0 members.now }
+{
+    let mut last = 0;
+    for member in members {
+        let number = member.get();
+        if number <= last {
+            return false;
+        }
+        last = number;
+    }
+    true
+}
+
 impl View {
+    /// A view, exactly where these are the parts of one.
+    #[tactic(auto, unfolding(crate::specs::Views::is_view))]
+    pub fn checked(number: u32, start: u64, f: u8, members: Vec<MemberId>) -> Option<View>
+        ensures { result ≡ (if is_view (record { number = number; start = start; f = f; members = members.items }) then Some (record { number = number; start = start; f = f; members = members.items }) else None) }
+    {
+        if number <= LAST_VIEW
+            && 1 <= start
+            && start <= 1 << 63
+            && f <= FAULTY
+            && 3 * f as usize + 1 <= members.len()
+            && members.len() <= MEMBERS
+            && ascends(members.as_slice())
+        {
+            Some(View {
+                number: ViewNo::new(number),
+                start,
+                f,
+                members: Sequence::from_vec(members),
+            })
+        } else {
+            None
+        }
+    }
+
+    /// A view of the parts of one.
+    pub fn new(number: ViewNo, start: u64, f: u8, members: Sequence<MemberId>) -> View
+        requires { is_view (record { number = number; start = start; f = f; members = members }) ≡ true }
+        ensures { result ≡ record { number = number; start = start; f = f; members = members } }
+    {
+        View {
+            number,
+            start,
+            f,
+            members,
+        }
+    }
+
+    /// Its number, from 0 on.
+    pub fn number(&self) -> ViewNo
+        ensures { result ≡ self.now.number }
+    {
+        self.number
+    }
+
+    /// The first place that is decided in this view.
+    pub fn start(&self) -> u64
+        ensures { result ≡ self.now.start }
+    {
+        self.start
+    }
+
+    /// How many members may be faulty.
+    pub fn f(&self) -> u8
+        ensures { result ≡ self.now.f }
+    {
+        self.f
+    }
+
+    /// The members, ascending.
+    pub fn members(&self) -> &[MemberId]
+        ensures value { result.now ≡ self.now.members }
+        ensures view { is_view self.now ≡ true }
+    {
+        self.members.as_slice()
+    }
+
     /// How many members make a Byzantine quorum: any two share a member that is not faulty.
     pub fn quorum(&self) -> usize
         ensures { result ≡ quorum self.now }
@@ -66,7 +167,7 @@ pub struct Views {
 
 impl Model for Views {
     ghost use Rattle.std.specs.Prelude.{List, length, ◌<◌};
-    ghost use Rattle.smart_base.specs.declared.view.View.{View};
+    ghost use Rattle.smart_base.specs.Views.{View};
 
     ghost Value = { List View };
 
