@@ -1,0 +1,8 @@
+//! Digests, and tags of parties under a secret that they share (HMAC, RFC 2104, over SHA-256).
+#![tactic(auto)]
+
+pub mod hash;
+pub mod laws;
+pub mod ring;
+#[cfg(test)]
+mod tests;
