@@ -1,7 +1,9 @@
 //! What a member writes into its log before the message that rests on it leaves.
-use crate::message::{Batch, Digest, Message, Slot};
+use crate::batch::Batch;
+use crate::statement::Slot;
+use smart_base::bytes::Digest32;
 use smart_base::name::MemberId;
-use smart_base::sequence::Sequence;
+use smart_base::sequence::{Bytes, Sequence};
 
 /// An entry of a member's book. Logging batches and replies is Dura-SMaRt's (USENIX ATC 2013);
 /// that votes are logged before they leave is this project's own rule.
@@ -12,7 +14,7 @@ pub enum LogEntry {
     /// The member has written for a batch in a slot.
     Wrote {
         slot: Slot,
-        digest: Digest,
+        digest: Digest32,
     },
     /// The member has accepted a batch in a slot, since these members wrote for it.
     Accepted {
@@ -31,8 +33,8 @@ pub enum LogEntry {
 /// What happens to a member's node.
 #[derive(Drop)]
 pub enum NodeEvent {
-    /// A message comes.
-    Arrive(Message),
+    /// The bytes of a message come.
+    Arrive(Bytes),
     /// Time passes.
     Tick,
     /// The batch that waits, if one does, is to be delivered.

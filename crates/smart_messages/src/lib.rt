@@ -1,6 +1,14 @@
-//! What members and clients send each other, and what a member writes down.
+//! What members and clients send each other, the one spelling of each message, and what a member
+//! writes down.
 #![tactic(auto)]
 
+pub mod batch;
+pub mod codec;
 pub mod entry;
 pub mod equality;
+pub mod laws;
 pub mod message;
+pub mod signed;
+pub mod statement;
+#[cfg(test)]
+mod tests;

@@ -1,0 +1,176 @@
+-- What is read is spelled so, and what is spelled so is read.
+use Rattle.std.proofs.Common.{◌≡◌, ℕ, ◌^◌, ◌<◌, ◌≤◌, Bool, true, false, cond, eqb, ◌||◌, List, length, Result, Ok, Err, refl, sym, subst, ◌∙◌, arith}
+use Rattle.std.specs.Prelude.{IfOk}
+use Rattle.std.specs.List.{AllByRecursion}
+use Rattle.std.specs.Int.{w8, w16, to_be_bytes}
+use Rattle.std.proofs.lemmas.Bool.{eqb-true}
+use Rattle.smart_base.specs.Cuts.{Cut, IsBytes, ◌>>=◌, number_at, limited, GivesAll}
+use Rattle.smart_base.specs.Spelling.{Spelled, Law}
+use Rattle.smart_base.specs.Fields.{items_at}
+use Rattle.smart_base.specs.declared.fault.ReadError.{ReadError}
+use Rattle.smart_base.specs.Laws.{bind_ok, bind_is, ok_is, spelled-bytes, spelled-then, spelled-front, spelled-back, middle, then_law, refit, ranged_law, times_law, limited_law, whole_takes, whole_again}
+use Rattle.smart_base.specs.FieldLaws.{u8_law, items_law}
+use Rattle.smart_messages.specs.Forms.{SignedBy}
+use Rattle.smart_messages.specs.Spelling.{signed, FitsSigned, FitsProposal, FitsBallot, FitsAnswer, FitsRequest}
+use Rattle.smart_messages.specs.Kinds.{proposals, ballots, answers, requests}
+use Rattle.smart_messages.specs.Reading.{signed_at, requests_at, batch_at}
+use Rattle.smart_messages.specs.Messages.{Batch, batch_text, kind, content, spelling, FitsBatch, FitsContent, Fits, ask_at, propose_at, vote_at, reply_at, body_at, is_kind, message_kind_at, message_at, decoded}
+use Rattle.smart_messages.specs.declared.statement.Request.{Request}
+use Rattle.smart_messages.specs.declared.message.Message.{Message}
+use Rattle.smart_messages.specs.declared.message.Message.TheVariants.{Ask, Propose, Vote, Reply}
+use Rattle.smart_messages.specs.Statements.{proposal_law, ballot_law, answer_law, request_law, signed_law}
+
+-- ---- the parts of messages
+
+pub ask_law : Law (FitsSigned requests FitsRequest) (signed requests) (signed_at requests)
+ask_law = signed_law requests FitsRequest (omega arith) request_law
+
+pub head_law : Law (FitsSigned proposals (λ signer. FitsProposal)) (signed proposals) (signed_at proposals)
+head_law = signed_law proposals (λ signer. FitsProposal) (omega arith) proposal_law
+
+pub vote_law : Law (FitsSigned ballots (λ signer. FitsBallot)) (signed ballots) (signed_at ballots)
+vote_law = signed_law ballots (λ signer. FitsBallot) (omega arith) ballot_law
+
+pub reply_law : Law (FitsSigned answers (λ signer. FitsAnswer)) (signed answers) (signed_at answers)
+reply_law = signed_law answers (λ signer. FitsAnswer) (omega arith) answer_law
+
+requests_law : Law (λ rs. Unit {0} × (((0 < length rs) × (length rs ≤ 64)) × AllByRecursion (FitsSigned requests FitsRequest) rs)) batch_text (requests_at requests)
+unfolding requests_at batch_text
+requests_law =
+    then_law (λ (rs : List (SignedBy Request)). length rs) (λ rs. Unit {0}) (λ n. (0 < n) × (n ≤ 64)) (to_be_bytes w16) (items_at 64) _ _ _
+    (items_law 64 (omega arith)) λ n h.
+    refit _ (λ rs. (Unit {0} × (length rs ≡ n)) × AllByRecursion (FitsSigned requests FitsRequest) rs) _ _
+    (times_law (FitsSigned requests FitsRequest) (signed requests) (signed_at requests) ask_law n)
+    (λ rs h. ((tt, h.0), h.1)) (λ rs h. (h.0.1, h.1))
+
+pub batch_law : Law FitsBatch batch_text (batch_at requests)
+unfolding batch_at
+batch_law =
+    refit _ FitsBatch batch_text (batch_at requests) (limited_law _ batch_text (requests_at requests) 262144 requests_law)
+    (λ rs h. record { count_fits = h.0.1.0; each_fits = h.0.1.1; bytes_fit = h.1 })
+    (λ rs h. ((tt, (h.count_fits, h.each_fits)), h.bytes_fit))
+
+-- ---- messages, kind by kind
+
+-- a message of this kind was read
+abbrev IsTaken : ℕ → Cut → Message → Cut → Type 0
+IsTaken k c m d = ((kind m ≡ k) × FitsContent m) × Spelled c (content m) d
+
+ask_takes : (c : Cut) (y : Message × Cut) → IsBytes c.left → ask_at c ≡ Ok y → IsTaken 1 c y.0 y.1
+unfolding ask_at
+ask_takes c y bs e =
+    let b = bind_ok (signed_at requests c) (λ a. Ok (Ask a.0, a.1)) y e in
+    let t = ask_law.takes c b.0 bs b.1 in
+    subst (λ (y : Message × Cut). IsTaken 1 c y.0 y.1) (ok_is (Ask b.0.0, b.0.1) y b.2) ((refl, t.0), t.1)
+
+vote_takes : (c : Cut) (y : Message × Cut) → IsBytes c.left → vote_at c ≡ Ok y → IsTaken 3 c y.0 y.1
+unfolding vote_at
+vote_takes c y bs e =
+    let b = bind_ok (signed_at ballots c) (λ a. Ok (Vote a.0, a.1)) y e in
+    let t = vote_law.takes c b.0 bs b.1 in
+    subst (λ (y : Message × Cut). IsTaken 3 c y.0 y.1) (ok_is (Vote b.0.0, b.0.1) y b.2) ((refl, t.0), t.1)
+
+reply_takes : (c : Cut) (y : Message × Cut) → IsBytes c.left → reply_at c ≡ Ok y → IsTaken 8 c y.0 y.1
+unfolding reply_at
+reply_takes c y bs e =
+    let b = bind_ok (signed_at answers c) (λ a. Ok (Reply a.0, a.1)) y e in
+    let t = reply_law.takes c b.0 bs b.1 in
+    subst (λ (y : Message × Cut). IsTaken 8 c y.0 y.1) (ok_is (Reply b.0.0, b.0.1) y b.2) ((refl, t.0), t.1)
+
+propose_takes : (c : Cut) (y : Message × Cut) → IsBytes c.left → propose_at c ≡ Ok y → IsTaken 2 c y.0 y.1
+unfolding propose_at
+propose_takes c y bs e =
+    let a = bind_ok (signed_at proposals c) (λ p. batch_at requests p.1 >>= λ b. Ok (Propose (record { head = p.0; batch = b.0 }), b.1)) y e in
+    let b = bind_ok (batch_at requests a.0.1) (λ b. Ok (Propose (record { head = a.0.0; batch = b.0 }), b.1)) y a.2 in
+    let t = head_law.takes c a.0 bs a.1 in
+    let u = batch_law.takes a.0.1 b.0 (spelled-bytes c (signed proposals a.0.0) a.0.1 bs t.1) b.1 in
+    subst (λ (y : Message × Cut). IsTaken 2 c y.0 y.1) (ok_is (Propose (record { head = a.0.0; batch = b.0.0 }), b.0.1) y b.2)
+    ((refl, (t.0, u.0)), spelled-then c (signed proposals a.0.0) a.0.1 (batch_text b.0.0) b.0.1 t.1 u.1)
+
+-- which branch a test took
+picked : {A P : Type 0} (t : Bool) (k n : ℕ) (x r : Result A ℕ) (y : A) → eqb k n ≡ t → cond t x r ≡ Ok y
+    → (k ≡ n → x ≡ Ok y → P) → (eqb k n ≡ false → r ≡ Ok y → P) → P
+picked true k n x r y h e f g = f (eqb-true k n h) e
+picked false k n x r y h e f g = g h e
+
+last_of : (a b c d : Bool) → (a || b || c || d) ≡ true → a ≡ false → b ≡ false → c ≡ false → d ≡ true
+last_of true b c d e p q r = absurd cc
+last_of false true c d e p q r = absurd cc
+last_of false false true d e p q r = absurd cc
+last_of false false false d e p q r = e
+
+body_takes : (k : ℕ) → is_kind k ≡ true → (c : Cut) (y : Message × Cut) → IsBytes c.left → body_at k c ≡ Ok y → IsTaken k c y.0 y.1
+unfolding body_at
+body_takes k known c y bs e =
+    picked (eqb k 1) k 1 _ _ y refl e (λ same one. subst (λ (k : ℕ). IsTaken k c y.0 y.1) (sym same) (ask_takes c y bs one)) λ n1 e2.
+    picked (eqb k 2) k 2 _ _ y refl e2 (λ same one. subst (λ (k : ℕ). IsTaken k c y.0 y.1) (sym same) (propose_takes c y bs one)) λ n2 e3.
+    picked (eqb k 3) k 3 _ _ y refl e3 (λ same one. subst (λ (k : ℕ). IsTaken k c y.0 y.1) (sym same) (vote_takes c y bs one)) λ n3 e4.
+    subst (λ (k : ℕ). IsTaken k c y.0 y.1) (sym (eqb-true k 8 (last_of (eqb k 1) (eqb k 2) (eqb k 3) (eqb k 8) known n1 n2 n3)))
+    (reply_takes c y bs e4)
+
+content_again : (c : Cut) (m : Message) (d : Cut) → FitsContent m → Spelled c (content m) d → body_at (kind m) c ≡ Ok (m, d)
+unfolding body_at ask_at propose_at vote_at reply_at
+content_again c (Ask a) d h s = bind_is (signed_at requests c) (λ a. Ok (Ask a.0, a.1)) (a, d) (ask_law.again c a d h s)
+content_again c (Vote a) d h s = bind_is (signed_at ballots c) (λ a. Ok (Vote a.0, a.1)) (a, d) (vote_law.again c a d h s)
+content_again c (Reply a) d h s = bind_is (signed_at answers c) (λ a. Ok (Reply a.0, a.1)) (a, d) (reply_law.again c a d h s)
+content_again c (Propose p) d h s =
+    let m = middle c (signed proposals p.head) (batch_text p.batch) d in
+    bind_is (signed_at proposals c) (λ p. batch_at requests p.1 >>= λ b. Ok (Propose (record { head = p.0; batch = b.0 }), b.1)) (p.head, m)
+    (head_law.again c p.head m h.0 (spelled-front c (signed proposals p.head) (batch_text p.batch) d s))
+    ∙ bind_is (batch_at requests m) (λ b. Ok (Propose (record { head = p.head; batch = b.0 }), b.1)) (p.batch, d)
+    (batch_law.again m p.batch d h.1 (spelled-back c (signed proposals p.head) (batch_text p.batch) d s))
+
+kind_fits : (m : Message) → (kind m < 2 ^ 8) × (is_kind (kind m) ≡ true)
+kind_fits (Ask a) = (omega arith, refl)
+kind_fits (Propose p) = (omega arith, refl)
+kind_fits (Vote v) = (omega arith, refl)
+kind_fits (Reply s) = (omega arith, refl)
+
+body_law : (k : ℕ) → (k < 2 ^ 8) × (is_kind k ≡ true) → Law (λ m. (Unit {0} × (kind m ≡ k)) × FitsContent m) content (body_at k)
+body_law k h = record {
+  takes = λ c y bs e. let t = body_takes k h.1 c y bs e in (((tt, t.0.0), t.0.1), t.1);
+  again = λ c m d fits s. subst (λ (k : ℕ). body_at k c ≡ Ok (m, d)) fits.0.1 (content_again c m d fits.1 s);
+}
+
+-- ---- messages
+
+content_law : Law FitsContent spelling message_at
+unfolding message_at spelling
+content_law =
+    refit _ FitsContent spelling message_at
+    (then_law kind (λ m. Unit {0}) (λ n. (n < 2 ^ 8) × (is_kind n ≡ true)) (to_be_bytes w8) message_kind_at _ _ _
+    (ranged_law (λ n. n < 2 ^ 8) (to_be_bytes w8) (number_at w8) is_kind u8_law) body_law)
+    (λ m h. h.1.1) (λ m h. (tt, (kind_fits m, h)))
+
+pub message_law : Law Fits spelling (limited 1048576 message_at)
+message_law =
+    refit _ Fits spelling (limited 1048576 message_at) (limited_law FitsContent spelling message_at 1048576 content_law)
+    (λ m h. record { content_fits = h.0; bytes_fit = h.1 }) (λ m h. (h.content_fits, h.bytes_fit))
+
+abbrev start : List ℕ → Cut
+start bytes = record { at = 0; left = bytes }
+
+-- the bytes of a message are its spelling
+pub decoded_is : (bytes : List ℕ) (m : Message) → IsBytes bytes → decoded bytes ≡ Ok m → Fits m × (bytes ≡ spelling m)
+unfolding decoded
+decoded_is bytes m bs e = whole_takes Fits spelling (limited 1048576 message_at) message_law (start bytes) m bs e
+
+-- a spelling is the message's alone
+pub spelling_is : (m : Message) → Fits m → decoded (spelling m) ≡ Ok m
+unfolding decoded
+spelling_is m fits = whole_again Fits spelling (limited 1048576 message_at) message_law (start (spelling m)) m fits refl
+
+pub is_found : (bytes : List ℕ) (r : Result Message ReadError) → IsBytes bytes → GivesAll r (decoded bytes)
+    → IfOk r (λ m. Fits m × (bytes ≡ spelling m))
+is_found bytes (Ok m) bs given = decoded_is bytes m bs given
+is_found bytes (Err e) bs given = tt
+
+pub is_only : (bytes : List ℕ) (m : Message) → Fits m → bytes ≡ spelling m → decoded bytes ≡ Ok m
+is_only bytes m fits e = subst (λ (b : List ℕ). decoded b ≡ Ok m) (sym e) (spelling_is m fits)
+
+-- a text is the batch's alone
+pub batch_is : (a b : Batch) → FitsBatch a → FitsBatch b → batch_text a ≡ batch_text b → a ≡ b
+batch_is a b fits_a fits_b e =
+    ok_is a b
+    (sym (whole_again FitsBatch batch_text (batch_at requests) batch_law (start (batch_text a)) a fits_a refl)
+    ∙ whole_again FitsBatch batch_text (batch_at requests) batch_law (start (batch_text a)) b fits_b e)

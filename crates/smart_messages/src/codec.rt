@@ -1,0 +1,145 @@
+//! The one spelling of each message, and how messages are read.
+ghost use Rattle.std.specs.Prelude.{◌≡◌, IfOk, Ok};
+ghost use Rattle.std.specs.Int.{w8};
+ghost use Rattle.smart_base.specs.Cuts.{Gives, GivesAll, Takes, limited};
+ghost use Rattle.smart_messages.specs.Messages.{Fits, spelling, ask_at, propose_at, vote_at, reply_at, body_at, message_kind_at, message_at, decoded};
+
+use crate::batch::Batch;
+use crate::message::{Message, Proposed};
+use crate::signed::Signed;
+use crate::statement::{Answer, Ballot, Proposal, Request};
+use smart_base::cursor::Cursor;
+use smart_base::fault::{ReadError, Unread};
+use smart_base::field::put_u8;
+use std::alloc::{AllocError, Global};
+
+/// The most bytes that a message has.
+pub const MESSAGE_BYTES: usize = 1_048_576;
+
+#[tactic(auto, unfolding(crate::specs::Messages::ask_at))]
+fn read_ask(alloc: Global, cut: &mut Cursor<'_>) -> Result<Message, ReadError>
+    ensures { Gives result cut.new (ask_at cut.old) }
+{
+    Ok(Message::Ask(Signed::<Request>::read(alloc, cut)?))
+}
+
+#[tactic(auto, unfolding(crate::specs::Messages::propose_at))]
+fn read_propose(alloc: Global, cut: &mut Cursor<'_>) -> Result<Message, ReadError>
+    ensures { Gives result cut.new (propose_at cut.old) }
+{
+    let head = Signed::<Proposal>::read(alloc, cut)?;
+    let batch = Batch::read(alloc, cut)?;
+    Ok(Message::Propose(Proposed { head, batch }))
+}
+
+#[tactic(auto, unfolding(crate::specs::Messages::vote_at))]
+fn read_vote(alloc: Global, cut: &mut Cursor<'_>) -> Result<Message, ReadError>
+    ensures { Gives result cut.new (vote_at cut.old) }
+{
+    Ok(Message::Vote(Signed::<Ballot>::read(alloc, cut)?))
+}
+
+#[tactic(auto, unfolding(crate::specs::Messages::reply_at))]
+fn read_reply(alloc: Global, cut: &mut Cursor<'_>) -> Result<Message, ReadError>
+    ensures { Gives result cut.new (reply_at cut.old) }
+{
+    Ok(Message::Reply(Signed::<Answer>::read(alloc, cut)?))
+}
+
+#[tactic(auto, unfolding(crate::specs::Messages::body_at))]
+fn read_body(alloc: Global, kind: u8, cut: &mut Cursor<'_>) -> Result<Message, ReadError>
+    ensures { Gives result cut.new (body_at kind cut.old) }
+{
+    match kind {
+        1 => read_ask(alloc, cut),
+        2 => read_propose(alloc, cut),
+        3 => read_vote(alloc, cut),
+        _ => read_reply(alloc, cut),
+    }
+}
+
+#[tactic(auto, unfolding(smart_base::specs::Cuts::ranged))]
+fn take_message_kind(cut: &mut Cursor<'_>) -> Result<u8, Unread>
+    ensures { Takes result cut.new (message_kind_at cut.old) }
+{
+    let at = cut.at();
+    let found = cut.take_u8()?;
+    if found == 1 || found == 2 || found == 3 || found == 8 {
+        Ok(found)
+    } else {
+        Err(Unread { at })
+    }
+}
+
+#[tactic(auto, unfolding(crate::specs::Messages::message_at))]
+fn read_message(alloc: Global, cut: &mut Cursor<'_>) -> Result<Message, ReadError>
+    ensures { Gives result cut.new (message_at cut.old) }
+{
+    let kind = take_message_kind(cut)?;
+    let message = read_body(alloc, kind, cut)?;
+    Ok(message)
+}
+
+/// A field that ends past the limit of a message's bytes cannot be read.
+#[tactic(auto, unfolding(smart_base::specs::Cuts::limited))]
+fn read_limited(alloc: Global, cut: &mut Cursor<'_>) -> Result<Message, ReadError>
+    ensures { Gives result cut.new (limited 1048576 message_at cut.old) }
+{
+    let mut inner = cut.front(MESSAGE_BYTES);
+    let room = inner.rest().len();
+    let message = read_message(alloc, &mut inner)?;
+    cut.skip(room.saturating_sub(inner.rest().len()));
+    Ok(message)
+}
+
+#[tactic(auto, unfolding(crate::specs::Messages::decoded, smart_base::specs::Cuts::whole))]
+fn read_all(alloc: Global, bytes: &[u8]) -> Result<Message, ReadError>
+    ensures { GivesAll result (decoded bytes.now) }
+{
+    let mut cut = Cursor::new(bytes);
+    let message = read_limited(alloc, &mut cut)?;
+    if !cut.is_done() {
+        return Err(ReadError::Unread { at: cut.at() });
+    }
+    Ok(message)
+}
+
+/// The message that these bytes are, all of them.
+pub fn decode(alloc: Global, bytes: &[u8]) -> Result<Message, ReadError>
+    // What is read is spelled so.
+    ensures found { IfOk result (λ m. Fits m × (bytes.now ≡ spelling m)) }
+    // What is spelled so is read, unless memory runs out.
+    ensures only { (m : Message) → Fits m → bytes.now ≡ spelling m → GivesAll result (Ok m) }
+    // Else the lowest offset of a field that cannot be read or is out of its range, or of a byte left over.
+    ensures exact { GivesAll result (decoded bytes.now) }
+{
+    read_all(alloc, bytes)
+}
+
+/// The one spelling of the message.
+#[tactic(auto, unfolding(crate::specs::Messages::spelling))]
+pub fn encode(alloc: Global, message: &Message) -> Result<Vec<u8>, AllocError>
+    ensures { IfOk result (λ v. v.items ≡ spelling message.now) }
+{
+    let mut out = Vec::new(alloc);
+    match message {
+        Message::Ask(ask) => {
+            put_u8(&mut out, 1)?;
+            ask.put(&mut out)?;
+        }
+        Message::Propose(proposed) => {
+            put_u8(&mut out, 2)?;
+            proposed.head.put(&mut out)?;
+            proposed.batch.put(&mut out)?;
+        }
+        Message::Vote(vote) => {
+            put_u8(&mut out, 3)?;
+            vote.put(&mut out)?;
+        }
+        Message::Reply(reply) => {
+            put_u8(&mut out, 8)?;
+            reply.put(&mut out)?;
+        }
+    }
+    Ok(out)
+}

@@ -1,0 +1,16 @@
+//! Laws of messages and their bytes.
+ghost use Rattle.std.specs.Prelude.{◌≡◌, ℕ, List, Ok};
+ghost use Rattle.smart_base.specs.Cuts.{IsBytes};
+ghost use Rattle.smart_messages.specs.Messages.{Batch, FitsBatch, batch_text, Fits, spelling, decoded};
+ghost use Rattle.smart_messages.specs.declared.message.Message.{Message};
+
+/// A message has one spelling: it is read as the message, and what is read as the message is it.
+pub fn a_message_has_one_spelling()
+    ensures read { (m : Message) → Fits m → decoded (spelling m) ≡ Ok m }
+    ensures alone { (bytes : List ℕ) (m : Message) → IsBytes bytes → decoded bytes ≡ Ok m → Fits m × (bytes ≡ spelling m) }
+{}
+
+/// Batches with one text are one batch, so that what names the text names the batch.
+pub fn batches_with_one_text_are_one()
+    ensures { (a b : Batch) → FitsBatch a → FitsBatch b → batch_text a ≡ batch_text b → a ≡ b }
+{}
