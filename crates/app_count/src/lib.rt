@@ -3,8 +3,8 @@
 
 ghost use Rattle.std.specs.Prelude.{◌≡◌};
 
+use smart_base::bytes::Payload;
 use smart_base::decimal::number_of;
-use smart_base::sequence::{Bytes, Sequence};
 use smart_service::service::Service;
 use std::alloc::{AllocError, Global};
 
@@ -16,20 +16,23 @@ pub struct Count {
 
 impl Service for Count {
     ghost use Rattle.app_count.specs.Counts.{counting};
+    ghost use Rattle.app_count.specs.Briefs.{brief_replies};
 
     ghost meaning = { counting };
+
+    ghost brief = { brief_replies };
 
     fn first(_alloc: Global) -> Result<Count, AllocError> {
         Ok(Count { sum: 0 })
     }
 
-    fn run(&mut self, alloc: Global, op: &[u8]) -> Result<Bytes, AllocError> {
+    fn run(&mut self, alloc: Global, op: &[u8]) -> Result<Payload, AllocError> {
         match number_of(op) {
-            None => Sequence::from_slice(alloc, b"?"),
+            None => Payload::from_slice(alloc, b"?"),
             Some(amount) => {
                 self.sum = self.sum.saturating_add(amount);
                 let text = self.sum.to_string(alloc)?;
-                Sequence::from_slice(alloc, text.as_bytes())
+                Payload::from_slice(alloc, text.as_bytes())
             }
         }
     }

@@ -2,10 +2,10 @@
 ghost use Rattle.std.specs.Prelude.{◌≡◌, [], OnOk, IfOk};
 ghost use Rattle.smart_service.specs.Tables.{last_seq, with_line};
 
+use smart_base::bytes::Payload;
 use smart_base::duplicate::Duplicate;
 use smart_base::name::ClientId;
 use smart_base::number::{Place, ViewNo};
-use smart_base::sequence::Bytes;
 use std::alloc::{AllocError, Global};
 use std::marker::Model;
 
@@ -16,9 +16,10 @@ pub struct TableLine {
     pub client: ClientId,
     pub seq: u64,
     pub place: Place,
-    pub index: u64,
+    /// The request's index in its batch, from 0.
+    pub index: u16,
     pub view: ViewNo,
-    pub reply: Bytes,
+    pub reply: Payload,
 }
 
 impl Duplicate for TableLine {
