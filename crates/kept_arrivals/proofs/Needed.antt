@@ -3,15 +3,16 @@ use Rattle.std.proofs.Common.{◌≡◌, ℕ, ◌+◌, ◌≤◌, ◌^◌, Bool,
 use Rattle.std.proofs.lemmas.Bool.{leb-true, leb-false, le-leb, ltb-true, ltb-false, lt-ltb, eqb-true}
 use Rattle.std.specs.Prelude.{filter}
 use Rattle.std.specs.List.{list_any}
-use Rattle.smart_base.specs.Lists.{or_else}
+use Rattle.smart_base.specs.Lists.{or_else, same_bytes}
 use Rattle.smart_base.specs.Views.{is_member}
 use Rattle.smart_base.proofs.SameLists.{and_true}
-use Rattle.smart_messages.specs.Equality.{same_slot, same_digest}
-use Rattle.smart_messages.specs.declared.message.Request.{Request}
-use Rattle.smart_messages.specs.declared.message.Slot.{Slot}
-use Rattle.smart_messages.specs.declared.message.Proposal.{Proposal}
-use Rattle.smart_messages.specs.declared.message.Ballot.{Ballot}
-use Rattle.smart_messages.specs.declared.message.VoteKind.{VoteKind}
+use Rattle.smart_messages.specs.Forms.{SignedBy}
+use Rattle.smart_messages.specs.Messages.{Batch}
+use Rattle.smart_messages.specs.Equality.{same_slot}
+use Rattle.smart_messages.specs.declared.statement.Slot.{Slot}
+use Rattle.smart_messages.specs.declared.message.Proposed.{Proposed}
+use Rattle.smart_messages.specs.declared.statement.Ballot.{Ballot}
+use Rattle.smart_messages.specs.declared.statement.VoteKind.{VoteKind}
 use Rattle.smart_messages.specs.declared.message.Message.{Message}
 use Rattle.smart_messages.specs.declared.message.Message.TheVariants.{Ask, Propose, Vote, Reply}
 use Rattle.node_rules.specs.Nodes.{Node, view_of, regency_of, next_place, decided_place, open_slot, is_free, is_open, is_vote, has_vote, proposal_in, proposal_of}
@@ -41,27 +42,27 @@ as_ahead v c r s slot ahead same = ap (λ t. is_ahead v c r t) (same_slot-equal 
 proposed_needed : (v c r : ℕ) (slot : Slot) → is_ahead v c r slot ≡ true → (s : Slot) → same_slot slot s ≡ true → is_ahead v c r s ≡ true
 proposed_needed v c r slot ahead s same = ap (λ t. is_ahead v c r t) (sym (same_slot-equal slot s same)) ∙ ahead
 
-vote_needed : (v c r : ℕ) (kind : VoteKind) (member : ℕ) (slot : Slot) (digest : List Request) → is_ahead v c r slot ≡ true
+vote_needed : (v c r : ℕ) (kind : VoteKind) (member : ℕ) (slot : Slot) (digest : List ℕ) → is_ahead v c r slot ≡ true
     → (m : Message) → is_vote kind member slot digest m ≡ true → is_needed v c r m ≡ true
 vote_needed v c r kind member slot digest ahead (Ask q) is = absurd (cc)
 vote_needed v c r kind member slot digest ahead (Propose p) is = absurd (cc)
 vote_needed v c r kind member slot digest ahead (Vote b) is =
-    as_ahead v c r b.slot slot ahead (and_true _ (same_slot b.slot slot) (and_true _ (same_digest b.digest digest) is).0).1
+    as_ahead v c r b.statement.slot slot ahead (and_true _ (same_slot b.statement.slot slot) (and_true _ (same_bytes b.statement.digest digest) is).0).1
 vote_needed v c r kind member slot digest ahead (Reply a) is = absurd (cc)
 
-same_vote_needed : (v c r : ℕ) (b : Ballot) → is_ahead v c r b.slot ≡ true → (m : Message) → is_same_vote b m ≡ true → is_needed v c r m ≡ true
+same_vote_needed : (v c r : ℕ) (b : SignedBy Ballot) → is_ahead v c r b.statement.slot ≡ true → (m : Message) → is_same_vote b m ≡ true → is_needed v c r m ≡ true
 same_vote_needed v c r b ahead (Ask q) is = absurd (cc)
 same_vote_needed v c r b ahead (Propose p) is = absurd (cc)
-same_vote_needed v c r b ahead (Vote o) is = as_ahead v c r o.slot b.slot ahead (and_true _ (same_slot o.slot b.slot) is).1
+same_vote_needed v c r b ahead (Vote o) is = as_ahead v c r o.statement.slot b.statement.slot ahead (and_true _ (same_slot o.statement.slot b.statement.slot) is).1
 same_vote_needed v c r b ahead (Reply a) is = absurd (cc)
 
-same_proposal_needed : (v c r : ℕ) (p : Proposal) → is_ahead v c r p.slot ≡ true → (m : Message) → is_same_proposal p m ≡ true → is_needed v c r m ≡ true
+same_proposal_needed : (v c r : ℕ) (p : Proposed) → is_ahead v c r p.head.statement.slot ≡ true → (m : Message) → is_same_proposal p m ≡ true → is_needed v c r m ≡ true
 same_proposal_needed v c r p ahead (Ask q) is = absurd (cc)
-same_proposal_needed v c r p ahead (Propose o) is = as_ahead v c r o.slot p.slot ahead (and_true _ (same_slot o.slot p.slot) is).1
+same_proposal_needed v c r p ahead (Propose o) is = as_ahead v c r o.head.statement.slot p.head.statement.slot ahead (and_true _ (same_slot o.head.statement.slot p.head.statement.slot) is).1
 same_proposal_needed v c r p ahead (Vote b) is = absurd (cc)
 same_proposal_needed v c r p ahead (Reply a) is = absurd (cc)
 
-proposal_more : (slot : Slot) (m : Message) (few all : List Message) (found : Option (List Request)) (b : Bool) → proposal_in slot m ≡ found → (is_some found ≡ true → b ≡ true)
+proposal_more : (slot : Slot) (m : Message) (few all : List Message) (found : Option Batch) (b : Bool) → proposal_in slot m ≡ found → (is_some found ≡ true → b ≡ true)
     → proposal_of few slot ≡ proposal_of all slot → proposal_of (cond b (m ∷ few) few) slot ≡ or_else found (proposal_of all slot)
 proposal_more slot m few all None true is implies same = rw is same
 proposal_more slot m few all None false is implies same = same
@@ -70,7 +71,7 @@ proposal_more slot m few all (Some batch) false is implies same = absurd (let e 
 
 proposal_needed : (v c r : ℕ) (slot : Slot) → is_ahead v c r slot ≡ true → (m : Message) → is_some (proposal_in slot m) ≡ true → is_needed v c r m ≡ true
 proposal_needed v c r slot ahead (Ask q) some = absurd (cc)
-proposal_needed v c r slot ahead (Propose p) some = as_ahead v c r p.slot slot ahead (guard_passed (same_slot p.slot slot) (Some p.batch) some)
+proposal_needed v c r slot ahead (Propose p) some = as_ahead v c r p.head.statement.slot slot ahead (guard_passed (same_slot p.head.statement.slot slot) (Some p.batch) some)
 proposal_needed v c r slot ahead (Vote b) some = absurd (cc)
 proposal_needed v c r slot ahead (Reply a) some = absurd (cc)
 
@@ -104,7 +105,7 @@ pub proposed_same : {S : Type 0} (n : Node S) → n.waiting ≡ None → list_an
 proposed_same n free =
     any_kept (same_slot (open_slot n)) (ahead_of n) (proposed_needed (view_of n).number (decided_place n) (regency_of n) (open_slot n) (open_ahead n free)) n.proposed
 
-pub voters_same : {S : Type 0} (n : Node S) (kind : VoteKind) (digest : List Request) → n.waiting ≡ None
+pub voters_same : {S : Type 0} (n : Node S) (kind : VoteKind) (digest : List ℕ) → n.waiting ≡ None
     → filter (has_vote (filter (needed_by n) n.arrivals) kind (open_slot n) digest) (view_of n).members ≡ filter (has_vote n.arrivals kind (open_slot n) digest) (view_of n).members
 voters_same n kind digest free =
     filter_agree (has_vote (filter (needed_by n) n.arrivals) kind (open_slot n) digest) (has_vote n.arrivals kind (open_slot n) digest)
@@ -128,13 +129,13 @@ ahead_where n slot none =
     let low = ltb-false slot.view (view_of n).number no.0 in
     rw (lt-ltb (decided_place n) slot.place above, le-leb (view_of n).number slot.view low, le-leb 0 slot.regency (omega arith)) refl
 
-pub vote_repeats : {S : Type 0} (n : Node S) (b : Ballot) → slot_why n b.slot ≡ None → list_any (is_same_vote b) (filter (needed_by n) n.arrivals) ≡ list_any (is_same_vote b) n.arrivals
+pub vote_repeats : {S : Type 0} (n : Node S) (b : SignedBy Ballot) → slot_why n b.statement.slot ≡ None → list_any (is_same_vote b) (filter (needed_by n) n.arrivals) ≡ list_any (is_same_vote b) n.arrivals
 vote_repeats n b none =
-    any_kept (is_same_vote b) (needed_by n) (same_vote_needed (view_of n).number (decided_place n) (regency_of n) b (ahead_where n b.slot none)) n.arrivals
+    any_kept (is_same_vote b) (needed_by n) (same_vote_needed (view_of n).number (decided_place n) (regency_of n) b (ahead_where n b.statement.slot none)) n.arrivals
 
-pub proposal_repeats : {S : Type 0} (n : Node S) (p : Proposal) → slot_why n p.slot ≡ None → list_any (is_same_proposal p) (filter (needed_by n) n.arrivals) ≡ list_any (is_same_proposal p) n.arrivals
+pub proposal_repeats : {S : Type 0} (n : Node S) (p : Proposed) → slot_why n p.head.statement.slot ≡ None → list_any (is_same_proposal p) (filter (needed_by n) n.arrivals) ≡ list_any (is_same_proposal p) n.arrivals
 proposal_repeats n p none =
-    any_kept (is_same_proposal p) (needed_by n) (same_proposal_needed (view_of n).number (decided_place n) (regency_of n) p (ahead_where n p.slot none)) n.arrivals
+    any_kept (is_same_proposal p) (needed_by n) (same_proposal_needed (view_of n).number (decided_place n) (regency_of n) p (ahead_where n p.head.statement.slot none)) n.arrivals
 
 -- LATER NODES
 
@@ -147,8 +148,8 @@ ahead_later v c r w d q views places regencies s is =
 
 needed_later : (v c r w d q : ℕ) → v ≤ w → c ≤ d → r ≤ q → (m : Message) → is_needed w d q m ≡ true → is_needed v c r m ≡ true
 needed_later v c r w d q views places regencies (Ask a) is = is
-needed_later v c r w d q views places regencies (Propose p) is = ahead_later v c r w d q views places regencies p.slot is
-needed_later v c r w d q views places regencies (Vote b) is = ahead_later v c r w d q views places regencies b.slot is
+needed_later v c r w d q views places regencies (Propose p) is = ahead_later v c r w d q views places regencies p.head.statement.slot is
+needed_later v c r w d q views places regencies (Vote b) is = ahead_later v c r w d q views places regencies b.statement.slot is
 needed_later v c r w d q views places regencies (Reply a) is = is
 
 -- what is needed from a view, a place and a regency on

@@ -3,17 +3,19 @@ use Rattle.std.proofs.Common.{◌≡◌, ℕ, ◌+◌, ◌++◌, Bool, true, fal
 use Rattle.std.specs.Prelude.{filter}
 use Rattle.std.specs.List.{list_any}
 use Rattle.smart_base.specs.Lists.{or_else}
-use Rattle.smart_base.specs.Views.{quorum, leader, present}
+use Rattle.smart_base.specs.Views.{View, quorum, leader, present}
 use Rattle.smart_base.proofs.SameLists.{and_true}
-use Rattle.smart_base.specs.declared.view.View.{View}
-use Rattle.smart_messages.specs.Equality.{same_slot, digest_of}
-use Rattle.smart_messages.specs.declared.message.Request.{Request}
-use Rattle.smart_messages.specs.declared.message.Slot.{Slot}
-use Rattle.smart_messages.specs.declared.message.Proposal.{Proposal}
-use Rattle.smart_messages.specs.declared.message.Ballot.{Ballot}
-use Rattle.smart_messages.specs.declared.message.Answer.{Answer}
-use Rattle.smart_messages.specs.declared.message.VoteKind.{VoteKind}
-use Rattle.smart_messages.specs.declared.message.VoteKind.TheVariants.{Write, Accept}
+use Rattle.smart_messages.specs.Forms.{SignedBy}
+use Rattle.smart_messages.specs.Kinds.{proposals, ballots}
+use Rattle.smart_messages.specs.Messages.{Batch}
+use Rattle.smart_messages.specs.Equality.{same_slot}
+use Rattle.smart_messages.specs.declared.statement.Request.{Request}
+use Rattle.smart_messages.specs.declared.statement.Slot.{Slot}
+use Rattle.smart_messages.specs.declared.message.Proposed.{Proposed}
+use Rattle.smart_messages.specs.declared.statement.Ballot.{Ballot}
+use Rattle.smart_messages.specs.declared.statement.Answer.{Answer}
+use Rattle.smart_messages.specs.declared.statement.VoteKind.{VoteKind}
+use Rattle.smart_messages.specs.declared.statement.VoteKind.TheVariants.{Write, Accept}
 use Rattle.smart_messages.specs.declared.message.Message.{Message}
 use Rattle.smart_messages.specs.declared.message.Message.TheVariants.{Ask, Propose, Vote, Reply}
 use Rattle.smart_messages.specs.declared.entry.LogEntry.TheVariants.{Accepted, Decided}
@@ -21,8 +23,9 @@ use Rattle.smart_service.specs.Services.{Meaning}
 use Rattle.smart_service.specs.declared.table.TableLine.{TableLine}
 use Rattle.smart_service.specs.declared.replica.Replica.{Replica}
 use Rattle.node_rules.specs.Replicas.{is_next, execute, execute_all, at_next, delivered}
-use Rattle.node_rules.specs.Nodes.{Node, view_of, regency_of, next_place, decided_place, open_slot, is_free, is_open, holding, recording, fits, proposal_of}
-use Rattle.node_rules.specs.Arrivals.{slot_why, signer_why, why_ask, why_propose, why_vote, why_reply, why_dropped, offered, kept}
+use Rattle.node_rules.specs.Nodes.{Node, view_of, regency_of, next_place, decided_place, open_slot, is_free, is_open, holding, recording, proposal_of}
+use Rattle.node_rules.specs.Seals.{signed, is_verified, digest_of}
+use Rattle.node_rules.specs.Arrivals.{slot_why, signer_why, is_valid, why_ask, why_propose, why_vote, why_reply, why_dropped, offered, kept}
 use Rattle.node_rules.specs.Rules.{settled, reply_of, replying, lines_to_answer, deliver_batch, delivery, delivers, gathered, proposing, propose_batch, proposes, ballot, writing, write_batch, writes, backed, backers, accepting, accept_batch, accepts, deciding, decide_batch, decides}
 use Rattle.node_rules.specs.declared.node.Why.{Why}
 use Rattle.node_rules.specs.declared.node.Why.TheVariants.{NotLeader, InvalidBatch, Repeated}
@@ -52,11 +55,11 @@ proposes_free : {S : Type 0} (n : Node S) → is_some (proposing n) ≡ true →
 unfolding proposing
 proposes_free n some = open_free n (and_true (is_open n) _ (and_true _ (not (list_any (same_slot (open_slot n)) n.proposed)) (guard_passed _ _ some)).0).0
 
-propose_same : {S : Type 0} (n : Node S) (batch : Option (List Request)) → (is_some batch ≡ true → n.waiting ≡ None) → propose_batch (trimmed n) batch ≡ trimmed (propose_batch n batch)
+propose_same : {S : Type 0} (n : Node S) (batch : Option Batch) → (is_some batch ≡ true → n.waiting ≡ None) → propose_batch (trimmed n) batch ≡ trimmed (propose_batch n batch)
 unfolding propose_batch trimmed
 propose_same n None free = refl
 propose_same n (Some batch) free =
-    ap (λ (slots : List Slot). holding (record n { arrivals = filter (needed_by n) n.arrivals; proposed = slots }) targets.View (Propose (record { signer = n.id; slot = open_slot n; batch = batch })))
+    ap (λ (slots : List Slot). holding (record n { arrivals = filter (needed_by n) n.arrivals; proposed = slots }) targets.View (Propose (record { head = signed proposals n.secret n.id (record { slot = open_slot n; digest = digest_of batch }); batch = batch })))
     (sym (filter_end (ahead_of n) n.proposed (open_slot n ∷ []) ∙ ap (λ slots. filter (ahead_of n) n.proposed ++ slots) (one_kept (ahead_of n) (open_slot n) (open_ahead n (free refl)))))
 
 pub proposes_same : {S : Type 0} (n : Node S) → proposes (trimmed n) ≡ trimmed (proposes n)
@@ -69,7 +72,7 @@ pub writing_same : {S : Type 0} (n : Node S) → writing (trimmed n) ≡ writing
 unfolding writing trimmed
 writing_same n = where_true _ _ _ None (λ may. proposal_same n (open_free n (and_true (is_open n) _ may).0))
 
-write_same : {S : Type 0} (n : Node S) (batch : Option (List Request)) → write_batch (trimmed n) batch ≡ trimmed (write_batch n batch)
+write_same : {S : Type 0} (n : Node S) (batch : Option Batch) → write_batch (trimmed n) batch ≡ trimmed (write_batch n batch)
 unfolding write_batch trimmed
 write_same n None = refl
 write_same n (Some batch) = refl
@@ -80,11 +83,11 @@ writes_same n = ap (λ b. write_batch (trimmed n) b) (writing_same n) ∙ write_
 
 -- ACCEPT
 
-backers_same : {S : Type 0} (n : Node S) (kind : VoteKind) (batch : List Request) → n.waiting ≡ None → backers (trimmed n) kind batch ≡ backers n kind batch
+backers_same : {S : Type 0} (n : Node S) (kind : VoteKind) (batch : Batch) → n.waiting ≡ None → backers (trimmed n) kind batch ≡ backers n kind batch
 unfolding trimmed
 backers_same n kind batch free = ap (λ (members : List ℕ). take (quorum (view_of n)) members) (voters_same n kind (digest_of batch) free)
 
-backed_same : {S : Type 0} (n : Node S) (kind : VoteKind) (batch : Option (List Request)) → n.waiting ≡ None → backed (trimmed n) kind batch ≡ backed n kind batch
+backed_same : {S : Type 0} (n : Node S) (kind : VoteKind) (batch : Option Batch) → n.waiting ≡ None → backed (trimmed n) kind batch ≡ backed n kind batch
 unfolding trimmed
 backed_same n kind None free = refl
 backed_same n kind (Some batch) free = ap (λ (members : List ℕ). cond (nat_le (quorum (view_of n)) (length members)) (Some batch) None) (voters_same n kind (digest_of batch) free)
@@ -101,7 +104,7 @@ accepts_free : {S : Type 0} (n : Node S) → is_some (accepting n) ≡ true → 
 unfolding accepting
 accepts_free n some = open_free n (and_true (is_open n) _ (guard_passed _ _ some)).0
 
-accept_same : {S : Type 0} (n : Node S) (batch : Option (List Request)) → (is_some batch ≡ true → n.waiting ≡ None) → accept_batch (trimmed n) batch ≡ trimmed (accept_batch n batch)
+accept_same : {S : Type 0} (n : Node S) (batch : Option Batch) → (is_some batch ≡ true → n.waiting ≡ None) → accept_batch (trimmed n) batch ≡ trimmed (accept_batch n batch)
 unfolding accept_batch trimmed
 accept_same n None free = refl
 accept_same n (Some batch) free =
@@ -125,14 +128,14 @@ decide_same-none : {S : Type 0} (n : Node S) → trimmed (decide_batch (trimmed 
 unfolding decide_batch
 decide_same-none n = trimmed_twice n
 
-decide_same-some : {S : Type 0} (n : Node S) (batch : List Request) → n.waiting ≡ None → trimmed (decide_batch (trimmed n) (Some batch)) ≡ trimmed (decide_batch n (Some batch))
+decide_same-some : {S : Type 0} (n : Node S) (batch : Batch) → n.waiting ≡ None → trimmed (decide_batch (trimmed n) (Some batch)) ≡ trimmed (decide_batch n (Some batch))
 unfolding decide_batch trimmed
 decide_same-some n batch free =
     ap (λ (members : List ℕ). trimmed (record (recording (trimmed n) (Decided (open_slot n) members batch)) { waiting = Some batch })) (backers_same n Accept batch free)
     ∙ trim_later (view_of n).number (decided_place n) (regency_of n) (view_of n).number (next_place n) (regency_of n) (record (recording n (Decided (open_slot n) (backers n Accept batch) batch)) { waiting = Some batch })
     (omega arith) (rw free (omega arith)) (omega arith)
 
-decide_same : {S : Type 0} (n : Node S) (batch : Option (List Request)) → (is_some batch ≡ true → n.waiting ≡ None) → trimmed (decide_batch (trimmed n) batch) ≡ trimmed (decide_batch n batch)
+decide_same : {S : Type 0} (n : Node S) (batch : Option Batch) → (is_some batch ≡ true → n.waiting ≡ None) → trimmed (decide_batch (trimmed n) batch) ≡ trimmed (decide_batch n batch)
 decide_same n None free = decide_same-none n
 decide_same n (Some batch) free = decide_same-some n batch (free refl)
 
@@ -159,40 +162,40 @@ views-execute : {S : Type 0} (m : Meaning S) (r : Replica S) (i : ℕ) (q : Requ
 unfolding execute
 views-execute m r i q = views-if (is_next r.table q) _ r refl
 
-place-execute_all : {S : Type 0} (m : Meaning S) (r : Replica S) (i : ℕ) (qs : List Request) → (execute_all m r i qs).place ≡ r.place
+place-execute_all : {S : Type 0} (m : Meaning S) (r : Replica S) (i : ℕ) (qs : Batch) → (execute_all m r i qs).place ≡ r.place
 place-execute_all m r i [] = refl
-place-execute_all m r i (q ∷ qs) = place-execute_all m (execute m r i q) (i + 1) qs ∙ place-execute m r i q
+place-execute_all m r i (q ∷ qs) = place-execute_all m (execute m r i q.statement) (i + 1) qs ∙ place-execute m r i q.statement
 
-views-execute_all : {S : Type 0} (m : Meaning S) (r : Replica S) (i : ℕ) (qs : List Request) → (execute_all m r i qs).views ≡ r.views
+views-execute_all : {S : Type 0} (m : Meaning S) (r : Replica S) (i : ℕ) (qs : Batch) → (execute_all m r i qs).views ≡ r.views
 views-execute_all m r i [] = refl
-views-execute_all m r i (q ∷ qs) = views-execute_all m (execute m r i q) (i + 1) qs ∙ views-execute m r i q
+views-execute_all m r i (q ∷ qs) = views-execute_all m (execute m r i q.statement) (i + 1) qs ∙ views-execute m r i q.statement
 
-pub place_delivered : {S : Type 0} (m : Meaning S) (r : Replica S) (batch : List Request) → (delivered m r batch).place ≡ r.place + 1
+pub place_delivered : {S : Type 0} (m : Meaning S) (r : Replica S) (batch : Batch) → (delivered m r batch).place ≡ r.place + 1
 unfolding delivered
 place_delivered m r batch = place-execute_all m (at_next r) 0 batch
 
-pub views_delivered : {S : Type 0} (m : Meaning S) (r : Replica S) (batch : List Request) → (delivered m r batch).views ≡ r.views
+pub views_delivered : {S : Type 0} (m : Meaning S) (r : Replica S) (batch : Batch) → (delivered m r batch).views ≡ r.views
 unfolding delivered
 views_delivered m r batch = views-execute_all m (at_next r) 0 batch
 
-holding_same : {S : Type 0} (n : Node S) (l : TableLine) → holding (trimmed n) (targets.Client l.client) (reply_of n.id l) ≡ trimmed (holding n (targets.Client l.client) (reply_of n.id l))
+holding_same : {S : Type 0} (n : Node S) (l : TableLine) → holding (trimmed n) (targets.Client l.client) (reply_of n.secret n.id l) ≡ trimmed (holding n (targets.Client l.client) (reply_of n.secret n.id l))
 unfolding trimmed
 holding_same n l = refl
 
 replying_same : {S : Type 0} (n : Node S) (lines : List TableLine) → replying (trimmed n) lines ≡ trimmed (replying n lines)
 unfolding trimmed
 replying_same n [] = refl
-replying_same n (l ∷ ls) = ap (λ x. replying x ls) (holding_same n l) ∙ replying_same (holding n (targets.Client l.client) (reply_of n.id l)) ls
+replying_same n (l ∷ ls) = ap (λ x. replying x ls) (holding_same n l) ∙ replying_same (holding n (targets.Client l.client) (reply_of n.secret n.id l)) ls
 
 deliver_same-none : {S : Type 0} (m : Meaning S) (n : Node S) → deliver_batch m (trimmed n) None ≡ trimmed (deliver_batch m n None)
 unfolding deliver_batch
 deliver_same-none m n = refl
 
-decided-delivered : {S : Type 0} (m : Meaning S) (n : Node S) (batch : List Request) → n.waiting ≡ Some batch → decided_place n ≡ (delivered m n.replica batch).place
+decided-delivered : {S : Type 0} (m : Meaning S) (n : Node S) (batch : Batch) → n.waiting ≡ Some batch → decided_place n ≡ (delivered m n.replica batch).place
 decided-delivered m n batch is = rw is (sym (place_delivered m n.replica batch))
 
 -- the place that counts as past and the view are the same before and after
-deliver_same-some : {S : Type 0} (m : Meaning S) (n : Node S) (batch : List Request) → n.waiting ≡ Some batch → deliver_batch m (trimmed n) (Some batch) ≡ trimmed (deliver_batch m n (Some batch))
+deliver_same-some : {S : Type 0} (m : Meaning S) (n : Node S) (batch : Batch) → n.waiting ≡ Some batch → deliver_batch m (trimmed n) (Some batch) ≡ trimmed (deliver_batch m n (Some batch))
 unfolding deliver_batch trimmed
 deliver_same-some {S = S} m n batch is =
     let after : Node S = record n { replica = delivered m n.replica batch; waiting = None; pool = settled (delivered m n.replica batch).table n.pool } in
@@ -201,7 +204,7 @@ deliver_same-some {S = S} m n batch is =
     ∙ (ap (λ (views : List View). replying (trim (present views).number (delivered m n.replica batch).place (regency_of n) after) lines) (sym (views_delivered m n.replica batch))
     ∙ replying_same after lines)
 
-deliver_same : {S : Type 0} (m : Meaning S) (n : Node S) (batch : Option (List Request)) → n.waiting ≡ batch → deliver_batch m (trimmed n) batch ≡ trimmed (deliver_batch m n batch)
+deliver_same : {S : Type 0} (m : Meaning S) (n : Node S) (batch : Option Batch) → n.waiting ≡ batch → deliver_batch m (trimmed n) batch ≡ trimmed (deliver_batch m n batch)
 deliver_same m n None is = deliver_same-none m n
 deliver_same m n (Some batch) is = deliver_same-some m n batch is
 
@@ -213,7 +216,7 @@ pub delivers_same : {S : Type 0} (m : Meaning S) (n : Node S) → delivers m (tr
 unfolding delivers
 delivers_same m n = ap (λ b. deliver_batch m (trimmed n) b) (waiting_same n) ∙ deliver_same m n n.waiting refl
 
-delivery_same-of : {S : Type 0} (m : Meaning S) (n : Node S) (batch : Option (List Request)) → delivery m (trimmed n) batch ≡ delivery m n batch
+delivery_same-of : {S : Type 0} (m : Meaning S) (n : Node S) (batch : Option Batch) → delivery m (trimmed n) batch ≡ delivery m n batch
 unfolding delivery trimmed
 delivery_same-of m n None = refl
 delivery_same-of m n (Some batch) = refl
@@ -231,41 +234,41 @@ or_else-none : {A : Type 0} (first rest : Option A) → or_else first rest ≡ N
 or_else-none None rest none = (refl, none)
 or_else-none (Some a) rest none = absurd (cc)
 
-why_vote_same : {S : Type 0} (n : Node S) (b : Ballot) → why_vote (trimmed n) b ≡ why_vote n b
+why_vote_same : {S : Type 0} (n : Node S) (b : SignedBy Ballot) → why_vote (trimmed n) b ≡ why_vote n b
 unfolding why_vote signer_why slot_why trimmed
 why_vote_same n b =
-    ap (λ (why : Option Why). or_else (signer_why n b.signer) why)
-    (or_else_where (slot_why n b.slot) _ _ (λ none. ap (λ (again : Bool). cond again (Some Repeated) None) (vote_repeats n b none)))
+    ap (λ (why : Option Why). or_else (signer_why n (is_verified ballots n.secret b) b.signer) why)
+    (or_else_where (slot_why n b.statement.slot) _ _ (λ none. ap (λ (again : Bool). cond again (Some Repeated) None) (vote_repeats n b none)))
 
-why_propose_same : {S : Type 0} (n : Node S) (p : Proposal) → why_propose (trimmed n) p ≡ why_propose n p
+why_propose_same : {S : Type 0} (n : Node S) (p : Proposed) → why_propose (trimmed n) p ≡ why_propose n p
 unfolding why_propose signer_why slot_why trimmed
 why_propose_same n p =
-    ap (λ (why : Option Why). or_else (signer_why n p.signer) why)
-    (or_else_where (slot_why n p.slot) _ _ (λ none.
-    ap (λ (again : Bool). cond (not (p.signer == leader (view_of n) p.slot.regency)) (Some NotLeader) (cond (not (fits p.batch p.slot.place)) (Some InvalidBatch) (cond again (Some Repeated) None)))
+    ap (λ (why : Option Why). or_else (signer_why n (is_verified proposals n.secret p.head) p.head.signer) why)
+    (or_else_where (slot_why n p.head.statement.slot) _ _ (λ none.
+    ap (λ (again : Bool). cond (not (p.head.signer == leader (view_of n) p.head.statement.slot.regency)) (Some NotLeader) (cond (not (is_valid n.secret p)) (Some InvalidBatch) (cond again (Some Repeated) None)))
     (proposal_repeats n p none)))
 
-why_ask_same : {S : Type 0} (n : Node S) (q : Request) → why_ask (trimmed n) q ≡ why_ask n q
+why_ask_same : {S : Type 0} (n : Node S) (q : SignedBy Request) → why_ask (trimmed n) q ≡ why_ask n q
 unfolding why_ask trimmed
 why_ask_same n q = refl
 
-why_reply_same : {S : Type 0} (n : Node S) (signer : ℕ) → why_reply (trimmed n) signer ≡ why_reply n signer
+why_reply_same : {S : Type 0} (n : Node S) (a : SignedBy Answer) → why_reply (trimmed n) a ≡ why_reply n a
 unfolding why_reply signer_why trimmed
-why_reply_same n signer = refl
+why_reply_same n a = refl
 
 pub why_same : {S : Type 0} (n : Node S) (message : Message) → why_dropped (trimmed n) message ≡ why_dropped n message
 why_same n (Ask q) = why_ask_same n q
 why_same n (Propose p) = why_propose_same n p
 why_same n (Vote b) = why_vote_same n b
-why_same n (Reply a) = why_reply_same n a.signer
+why_same n (Reply a) = why_reply_same n a
 
-vote_ahead : {S : Type 0} (n : Node S) (b : Ballot) → why_vote n b ≡ None → ahead_of n b.slot ≡ true
+vote_ahead : {S : Type 0} (n : Node S) (b : SignedBy Ballot) → why_vote n b ≡ None → ahead_of n b.statement.slot ≡ true
 unfolding why_vote
-vote_ahead n b none = ahead_where n b.slot (or_else-none (slot_why n b.slot) _ (or_else-none (signer_why n b.signer) _ none).1).0
+vote_ahead n b none = ahead_where n b.statement.slot (or_else-none (slot_why n b.statement.slot) _ (or_else-none (signer_why n (is_verified ballots n.secret b) b.signer) _ none).1).0
 
-propose_ahead : {S : Type 0} (n : Node S) (p : Proposal) → why_propose n p ≡ None → ahead_of n p.slot ≡ true
+propose_ahead : {S : Type 0} (n : Node S) (p : Proposed) → why_propose n p ≡ None → ahead_of n p.head.statement.slot ≡ true
 unfolding why_propose
-propose_ahead n p none = ahead_where n p.slot (or_else-none (slot_why n p.slot) _ (or_else-none (signer_why n p.signer) _ none).1).0
+propose_ahead n p none = ahead_where n p.head.statement.slot (or_else-none (slot_why n p.head.statement.slot) _ (or_else-none (signer_why n (is_verified proposals n.secret p.head) p.head.signer) _ none).1).0
 
 -- what is needed comes to the needed ones
 added : {S : Type 0} (n : Node S) (message : Message) → needed_by n message ≡ true
@@ -279,19 +282,19 @@ trimmed-if : {S : Type 0} (test : Bool) (x y : Node S) → cond test (trimmed x)
 trimmed-if true x y = refl
 trimmed-if false x y = refl
 
-kept_ask : {S : Type 0} (n : Node S) (q : Request) → kept (trimmed n) (Ask q) ≡ trimmed (kept n (Ask q))
+kept_ask : {S : Type 0} (n : Node S) (q : SignedBy Request) → kept (trimmed n) (Ask q) ≡ trimmed (kept n (Ask q))
 unfolding kept trimmed
-kept_ask n q = trimmed-if (is_next n.replica.table q) (record n { pool = offered n.pool q }) n
+kept_ask n q = trimmed-if (is_next n.replica.table q.statement) (record n { pool = offered n.pool q }) n
 
-kept_propose : {S : Type 0} (n : Node S) (p : Proposal) → ahead_of n p.slot ≡ true → kept (trimmed n) (Propose p) ≡ trimmed (kept n (Propose p))
+kept_propose : {S : Type 0} (n : Node S) (p : Proposed) → ahead_of n p.head.statement.slot ≡ true → kept (trimmed n) (Propose p) ≡ trimmed (kept n (Propose p))
 unfolding kept trimmed
 kept_propose n p ahead = added n (Propose p) ahead
 
-kept_vote : {S : Type 0} (n : Node S) (b : Ballot) → ahead_of n b.slot ≡ true → kept (trimmed n) (Vote b) ≡ trimmed (kept n (Vote b))
+kept_vote : {S : Type 0} (n : Node S) (b : SignedBy Ballot) → ahead_of n b.statement.slot ≡ true → kept (trimmed n) (Vote b) ≡ trimmed (kept n (Vote b))
 unfolding kept trimmed
 kept_vote n b ahead = added n (Vote b) ahead
 
-kept_reply : {S : Type 0} (n : Node S) (a : Answer) → kept (trimmed n) (Reply a) ≡ trimmed (kept n (Reply a))
+kept_reply : {S : Type 0} (n : Node S) (a : SignedBy Answer) → kept (trimmed n) (Reply a) ≡ trimmed (kept n (Reply a))
 unfolding kept trimmed
 kept_reply n a = refl
 

@@ -1,6 +1,7 @@
 -- A step on what is needed, and a core's steps.
-use Rattle.std.proofs.Common.{◌≡◌, ℕ, ◌++◌, List, [], ◌∷◌, refl, ap, ◌∙◌, Option, Some, None}
-use Rattle.smart_base.specs.declared.view.View.{View}
+use Rattle.std.proofs.Common.{◌≡◌, ℕ, ◌++◌, List, [], ◌∷◌, refl, ap, ◌∙◌, Option, Some, None, Result, Ok, Err}
+use Rattle.smart_base.specs.Views.{View}
+use Rattle.smart_messages.specs.Messages.{decoded}
 use Rattle.smart_messages.specs.declared.message.Message.{Message}
 use Rattle.smart_messages.specs.declared.entry.NodeEvent.{NodeEvent}
 use Rattle.smart_messages.specs.declared.entry.NodeEvent.TheVariants.{Arrive, Tick, Deliver, Firm}
@@ -8,7 +9,7 @@ use Rattle.smart_service.specs.Services.{Meaning}
 use Rattle.node_rules.specs.Nodes.{Node, next_place}
 use Rattle.node_rules.specs.Arrivals.{why_dropped, kept}
 use Rattle.node_rules.specs.Rules.{delivers, delivery, proposing, proposes, writing, writes, accepting, accepts, deciding, decides, fired_if}
-use Rattle.node_rules.specs.Steps.{Outcome, votes, fired_votes, passes, fired_pass, outcome_from, arrival_outcome, step_of, released, opened}
+use Rattle.node_rules.specs.Steps.{Outcome, votes, fired_votes, passes, fired_pass, outcome_from, arrival_outcome, reading_outcome, step_of, released, opened}
 use Rattle.node_rules.specs.declared.node.Why.{Why}
 use Rattle.node_rules.specs.declared.node.Held.{Held}
 use Rattle.node_rules.specs.declared.node.Fired.{Fired}
@@ -63,6 +64,10 @@ alike_arrival : {S : Type 0} (n : Node S) (message : Message) (why : Option Why)
 alike_arrival n message None is = alike_from (kept (trimmed n) message) (kept n message) [] [] (kept_same n message is) refl
 alike_arrival n message (Some why) is = record { node = trimmed_twice n; fired = refl; dropped = refl }
 
+alike_reading : {S : Type 0} (n : Node S) (read : Result Message ℕ) → Alike (reading_outcome (trimmed n) read) (reading_outcome n read)
+alike_reading n (Ok message) = rw (why_same n message) (alike_arrival n message (why_dropped n message) refl)
+alike_reading n (Err at) = record { node = trimmed_twice n; fired = refl; dropped = refl }
+
 firm_same : {S : Type 0} (n : Node S) (count : ℕ) → record (trimmed n) { firm = count } ≡ trimmed (record n { firm = count })
 unfolding trimmed
 firm_same n count = refl
@@ -70,7 +75,7 @@ firm_same n count = refl
 -- a step from what is needed and a step from all
 pub steps_alike : {S : Type 0} (m : Meaning S) (n : Node S) (event : NodeEvent) → Alike (step_of m (trimmed n) event) (step_of m n event)
 unfolding step_of
-steps_alike m n (Arrive message) = rw (why_same n message) (alike_arrival n message (why_dropped n message) refl)
+steps_alike m n (Arrive bytes) = alike_reading n (decoded bytes)
 steps_alike m n Tick = alike_from (trimmed n) n [] [] refl refl
 steps_alike m n Deliver = alike_from (delivers m (trimmed n)) (delivers m n) (delivery m (trimmed n) (trimmed n).waiting) (delivery m n n.waiting) (delivers_same m n) (delivery_same m n)
 steps_alike m n (Firm count) = alike_from (record (trimmed n) { firm = count }) (record n { firm = count }) [] [] (firm_same n count) refl
@@ -88,12 +93,12 @@ core_step_trimmed m n event =
 pub core_step_stands : {S : Type 0} (m : Meaning S) (core n : Node S) (event : NodeEvent) → Stands core n → StepStands m core n event
 core_step_stands m core n event stands = rw stands.same (core_step_trimmed m n event)
 
-opened_same : {S : Type 0} (m : Meaning S) (id : ℕ) (view : View) → opened m id view ≡ trimmed (opened m id view)
+opened_same : {S : Type 0} (m : Meaning S) (secret : List ℕ) (id : ℕ) (view : View) → opened m secret id view ≡ trimmed (opened m secret id view)
 unfolding trimmed
-opened_same m id view = refl
+opened_same m secret id view = refl
 
-pub opened_stands : {S : Type 0} (m : Meaning S) (id : ℕ) (view : View) → Stands (opened m id view) (opened m id view)
-opened_stands m id view = record { same = opened_same m id view }
+pub opened_stands : {S : Type 0} (m : Meaning S) (secret : List ℕ) (id : ℕ) (view : View) → Stands (opened m secret id view) (opened m secret id view)
+opened_stands m secret id view = record { same = opened_same m secret id view }
 
 pub after_stands : {S : Type 0} (m : Meaning S) (core n : Node S) (events : List NodeEvent) → Stands core n → Stands (core_after m core events) (node_after m n events)
 after_stands m core n [] stands = stands

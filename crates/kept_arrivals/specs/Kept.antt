@@ -1,6 +1,6 @@
 -- What a node still needs of all that it kept, and a core that keeps no more than that.
 use Rattle.std.specs.Prelude.{ℕ, ◌≡◌, ◌&&◌, nat_lt, nat_le, Bool, false, filter, List, [], ◌∷◌}
-use Rattle.smart_messages.specs.declared.message.Slot.{Slot}
+use Rattle.smart_messages.specs.declared.statement.Slot.{Slot}
 use Rattle.smart_messages.specs.declared.message.Message.{Message}
 use Rattle.smart_messages.specs.declared.message.Message.TheVariants.{Ask, Propose, Vote, Reply}
 use Rattle.smart_messages.specs.declared.entry.NodeEvent.{NodeEvent}
@@ -15,8 +15,8 @@ is_ahead view place regency slot = nat_lt place slot.place && nat_le view slot.v
 -- a proposal or a vote for a slot ahead
 abbrev pub is_needed : ℕ → ℕ → ℕ → Message → Bool
 is_needed view place regency (Ask q) = false
-is_needed view place regency (Propose p) = is_ahead view place regency p.slot
-is_needed view place regency (Vote b) = is_ahead view place regency b.slot
+is_needed view place regency (Propose p) = is_ahead view place regency p.head.statement.slot
+is_needed view place regency (Vote b) = is_ahead view place regency b.statement.slot
 is_needed view place regency (Reply a) = false
 
 -- a slot that is ahead of a node

@@ -1,6 +1,6 @@
 //! Laws of what a node keeps.
 ghost use Rattle.std.specs.Prelude.{ℕ, List};
-ghost use Rattle.smart_base.specs.declared.view.View.{View};
+ghost use Rattle.smart_base.specs.Views.{View};
 ghost use Rattle.smart_messages.specs.declared.entry.NodeEvent.{NodeEvent};
 ghost use Rattle.node_rules.specs.Nodes.{Node};
 ghost use Rattle.node_rules.specs.Steps.{opened};
@@ -15,5 +15,6 @@ pub fn a_core_steps_as_its_node<S: Service>()
 
 /// Whatever comes, a core that began with an empty book stands for the node that keeps all.
 pub fn a_core_stands_for_its_node<S: Service>()
-    ensures { (id : ℕ) (view : View) (events : List NodeEvent) → Stands (core_after S.meaning (opened S.meaning id view) events) (node_after S.meaning (opened S.meaning id view) events) }
+    ensures { (secret : List ℕ) (id : ℕ) (view : View) (events : List NodeEvent) →
+        Stands (core_after S.meaning (opened S.meaning secret id view) events) (node_after S.meaning (opened S.meaning secret id view) events) }
 {}

@@ -2,13 +2,12 @@
 use Rattle.std.proofs.Common.{◌≡◌, ℕ, ◌+◌, ◌<◌, ◌≤◌, ◌++◌, Bool, true, false, ◌||◌, List, [], ◌∷◌, refl, ap, sym, ◌∙◌, arith, Option, Some, None, IsSome, ◌^◌}
 use Rattle.std.specs.List.{list_any}
 use Rattle.kept_arrivals.proofs.Needed.{same_slot-equal}
+use Rattle.smart_messages.specs.Messages.{Batch}
 use Rattle.smart_messages.specs.Equality.{same_slot}
 use Rattle.node_rules.specs.Nodes.{is_wrote, is_accepted}
 use Rattle.smart_base.specs.Lists.{Each}
-use Rattle.smart_base.specs.Views.{present}
-use Rattle.smart_base.specs.declared.view.View.{View}
-use Rattle.smart_messages.specs.declared.message.Request.{Request}
-use Rattle.smart_messages.specs.declared.message.Slot.{Slot}
+use Rattle.smart_base.specs.Views.{View, present}
+use Rattle.smart_messages.specs.declared.statement.Slot.{Slot}
 use Rattle.smart_messages.specs.declared.entry.LogEntry.{LogEntry}
 use Rattle.smart_messages.specs.declared.entry.LogEntry.TheVariants.{Opened, Wrote, Accepted, Decided}
 use Rattle.node_core.specs.Books.{entry_place, Remembers}
@@ -25,7 +24,7 @@ any_end : {A : Type 0} (p : A → Bool) (xs : List A) (x : A) → list_any p (xs
 any_end p [] x = or-last (p x)
 any_end p (y ∷ ys) x = ap (λ b. p y || b) (any_end p ys x) ∙ or-assoc (p y) (list_any p ys) (p x)
 
-each_more : {A : Type 0} (P : A → Type 0) (xs : List A) (x : A) → Each P xs → P x → Each P (xs ++ x ∷ [])
+pub each_more : {A : Type 0} (P : A → Type 0) (xs : List A) (x : A) → Each P xs → P x → Each P (xs ++ x ∷ [])
 each_more P [] x all has = (has, tt)
 each_more P (y ∷ ys) x all has = (all.0, each_more P ys x all.1 has)
 
@@ -78,7 +77,7 @@ not_some None is some = absurd (cc)
 not_some (Some x) is some = absurd (cc)
 
 -- what a core keeps to where it moves on to the next place
-pub at_next : (entries : List LogEntry) (views views' : List View) (place place' : ℕ) (w a : Bool) (waiting : Option (List Request))
+pub at_next : (entries : List LogEntry) (views views' : List View) (place place' : ℕ) (w a : Bool) (waiting : Option Batch)
     → Remembers entries (record { view = (present views).number; place = place + 1; regency = 0 }) w a → waiting ≡ None → place' ≡ place + 1
     → (IsSome waiting → place' + 1 < 2 ^ 63) × Remembers entries (record { view = (present views').number; place = place' + 1; regency = 0 }) false false
 at_next entries views views' place place' w a waiting r free moved = (

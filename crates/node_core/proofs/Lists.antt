@@ -1,11 +1,13 @@
 -- A request put into the pool, and a filter followed value by value.
 use Rattle.std.proofs.Common.{◌≡◌, ℕ, ◌+◌, ◌<◌, ◌++◌, ◌==◌, Bool, true, false, take, drop, get_or, slice_set, zero, suc, List, [], ◌∷◌, length, refl, ap, sym, ◌∙◌, arith}
 use Rattle.std.specs.Prelude.{filter}
-use Rattle.smart_messages.specs.declared.message.Request.{Request}
+use Rattle.smart_messages.specs.Forms.{SignedBy}
+use Rattle.smart_messages.specs.Messages.{Batch}
+use Rattle.smart_messages.specs.declared.statement.Request.{Request}
 use Rattle.node_rules.specs.Arrivals.{offered}
 
 -- where the request at an index is the client's, the new one comes in its place
-pub offered-at : (pool : List Request) (i : ℕ) (q d : Request) → i < length pool → ((get_or pool i d).client == q.client) ≡ true
+pub offered-at : (pool : Batch) (i : ℕ) (q d : SignedBy Request) → i < length pool → ((get_or pool i d).statement.client == q.statement.client) ≡ true
     → take i pool ++ offered (drop i pool) q ≡ slice_set pool i q
 offered-at [] i q d within same = absurd (omega arith)
 offered-at (old ∷ olds) zero q d within same = rw same refl

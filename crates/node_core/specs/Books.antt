@@ -2,7 +2,7 @@
 use Rattle.std.specs.Prelude.{ℕ, ◌≡◌, ◌≤◌, Bool, List}
 use Rattle.std.specs.List.{list_any}
 use Rattle.smart_base.specs.Lists.{Each}
-use Rattle.smart_messages.specs.declared.message.Slot.{Slot}
+use Rattle.smart_messages.specs.declared.statement.Slot.{Slot}
 use Rattle.smart_messages.specs.declared.entry.LogEntry.{LogEntry}
 use Rattle.smart_messages.specs.declared.entry.LogEntry.TheVariants.{Opened, Wrote, Accepted, Decided}
 use Rattle.node_rules.specs.Nodes.{is_wrote, is_accepted}

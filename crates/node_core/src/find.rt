@@ -1,22 +1,31 @@
 //! What a node looks up in what it keeps.
-ghost use Rattle.std.specs.Prelude.{◌≡◌, IfOk, OnOk, filter, length};
-ghost use Rattle.std.specs.List.{list_any, list_all};
+ghost use Rattle.std.specs.Prelude.{◌≡◌, IfOk, IfSome, OnOk, filter, length, option_map};
+ghost use Rattle.std.specs.List.{list_any};
 ghost use Rattle.std.specs.Option.{option_copied};
+ghost use Rattle.smart_base.specs.Lists.{Each};
 ghost use Rattle.smart_messages.specs.Equality.{same_slot};
-ghost use Rattle.node_rules.specs.Nodes.{is_vote, has_vote, has_quorum, certificate, proposal_of, is_wrote, is_accepted, request_fits, fits};
+ghost use Rattle.smart_messages.specs.declared.message.Proposed.{Proposed};
+ghost use Rattle.node_rules.specs.Nodes.{is_vote, has_vote, has_quorum, certificate, proposal_of, is_wrote, is_accepted};
+ghost use Rattle.node_rules.specs.Seals.{digest_of};
 ghost use Rattle.node_rules.specs.Arrivals.{is_same_proposal, is_same_vote, offered};
 ghost use Rattle.kept_arrivals.specs.Kept.{is_ahead, is_needed};
 ghost use Rattle.node_rules.specs.Rules.{settled, gathered};
+ghost use Rattle.node_core.specs.Digests.{Bears};
 
 use crate::replica::is_next;
+use smart_base::bytes::Digest32;
 use smart_base::duplicate::Duplicate;
+use smart_base::equality::same_bytes;
 use smart_base::name::MemberId;
 use smart_base::number::{Place, Regency, ViewNo};
 use smart_base::sequence::Sequence;
 use smart_base::view::View;
+use smart_messages::batch::Batch;
 use smart_messages::entry::LogEntry;
-use smart_messages::equality::{same_digest, same_kind, same_slot};
-use smart_messages::message::{Ballot, Batch, Digest, Message, Proposal, Request, Slot, VoteKind};
+use smart_messages::equality::{same_kind, same_slot};
+use smart_messages::message::{Message, Proposed};
+use smart_messages::signed::Signed;
+use smart_messages::statement::{Ballot, Request, Slot, VoteKind};
 use smart_service::table::ClientTable;
 use std::alloc::{AllocError, Global};
 
@@ -24,17 +33,18 @@ fn is_vote(
     kind: VoteKind,
     member: MemberId,
     slot: &Slot,
-    digest: &Digest,
+    digest: &Digest32,
     message: &Message,
 ) -> bool
     ensures { result ≡ is_vote kind member slot.now digest.now message.now }
 {
     match message {
         Message::Vote(ballot) => {
-            same_kind(ballot.kind, kind)
-                && ballot.signer == member
-                && same_slot(ballot.slot, *slot)
-                && same_digest(&ballot.digest, digest)
+            let statement = ballot.statement();
+            same_kind(statement.kind, kind)
+                && ballot.signer() == member.get()
+                && same_slot(statement.slot, *slot)
+                && same_bytes(statement.digest.as_slice(), digest.as_slice())
         }
         Message::Ask(_) | Message::Propose(_) | Message::Reply(_) => false,
     }
@@ -44,7 +54,7 @@ fn has_vote(
     arrivals: &[Message],
     kind: VoteKind,
     slot: &Slot,
-    digest: &Digest,
+    digest: &Digest32,
     member: MemberId,
 ) -> bool
     ensures { result ≡ has_vote arrivals.now kind slot.now digest.now member }
@@ -59,7 +69,7 @@ fn count_voters(
     members: &[MemberId],
     kind: VoteKind,
     slot: &Slot,
-    digest: &Digest,
+    digest: &Digest32,
 ) -> usize
     ensures { result ≡ length (filter (λ member. list_any (is_vote kind member slot.now digest.now) arrivals.now) members.now) }
 {
@@ -78,11 +88,11 @@ pub fn has_quorum(
     view: &View,
     kind: VoteKind,
     slot: &Slot,
-    digest: &Digest,
+    digest: &Digest32,
 ) -> bool
     ensures { result ≡ has_quorum arrivals.now view.now kind slot.now digest.now }
 {
-    view.quorum() <= count_voters(arrivals, view.members.as_slice(), kind, slot, digest)
+    view.quorum() <= count_voters(arrivals, view.members(), kind, slot, digest)
 }
 
 fn voters(
@@ -91,12 +101,12 @@ fn voters(
     view: &View,
     kind: VoteKind,
     slot: &Slot,
-    digest: &Digest,
+    digest: &Digest32,
 ) -> Result<Sequence<MemberId>, AllocError>
     ensures { IfOk result (λ found. found ≡ filter (λ member. list_any (is_vote kind member slot.now digest.now) arrivals.now) view.now.members) }
 {
     let mut found = Sequence::new(alloc);
-    for member in view.members.as_slice() {
+    for member in view.members() {
         if has_vote(arrivals, kind, slot, digest, *member) {
             found.push(*member)?;
         }
@@ -111,7 +121,7 @@ pub fn certificate(
     view: &View,
     kind: VoteKind,
     slot: &Slot,
-    digest: &Digest,
+    digest: &Digest32,
 ) -> Result<Sequence<MemberId>, AllocError>
     ensures { IfOk result (λ members. members ≡ certificate arrivals.now view.now kind slot.now digest.now) }
 {
@@ -120,14 +130,16 @@ pub fn certificate(
     Ok(members)
 }
 
-/// The batch that was proposed for a slot.
-pub fn proposal_of<'a>(arrivals: &'a [Message], slot: &Slot) -> Option<&'a Batch>
-    ensures { option_copied result ≡ proposal_of arrivals.now slot.now }
+/// The first proposal for a slot.
+pub fn proposal_of<'a>(arrivals: &'a [Message], slot: &Slot) -> Option<&'a Proposed>
+    requires { Each Bears arrivals.now }
+    ensures batch { option_map (λ (p : Proposed). p.batch) (option_copied result) ≡ proposal_of arrivals.now slot.now }
+    ensures digest { IfSome result (λ p. p.now.head.statement.digest ≡ digest_of p.now.batch) }
 {
     for message in arrivals {
-        if let Message::Propose(proposal) = message {
-            if same_slot(proposal.slot, *slot) {
-                return Some(&proposal.batch);
+        if let Message::Propose(proposed) = message {
+            if same_slot(proposed.head.statement().slot, *slot) {
+                return Some(proposed);
             }
         }
     }
@@ -161,70 +173,53 @@ pub fn has_proposed(proposed: &[Slot], slot: &Slot) -> bool
     proposed.iter().any(|made| same_slot(*slot, *made))
 }
 
-fn is_same_proposal(proposal: &Proposal, message: &Message) -> bool
-    ensures { result ≡ is_same_proposal proposal.now message.now }
+fn is_same_proposal(proposed: &Proposed, message: &Message) -> bool
+    ensures { result ≡ is_same_proposal proposed.now message.now }
 {
     match message {
         Message::Propose(other) => {
-            other.signer == proposal.signer && same_slot(other.slot, proposal.slot)
+            other.head.signer() == proposed.head.signer()
+                && same_slot(other.head.statement().slot, proposed.head.statement().slot)
         }
         Message::Ask(_) | Message::Vote(_) | Message::Reply(_) => false,
     }
 }
 
 /// Whether the signer's proposal for the slot was kept before.
-pub fn repeats_proposal(arrivals: &[Message], proposal: &Proposal) -> bool
-    ensures { result ≡ list_any (is_same_proposal proposal.now) arrivals.now }
+pub fn repeats_proposal(arrivals: &[Message], proposed: &Proposed) -> bool
+    ensures { result ≡ list_any (is_same_proposal proposed.now) arrivals.now }
 {
     arrivals
         .iter()
-        .any(|message| is_same_proposal(proposal, message))
+        .any(|message| is_same_proposal(proposed, message))
 }
 
-fn is_same_vote(ballot: &Ballot, message: &Message) -> bool
+fn is_same_vote(ballot: &Signed<Ballot>, message: &Message) -> bool
     ensures { result ≡ is_same_vote ballot.now message.now }
 {
     match message {
         Message::Vote(other) => {
-            same_kind(other.kind, ballot.kind)
-                && other.signer == ballot.signer
-                && same_slot(other.slot, ballot.slot)
+            same_kind(other.statement().kind, ballot.statement().kind)
+                && other.signer() == ballot.signer()
+                && same_slot(other.statement().slot, ballot.statement().slot)
         }
         Message::Ask(_) | Message::Propose(_) | Message::Reply(_) => false,
     }
 }
 
 /// Whether the signer's vote of this kind for the slot was kept before.
-pub fn repeats_vote(arrivals: &[Message], ballot: &Ballot) -> bool
+pub fn repeats_vote(arrivals: &[Message], ballot: &Signed<Ballot>) -> bool
     ensures { result ≡ list_any (is_same_vote ballot.now) arrivals.now }
 {
     arrivals.iter().any(|message| is_same_vote(ballot, message))
 }
 
-fn request_fits(place: Place, request: &Request) -> bool
-    ensures { result ≡ request_fits place request.now }
-{
-    request.after < place.get() && 1 <= request.client.get() && request.client.get() <= 1024
-}
-
-fn all_fit(batch: &[Request], place: Place) -> bool
-    ensures { result ≡ list_all (request_fits place) batch.now }
-{
-    batch.iter().all(|request| request_fits(place, request))
-}
-
-/// Whether a batch may stand at a place.
-pub fn fits(batch: &[Request], place: Place) -> bool
-    ensures { result ≡ fits batch.now place }
-{
-    0 < batch.len() && batch.len() <= 64 && all_fit(batch, place)
-}
-
-fn put_request(pool: &mut Vec<Request>, request: Request) -> Result<(), AllocError>
+/// Puts a request in the position of its client, or at the end.
+pub fn offer(pool: &mut Vec<Signed<Request>>, request: Signed<Request>) -> Result<(), AllocError>
     ensures { OnOk result (pool.new.items ≡ offered pool.old.items request) }
 {
     for i in 0..pool.len() {
-        if pool[i].client == request.client {
+        if pool[i].statement().client == request.statement().client {
             pool[i] = request;
             return Ok(());
         }
@@ -233,30 +228,24 @@ fn put_request(pool: &mut Vec<Request>, request: Request) -> Result<(), AllocErr
     Ok(())
 }
 
-/// Puts a copy of a request in the position of its client, or at the end.
-pub fn offer(alloc: Global, pool: &mut Vec<Request>, request: &Request) -> Result<(), AllocError>
-    ensures { OnOk result (pool.new.items ≡ offered pool.old.items request.now) }
-{
-    put_request(pool, request.duplicate(alloc)?)?;
-    Ok(())
-}
-
 /// Keeps the requests that are still their client's next.
-pub fn settle(pool: &mut Vec<Request>, table: &ClientTable)
+pub fn settle(pool: &mut Vec<Signed<Request>>, table: &ClientTable)
     ensures { pool.new.items ≡ settled table.now pool.old.items }
 {
-    pool.retain(|request| is_next(table, request));
+    pool.retain(|request| is_next(table, request.statement()));
 }
 
 /// A batch of the first request that its client asked after earlier places alone.
-pub fn gathered(alloc: Global, pool: &[Request], place: Place) -> Result<Option<Batch>, AllocError>
+pub fn gathered(
+    alloc: Global,
+    pool: &[Signed<Request>],
+    place: Place,
+) -> Result<Option<Batch>, AllocError>
     ensures { IfOk result (λ batch. batch ≡ gathered pool.now place) }
 {
     for request in pool {
-        if request.after < place.get() {
-            let mut batch = Sequence::new(alloc);
-            batch.push(request.duplicate(alloc)?)?;
-            return Ok(Some(batch));
+        if request.statement().after < place.get() {
+            return Ok(Some(Batch::single(alloc, request.duplicate(alloc)?)?));
         }
     }
     Ok(None)
@@ -272,8 +261,10 @@ fn is_needed(view: ViewNo, place: Place, regency: Regency, message: &Message) ->
     ensures { result ≡ is_needed view place regency message.now }
 {
     match message {
-        Message::Propose(proposal) => is_ahead(view, place, regency, &proposal.slot),
-        Message::Vote(ballot) => is_ahead(view, place, regency, &ballot.slot),
+        Message::Propose(proposed) => {
+            is_ahead(view, place, regency, &proposed.head.statement().slot)
+        }
+        Message::Vote(ballot) => is_ahead(view, place, regency, &ballot.statement().slot),
         Message::Ask(_) | Message::Reply(_) => false,
     }
 }

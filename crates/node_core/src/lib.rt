@@ -2,5 +2,7 @@
 #![tactic(auto)]
 
 mod find;
+mod kept;
 pub mod node;
 mod replica;
+mod seal;

@@ -4,21 +4,30 @@ ghost use Rattle.std.specs.Option.{option_copied};
 ghost use Rattle.node_rules.specs.Nodes.{view_of, regency_of, next_place, is_wrote, is_accepted, decided_place, open_slot, is_free, is_open, holding, recording};
 ghost use Rattle.std.specs.List.{list_any};
 ghost use Rattle.kept_arrivals.specs.Kept.{trimmed, core_step};
+ghost use Rattle.smart_messages.specs.Messages.{decoded};
 ghost use Rattle.node_core.specs.Books.{entry_place};
 ghost use Rattle.node_rules.specs.Arrivals.{why_dropped};
-ghost use Rattle.node_rules.specs.Steps.{step_of, outcome_from, arrival_outcome, first_leaving, after_first, leaving, released, opened};
+ghost use Rattle.node_rules.specs.Steps.{step_of, outcome_from, arrival_outcome, reading_outcome, first_leaving, after_first, leaving, released, opened};
 
 mod arrivals;
 mod rules;
 
-use crate::find::{is_accepted, is_wrote, keep_ahead, keep_needed};
+use crate::find::{is_accepted, is_wrote, keep_ahead};
+use crate::kept::Kept;
+use crate::seal::MemberKeys;
 use node_rules::node::{Fired, Held, Target, Why};
+use smart_base::fault::ReadError;
 use smart_base::name::MemberId;
 use smart_base::number::{Place, Regency};
 use smart_base::sequence::Sequence;
 use smart_base::view::{View, Views};
+use smart_keys::ring::Ring;
+use smart_messages::batch::Batch;
+use smart_messages::codec::decode;
 use smart_messages::entry::{LogEntry, NodeEvent};
-use smart_messages::message::{Batch, Message, Request, Slot};
+use smart_messages::message::Message;
+use smart_messages::signed::Signed;
+use smart_messages::statement::{Request, Slot};
 use smart_service::replica::Replica;
 use smart_service::service::Service;
 use smart_service::table::ClientTable;
@@ -30,11 +39,11 @@ use std::marker::Model;
 #[derive(Drop)]
 pub struct NodeCore<S> {
     alloc: Global,
-    id: MemberId,
+    keys: MemberKeys,
     replica: Replica<S>,
     waiting: Option<Batch>,
-    pool: Vec<Request>,
-    arrivals: Vec<Message>,
+    pool: Vec<Signed<Request>>,
+    arrivals: Kept,
     entries: Sequence<LogEntry>,
     firm: u64,
     held: Sequence<Held>,
@@ -54,11 +63,12 @@ impl<S> Model for NodeCore<S> {
     ghost Value = { Node S };
 
     ghost view = { λ c. record {
-      id = c.id;
+      id = c.keys.member;
+      secret = c.keys.secret;
       replica = c.replica;
       waiting = c.waiting;
       pool = c.pool.items;
-      arrivals = c.arrivals.items;
+      arrivals = c.arrivals;
       entries = c.entries;
       firm = c.firm;
       held = c.held;
@@ -77,8 +87,8 @@ pub struct Outcome {
 
 impl<S: Service> NodeCore<S> {
     /// A node with an empty book.
-    pub fn begin(alloc: Global, id: MemberId, view: View) -> Result<Self, AllocError>
-        ensures { IfOk result (λ node. node ≡ opened S.meaning id view) }
+    pub fn begin(alloc: Global, id: MemberId, view: View, ring: Ring) -> Result<Self, AllocError>
+        ensures { IfOk result (λ node. node ≡ opened S.meaning ring id view) }
     {
         let service = S::first(alloc)?;
         let views = Views::new(alloc, view)?;
@@ -86,7 +96,7 @@ impl<S: Service> NodeCore<S> {
         entries.push(LogEntry::Opened)?;
         Ok(NodeCore {
             alloc,
-            id,
+            keys: MemberKeys::new(id, ring),
             replica: Replica {
                 service,
                 table: ClientTable::new(alloc),
@@ -95,7 +105,7 @@ impl<S: Service> NodeCore<S> {
             },
             waiting: None,
             pool: Vec::new(alloc),
-            arrivals: Vec::new(alloc),
+            arrivals: Kept::new(alloc),
             entries,
             firm: 0,
             held: Sequence::new(alloc),
@@ -109,7 +119,7 @@ impl<S: Service> NodeCore<S> {
     pub fn id(&self) -> MemberId
         ensures { result ≡ self.now.id }
     {
-        self.id
+        self.keys.member()
     }
 
     /// The last place that was delivered.
@@ -206,7 +216,7 @@ impl<S: Service> NodeCore<S> {
         ensures dropped { IfOk result (λ o. o.dropped ≡ (step_of S.meaning self.old event.now).dropped) }
     {
         match event {
-            NodeEvent::Arrive(message) => self.arrival_outcome(message),
+            NodeEvent::Arrive(bytes) => self.reading_outcome(bytes.as_slice()),
             NodeEvent::Tick => self.outcome_from(Sequence::new(self.alloc)),
             NodeEvent::Deliver => {
                 let fired = self.delivers()?;
@@ -224,20 +234,36 @@ impl<S: Service> NodeCore<S> {
     fn trim(&mut self)
         ensures { self.new ≡ trimmed self.old }
     {
-        let view = self.view().number;
+        let view = self.view().number();
         let place = self.decided_place();
         let regency = self.regency();
-        keep_needed(&mut self.arrivals, view, place, regency);
+        self.arrivals.keep_needed(view, place, regency);
         keep_ahead(&mut self.proposed, view, place, regency);
     }
 
-    /// Drops an arrival for its first reason, or keeps it and passes the rules.
-    fn arrival_outcome(&mut self, message: &Message) -> Result<Outcome, AllocError>
-        ensures node { OnOk result (self.new ≡ (arrival_outcome self.old message.now (why_dropped self.old message.now)).node) }
-        ensures fired { IfOk result (λ o. o.fired ≡ (arrival_outcome self.old message.now (why_dropped self.old message.now)).fired) }
-        ensures dropped { IfOk result (λ o. o.dropped ≡ (arrival_outcome self.old message.now (why_dropped self.old message.now)).dropped) }
+    /// Drops bytes that are no message, and passes a message on.
+    fn reading_outcome(&mut self, bytes: &[u8]) -> Result<Outcome, AllocError>
+        ensures node { OnOk result (self.new ≡ (reading_outcome self.old (decoded bytes.now)).node) }
+        ensures fired { IfOk result (λ o. o.fired ≡ (reading_outcome self.old (decoded bytes.now)).fired) }
+        ensures dropped { IfOk result (λ o. o.dropped ≡ (reading_outcome self.old (decoded bytes.now)).dropped) }
     {
-        let dropped = self.why_dropped(message);
+        match decode(self.alloc, bytes) {
+            Ok(message) => self.arrival_outcome(message),
+            Err(ReadError::NoMemory) => Err(AllocError),
+            Err(ReadError::Unread { .. }) => Ok(Outcome {
+                fired: Sequence::new(self.alloc),
+                dropped: Some(Why::Unread),
+            }),
+        }
+    }
+
+    /// Drops an arrival for its first reason, or keeps it and passes the rules.
+    fn arrival_outcome(&mut self, message: Message) -> Result<Outcome, AllocError>
+        ensures node { OnOk result (self.new ≡ (arrival_outcome self.old message (why_dropped self.old message)).node) }
+        ensures fired { IfOk result (λ o. o.fired ≡ (arrival_outcome self.old message (why_dropped self.old message)).fired) }
+        ensures dropped { IfOk result (λ o. o.dropped ≡ (arrival_outcome self.old message (why_dropped self.old message)).dropped) }
+    {
+        let dropped = self.why_dropped(&message)?;
         if dropped.is_some() {
             return Ok(Outcome {
                 fired: Sequence::new(self.alloc),
@@ -291,7 +317,7 @@ impl<S: Service> NodeCore<S> {
     fn is_open(&self) -> bool
         ensures { result ≡ is_open self.now }
     {
-        self.view().is_member(self.id) && self.is_free()
+        self.view().is_member(self.id()) && self.is_free()
     }
 
     /// The slot in which the node takes part.
@@ -300,7 +326,7 @@ impl<S: Service> NodeCore<S> {
         ensures { result ≡ open_slot self.now }
     {
         Slot {
-            view: self.view().number,
+            view: self.view().number(),
             place: self.replica.place.next(),
             regency: self.regency(),
         }

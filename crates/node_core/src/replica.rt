@@ -4,7 +4,8 @@ ghost use Rattle.node_rules.specs.Replicas.{is_next, line_made, execute, execute
 
 use smart_base::duplicate::Duplicate;
 use smart_base::sequence::Sequence;
-use smart_messages::message::Request;
+use smart_messages::batch::Batch;
+use smart_messages::statement::Request;
 use smart_service::replica::Replica;
 use smart_service::service::Service;
 use smart_service::table::{ClientTable, TableLine};
@@ -23,7 +24,7 @@ pub fn is_next(table: &ClientTable, request: &Request) -> bool
 fn execute<S: Service>(
     alloc: Global,
     replica: &mut Replica<S>,
-    index: u64,
+    index: u16,
     request: &Request,
 ) -> Result<Option<TableLine>, AllocError>
     ensures state { OnOk result (replica.new ≡ execute S.meaning replica.old index request.now) }
@@ -39,7 +40,7 @@ fn execute<S: Service>(
         seq: request.seq,
         place: replica.place,
         index,
-        view: replica.views.present().number,
+        view: replica.views.present().number(),
         reply,
     };
     let copy = line.duplicate(alloc)?;
@@ -50,15 +51,15 @@ fn execute<S: Service>(
 fn execute_all<S: Service>(
     alloc: Global,
     replica: &mut Replica<S>,
-    batch: &[Request],
+    batch: &Batch,
 ) -> Result<Sequence<TableLine>, AllocError>
     ensures state { OnOk result (replica.new ≡ execute_all S.meaning replica.old 0 batch.now) }
     ensures place { replica.new.place ≡ replica.old.place }
     ensures lines { IfOk result (λ lines. lines ≡ lines_of S.meaning replica.old 0 batch.now) }
 {
     let mut lines = Sequence::new(alloc);
-    for (i, request) in batch.iter().enumerate() {
-        if let Some(line) = execute(alloc, replica, i as u64, request)? {
+    for (i, request) in batch.as_slice().iter().enumerate() {
+        if let Some(line) = execute(alloc, replica, i as u16, request.statement())? {
             lines.push(line)?;
         }
     }
@@ -70,7 +71,7 @@ fn execute_all<S: Service>(
 pub fn deliver<S: Service>(
     alloc: Global,
     replica: &mut Replica<S>,
-    batch: &[Request],
+    batch: &Batch,
 ) -> Result<Sequence<TableLine>, AllocError>
     requires { replica.old.place + 1 < 2 ^ 63 }
     ensures state { OnOk result (replica.new ≡ delivered S.meaning replica.old batch.now) }

@@ -1,4 +1,5 @@
 pub mod Replicas
+pub mod Seals
 pub mod Nodes
 pub mod Arrivals
 pub mod Rules

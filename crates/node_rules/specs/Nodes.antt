@@ -1,13 +1,14 @@
 -- A member's node, and the words that its rules use.
-use Rattle.std.specs.Prelude.{ℕ, ◌+◌, ◌^◌, ◌==◌, nat_lt, nat_le, Bool, false, ◌&&◌, List, [], ◌∷◌, ◌++◌, length, if◌then◌else◌, Option, Some, None, is_some, is_none}
-use Rattle.std.specs.List.{list_any, list_all}
-use Rattle.smart_base.specs.Lists.{or_else}
-use Rattle.smart_base.specs.Views.{is_member, is_quorum, first_quorum, present}
-use Rattle.smart_base.specs.declared.view.View.{View}
-use Rattle.smart_messages.specs.Equality.{same_slot, same_kind, same_digest}
-use Rattle.smart_messages.specs.declared.message.Request.{Request}
-use Rattle.smart_messages.specs.declared.message.Slot.{Slot}
-use Rattle.smart_messages.specs.declared.message.VoteKind.{VoteKind}
+use Rattle.std.specs.Prelude.{ℕ, ◌+◌, ◌^◌, ◌==◌, nat_lt, Bool, false, ◌&&◌, List, [], ◌∷◌, ◌++◌, length, if◌then◌else◌, Option, Some, None, is_some, is_none}
+use Rattle.std.specs.List.{list_any}
+use Rattle.smart_base.specs.Lists.{or_else, same_bytes}
+use Rattle.smart_base.specs.Views.{View, is_member, is_quorum, first_quorum, present}
+use Rattle.smart_messages.specs.Equality.{same_slot, same_kind}
+use Rattle.smart_messages.specs.Forms.{SignedBy}
+use Rattle.smart_messages.specs.Messages.{Batch}
+use Rattle.smart_messages.specs.declared.statement.Request.{Request}
+use Rattle.smart_messages.specs.declared.statement.Slot.{Slot}
+use Rattle.smart_messages.specs.declared.statement.VoteKind.{VoteKind}
 use Rattle.smart_messages.specs.declared.message.Message.{Message}
 use Rattle.smart_messages.specs.declared.message.Message.TheVariants.{Ask, Propose, Vote, Reply}
 use Rattle.smart_messages.specs.declared.entry.LogEntry.{LogEntry}
@@ -19,11 +20,13 @@ use Rattle.node_rules.specs.declared.node.Target.{Target}
 pub record Node (S : Type 0) : Type 0 where
   -- the member that the node is
   pub id : ℕ
+  -- the secret of its group, with which members and clients sign
+  pub secret : List ℕ
   pub replica : Replica S
   -- the batch that is decided and not yet delivered
-  pub waiting : Option (List Request)
+  pub waiting : Option Batch
   -- the requests that wait to be proposed, in the order in which their clients came
-  pub pool : List Request
+  pub pool : List (SignedBy Request)
   -- all proposals and votes that were kept in this life
   pub arrivals : List Message
   -- the book
@@ -72,46 +75,36 @@ holding n to message = record n { held = n.held ++ record { to = to; message = m
 abbrev pub recording : {S : Type 0} → Node S → LogEntry → Node S
 recording n entry = record n { entries = n.entries ++ entry ∷ [] }
 
--- batches
-
--- a request that may stand at a place: its client asked it after earlier places alone
-abbrev pub request_fits : ℕ → Request → Bool
-request_fits place q = nat_lt q.after place && nat_le 1 q.client && nat_le q.client 1024
-
--- a batch that may stand at a place
-abbrev pub fits : List Request → ℕ → Bool
-fits batch place = nat_lt 0 (length batch) && nat_le (length batch) 64 && list_all (request_fits place) batch
-
 -- what was kept
 
 -- a member's vote of a kind for a slot and a digest
-abbrev pub is_vote : VoteKind → ℕ → Slot → List Request → Message → Bool
+abbrev pub is_vote : VoteKind → ℕ → Slot → List ℕ → Message → Bool
 is_vote kind member slot digest (Ask q) = false
 is_vote kind member slot digest (Propose p) = false
 is_vote kind member slot digest (Vote b) =
-    same_kind b.kind kind && (b.signer == member) && same_slot b.slot slot && same_digest b.digest digest
+    same_kind b.statement.kind kind && (b.signer == member) && same_slot b.statement.slot slot && same_bytes b.statement.digest digest
 is_vote kind member slot digest (Reply a) = false
 
 -- whether a member's vote of a kind for a slot and a digest was kept
-abbrev pub has_vote : List Message → VoteKind → Slot → List Request → ℕ → Bool
+abbrev pub has_vote : List Message → VoteKind → Slot → List ℕ → ℕ → Bool
 has_vote arrivals kind slot digest member = list_any (is_vote kind member slot digest) arrivals
 
 -- a quorum's votes were kept
-abbrev pub has_quorum : List Message → View → VoteKind → Slot → List Request → Bool
+abbrev pub has_quorum : List Message → View → VoteKind → Slot → List ℕ → Bool
 has_quorum arrivals view kind slot digest = is_quorum view (has_vote arrivals kind slot digest)
 
 -- the first members, ascending, whose votes make a quorum
-abbrev pub certificate : List Message → View → VoteKind → Slot → List Request → List ℕ
+abbrev pub certificate : List Message → View → VoteKind → Slot → List ℕ → List ℕ
 certificate arrivals view kind slot digest = first_quorum view (has_vote arrivals kind slot digest)
 
-abbrev pub proposal_in : Slot → Message → Option (List Request)
+abbrev pub proposal_in : Slot → Message → Option Batch
 proposal_in slot (Ask q) = None
-proposal_in slot (Propose p) = if same_slot p.slot slot then Some p.batch else None
+proposal_in slot (Propose p) = if same_slot p.head.statement.slot slot then Some p.batch else None
 proposal_in slot (Vote b) = None
 proposal_in slot (Reply a) = None
 
 -- the batch that was proposed for a slot
-abbrev pub proposal_of : List Message → Slot → Option (List Request)
+abbrev pub proposal_of : List Message → Slot → Option Batch
 proposal_of [] slot = None
 proposal_of (m ∷ ms) slot = or_else (proposal_in slot m) (proposal_of ms slot)
 

@@ -1,9 +1,9 @@
 -- What a list of batches makes of the service and its clients.
 use Rattle.std.specs.Prelude.{ℕ, zero, suc, ◌+◌, ◌-◌, ◌==◌, Bool, ◌&&◌, List, [], ◌∷◌, ◌++◌, if◌then◌else◌, Option, Some, None, option_map, slice_get, take}
 use Rattle.std.specs.Option.{option_to_list, option_and_then}
-use Rattle.smart_base.specs.Views.{present}
-use Rattle.smart_base.specs.declared.view.View.{View}
-use Rattle.smart_messages.specs.declared.message.Request.{Request}
+use Rattle.smart_base.specs.Views.{View, present}
+use Rattle.smart_messages.specs.Messages.{Batch}
+use Rattle.smart_messages.specs.declared.statement.Request.{Request}
 use Rattle.smart_service.specs.Services.{Meaning}
 use Rattle.smart_service.specs.Tables.{last_seq, with_line}
 use Rattle.smart_service.specs.declared.table.TableLine.{TableLine}
@@ -26,29 +26,29 @@ execute m r index q =
     else r
 
 -- the replica after requests that stand from an index on
-abbrev pub execute_all : {S : Type 0} → Meaning S → Replica S → ℕ → List Request → Replica S
+abbrev pub execute_all : {S : Type 0} → Meaning S → Replica S → ℕ → Batch → Replica S
 execute_all m r index [] = r
-execute_all m r index (q ∷ qs) = execute_all m (execute m r index q) (index + 1) qs
+execute_all m r index (q ∷ qs) = execute_all m (execute m r index q.statement) (index + 1) qs
 
 -- the line of a request, if it is executed
 abbrev pub line_made : {S : Type 0} → Meaning S → Replica S → ℕ → Request → Option TableLine
 line_made m r index q = if is_next r.table q then Some (line_of m r index q) else None
 
 -- the lines of the requests that are executed, in order
-abbrev pub lines_of : {S : Type 0} → Meaning S → Replica S → ℕ → List Request → List TableLine
+abbrev pub lines_of : {S : Type 0} → Meaning S → Replica S → ℕ → Batch → List TableLine
 lines_of m r index [] = []
-lines_of m r index (q ∷ qs) = option_to_list (line_made m r index q) ++ lines_of m (execute m r index q) (index + 1) qs
+lines_of m r index (q ∷ qs) = option_to_list (line_made m r index q.statement) ++ lines_of m (execute m r index q.statement) (index + 1) qs
 
 -- the replica at the next place, before its batch
 abbrev pub at_next : {S : Type 0} → Replica S → Replica S
 at_next r = record { service = r.service; table = r.table; views = r.views; place = r.place + 1 }
 
 -- the replica after one more batch
-unfoldable pub delivered : {S : Type 0} → Meaning S → Replica S → List Request → Replica S
+unfoldable pub delivered : {S : Type 0} → Meaning S → Replica S → Batch → Replica S
 delivered m r batch = execute_all m (at_next r) 0 batch
 
 -- the lines of the requests of one more batch that are executed
-unfoldable pub executed_lines : {S : Type 0} → Meaning S → Replica S → List Request → List TableLine
+unfoldable pub executed_lines : {S : Type 0} → Meaning S → Replica S → Batch → List TableLine
 executed_lines m r batch = lines_of m (at_next r) 0 batch
 
 -- the replica before any batch
@@ -56,21 +56,21 @@ abbrev pub empty : {S : Type 0} → Meaning S → View → Replica S
 empty m view = record { service = m.first; table = []; views = view ∷ []; place = 0 }
 
 -- the replica after more batches
-abbrev pub after_batches : {S : Type 0} → Meaning S → Replica S → List (List Request) → Replica S
+abbrev pub after_batches : {S : Type 0} → Meaning S → Replica S → List Batch → Replica S
 after_batches m r [] = r
 after_batches m r (batch ∷ batches) = after_batches m (delivered m r batch) batches
 
 -- the replica after a list of batches
-abbrev pub state : {S : Type 0} → Meaning S → View → List (List Request) → Replica S
+abbrev pub state : {S : Type 0} → Meaning S → View → List Batch → Replica S
 state m view list = after_batches m (empty m view) list
 
 -- the lines of all requests that more batches execute, in order
-abbrev pub executions_from : {S : Type 0} → Meaning S → Replica S → List (List Request) → List TableLine
+abbrev pub executions_from : {S : Type 0} → Meaning S → Replica S → List Batch → List TableLine
 executions_from m r [] = []
 executions_from m r (batch ∷ batches) = executed_lines m r batch ++ executions_from m (delivered m r batch) batches
 
 -- the lines of all requests that a list of batches executes, in order
-abbrev pub executions : {S : Type 0} → Meaning S → View → List (List Request) → List TableLine
+abbrev pub executions : {S : Type 0} → Meaning S → View → List Batch → List TableLine
 executions m view list = executions_from m (empty m view) list
 
 -- the first line that passes a test
@@ -79,24 +79,24 @@ first_line p [] = None
 first_line p (line ∷ lines) = if p line then Some line else first_line p lines
 
 -- the reply to the request that is executed at a place and an index, if one is
-abbrev pub answer : {S : Type 0} → Meaning S → View → List (List Request) → ℕ → ℕ → Option (List ℕ)
+abbrev pub answer : {S : Type 0} → Meaning S → View → List Batch → ℕ → ℕ → Option (List ℕ)
 answer m view list place index =
     option_map (λ line. line.reply) (first_line (λ line. (line.place == place) && (line.index == index)) (executions m view list))
 
 -- the place and the index where a client's request of a number is executed, if it is
-abbrev pub place_of : {S : Type 0} → Meaning S → View → List (List Request) → ℕ → ℕ → Option (ℕ × ℕ)
+abbrev pub place_of : {S : Type 0} → Meaning S → View → List Batch → ℕ → ℕ → Option (ℕ × ℕ)
 place_of m view list client seq =
     option_map (λ line. (line.place, line.index)) (first_line (λ line. (line.client == client) && (line.seq == seq)) (executions m view list))
 
 -- the batch at a place of a list, which counts from 1
-abbrev pub batch_at : List (List Request) → ℕ → Option (List Request)
+abbrev pub batch_at : List Batch → ℕ → Option Batch
 batch_at list zero = None
 batch_at list (suc k) = slice_get list k
 
 -- the request at a place and an index
-abbrev pub request_at : List (List Request) → ℕ → ℕ → Option Request
-request_at list place index = option_and_then (λ batch. slice_get batch index) (batch_at list place)
+abbrev pub request_at : List Batch → ℕ → ℕ → Option Request
+request_at list place index = option_and_then (λ batch. option_map (λ q. q.statement) (slice_get batch index)) (batch_at list place)
 
 -- the view in force at a place: the present one after the places before it
-abbrev pub view_at : {S : Type 0} → Meaning S → View → List (List Request) → ℕ → View
+abbrev pub view_at : {S : Type 0} → Meaning S → View → List Batch → ℕ → View
 view_at m view list place = present (state m view (take (place - 1) list)).views

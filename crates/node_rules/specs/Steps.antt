@@ -1,6 +1,7 @@
 -- A step of a node: an event, and then one pass of the rules in their order. And the messages that leave.
-use Rattle.std.specs.Prelude.{ℕ, nat_le, List, [], ◌∷◌, ◌++◌, if◌then◌else◌, Option, Some, None}
-use Rattle.smart_base.specs.declared.view.View.{View}
+use Rattle.std.specs.Prelude.{ℕ, nat_le, List, [], ◌∷◌, ◌++◌, if◌then◌else◌, Option, Some, None, Result, Ok, Err}
+use Rattle.smart_base.specs.Views.{View}
+use Rattle.smart_messages.specs.Messages.{decoded}
 use Rattle.smart_messages.specs.declared.message.Message.{Message}
 use Rattle.smart_messages.specs.declared.entry.LogEntry.TheVariants.{Opened}
 use Rattle.smart_messages.specs.declared.entry.NodeEvent.{NodeEvent}
@@ -11,6 +12,7 @@ use Rattle.node_rules.specs.Nodes.{Node, next_place}
 use Rattle.node_rules.specs.Arrivals.{why_dropped, kept}
 use Rattle.node_rules.specs.Rules.{delivers, delivery, proposing, proposes, writing, writes, accepting, accepts, deciding, decides, fired_if}
 use Rattle.node_rules.specs.declared.node.Why.{Why}
+use Rattle.node_rules.specs.declared.node.Why.TheVariants.{Unread}
 use Rattle.node_rules.specs.declared.node.Held.{Held}
 use Rattle.node_rules.specs.declared.node.Fired.{Fired}
 use Rattle.node_rules.specs.declared.node.Fired.TheVariants as fires
@@ -47,8 +49,13 @@ abbrev pub arrival_outcome : {S : Type 0} → Node S → Message → Option Why 
 arrival_outcome n message None = outcome_from (kept n message) []
 arrival_outcome n message (Some why) = record { node = n; fired = []; dropped = Some why }
 
+-- bytes that are no message are dropped
+abbrev pub reading_outcome : {S : Type 0} → Node S → Result Message ℕ → Outcome S
+reading_outcome n (Ok message) = arrival_outcome n message (why_dropped n message)
+reading_outcome n (Err at) = record { node = n; fired = []; dropped = Some Unread }
+
 unfoldable pub step_of : {S : Type 0} → Meaning S → Node S → NodeEvent → Outcome S
-step_of m n (Arrive message) = arrival_outcome n message (why_dropped n message)
+step_of m n (Arrive bytes) = reading_outcome n (decoded bytes)
 step_of m n Tick = outcome_from n []
 step_of m n Deliver = outcome_from (delivers m n) (delivery m n n.waiting)
 step_of m n (Firm count) = outcome_from (record n { firm = count }) []
@@ -77,10 +84,11 @@ abbrev pub released : {S : Type 0} → Node S → Node S
 released n = record n { held = staying n.firm n.held }
 
 -- a node with an empty book
-abbrev pub opened : {S : Type 0} → Meaning S → ℕ → View → Node S
-opened m id view =
+abbrev pub opened : {S : Type 0} → Meaning S → List ℕ → ℕ → View → Node S
+opened m secret id view =
     record {
       id = id;
+      secret = secret;
       replica = empty m view;
       waiting = None;
       pool = [];

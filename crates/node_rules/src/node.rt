@@ -1,12 +1,15 @@
 //! What a node tells and sends.
 use smart_base::name::ClientId;
 use smart_base::number::Place;
-use smart_messages::message::{Batch, Message};
+use smart_messages::batch::Batch;
+use smart_messages::message::Message;
 
 /// Why an arrival is dropped: the first reason that applies.
 #[derive(Clone, Copy, Debug, PartialEq, Eq)]
 pub enum Why {
+    Unread,
     NotMember,
+    BadTag,
     Stranger,
     OldView,
     NewView,

@@ -1,24 +1,33 @@
 //! The rules of a node: what is due, what the rule does with it, and both.
-ghost use Rattle.std.specs.Prelude.{◌≡◌, None, ◌<◌, ◌^◌, ◌++◌, true, IfOk, OnOk, IsSome, Some};
+ghost use Rattle.std.specs.Prelude.{◌≡◌, None, ◌<◌, ◌^◌, ◌++◌, true, IfOk, IfSome, OnOk, IsSome, Some, option_map};
 ghost use Rattle.std.specs.Option.{option_copied};
-ghost use Rattle.node_rules.specs.Nodes.{next_place, is_free};
+ghost use Rattle.smart_messages.specs.declared.message.Proposed.{Proposed};
+ghost use Rattle.smart_messages.specs.declared.entry.LogEntry.TheVariants as entries;
+ghost use Rattle.node_rules.specs.Nodes.{next_place, proposal_of, open_slot, is_free, holding, recording, certificate, view_of};
+ghost use Rattle.node_rules.specs.Seals.{signed, digest_of};
+ghost use Rattle.smart_messages.specs.Kinds.{proposals};
+ghost use Rattle.node_core.specs.Digests.{ballot_for};
+ghost use Rattle.smart_messages.specs.declared.statement.VoteKind.TheVariants as kinds;
+ghost use Rattle.node_rules.specs.declared.node.Target.TheVariants as targets;
 ghost use Rattle.node_rules.specs.Replicas.{delivered, executed_lines};
-ghost use Rattle.node_rules.specs.Rules.{settled, replying, delivers, delivery, proposing, propose_batch, proposes, ballot, writing, write_batch, writes, backed, backers, accepting, accept_batch, accepts, deciding, decide_batch, decides, fired_if};
+ghost use Rattle.node_rules.specs.Rules.{settled, reply_of, replying, delivers, delivery, proposing, propose_batch, proposes, ballot, writing, write_batch, writes, backed, backers, accepting, accept_batch, accepts, deciding, decide_batch, decides, fired_if};
 ghost use Rattle.node_rules.specs.declared.node.Fired.TheVariants as fires;
 ghost use Rattle.node_rules.specs.Steps.{votes, fired_votes, passes, fired_pass};
 
-use crate::find::{certificate, gathered, has_proposed, has_quorum, proposal_of, settle};
+use crate::find::{certificate, gathered, has_proposed, has_quorum, settle};
 use crate::node::NodeCore;
 use crate::replica::deliver;
+use crate::seal::digest_of;
 use node_rules::node::{Delivery, Fired, Target};
+use smart_base::bytes::Digest32;
 use smart_base::duplicate::Duplicate;
 use smart_base::name::MemberId;
 use smart_base::sequence::Sequence;
+use smart_messages::batch::Batch;
 use smart_messages::entry::LogEntry;
-use smart_messages::equality::digest_of;
-use smart_messages::message::{
-    Answer, Ballot, Batch, Digest, Message, Proposal, Request, VoteKind,
-};
+use smart_messages::message::{Message, Proposed};
+use smart_messages::signed::Signed;
+use smart_messages::statement::{Answer, Ballot, Proposal, VoteKind};
 use smart_service::service::Service;
 use smart_service::table::TableLine;
 use std::alloc::AllocError;
@@ -46,21 +55,29 @@ impl<S: Service> NodeCore<S> {
         Ok(())
     }
 
+    /// The node's reply to a request that was executed.
+    fn reply_of(&self, line: TableLine) -> Result<Message, AllocError>
+        ensures { IfOk result (λ reply. reply ≡ reply_of self.now.secret self.now.id line) }
+    {
+        let answer = Answer {
+            view: line.view,
+            place: line.place,
+            index: line.index,
+            client: line.client,
+            seq: line.seq,
+            reply: line.reply,
+        };
+        Ok(Message::Reply(self.keys.sealed(self.alloc, answer)?))
+    }
+
     /// Holds the replies to the requests that were executed.
     fn replying(&mut self, lines: Sequence<TableLine>) -> Result<(), AllocError>
         ensures { OnOk result (self.new ≡ replying self.old lines) }
     {
         for line in lines.into_vec() {
-            let message = Message::Reply(Answer {
-                signer: self.id,
-                view: line.view,
-                place: line.place,
-                index: line.index,
-                client: line.client,
-                seq: line.seq,
-                reply: line.reply,
-            });
-            self.hold(Target::Client(line.client), message)?;
+            let client = line.client;
+            let reply = self.reply_of(line)?;
+            self.hold(Target::Client(client), reply)?;
         }
         Ok(())
     }
@@ -75,9 +92,9 @@ impl<S: Service> NodeCore<S> {
         match self.waiting.take() {
             None => Ok(fired),
             Some(batch) => {
-                let answers = self.view().is_member(self.id);
+                let answers = self.view().is_member(self.id());
                 let place = self.replica.place.next();
-                let lines = self.execute(batch.as_slice())?;
+                let lines = self.execute(&batch)?;
                 fired.push(Fired::Delivered(Delivery {
                     place,
                     batch,
@@ -92,7 +109,7 @@ impl<S: Service> NodeCore<S> {
     }
 
     /// Executes a batch at the next place, and gives the lines of the requests that were executed.
-    fn execute(&mut self, batch: &[Request]) -> Result<Sequence<TableLine>, AllocError>
+    fn execute(&mut self, batch: &Batch) -> Result<Sequence<TableLine>, AllocError>
         requires free { self.old.waiting ≡ None }
         requires room { next_place self.old < 2 ^ 63 }
         ensures node { OnOk result (self.new ≡ record self.old { replica = delivered S.meaning self.old.replica batch.now; pool = settled (delivered S.meaning self.old.replica batch.now).table self.old.pool }) }
@@ -110,7 +127,7 @@ impl<S: Service> NodeCore<S> {
         ensures batch { IfOk result (λ batch. batch ≡ proposing self.now) }
         ensures free { IfOk result (λ batch. IsSome batch → is_free self.now ≡ true) }
     {
-        if !self.is_open() || self.view().leader(self.regency()) != self.id {
+        if !self.is_open() || self.view().leader(self.regency()) != self.id() {
             return Ok(None);
         }
         let slot = self.open_slot();
@@ -120,18 +137,27 @@ impl<S: Service> NodeCore<S> {
         gathered(self.alloc, self.pool.as_slice(), slot.place)
     }
 
+    /// The node's proposal of a digest for the slot that is open.
+    fn proposal(&self, digest: Digest32) -> Result<Signed<Proposal>, AllocError>
+        requires { is_free self.now ≡ true }
+        ensures { IfOk result (λ head. head ≡ signed proposals self.now.secret self.now.id (record { slot = open_slot self.now; digest = digest })) }
+    {
+        let slot = self.open_slot();
+        let proposal = Proposal { slot, digest };
+        Ok(self.keys.sealed(self.alloc, proposal)?)
+    }
+
     #[tactic(auto, unfolding(node_rules::specs::Rules::propose_batch))]
     fn propose_batch(&mut self, batch: Batch) -> Result<(), AllocError>
         requires { is_free self.old ≡ true }
         ensures { OnOk result (self.new ≡ propose_batch self.old (Some batch)) }
     {
-        let proposal = Proposal {
-            signer: self.id,
-            slot: self.open_slot(),
-            batch,
-        };
-        self.proposed.push(proposal.slot)?;
-        self.hold(Target::View, Message::Propose(proposal))
+        let slot = self.open_slot();
+        let digest = digest_of(self.alloc, &batch)?;
+        let head = self.proposal(digest)?;
+        self.proposed.push(slot)?;
+        self.hold(Target::View, Message::Propose(Proposed { head, batch }))?;
+        Ok(())
     }
 
     #[tactic(auto, unfolding(node_rules::specs::Rules::proposes, node_rules::specs::Rules::propose_batch))]
@@ -149,45 +175,36 @@ impl<S: Service> NodeCore<S> {
         }
     }
 
-    /// The node's vote for a batch in the slot that is open.
-    fn ballot(&self, kind: VoteKind, digest: Digest) -> Message
+    /// The node's vote for a digest in the slot that is open.
+    fn ballot(&self, kind: VoteKind, digest: Digest32) -> Result<Message, AllocError>
         requires { is_free self.now ≡ true }
-        ensures { result ≡ ballot self.now kind digest }
+        ensures { IfOk result (λ vote. vote ≡ ballot_for self.now kind digest) }
     {
-        Message::Vote(Ballot {
-            kind,
-            signer: self.id,
-            slot: self.open_slot(),
-            digest,
-        })
+        let slot = self.open_slot();
+        let ballot = Ballot { kind, slot, digest };
+        Ok(Message::Vote(self.keys.sealed(self.alloc, ballot)?))
     }
 
-    /// The digest of the batch to write for.
+    /// The proposal to write for.
     #[tactic(auto, unfolding(node_rules::specs::Rules::writing))]
-    fn writing(&self) -> Result<Option<Digest>, AllocError>
-        ensures batch { IfOk result (λ digest. digest ≡ writing self.now) }
-        ensures free { IfOk result (λ digest. IsSome digest → is_free self.now ≡ true) }
+    fn writing(&self) -> Option<&Proposed>
+        ensures batch { option_map (λ (p : Proposed). p.batch) (option_copied result) ≡ writing self.now }
+        ensures digest { IfSome result (λ p. p.now.head.statement.digest ≡ digest_of p.now.batch) }
+        ensures free { IsSome result → is_free self.now ≡ true }
     {
-        if !self.is_open() {
-            return Ok(None);
+        if !self.is_open() || self.has_written() {
+            return None;
         }
-        let slot = self.open_slot();
-        if self.has_written() {
-            return Ok(None);
-        }
-        match proposal_of(self.arrivals.as_slice(), &slot) {
-            None => Ok(None),
-            Some(batch) => Ok(Some(digest_of(self.alloc, batch)?)),
-        }
+        self.arrivals.proposal_of(&self.open_slot())
     }
 
-    #[tactic(auto, unfolding(node_rules::specs::Rules::write_batch))]
-    fn write_batch(&mut self, digest: Digest) -> Result<(), AllocError>
+    /// Writes for the batch of a digest.
+    fn write_digest(&mut self, digest: Digest32) -> Result<(), AllocError>
         requires { is_free self.old ≡ true }
-        ensures { OnOk result (self.new ≡ write_batch self.old (Some digest)) }
+        ensures { OnOk result (self.new ≡ holding (recording self.old (entries.Wrote (open_slot self.old) digest)) targets.View (ballot_for self.old kinds.Write digest)) }
     {
         let slot = self.open_slot();
-        let vote = self.ballot(VoteKind::Write, digest.duplicate(self.alloc)?);
+        let vote = self.ballot(VoteKind::Write, digest)?;
         self.record(LogEntry::Wrote { slot, digest })?;
         self.hold(Target::View, vote)?;
         Ok(())
@@ -198,39 +215,41 @@ impl<S: Service> NodeCore<S> {
         ensures node { OnOk result (self.new ≡ writes self.old) }
         ensures fired { OnOk result (fired.new ≡ fired.old ++ fired_if fires.Wrote (writing self.old)) }
     {
-        match self.writing()? {
+        match self.writing() {
             None => Ok(()),
-            Some(digest) => {
+            Some(proposed) => {
+                let digest = proposed.head.statement().digest;
                 fired.push(Fired::Wrote)?;
-                self.write_batch(digest)?;
+                self.write_digest(digest)?;
                 Ok(())
             }
         }
     }
 
-    /// A copy of a batch that has a quorum of votes in the slot that is open.
-    fn backed(&self, kind: VoteKind, batch: Option<&Batch>) -> Result<Option<Batch>, AllocError>
+    /// The first proposal for the slot that is open, if a quorum votes for it.
+    fn backed(&self, kind: VoteKind) -> Option<&Proposed>
         requires { is_free self.now ≡ true }
-        ensures { IfOk result (λ found. found ≡ backed self.now kind (option_copied batch.entry)) }
+        ensures batch { option_map (λ (p : Proposed). p.batch) (option_copied result) ≡ backed self.now kind (proposal_of self.now.arrivals (open_slot self.now)) }
+        ensures digest { IfSome result (λ p. p.now.head.statement.digest ≡ digest_of p.now.batch) }
     {
-        match batch {
-            None => Ok(None),
-            Some(batch) => {
-                let digest = digest_of(self.alloc, batch)?;
-                let arrivals = self.arrivals.as_slice();
-                if has_quorum(arrivals, self.view(), kind, &self.open_slot(), &digest) {
-                    Ok(Some(batch.duplicate(self.alloc)?))
+        let slot = self.open_slot();
+        match self.arrivals.proposal_of(&slot) {
+            None => None,
+            Some(proposed) => {
+                let digest = &proposed.head.statement().digest;
+                if has_quorum(self.arrivals.as_slice(), self.view(), kind, &slot, digest) {
+                    Some(proposed)
                 } else {
-                    Ok(None)
+                    None
                 }
             }
         }
     }
 
     /// The members whose votes back a digest in the slot that is open.
-    fn backers(&self, kind: VoteKind, digest: &Digest) -> Result<Sequence<MemberId>, AllocError>
+    fn backers(&self, kind: VoteKind, digest: &Digest32) -> Result<Sequence<MemberId>, AllocError>
         requires { is_free self.now ≡ true }
-        ensures { IfOk result (λ members. members ≡ backers self.now kind digest.now) }
+        ensures { IfOk result (λ members. members ≡ certificate self.now.arrivals (view_of self.now) kind (open_slot self.now) digest.now) }
     {
         let arrivals = self.arrivals.as_slice();
         let slot = self.open_slot();
@@ -238,30 +257,27 @@ impl<S: Service> NodeCore<S> {
     }
 
     #[tactic(auto, unfolding(node_rules::specs::Rules::accepting))]
-    fn accepting(&self) -> Result<Option<Batch>, AllocError>
-        ensures batch { IfOk result (λ batch. batch ≡ accepting self.now) }
-        ensures free { IfOk result (λ batch. IsSome batch → is_free self.now ≡ true) }
+    fn accepting(&self) -> Option<&Proposed>
+        ensures batch { option_map (λ (p : Proposed). p.batch) (option_copied result) ≡ accepting self.now }
+        ensures digest { IfSome result (λ p. p.now.head.statement.digest ≡ digest_of p.now.batch) }
+        ensures free { IsSome result → is_free self.now ≡ true }
     {
-        if !self.is_open() {
-            return Ok(None);
+        if !self.is_open() || self.has_accepted() {
+            return None;
         }
-        let slot = self.open_slot();
-        if self.has_accepted() {
-            return Ok(None);
-        }
-        let batch = proposal_of(self.arrivals.as_slice(), &slot);
-        self.backed(VoteKind::Write, batch)
+        self.backed(VoteKind::Write)
     }
 
+    /// Accepts a batch, whose digest comes with it.
     #[tactic(auto, unfolding(node_rules::specs::Rules::accept_batch))]
-    fn accept_batch(&mut self, batch: Batch) -> Result<(), AllocError>
-        requires { is_free self.old ≡ true }
+    fn accept_batch(&mut self, digest: Digest32, batch: Batch) -> Result<(), AllocError>
+        requires free { is_free self.old ≡ true }
+        requires digest { digest ≡ digest_of batch }
         ensures { OnOk result (self.new ≡ accept_batch self.old (Some batch)) }
     {
         let slot = self.open_slot();
-        let digest = digest_of(self.alloc, &batch)?;
         let members = self.backers(VoteKind::Write, &digest)?;
-        let vote = self.ballot(VoteKind::Accept, digest);
+        let vote = self.ballot(VoteKind::Accept, digest)?;
         self.record(LogEntry::Accepted {
             slot,
             voters: members,
@@ -276,35 +292,38 @@ impl<S: Service> NodeCore<S> {
         ensures node { OnOk result (self.new ≡ accepts self.old) }
         ensures fired { OnOk result (fired.new ≡ fired.old ++ fired_if fires.Accepted (accepting self.old)) }
     {
-        match self.accepting()? {
+        match self.accepting() {
             None => Ok(()),
-            Some(batch) => {
+            Some(proposed) => {
+                let digest = proposed.head.statement().digest;
+                let batch = proposed.batch.duplicate(self.alloc)?;
                 fired.push(Fired::Accepted)?;
-                self.accept_batch(batch)?;
+                self.accept_batch(digest, batch)?;
                 Ok(())
             }
         }
     }
 
     #[tactic(auto, unfolding(node_rules::specs::Rules::deciding))]
-    fn deciding(&self) -> Result<Option<Batch>, AllocError>
-        ensures batch { IfOk result (λ batch. batch ≡ deciding self.now) }
-        ensures free { IfOk result (λ batch. IsSome batch → is_free self.now ≡ true) }
+    fn deciding(&self) -> Option<&Proposed>
+        ensures batch { option_map (λ (p : Proposed). p.batch) (option_copied result) ≡ deciding self.now }
+        ensures digest { IfSome result (λ p. p.now.head.statement.digest ≡ digest_of p.now.batch) }
+        ensures free { IsSome result → is_free self.now ≡ true }
     {
         if !self.is_free() {
-            return Ok(None);
+            return None;
         }
-        let batch = proposal_of(self.arrivals.as_slice(), &self.open_slot());
-        self.backed(VoteKind::Accept, batch)
+        self.backed(VoteKind::Accept)
     }
 
+    /// Decides a batch, whose digest comes with it.
     #[tactic(auto, unfolding(node_rules::specs::Rules::decide_batch))]
-    fn decide_batch(&mut self, batch: Batch) -> Result<(), AllocError>
-        requires { is_free self.old ≡ true }
+    fn decide_batch(&mut self, digest: Digest32, batch: Batch) -> Result<(), AllocError>
+        requires free { is_free self.old ≡ true }
+        requires digest { digest ≡ digest_of batch }
         ensures { OnOk result (self.new ≡ decide_batch self.old (Some batch)) }
     {
         let slot = self.open_slot();
-        let digest = digest_of(self.alloc, &batch)?;
         let members = self.backers(VoteKind::Accept, &digest)?;
         let copy = batch.duplicate(self.alloc)?;
         self.record(LogEntry::Decided {
@@ -321,11 +340,13 @@ impl<S: Service> NodeCore<S> {
         ensures node { OnOk result (self.new ≡ decides self.old) }
         ensures fired { OnOk result (fired.new ≡ fired.old ++ fired_if (fires.Decided (next_place self.old)) (deciding self.old)) }
     {
-        match self.deciding()? {
+        match self.deciding() {
             None => Ok(()),
-            Some(batch) => {
+            Some(proposed) => {
+                let digest = proposed.head.statement().digest;
+                let batch = proposed.batch.duplicate(self.alloc)?;
                 fired.push(Fired::Decided(self.replica.place.next()))?;
-                self.decide_batch(batch)?;
+                self.decide_batch(digest, batch)?;
                 Ok(())
             }
         }

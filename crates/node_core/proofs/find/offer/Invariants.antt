@@ -1,6 +1,6 @@
 use Rattle.std.proofs.Common.{◌≡◌, ◌++◌, take, drop}
 use Rattle.node_rules.specs.Arrivals.{offered}
-use Rattle.node_core.proofs.find.put_request.Given as goal
+use Rattle.node_core.proofs.find.offer.Given as goal
 
 -- the request belongs among those left
 abbrev pub invariant-loop-i : goal.invariant-loop-i

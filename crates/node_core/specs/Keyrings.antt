@@ -1,0 +1,7 @@
+-- What a member signs and checks with.
+use Rattle.std.specs.Prelude.{ℕ, List}
+
+-- a member, and the secret of its group
+pub record Keyring : Type 0 where
+  pub member : ℕ
+  pub secret : List ℕ

@@ -1,0 +1,34 @@
+-- How members and clients sign what they state, and what names a batch.
+use Rattle.std.specs.Prelude.{ℕ, ◌==◌, nat_le, nat_lt, Bool, not, ◌&&◌, ◌||◌, List, length}
+use Rattle.std.specs.List.{list_any, list_all}
+use Rattle.smart_keys.specs.Keys.{digest, tag_of, is_tag}
+use Rattle.smart_messages.specs.Forms.{Form, SignedBy, party_of}
+use Rattle.smart_messages.specs.Kinds.{requests}
+use Rattle.smart_messages.specs.Messages.{Batch, batch_text}
+use Rattle.smart_messages.specs.declared.statement.Request.{Request}
+
+-- a statement with the tag that its signer makes over its bytes
+abbrev pub signed : {A : Type 0} → Form A → List ℕ → ℕ → A → SignedBy A
+signed form secret signer s = record { signer = signer; statement = s; tag = tag_of secret (party_of form.kind signer) (form.spell s) }
+
+-- the tag is the one that its signer makes
+abbrev pub is_verified : {A : Type 0} → Form A → List ℕ → SignedBy A → Bool
+is_verified form secret s = is_tag secret (party_of form.kind s.signer) (form.spell s.statement) s.tag
+
+-- what names a batch in votes: the digest of its bytes
+unfoldable pub digest_of : Batch → List ℕ
+digest_of batch = digest (batch_text batch)
+
+-- a request that may stand at a place: its client signed it, and asked it after earlier places alone
+abbrev pub request_fits : List ℕ → ℕ → SignedBy Request → Bool
+request_fits secret place q = nat_le q.statement.client 1024 && nat_lt q.statement.after place && is_verified requests secret q
+
+-- a request of the view manager
+abbrev pub is_managers : SignedBy Request → Bool
+is_managers q = q.statement.client == 0
+
+-- a batch that may stand at a place: a request of the view manager stands alone
+unfoldable pub fits : List ℕ → Batch → ℕ → Bool
+fits secret batch place =
+    nat_le 1 (length batch) && nat_le (length batch) 64 && nat_le (length (batch_text batch)) 262144
+    && list_all (request_fits secret place) batch && (nat_le (length batch) 1 || not (list_any is_managers batch))
