@@ -1,3 +1,5 @@
 pub mod Counting
+pub mod LedgerLaws
 pub mod Turns
 pub mod Played
+pub mod Hearing

@@ -1,16 +1,24 @@
 //! What a client asks, and when it accepts a reply.
 ghost use Rattle.std.specs.Prelude.{◌≡◌, ◌+◌, ◌^◌, ◌<◌, ◌==◌, ◌&&◌, ◌++◌, ◌∷◌, [], List, IfOk, OnOk, OnErr, None, Some};
 ghost use Rattle.std.specs.List.{list_any};
-ghost use Rattle.smart_messages.specs.declared.message.Answer.{Answer};
+ghost use Rattle.smart_messages.specs.Forms.{SignedBy};
+ghost use Rattle.smart_messages.specs.Kinds.{requests};
+ghost use Rattle.smart_messages.specs.declared.statement.Answer.{Answer};
+ghost use Rattle.node_rules.specs.Seals.{signed};
+ghost use Rattle.world_rules.specs.Secrets.{group_secret};
 ghost use Rattle.world_rules.specs.Clients.{fresh, request_of, asking, same_answer, has_answer, have, is_waited_for, why_ignored, count_heard, heard_unless, heard, after_heard};
 
+use smart_base::bytes::Payload;
 use smart_base::duplicate::Duplicate;
+use smart_base::equality::same_bytes;
 use smart_base::name::{ClientId, MemberId};
 use smart_base::number::Place;
-use smart_base::sequence::{Bytes, Sequence};
+use smart_base::party::Party;
+use smart_base::sequence::Sequence;
 use smart_base::view::View;
-use smart_messages::equality::same_bytes;
-use smart_messages::message::{Answer, Request};
+use smart_keys::ring::Ring;
+use smart_messages::signed::Signed;
+use smart_messages::statement::{Answer, Request};
 use std::alloc::{AllocError, Global};
 use world_rules::client::{Acceptance, Client, Heard, Ignored};
 
@@ -27,10 +35,29 @@ pub fn fresh(alloc: Global, id: ClientId) -> Client
     }
 }
 
-/// The client's next request, which waits from then on.
-pub fn ask(alloc: Global, client: &mut Client, op: &Bytes) -> Result<Request, AllocError>
+/// A request that its client signs.
+#[tactic(auto, unfolding(smart_keys::specs::Keys::tag_of))]
+fn sealed(alloc: Global, ring: &Ring, request: Request) -> Result<Signed<Request>, AllocError>
+    ensures { IfOk result (λ q. q ≡ signed requests ring.now request.client request) }
+{
+    let id = request.client;
+    let mut sealer = ring.sealer(Party::Client(id));
+    match Signed::seal(alloc, &mut sealer, id.get(), request) {
+        Ok(signed) => Ok(signed),
+        // A sealer's only want is memory.
+        Err(_) => Err(AllocError),
+    }
+}
+
+/// The client's next request, signed. It waits from then on.
+pub fn ask(
+    alloc: Global,
+    ring: &Ring,
+    client: &mut Client,
+    op: &Payload,
+) -> Result<Signed<Request>, AllocError>
     requires { client.old.last + 1 < 2 ^ 63 }
-    ensures request { IfOk result (λ q. q ≡ request_of client.old op.now) }
+    ensures request { IfOk result (λ q. q ≡ signed requests ring.now client.old.id (request_of client.old op.now)) }
     ensures client { OnOk result (client.new ≡ asking client.old (request_of client.old op.now)) }
     ensures unasked { OnErr result (client.new ≡ client.old) }
 {
@@ -40,10 +67,12 @@ pub fn ask(alloc: Global, client: &mut Client, op: &Bytes) -> Result<Request, Al
         after: client.seen.get(),
         op: op.duplicate(alloc)?,
     };
-    client.waiting = Some(request.duplicate(alloc)?);
-    client.last = request.seq;
+    let waiting = request.duplicate(alloc)?;
+    let signed = sealed(alloc, ring, request)?;
+    client.last = waiting.seq;
+    client.waiting = Some(waiting);
     client.replies = Sequence::new(alloc);
-    Ok(request)
+    Ok(signed)
 }
 
 fn same_answer(a: &Answer, b: &Answer) -> bool
@@ -55,13 +84,13 @@ fn same_answer(a: &Answer, b: &Answer) -> bool
         && same_bytes(a.reply.as_slice(), b.reply.as_slice())
 }
 
-fn is_answer_of(reply: &Answer, answer: &Answer, member: MemberId) -> bool
-    ensures { result ≡ (reply.now.signer == member) && same_answer reply.now answer.now }
+fn is_answer_of(reply: &Signed<Answer>, answer: &Answer, member: MemberId) -> bool
+    ensures { result ≡ (reply.now.signer == member) && same_answer reply.now.statement answer.now }
 {
-    reply.signer == member && same_answer(reply, answer)
+    reply.signer() == member.get() && same_answer(reply.statement(), answer)
 }
 
-fn has_answer(replies: &[Answer], answer: &Answer, member: MemberId) -> bool
+fn has_answer(replies: &[Signed<Answer>], answer: &Answer, member: MemberId) -> bool
     ensures { result ≡ has_answer replies.now answer.now member }
 {
     replies
@@ -70,11 +99,10 @@ fn has_answer(replies: &[Answer], answer: &Answer, member: MemberId) -> bool
 }
 
 /// How many members of a view gave this answer.
-fn have(view: &View, replies: &[Answer], answer: &Answer) -> usize
+fn have(view: &View, replies: &[Signed<Answer>], answer: &Answer) -> usize
     ensures { result ≡ have view.now replies.now answer.now }
 {
-    view.members
-        .as_slice()
+    view.members()
         .iter()
         .filter(|member| has_answer(replies, answer, **member))
         .count()
@@ -89,23 +117,27 @@ fn is_waited_for(waiting: &Option<Request>, answer: &Answer) -> bool
     }
 }
 
-fn has_signer(replies: &[Answer], signer: MemberId) -> bool
+fn has_signer(replies: &[Signed<Answer>], signer: u16) -> bool
     ensures { result ≡ list_any (λ r. r.signer == signer) replies.now }
 {
-    replies.iter().any(|r| r.signer == signer)
+    replies.iter().any(|r| r.signer() == signer)
 }
 
 #[tactic(auto, unfolding(world_rules::specs::Clients::why_ignored))]
-fn why_ignored(view: &View, client: &Client, answer: &Answer) -> Option<Ignored>
-    ensures { result ≡ why_ignored view.now client.now answer.now }
+fn why_ignored(view: &View, ring: &Ring, client: &Client, reply: &Signed<Answer>) -> Option<Ignored>
+    requires { ring.now ≡ group_secret }
+    ensures { result ≡ why_ignored view.now client.now reply.now }
 {
-    if !is_waited_for(&client.waiting, answer) {
+    let answer = reply.statement();
+    if !reply.verifies(ring) {
+        Some(Ignored::BadTag)
+    } else if !is_waited_for(&client.waiting, answer) {
         Some(Ignored::Settled)
-    } else if answer.view != view.number {
+    } else if answer.view != view.number() {
         Some(Ignored::UnknownView)
-    } else if !view.is_member(answer.signer) {
+    } else if !view.is_member(MemberId::new(reply.signer())) {
         Some(Ignored::Stranger)
-    } else if has_signer(client.replies.as_slice(), answer.signer) {
+    } else if has_signer(client.replies.as_slice(), reply.signer()) {
         Some(Ignored::Repeated)
     } else {
         None
@@ -117,14 +149,15 @@ fn count(
     alloc: Global,
     view: &View,
     client: &mut Client,
-    answer: &Answer,
+    reply: &Signed<Answer>,
     request: Request,
-    reply: Bytes,
+    payload: Payload,
 ) -> Heard
-    requires { reply ≡ answer.now.reply }
-    ensures heard { (replies : List Answer) → client.old.replies ≡ replies ++ answer.now ∷ [] → result ≡ count_heard view.now (record client.old { replies = replies }) answer.now request }
-    ensures client { (replies : List Answer) → client.old.replies ≡ replies ++ answer.now ∷ [] → client.new ≡ after_heard (record client.old { waiting = Some request; replies = replies }) answer.now result }
+    requires { payload ≡ reply.now.statement.reply }
+    ensures heard { (replies : List (SignedBy Answer)) → client.old.replies ≡ replies ++ reply.now ∷ [] → result ≡ count_heard view.now (record client.old { replies = replies }) reply.now request }
+    ensures client { (replies : List (SignedBy Answer)) → client.old.replies ≡ replies ++ reply.now ∷ [] → client.new ≡ after_heard (record client.old { waiting = Some request; replies = replies }) reply.now result }
 {
+    let answer = reply.statement();
     let count = have(view, client.replies.as_slice(), answer);
     let need = view.quorum();
     if need <= count {
@@ -136,7 +169,7 @@ fn count(
             view: answer.view,
             place: answer.place,
             index: answer.index,
-            reply,
+            reply: payload,
         })
     } else {
         client.waiting = Some(request);
@@ -152,18 +185,20 @@ fn count(
 pub fn hear(
     alloc: Global,
     view: &View,
+    ring: &Ring,
     client: &mut Client,
-    answer: &Answer,
+    reply: &Signed<Answer>,
 ) -> Result<Heard, AllocError>
-    ensures heard { IfOk result (λ h. h ≡ heard view.now client.old answer.now) }
-    ensures client { OnOk result (client.new ≡ after_heard client.old answer.now (heard view.now client.old answer.now)) }
+    requires { ring.now ≡ group_secret }
+    ensures heard { IfOk result (λ h. h ≡ heard view.now client.old reply.now) }
+    ensures client { OnOk result (client.new ≡ after_heard client.old reply.now (heard view.now client.old reply.now)) }
     ensures unheard { OnErr result (client.new ≡ client.old) }
 {
-    if let Some(why) = why_ignored(view, client, answer) {
+    if let Some(why) = why_ignored(view, ring, client, reply) {
         return Ok(Heard::Ignored(why));
     }
-    let kept = answer.duplicate(alloc)?;
-    let reply = answer.reply.duplicate(alloc)?;
+    let kept = reply.duplicate(alloc)?;
+    let payload = reply.statement().reply.duplicate(alloc)?;
     match client.waiting.take() {
         None => Ok(Heard::Ignored(Ignored::Settled)),
         Some(request) => match client.replies.push(kept) {
@@ -171,7 +206,7 @@ pub fn hear(
                 client.waiting = Some(request);
                 Err(error)
             }
-            Ok(()) => Ok(count(alloc, view, client, answer, request, reply)),
+            Ok(()) => Ok(count(alloc, view, client, reply, request, payload)),
         },
     }
 }

@@ -14,8 +14,9 @@ use smart_base::name::MemberId;
 use smart_base::number::Place;
 use smart_base::sequence::Sequence;
 use smart_base::view::View;
+use smart_keys::ring::Ring;
+use smart_messages::batch::Batch;
 use smart_messages::entry::{LogEntry, NodeEvent};
-use smart_messages::message::Batch;
 use smart_service::service::Service;
 use std::alloc::{AllocError, Global};
 use std::marker::Model;
@@ -113,11 +114,11 @@ fn choose(
 
 impl<S: Service> Host<S> {
     /// A host whose node has an empty book.
-    pub fn begin(alloc: Global, id: MemberId, view: View) -> Result<Self, AllocError>
-        ensures { IfOk result (λ h. h ≡ record { node = opened S.meaning id view; delivered = [] }) }
+    pub fn begin(alloc: Global, id: MemberId, view: View, ring: Ring) -> Result<Self, AllocError>
+        ensures { IfOk result (λ h. h ≡ record { node = opened S.meaning ring id view; delivered = [] }) }
     {
         Ok(Host {
-            node: NodeCore::begin(alloc, id, view)?,
+            node: NodeCore::begin(alloc, id, view, ring)?,
             delivered: Vec::new(alloc),
         })
     }

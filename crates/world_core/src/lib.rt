@@ -4,6 +4,8 @@
 
 pub mod client;
 pub mod host;
+pub mod ledger;
 pub mod message;
+pub mod secret;
 pub mod state;
 pub mod world;

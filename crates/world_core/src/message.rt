@@ -4,7 +4,8 @@ ghost use Rattle.world_rules.specs.Worlds.{vote_summary, summary_of, told_heard}
 
 use smart_base::duplicate::Duplicate;
 use smart_base::name::ClientId;
-use smart_messages::message::{Ballot, Message, VoteKind};
+use smart_messages::message::Message;
+use smart_messages::statement::{Ballot, VoteKind};
 use std::alloc::{AllocError, Global};
 use world_rules::client::Heard;
 use world_rules::line::{OutLine, Summary};
@@ -33,26 +34,33 @@ pub fn summary_of(message: &Message) -> Summary
     ensures { result ≡ summary_of message.now }
 {
     match message {
-        Message::Ask(q) => Summary::Ask {
-            client: q.client,
-            seq: q.seq,
-            after: q.after,
-        },
-        Message::Propose(p) => {
-            Summary::Propose {
-                view: p.slot.view,
-                place: p.slot.place,
-                regency: p.slot.regency,
-                requests: p.batch.len() as u64,
+        Message::Ask(signed) => {
+            let request = signed.statement();
+            Summary::Ask {
+                client: request.client,
+                seq: request.seq,
+                after: request.after,
             }
         }
-        Message::Vote(ballot) => vote_summary(ballot),
-        Message::Reply(a) => Summary::Reply {
-            client: a.client,
-            seq: a.seq,
-            place: a.place,
-            index: a.index,
-        },
+        Message::Propose(proposed) => {
+            let slot = proposed.head.statement().slot;
+            Summary::Propose {
+                view: slot.view,
+                place: slot.place,
+                regency: slot.regency,
+                requests: proposed.batch.len() as u64,
+            }
+        }
+        Message::Vote(signed) => vote_summary(signed.statement()),
+        Message::Reply(signed) => {
+            let answer = signed.statement();
+            Summary::Reply {
+                client: answer.client,
+                seq: answer.seq,
+                place: answer.place,
+                index: answer.index,
+            }
+        }
     }
 }
 

@@ -1,28 +1,42 @@
 //! What happens in a world.
 ghost use Rattle.std.specs.Prelude.{◌≡◌, ◌+◌, ◌-◌, ◌^◌, ◌<◌, ◌++◌, [], ◌∷◌, IfOk, OnOk, None, Some, length, slice_get, slice_set, false};
+ghost use Rattle.smart_base.specs.Lists.{or_else};
+ghost use Rattle.smart_messages.specs.Messages.{spelling, decoded};
+ghost use Rattle.node_rules.specs.Steps.{opened};
 ghost use Rattle.kept_arrivals.specs.Kept.{core_step};
 ghost use Rattle.world_rules.specs.Repeats.{repeated, turns, until_rest, each_from};
+ghost use Rattle.world_rules.specs.Secrets.{group_secret};
 ghost use Rattle.world_rules.specs.Clients.{heard, after_heard};
 ghost use Rattle.world_rules.specs.Worlds.{telling, sends, sends_all, summary_of, stepped, node_takes, settle_once, settle, settle_all, gives, give_all, acceptance_in, told_heard, hearing, client_takes, client_asks, asks, goes, flow_once, flows, hosts_from, clients_from, begun};
 ghost use Rattle.world_rules.specs.Plays.{line_played, rested};
+ghost use Rattle.world_core.specs.Replies.{reply_in, takes_reply};
 
 use crate::client::{ask, fresh, hear};
 use crate::host::{Host, step_host};
+use crate::ledger::Ledger;
 use crate::message::{sent_line, told_heard};
+use crate::secret::GroupRing;
 use node_rules::node::{Held, Target};
+use smart_base::bytes::Payload;
 use smart_base::duplicate::Duplicate;
+use smart_base::fault::ReadError;
 use smart_base::name::{ClientId, MemberId};
 use smart_base::sequence::{Bytes, Sequence};
 use smart_base::view::View;
+use smart_keys::ring::Ring;
+use smart_messages::batch::Batch;
+use smart_messages::codec::{decode, encode};
 use smart_messages::entry::NodeEvent;
-use smart_messages::message::{Answer, Batch, Message};
+use smart_messages::message::Message;
+use smart_messages::signed::Signed;
+use smart_messages::statement::Answer;
 use smart_service::service::Service;
 use std::alloc::{AllocError, Global};
 use std::marker::Model;
 use std::mem;
 use world_rules::client::{Acceptance, Client, Heard, Ignored};
 use world_rules::line::{Line, OutLine};
-use world_rules::message::{Ending, Origin, Sent};
+use world_rules::message::{Ending, Origin, Premise, Sent};
 
 /// The greatest number of a message.
 const MESSAGES: usize = 1 << 24;
@@ -36,9 +50,10 @@ const CLIENTS: u16 = 1025;
 pub struct WorldState<S> {
     alloc: Global,
     view: View,
+    ring: GroupRing,
     hosts: Vec<Host<S>>,
     clients: Vec<Client>,
-    sent: Vec<Sent>,
+    sent: Ledger,
     mark: u64,
     chosen: Vec<Batch>,
     accepted: Vec<Acceptance>,
@@ -55,13 +70,35 @@ impl<S> Model for WorldState<S> {
       view = w.view;
       hosts = w.hosts.items;
       clients = w.clients.items;
-      sent = w.sent.items;
+      sent = w.sent;
       mark = w.mark;
       chosen = w.chosen.items;
       accepted = w.accepted.items;
       told = w.told.items;
       ending = w.ending;
     } };
+}
+
+/// The reply that these bytes are, if they are one.
+fn reply_in(alloc: Global, bytes: &[u8]) -> Result<Option<Signed<Answer>>, AllocError>
+    ensures { IfOk result (λ reply. reply ≡ reply_in (decoded bytes.now)) }
+{
+    match decode(alloc, bytes) {
+        Ok(Message::Reply(answer)) => Ok(Some(answer)),
+        Ok(Message::Ask(_)) | Ok(Message::Propose(_)) | Ok(Message::Vote(_)) => Ok(None),
+        Err(ReadError::Unread { .. }) => Ok(None),
+        Err(ReadError::NoMemory) => Err(AllocError),
+    }
+}
+
+/// A limit is told only of a play that nothing has ended.
+fn or_limit(ending: Option<Ending>) -> Option<Ending>
+    ensures { result ≡ or_else ending (Some Ending.Limit) }
+{
+    match ending {
+        None => Some(Ending::Limit),
+        Some(ending) => Some(ending),
+    }
 }
 
 fn keep_accepted(accepted: &mut Vec<Acceptance>, heard: Heard) -> Result<(), AllocError>
@@ -77,28 +114,58 @@ fn keep_accepted(accepted: &mut Vec<Acceptance>, heard: Heard) -> Result<(), All
 fn hear_reply(
     alloc: Global,
     view: &View,
+    ring: &Ring,
     client: &mut Client,
     accepted: &mut Vec<Acceptance>,
     told: &mut Vec<OutLine>,
-    answer: &Answer,
+    answer: &Signed<Answer>,
 ) -> Result<(), AllocError>
+    requires { ring.now ≡ group_secret }
     ensures client { OnOk result (client.new ≡ after_heard client.old answer.now (heard view.now client.old answer.now)) }
     ensures accepted { OnOk result (accepted.new.items ≡ accepted.old.items ++ acceptance_in (heard view.now client.old answer.now)) }
     ensures told { OnOk result (told.new.items ≡ told.old.items ++ told_heard client.old.id (heard view.now client.old answer.now) ∷ []) }
 {
     let id = client.id;
-    let heard = hear(alloc, view, client, answer)?;
+    let heard = hear(alloc, view, ring, client, answer)?;
     told.push(told_heard(alloc, id, &heard)?)?;
     keep_accepted(accepted, heard)?;
     Ok(())
 }
 
-fn first_hosts<S: Service>(alloc: Global, view: &View) -> Result<Vec<Host<S>>, AllocError>
+/// Whom a message is for, and its bytes.
+fn letter(alloc: Global, sent: &Sent) -> Result<(Target, Bytes), AllocError>
+    ensures to { IfOk result (λ l. l.0 ≡ sent.now.to) }
+    ensures bytes { IfOk result (λ l. l.1 ≡ spelling sent.now.message) }
+{
+    let bytes = encode(alloc, &sent.message)?;
+    Ok((sent.to, Bytes::from_vec(bytes)))
+}
+
+fn first_host<S: Service>(
+    alloc: Global,
+    view: &View,
+    ring: &Ring,
+    id: MemberId,
+) -> Result<Host<S>, AllocError>
+    requires { ring.now ≡ group_secret }
+    ensures { IfOk result (λ h. h ≡ record { node = opened S.meaning group_secret id view.now; delivered = [] }) }
+{
+    let view = view.duplicate(alloc)?;
+    let ring = ring.duplicate(alloc)?;
+    Host::begin(alloc, id, view, ring)
+}
+
+fn first_hosts<S: Service>(
+    alloc: Global,
+    view: &View,
+    ring: &Ring,
+) -> Result<Vec<Host<S>>, AllocError>
+    requires { ring.now ≡ group_secret }
     ensures { IfOk result (λ hosts. hosts.items ≡ hosts_from S.meaning view.now view.now.members) }
 {
     let mut hosts: Vec<Host<S>> = Vec::new(alloc);
-    for id in view.members.as_slice() {
-        hosts.push(Host::begin(alloc, *id, view.duplicate(alloc)?)?)?;
+    for id in view.members() {
+        hosts.push(first_host(alloc, view, ring, *id)?)?;
     }
     Ok(hosts)
 }
@@ -118,12 +185,14 @@ impl<S: Service> WorldState<S> {
     pub fn begin(alloc: Global, view: View) -> Result<Self, AllocError>
         ensures { IfOk result (λ world. world ≡ begun S.meaning view) }
     {
+        let ring = GroupRing::new(alloc)?;
         Ok(WorldState {
             alloc,
-            hosts: first_hosts(alloc, &view)?,
+            hosts: first_hosts(alloc, &view, ring.get())?,
             clients: first_clients(alloc, CLIENTS)?,
             view,
-            sent: Vec::new(alloc),
+            ring,
+            sent: Ledger::new(alloc),
             mark: 0,
             chosen: Vec::new(alloc),
             accepted: Vec::new(alloc),
@@ -145,17 +214,23 @@ impl<S: Service> WorldState<S> {
     fn send(&mut self, origin: Origin, to: Target, message: Message) -> Result<(), AllocError>
         ensures { OnOk result (self.new ≡ sends self.old origin to message) }
     {
-        if self.sent.len() >= MESSAGES {
-            self.ending = Some(Ending::Limit);
+        if self.sent.collides(self.alloc, &message)? {
+            self.ending = Some(Ending::Premise(Premise::Collision));
             return Ok(());
         }
-        let number = self.sent.len() as u64 + 1;
-        self.told.push(sent_line(number, &origin, &message))?;
-        self.sent.push(Sent {
+        let sent = self.sent.as_slice().len();
+        if sent >= MESSAGES {
+            self.ending = or_limit(self.ending);
+            return Ok(());
+        }
+        self.told
+            .push(sent_line(sent as u64 + 1, &origin, &message))?;
+        let message = Sent {
             origin,
             to,
             message,
-        })?;
+        };
+        self.sent.push(self.alloc, message)?;
         Ok(())
     }
 
@@ -241,13 +316,13 @@ impl<S: Service> WorldState<S> {
         Ok(())
     }
 
-    /// Each node takes a message and settles, ascending.
+    /// Each node takes the bytes of a message and settles, ascending.
     #[tactic(auto, using(crate::proofs::Turns::each_more, crate::proofs::Turns::each_done), unfolding(world_rules::specs::Worlds::gives))]
-    fn give_all(&mut self, message: Message) -> Result<(), AllocError>
-        ensures { OnOk result (self.new ≡ give_all (core_step S.meaning) message self.old) }
+    fn give_all(&mut self, bytes: Bytes) -> Result<(), AllocError>
+        ensures { OnOk result (self.new ≡ give_all (core_step S.meaning) bytes self.old) }
     {
         let count = self.hosts.len();
-        let arrival = NodeEvent::Arrive(message);
+        let arrival = NodeEvent::Arrive(bytes);
         for i in 0..count {
             self.give(i, &arrival)?;
         }
@@ -256,26 +331,27 @@ impl<S: Service> WorldState<S> {
 
     // Clients.
 
-    /// The client at an index hears a message.
-    #[tactic(auto, unfolding(world_rules::specs::Worlds::client_takes, world_rules::specs::Worlds::hearing))]
-    fn client_takes(&mut self, i: usize, message: &Message) -> Result<(), AllocError>
-        ensures { OnOk result (self.new ≡ client_takes i message.now self.old) }
+    /// The client at an index hears a reply, or ignores what is none.
+    #[tactic(auto, unfolding(crate::specs::Replies::takes_reply, world_rules::specs::Worlds::hearing))]
+    fn takes_reply(&mut self, i: usize, reply: &Option<Signed<Answer>>) -> Result<(), AllocError>
+        ensures { OnOk result (self.new ≡ takes_reply i reply.now self.old) }
     {
         if self.ending.is_some() || i >= self.clients.len() {
             return Ok(());
         }
-        match message {
-            Message::Reply(answer) => {
+        match reply {
+            Some(answer) => {
                 hear_reply(
                     self.alloc,
                     &self.view,
+                    self.ring.get(),
                     &mut self.clients[i],
                     &mut self.accepted,
                     &mut self.told,
                     answer,
                 )?;
             }
-            Message::Ask(_) | Message::Propose(_) | Message::Vote(_) => {
+            None => {
                 let id = self.clients[i].id;
                 self.tell(OutLine::Ignored {
                     client: id,
@@ -286,9 +362,19 @@ impl<S: Service> WorldState<S> {
         Ok(())
     }
 
+    /// The client at an index hears the bytes of a message. It reads replies alone.
+    #[tactic(auto, using(crate::proofs::Hearing::takes_bytes))]
+    fn client_takes(&mut self, i: usize, bytes: &[u8]) -> Result<(), AllocError>
+        ensures { OnOk result (self.new ≡ client_takes i bytes.now self.old) }
+    {
+        let reply = reply_in(self.alloc, bytes)?;
+        self.takes_reply(i, &reply)?;
+        Ok(())
+    }
+
     /// The client at an index asks, if none of its requests waits.
     #[tactic(auto, unfolding(world_rules::specs::Worlds::asks))]
-    fn ask(&mut self, i: usize, op: &Bytes) -> Result<(), AllocError>
+    fn ask(&mut self, i: usize, op: &Payload) -> Result<(), AllocError>
         ensures { OnOk result (self.new ≡ asks i op.now self.old) }
     {
         if self.ending.is_some() || i >= self.clients.len() {
@@ -300,45 +386,46 @@ impl<S: Service> WorldState<S> {
             self.tell(OutLine::Busy { client: id, seq })?;
             return Ok(());
         }
+        // That an operation is short is known of its bytes.
+        let _short = op.as_slice();
         if self.clients[i].last >= (1 << 63) - 1 {
             return Ok(());
         }
-        let request = ask(self.alloc, &mut self.clients[i], op)?;
+        let request = ask(self.alloc, self.ring.get(), &mut self.clients[i], op)?;
         self.send(Origin::Client(id), Target::View, Message::Ask(request))?;
         Ok(())
     }
 
     // Flow.
 
-    fn go(&mut self, message: Message, to: Target) -> Result<(), AllocError>
-        ensures { OnOk result (self.new ≡ goes (core_step S.meaning) self.old message to) }
+    fn go(&mut self, bytes: Bytes, to: Target) -> Result<(), AllocError>
+        ensures { OnOk result (self.new ≡ goes (core_step S.meaning) self.old bytes to) }
     {
         match to {
             Target::View => {
-                self.give_all(message)?;
+                self.give_all(bytes)?;
                 Ok(())
             }
             Target::Client(id) => {
-                self.client_takes(id.get() as usize, &message)?;
+                self.client_takes(id.get() as usize, bytes.as_slice())?;
                 Ok(())
             }
         }
     }
 
-    /// The next message behind the mark, if there is one, is given to whom it is for.
+    /// The next message behind the mark, if there is one, is given to whom it is for, in bytes.
     #[tactic(auto, unfolding(world_rules::specs::Worlds::flow_once))]
     fn flow_once(&mut self) -> Result<bool, AllocError>
         ensures world { OnOk result (self.new ≡ flow_once (core_step S.meaning) self.old) }
         ensures idle { IfOk result (λ more. more ≡ false → self.new ≡ self.old) }
     {
         let next = self.mark as usize;
-        if self.ending.is_some() || next >= self.sent.len() {
+        if self.ending.is_some() || next >= self.sent.as_slice().len() {
             return Ok(false);
         }
-        let to = self.sent[next].to;
-        let message = self.sent[next].message.duplicate(self.alloc)?;
+        let (to, bytes) = letter(self.alloc, &self.sent.as_slice()[next])?;
         self.mark += 1;
-        self.go(message, to)?;
+        self.go(bytes, to)?;
         Ok(true)
     }
 

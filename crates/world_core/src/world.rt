@@ -5,6 +5,7 @@ ghost use Rattle.kept_arrivals.specs.Kept.{core_step};
 ghost use Rattle.world_rules.specs.Worlds.{begun, host_of};
 ghost use Rattle.world_rules.specs.Plays.{line_played, rested, IsPlay};
 ghost use Rattle.world_rules.specs.declared.message.Ending.TheVariants as endings;
+ghost use Rattle.world_rules.specs.declared.message.Premise.{Premise};
 
 use crate::host::Host;
 use crate::state::WorldState;
@@ -13,18 +14,20 @@ use smart_base::duplicate::Duplicate;
 use smart_base::name::MemberId;
 use smart_base::sequence::Sequence;
 use smart_base::view::View;
+use smart_messages::batch::Batch;
 use smart_messages::entry::LogEntry;
-use smart_messages::message::Batch;
 use smart_service::service::Service;
 use std::alloc::{AllocError, Global};
 use std::marker::Model;
 use world_rules::client::Acceptance;
 use world_rules::line::{Line, OutLine};
-use world_rules::message::Sent;
+use world_rules::message::{Ending, Premise, Sent};
 
 /// Why a line was not played to its end. The play is over then.
 #[derive(Clone, Copy, Debug, PartialEq, Eq)]
 pub enum WorldEnd {
+    /// What the play takes for granted does not hold.
+    Premise(Premise),
     /// More messages would be sent than have numbers.
     Limit,
     /// Memory ran out.
@@ -83,12 +86,15 @@ impl<S: Service> World<S> {
         ensures world { OnOk result (self.new ≡ record { group = self.old.group; lines = self.old.lines ++ line ∷ []; world = rested (line_played (core_step S.meaning) self.old.world line); over = false }) }
         ensures going { OnOk result ((line_played (core_step S.meaning) self.old.world line).ending ≡ None) }
         ensures limit { IsErrOf result WorldEnd.Limit → (line_played (core_step S.meaning) self.old.world line).ending ≡ Some endings.Limit }
+        ensures premise { (which : Premise) → IsErrOf result (WorldEnd.Premise which) → (line_played (core_step S.meaning) self.old.world line).ending ≡ Some (endings.Premise which) }
         ensures over { OnErr result (self.new.over ≡ true) }
     {
         self.over = true;
         self.state.play(&line)?;
-        if self.state.ending().is_some() {
-            return Err(WorldEnd::Limit);
+        match self.state.ending() {
+            Some(Ending::Limit) => return Err(WorldEnd::Limit),
+            Some(Ending::Premise(which)) => return Err(WorldEnd::Premise(which)),
+            None => {}
         }
         self.lines.push(line)?;
         let told = self.state.take_told();

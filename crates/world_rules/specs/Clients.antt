@@ -2,10 +2,13 @@
 use Rattle.std.specs.Prelude.{ℕ, ◌+◌, ◌==◌, nat_le, Bool, false, not, ◌&&◌, List, [], ◌∷◌, ◌++◌, filter, if◌then◌else◌, Option, Some, None, max}
 use Rattle.std.specs.List.{list_any}
 use Rattle.smart_base.specs.Lists.{same_bytes}
-use Rattle.smart_base.specs.Views.{weight_of, quorum, is_member}
-use Rattle.smart_base.specs.declared.view.View.{View}
-use Rattle.smart_messages.specs.declared.message.Request.{Request}
-use Rattle.smart_messages.specs.declared.message.Answer.{Answer}
+use Rattle.smart_base.specs.Views.{View, weight_of, quorum, is_member}
+use Rattle.smart_messages.specs.Forms.{SignedBy}
+use Rattle.smart_messages.specs.Kinds.{answers}
+use Rattle.smart_messages.specs.declared.statement.Request.{Request}
+use Rattle.smart_messages.specs.declared.statement.Answer.{Answer}
+use Rattle.node_rules.specs.Seals.{is_verified}
+use Rattle.world_rules.specs.Secrets.{group_secret}
 use Rattle.world_rules.specs.declared.client.Client.{Client}
 use Rattle.world_rules.specs.declared.client.Acceptance.{Acceptance}
 use Rattle.world_rules.specs.declared.client.Ignored.{Ignored}
@@ -30,11 +33,11 @@ abbrev pub same_answer : Answer → Answer → Bool
 same_answer a b = (a.view == b.view) && (a.place == b.place) && (a.index == b.index) && same_bytes a.reply b.reply
 
 -- whether a member gave this reply
-abbrev pub has_answer : List Answer → Answer → ℕ → Bool
-has_answer replies a member = list_any (λ r. (r.signer == member) && same_answer r a) replies
+abbrev pub has_answer : List (SignedBy Answer) → Answer → ℕ → Bool
+has_answer replies a member = list_any (λ r. (r.signer == member) && same_answer r.statement a) replies
 
 -- what the members that gave this reply weigh together
-abbrev pub have : View → List Answer → Answer → ℕ
+abbrev pub have : View → List (SignedBy Answer) → Answer → ℕ
 have v replies a = weight_of v (filter (has_answer replies a) v.members)
 
 -- the reply is to the request that waits
@@ -43,10 +46,11 @@ is_waited_for None a = false
 is_waited_for (Some q) a = (q.client == a.client) && (q.seq == a.seq)
 
 -- the first reason to ignore a reply
-unfoldable pub why_ignored : View → Client → Answer → Option Ignored
+unfoldable pub why_ignored : View → Client → SignedBy Answer → Option Ignored
 why_ignored v c a =
-    if not (is_waited_for c.waiting a) then Some reasons.Settled
-    else if not (a.view == v.number) then Some reasons.UnknownView
+    if not (is_verified answers group_secret a) then Some reasons.BadTag
+    else if not (is_waited_for c.waiting a.statement) then Some reasons.Settled
+    else if not (a.statement.view == v.number) then Some reasons.UnknownView
     else if not (is_member v a.signer) then Some reasons.Stranger
     else if list_any (λ r. r.signer == a.signer) c.replies then Some reasons.Repeated
     else None
@@ -55,23 +59,23 @@ abbrev pub acceptance : Request → Answer → Acceptance
 acceptance q a = record { request = q; view = a.view; place = a.place; index = a.index; reply = a.reply }
 
 -- a reply that counts is accepted where a quorum of the view has given it, this member among them
-abbrev pub count_heard : View → Client → Answer → Request → Heard
+abbrev pub count_heard : View → Client → SignedBy Answer → Request → Heard
 count_heard v c a q =
-    if nat_le (quorum v) (have v (c.replies ++ a ∷ []) a)
-    then hears.Accepted (acceptance q a)
-    else hears.Counted (have v (c.replies ++ a ∷ []) a) (quorum v)
+    if nat_le (quorum v) (have v (c.replies ++ a ∷ []) a.statement)
+    then hears.Accepted (acceptance q a.statement)
+    else hears.Counted (have v (c.replies ++ a ∷ []) a.statement) (quorum v)
 
-abbrev pub heard_unless : View → Client → Answer → Option Ignored → Option Request → Heard
+abbrev pub heard_unless : View → Client → SignedBy Answer → Option Ignored → Option Request → Heard
 heard_unless v c a (Some why) waiting = hears.Ignored why
 heard_unless v c a None None = hears.Ignored reasons.Settled
 heard_unless v c a None (Some q) = count_heard v c a q
 
 -- what a client makes of a reply
-unfoldable pub heard : View → Client → Answer → Heard
+unfoldable pub heard : View → Client → SignedBy Answer → Heard
 heard v c a = heard_unless v c a (why_ignored v c a) c.waiting
 
 -- the client behind it
-abbrev pub after_heard : Client → Answer → Heard → Client
+abbrev pub after_heard : Client → SignedBy Answer → Heard → Client
 after_heard c a (hears.Counted count need) = record c { replies = c.replies ++ a ∷ [] }
-after_heard c a (hears.Accepted acceptance) = record c { waiting = None; seen = max c.seen a.place; replies = [] }
+after_heard c a (hears.Accepted acceptance) = record c { waiting = None; seen = max c.seen a.statement.place; replies = [] }
 after_heard c a (hears.Ignored why) = c

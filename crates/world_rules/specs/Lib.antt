@@ -1,3 +1,5 @@
+pub mod Secrets
+pub mod Premises
 pub mod Clients
 pub mod Repeats
 pub mod Worlds

@@ -1,13 +1,18 @@
 -- What is promised of a play: one list.
-use Rattle.std.specs.Prelude.{ℕ, ◌≡◌, ◌<◌, ◌≤◌, ◌⊎◌, List, [], ◌∷◌, length, take, Some}
+use Rattle.std.specs.Prelude.{ℕ, ◌+◌, ◌≡◌, ◌<◌, ◌≤◌, ◌⊎◌, List, [], ◌∷◌, length, take, Some}
 use Rattle.smart_base.specs.Lists.{Each}
-use Rattle.smart_base.specs.declared.view.View.{View}
-use Rattle.smart_messages.specs.declared.message.Request.{Request}
+use Rattle.smart_base.specs.Views.{View}
+use Rattle.smart_messages.specs.Kinds.{requests}
+use Rattle.smart_messages.specs.Messages.{Batch}
+use Rattle.smart_messages.specs.declared.statement.Request.{Request}
 use Rattle.smart_messages.specs.declared.message.Message.TheVariants.{Ask}
 use Rattle.smart_service.specs.Services.{Meaning}
 use Rattle.node_rules.specs.Replicas.{state, answer, place_of, batch_at, request_at, view_at}
+use Rattle.node_rules.specs.Seals.{signed}
 use Rattle.node_rules.specs.Steps.{step_of}
 use Rattle.node_rules.specs.declared.node.Target.TheVariants as targets
+use Rattle.node_rules.specs.declared.node.Delivery.{Delivery}
+use Rattle.world_rules.specs.Secrets.{group_secret}
 use Rattle.world_rules.specs.Worlds.{Host, World, begun}
 use Rattle.world_rules.specs.Plays.{world_after, lines_told}
 use Rattle.world_rules.specs.declared.client.Acceptance.{Acceptance}
@@ -17,21 +22,28 @@ use Rattle.world_rules.specs.declared.line.OutLine.TheVariants as outs
 use Rattle.world_rules.specs.declared.message.Sent.{Sent}
 use Rattle.world_rules.specs.declared.message.Origin.TheVariants as origins
 
--- a host has delivered a front of the list: its replica is the state of that front, and each batch that it ever delivered at a place is
--- the list's batch there
-pub record IsPrefix {S : Type 0} (m : Meaning S) (view : View) (chosen : List (List Request)) (h : Host S) : Type 0 where
+-- deliveries at one place after the other, from a place on
+abbrev pub AtPlaces : ℕ → List Delivery → Type 0
+AtPlaces place [] = Unit {0}
+AtPlaces place (d ∷ ds) = (d.place ≡ place) × AtPlaces (place + 1) ds
+
+-- a host has delivered a front of the list: its replica is the state of that front, it has delivered one batch at each place of it, in
+-- order, and that batch is the list's there
+pub record IsPrefix {S : Type 0} (m : Meaning S) (view : View) (chosen : List Batch) (h : Host S) : Type 0 where
   pub within : h.node.replica.place ≤ length chosen
   pub replica : h.node.replica ≡ state m view (take h.node.replica.place chosen)
+  pub count : length h.delivered ≡ h.node.replica.place
+  pub places : AtPlaces 1 h.delivered
   pub delivered : Each (λ d. batch_at chosen d.place ≡ Some d.batch) h.delivered
 
--- the client that a request names has sent it
+-- the client that a request names has signed and sent it
 abbrev pub HasAsked : List Sent → Request → Type 0
 HasAsked [] q = ⊥
-HasAsked (s ∷ sent) q = (s ≡ record { origin = origins.Client q.client; to = targets.View; message = Ask q }) ⊎ HasAsked sent q
+HasAsked (s ∷ sent) q = (s ≡ record { origin = origins.Client q.client; to = targets.View; message = Ask (signed requests group_secret q.client q) }) ⊎ HasAsked sent q
 
 -- a reply that was accepted names the one place of its request in the list, the request there is the one that the client asked, the
 -- reply is the service's answer there, it states the view in force there, and the place is above every place that the client knew
-pub record IsRight {S : Type 0} (m : Meaning S) (view : View) (sent : List Sent) (chosen : List (List Request)) (a : Acceptance) : Type 0 where
+pub record IsRight {S : Type 0} (m : Meaning S) (view : View) (sent : List Sent) (chosen : List Batch) (a : Acceptance) : Type 0 where
   pub asked : HasAsked sent a.request
   pub place_is : place_of m view chosen a.request.client a.request.seq ≡ Some (a.place, a.index)
   pub request_is : request_at chosen a.place a.index ≡ Some a.request
@@ -52,7 +64,7 @@ pub record OneList {S : Type 0} (m : Meaning S) (w : World S) : Type 0 where
   pub rising : Rises w.accepted
 
 -- a transcript line that tells of an accepted reply names the one place of its request in the list, and tells the service's answer there
-abbrev pub IsAnswered : {S : Type 0} → Meaning S → View → List (List Request) → OutLine → Type 0
+abbrev pub IsAnswered : {S : Type 0} → Meaning S → View → List Batch → OutLine → Type 0
 IsAnswered m view chosen (outs.Accepted client seq place index reply) = (place_of m view chosen client seq ≡ Some (place, index)) × (answer m view chosen place index ≡ Some reply)
 IsAnswered m view chosen (outs.Group members faulty) = Unit {0}
 IsAnswered m view chosen (outs.Sent number origin summary) = Unit {0}

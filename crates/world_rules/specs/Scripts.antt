@@ -3,7 +3,7 @@ use Rattle.std.specs.Prelude.{ℕ, zero, suc, ◌+◌, ◌*◌, ◌==◌, nat_le
 use Rattle.std.specs.List.{list_all}
 use Rattle.smart_base.specs.Decimals.{number_of}
 use Rattle.smart_base.specs.Lists.{same_bytes}
-use Rattle.smart_base.specs.declared.view.View.{View}
+use Rattle.smart_base.specs.Views.{View}
 use Rattle.world_rules.specs.declared.line.Line.{Line}
 use Rattle.world_rules.specs.declared.line.Line.TheVariants as lines
 

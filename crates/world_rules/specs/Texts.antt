@@ -2,7 +2,7 @@
 use Rattle.std.specs.Prelude.{ℕ, List, [], ◌∷◌, ◌++◌, codes, nat_lt, nat_le, ◌&&◌, ◌==◌, not, ◌+◌, ◌/◌, ◌%◌, length, if◌then◌else◌}
 use Rattle.std.specs.List.{flat_map}
 use Rattle.std.specs.Fmt.{decimal}
-use Rattle.smart_base.specs.declared.view.View.{View}
+use Rattle.smart_base.specs.Views.{View}
 use Rattle.node_rules.specs.declared.node.Why.{Why}
 use Rattle.node_rules.specs.declared.node.Why.TheVariants as whys
 use Rattle.world_rules.specs.declared.client.Ignored.{Ignored}
@@ -15,7 +15,9 @@ use Rattle.world_rules.specs.declared.line.OutLine.{OutLine}
 use Rattle.world_rules.specs.declared.line.OutLine.TheVariants as outs
 
 abbrev pub why_text : Why → List ℕ
+why_text whys.Unread = codes "Unread"
 why_text whys.NotMember = codes "NotMember"
+why_text whys.BadTag = codes "BadTag"
 why_text whys.Stranger = codes "Stranger"
 why_text whys.OldView = codes "OldView"
 why_text whys.NewView = codes "NewView"
@@ -31,6 +33,7 @@ why_text whys.Repeated = codes "Repeated"
 
 abbrev pub ignored_text : Ignored → List ℕ
 ignored_text reasons.Unread = codes "Unread"
+ignored_text reasons.BadTag = codes "BadTag"
 ignored_text reasons.Settled = codes "Settled"
 ignored_text reasons.UnknownView = codes "UnknownView"
 ignored_text reasons.Stranger = codes "Stranger"

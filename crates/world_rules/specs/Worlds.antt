@@ -1,19 +1,24 @@
 -- The world: all hosts and clients, each message that was ever sent, and the list of batches that was chosen. What happens in it is a
 -- function from world to world. The step of a node is an argument.
-use Rattle.std.specs.Prelude.{ℕ, zero, suc, ◌+◌, ◌^◌, ◌==◌, nat_lt, List, [], ◌∷◌, ◌++◌, length, if◌then◌else◌, Option, Some, None, is_some, slice_get, slice_set}
+use Rattle.std.specs.Prelude.{ℕ, zero, suc, ◌+◌, ◌^◌, ◌==◌, nat_lt, List, [], ◌∷◌, ◌++◌, length, if◌then◌else◌, Option, Some, None, is_some, slice_get, slice_set, Result, Ok, Err, nat_le, ◌&&◌}
 use Rattle.std.specs.List.{flat_map}
 use Rattle.std.specs.Option.{option_and_then}
-use Rattle.smart_base.specs.declared.view.View.{View}
-use Rattle.smart_messages.specs.declared.message.Request.{Request}
-use Rattle.smart_messages.specs.declared.message.VoteKind.{VoteKind}
-use Rattle.smart_messages.specs.declared.message.VoteKind.TheVariants.{Write, Accept}
-use Rattle.smart_messages.specs.declared.message.Ballot.{Ballot}
-use Rattle.smart_messages.specs.declared.message.Answer.{Answer}
+use Rattle.smart_base.specs.Lists.{or_else}
+use Rattle.smart_base.specs.Views.{View}
+use Rattle.smart_messages.specs.Forms.{SignedBy}
+use Rattle.smart_messages.specs.Kinds.{requests}
+use Rattle.smart_messages.specs.Messages.{Batch, spelling, decoded}
+use Rattle.smart_messages.specs.declared.statement.Request.{Request}
+use Rattle.smart_messages.specs.declared.statement.VoteKind.{VoteKind}
+use Rattle.smart_messages.specs.declared.statement.VoteKind.TheVariants.{Write, Accept}
+use Rattle.smart_messages.specs.declared.statement.Ballot.{Ballot}
+use Rattle.smart_messages.specs.declared.statement.Answer.{Answer}
 use Rattle.smart_messages.specs.declared.message.Message.{Message}
 use Rattle.smart_messages.specs.declared.message.Message.TheVariants.{Ask, Propose, Vote, Reply}
 use Rattle.smart_messages.specs.declared.entry.NodeEvent.{NodeEvent}
 use Rattle.smart_messages.specs.declared.entry.NodeEvent.TheVariants.{Arrive, Deliver, Firm}
 use Rattle.smart_service.specs.Services.{Meaning}
+use Rattle.node_rules.specs.Seals.{signed}
 use Rattle.node_rules.specs.Nodes.{Node, next_place}
 use Rattle.node_rules.specs.Steps.{Outcome, leaving, released, opened}
 use Rattle.node_rules.specs.declared.node.Why.{Why}
@@ -24,6 +29,8 @@ use Rattle.node_rules.specs.declared.node.Delivery.{Delivery}
 use Rattle.node_rules.specs.declared.node.Fired.{Fired}
 use Rattle.node_rules.specs.declared.node.Fired.TheVariants as fires
 use Rattle.world_rules.specs.Repeats.{until_rest, each_from}
+use Rattle.world_rules.specs.Secrets.{group_secret}
+use Rattle.world_rules.specs.Premises.{collides}
 use Rattle.world_rules.specs.Clients.{fresh, request_of, asking, heard, after_heard}
 use Rattle.world_rules.specs.declared.client.Client.{Client}
 use Rattle.world_rules.specs.declared.client.Acceptance.{Acceptance}
@@ -34,7 +41,8 @@ use Rattle.world_rules.specs.declared.message.Origin.{Origin}
 use Rattle.world_rules.specs.declared.message.Origin.TheVariants as origins
 use Rattle.world_rules.specs.declared.message.Sent.{Sent}
 use Rattle.world_rules.specs.declared.message.Ending.{Ending}
-use Rattle.world_rules.specs.declared.message.Ending.TheVariants.{Limit}
+use Rattle.world_rules.specs.declared.message.Ending.TheVariants.{Limit, Premise}
+use Rattle.world_rules.specs.declared.message.Premise.TheVariants.{Collision}
 use Rattle.world_rules.specs.declared.line.Summary.{Summary}
 use Rattle.world_rules.specs.declared.line.Summary.TheVariants as summaries
 use Rattle.world_rules.specs.declared.line.OutLine.{OutLine}
@@ -57,7 +65,7 @@ pub record World (S : Type 0) : Type 0 where
   -- the number of the last message that a flow has given
   pub mark : ℕ
   -- the batch that was decided at each place, from 1 on
-  pub chosen : List (List Request)
+  pub chosen : List Batch
   -- the replies that clients accepted, in order
   pub accepted : List Acceptance
   -- the transcript of the present script line
@@ -72,23 +80,25 @@ vote_summary b Write = summaries.Write b.slot.view b.slot.place b.slot.regency
 vote_summary b Accept = summaries.Accept b.slot.view b.slot.place b.slot.regency
 
 abbrev pub summary_of : Message → Summary
-summary_of (Ask q) = summaries.Ask q.client q.seq q.after
-summary_of (Propose p) = summaries.Propose p.slot.view p.slot.place p.slot.regency (length p.batch)
-summary_of (Vote b) = vote_summary b b.kind
-summary_of (Reply a) = summaries.Reply a.client a.seq a.place a.index
+summary_of (Ask q) = summaries.Ask q.statement.client q.statement.seq q.statement.after
+summary_of (Propose p) = summaries.Propose p.head.statement.slot.view p.head.statement.slot.place p.head.statement.slot.regency (length p.batch)
+summary_of (Vote b) = vote_summary b.statement b.statement.kind
+summary_of (Reply a) = summaries.Reply a.statement.client a.statement.seq a.statement.place a.statement.index
 
 abbrev pub telling : {S : Type 0} → World S → OutLine → World S
 telling w line = record w { told = w.told ++ line ∷ [] }
 
--- a message leaves and takes the next number, if there is one
+-- a message leaves and takes the next number, if there is one. A batch in it that clashes with one met before ends the play, be there a
+-- number or not
 unfoldable pub sends : {S : Type 0} → World S → Origin → Target → Message → World S
 sends w origin to message =
-    if nat_lt (length w.sent) (2 ^ 24)
+    if collides w.sent message then record w { ending = Some (Premise Collision) }
+    else if nat_lt (length w.sent) (2 ^ 24)
     then record w {
       sent = w.sent ++ record { origin = origin; to = to; message = message } ∷ [];
       told = w.told ++ outs.Sent (length w.sent + 1) origin (summary_of message) ∷ [];
     }
-    else record w { ending = Some Limit }
+    else record w { ending = or_else w.ending (Some Limit) }
 
 abbrev pub sends_all : {S : Type 0} → ℕ → World S → List Held → World S
 sends_all id w [] = w
@@ -115,7 +125,7 @@ delivery_in fires.Accepted = []
 delivery_in (fires.Decided place) = []
 
 -- the list of chosen batches with the one that waits at a node: the first node that decides a place has chosen its batch
-abbrev pub chosen_with : List (List Request) → ℕ → Option (List Request) → List (List Request)
+abbrev pub chosen_with : List Batch → ℕ → Option Batch → List Batch
 chosen_with chosen place None = chosen
 chosen_with chosen place (Some batch) = if place == length chosen + 1 then chosen ++ batch ∷ [] else chosen
 
@@ -164,12 +174,12 @@ settle step i w = until_rest (settle_once step i) w
 abbrev pub settle_all : {S : Type 0} → (Node S → NodeEvent → Outcome S) → World S → World S
 settle_all step w = each_from (settle step) (length w.hosts) 0 w
 
--- the node at an index takes a message and settles
-unfoldable pub gives : {S : Type 0} → (Node S → NodeEvent → Outcome S) → Message → ℕ → World S → World S
-gives step message i w = settle step i (node_takes step i (Arrive message) w)
+-- the node at an index takes the bytes of a message and settles
+unfoldable pub gives : {S : Type 0} → (Node S → NodeEvent → Outcome S) → List ℕ → ℕ → World S → World S
+gives step bytes i w = settle step i (node_takes step i (Arrive bytes) w)
 
-abbrev pub give_all : {S : Type 0} → (Node S → NodeEvent → Outcome S) → Message → World S → World S
-give_all step message w = each_from (gives step message) (length w.hosts) 0 w
+abbrev pub give_all : {S : Type 0} → (Node S → NodeEvent → Outcome S) → List ℕ → World S → World S
+give_all step bytes w = each_from (gives step bytes) (length w.hosts) 0 w
 
 -- clients
 
@@ -184,7 +194,7 @@ acceptance_in (hears.Counted count need) = []
 acceptance_in (hears.Accepted a) = a ∷ []
 acceptance_in (hears.Ignored why) = []
 
-unfoldable pub hearing : {S : Type 0} → World S → ℕ → Client → Answer → Heard → World S
+unfoldable pub hearing : {S : Type 0} → World S → ℕ → Client → SignedBy Answer → Heard → World S
 hearing w i c a h =
     record w {
       clients = slice_set w.clients i (after_heard c a h);
@@ -192,23 +202,29 @@ hearing w i c a h =
       told = w.told ++ told_heard c.id h ∷ [];
     }
 
-abbrev pub client_hears : {S : Type 0} → World S → ℕ → Message → Option Client → World S
-client_hears w i message None = w
-client_hears w i (Ask q) (Some c) = telling w (outs.Ignored c.id reasons.Unread)
-client_hears w i (Propose p) (Some c) = telling w (outs.Ignored c.id reasons.Unread)
-client_hears w i (Vote b) (Some c) = telling w (outs.Ignored c.id reasons.Unread)
-client_hears w i (Reply a) (Some c) = hearing w i c a (heard w.view c a)
+-- a client reads replies alone
+abbrev pub client_hears : {S : Type 0} → World S → ℕ → Client → Result Message ℕ → World S
+client_hears w i c (Err at) = telling w (outs.Ignored c.id reasons.Unread)
+client_hears w i c (Ok (Ask q)) = telling w (outs.Ignored c.id reasons.Unread)
+client_hears w i c (Ok (Propose p)) = telling w (outs.Ignored c.id reasons.Unread)
+client_hears w i c (Ok (Vote b)) = telling w (outs.Ignored c.id reasons.Unread)
+client_hears w i c (Ok (Reply a)) = hearing w i c a (heard w.view c a)
 
--- a client hears a message
-unfoldable pub client_takes : {S : Type 0} → ℕ → Message → World S → World S
-client_takes i message w = if is_some w.ending then w else client_hears w i message (slice_get w.clients i)
+abbrev pub hears_bytes : {S : Type 0} → World S → ℕ → List ℕ → Option Client → World S
+hears_bytes w i bytes None = w
+hears_bytes w i bytes (Some c) = client_hears w i c (decoded bytes)
 
--- a client asks where none of its requests waits. It has fewer than 2 ^ 63 requests
+-- a client hears the bytes of a message
+unfoldable pub client_takes : {S : Type 0} → ℕ → List ℕ → World S → World S
+client_takes i bytes w = if is_some w.ending then w else hears_bytes w i bytes (slice_get w.clients i)
+
+-- a client asks where none of its requests waits. It has fewer than 2 ^ 63 requests, and an operation has at most 4,096 bytes
 abbrev pub client_asks : {S : Type 0} → World S → ℕ → Client → List ℕ → Option Request → World S
 client_asks w i c op (Some q) = telling w (outs.Busy c.id q.seq)
 client_asks w i c op None =
-    if nat_lt (c.last + 1) (2 ^ 63)
-    then sends (record w { clients = slice_set w.clients i (asking c (request_of c op)) }) (origins.Client c.id) targets.View (Ask (request_of c op))
+    if nat_lt (c.last + 1) (2 ^ 63) && nat_le (length op) 4096
+    then sends (record w { clients = slice_set w.clients i (asking c (request_of c op)) }) (origins.Client c.id) targets.View
+    (Ask (signed requests group_secret c.id (request_of c op)))
     else w
 
 abbrev pub ask_found : {S : Type 0} → World S → ℕ → List ℕ → Option Client → World S
@@ -220,13 +236,13 @@ asks i op w = if is_some w.ending then w else ask_found w i op (slice_get w.clie
 
 -- flow
 
-abbrev pub goes : {S : Type 0} → (Node S → NodeEvent → Outcome S) → World S → Message → Target → World S
-goes step w message targets.View = give_all step message w
-goes step w message (targets.Client id) = client_takes id message w
+abbrev pub goes : {S : Type 0} → (Node S → NodeEvent → Outcome S) → World S → List ℕ → Target → World S
+goes step w bytes targets.View = give_all step bytes w
+goes step w bytes (targets.Client id) = client_takes id bytes w
 
 abbrev pub flow_sent : {S : Type 0} → (Node S → NodeEvent → Outcome S) → World S → Option Sent → World S
 flow_sent step w None = w
-flow_sent step w (Some s) = goes step (record w { mark = w.mark + 1 }) s.message s.to
+flow_sent step w (Some s) = goes step (record w { mark = w.mark + 1 }) (spelling s.message) s.to
 
 -- the next message behind the mark is given to whom it is for
 unfoldable pub flow_once : {S : Type 0} → (Node S → NodeEvent → Outcome S) → World S → World S
@@ -245,7 +261,7 @@ host_of (h ∷ hs) id = if h.node.id == id then Some h else host_of hs id
 
 abbrev pub hosts_from : {S : Type 0} → Meaning S → View → List ℕ → List (Host S)
 hosts_from m view [] = []
-hosts_from m view (id ∷ ids) = record { node = opened m id view; delivered = [] } ∷ hosts_from m view ids
+hosts_from m view (id ∷ ids) = record { node = opened m group_secret id view; delivered = [] } ∷ hosts_from m view ids
 
 -- clients that have not asked, of count numbers from i on
 unfoldable pub clients_from : ℕ → ℕ → List Client

@@ -1,8 +1,10 @@
 //! What a client keeps and hears.
+use smart_base::bytes::Payload;
 use smart_base::name::ClientId;
 use smart_base::number::{Place, ViewNo};
-use smart_base::sequence::{Bytes, Sequence};
-use smart_messages::message::{Answer, Request};
+use smart_base::sequence::Sequence;
+use smart_messages::signed::Signed;
+use smart_messages::statement::{Answer, Request};
 
 /// A client: the number of its last request, the request that waits for its reply, the greatest
 /// place that it has seen, and the replies to the waiting request, one of each member.
@@ -12,7 +14,7 @@ pub struct Client {
     pub last: u64,
     pub waiting: Option<Request>,
     pub seen: Place,
-    pub replies: Sequence<Answer>,
+    pub replies: Sequence<Signed<Answer>>,
 }
 
 /// A reply that a client accepted for its request: where the request stands in the list, the view
@@ -23,14 +25,15 @@ pub struct Acceptance {
     pub view: ViewNo,
     pub place: Place,
     /// The request's index in its batch, from 0.
-    pub index: u64,
-    pub reply: Bytes,
+    pub index: u16,
+    pub reply: Payload,
 }
 
 /// Why a client ignores a message: the first reason that applies.
 #[derive(Clone, Copy, Debug, PartialEq, Eq)]
 pub enum Ignored {
     Unread,
+    BadTag,
     Settled,
     UnknownView,
     Stranger,

@@ -2,9 +2,9 @@
 use crate::client::Ignored;
 use crate::message::Origin;
 use node_rules::node::Why;
+use smart_base::bytes::Payload;
 use smart_base::name::{ClientId, MemberId};
 use smart_base::number::{Place, Regency, ViewNo};
-use smart_base::sequence::Bytes;
 
 /// A script line behind the header.
 #[derive(Drop)]
@@ -12,7 +12,7 @@ pub enum Line {
     /// An empty line or a comment.
     Nothing,
     /// `ask C OP`: client C asks for the operation.
-    Ask { client: ClientId, op: Bytes },
+    Ask { client: ClientId, op: Payload },
     /// `flow`: every message that was sent is given to whom it is for, until nothing is due.
     Flow,
 }
@@ -45,7 +45,7 @@ pub enum Summary {
         client: ClientId,
         seq: u64,
         place: Place,
-        index: u64,
+        index: u16,
     },
 }
 
@@ -90,8 +90,8 @@ pub enum OutLine {
         client: ClientId,
         seq: u64,
         place: Place,
-        index: u64,
-        reply: Bytes,
+        index: u16,
+        reply: Payload,
     },
     /// A client ignored a message.
     Ignored {

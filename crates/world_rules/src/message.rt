@@ -18,9 +18,18 @@ pub struct Sent {
     pub message: Message,
 }
 
+/// What a play takes for granted.
+#[derive(Clone, Copy, Debug, PartialEq, Eq)]
+pub enum Premise {
+    /// No two different batches that are met have one digest.
+    Collision,
+}
+
 /// What ends a play before its script does.
 #[derive(Clone, Copy, Debug, PartialEq, Eq)]
 pub enum Ending {
     /// More messages would be sent than have numbers.
     Limit,
+    /// What the play takes for granted does not hold.
+    Premise(Premise),
 }

@@ -3,12 +3,12 @@ ghost use Rattle.std.specs.Prelude.{◌≡◌, ◌==◌, ◌&&◌, ◌<◌, ◌+
 ghost use Rattle.std.specs.List.{list_all};
 ghost use Rattle.world_rules.specs.Scripts.{is_text, is_nothing, ask_of, ask_line, line_of, members_from, view_for, group_line, is_app_line};
 
+use smart_base::bytes::Payload;
 use smart_base::decimal::number_of;
+use smart_base::equality::same_bytes;
 use smart_base::name::{ClientId, MemberId};
-use smart_base::number::ViewNo;
 use smart_base::sequence::Sequence;
 use smart_base::view::View;
-use smart_messages::equality::same_bytes;
 use std::alloc::{AllocError, Global};
 use world_rules::line::Line;
 
@@ -56,7 +56,7 @@ fn ask_of(alloc: Global, client: Option<u64>, op: &[u8]) -> Result<Option<Line>,
         None => Ok(None),
         Some(client) => {
             if 1 <= client && client <= 1024 && op.len() <= 4096 {
-                let op = Sequence::from_slice(alloc, op)?;
+                let op = Payload::from_slice(alloc, op)?;
                 Ok(Some(Line::Ask {
                     client: ClientId::new(client as u16),
                     op,
@@ -118,6 +118,7 @@ fn first_members(alloc: Global, count: u16) -> Result<Sequence<MemberId>, AllocE
     Ok(members)
 }
 
+#[tactic(auto, using(crate::proofs::Members::first_view))]
 fn view_for(alloc: Global, n: Option<u64>, f: Option<u64>) -> Result<Option<View>, AllocError>
     ensures { IfOk result (λ view. view ≡ view_for n f) }
 {
@@ -129,12 +130,7 @@ fn view_for(alloc: Global, n: Option<u64>, f: Option<u64>) -> Result<Option<View
     };
     if 1 <= n && n <= 31 && f <= 10 && 3 * f + 1 <= n {
         let members = first_members(alloc, n as u16)?;
-        Ok(Some(View {
-            number: ViewNo::new(0),
-            start: 1,
-            f: f as u8,
-            members,
-        }))
+        Ok(View::checked(0, 1, f as u8, members.into_vec()))
     } else {
         Ok(None)
     }

@@ -15,7 +15,9 @@ pub fn why_text(why: Why) -> &'static str
     ensures { result.now ≡ why_text why }
 {
     match why {
+        Why::Unread => "Unread",
         Why::NotMember => "NotMember",
+        Why::BadTag => "BadTag",
         Why::Stranger => "Stranger",
         Why::OldView => "OldView",
         Why::NewView => "NewView",
@@ -37,6 +39,7 @@ pub fn ignored_text(why: Ignored) -> &'static str
 {
     match why {
         Ignored::Unread => "Unread",
+        Ignored::BadTag => "BadTag",
         Ignored::Settled => "Settled",
         Ignored::UnknownView => "UnknownView",
         Ignored::Stranger => "Stranger",

@@ -8,6 +8,6 @@ use Rattle.world_core.proofs.state.WorldState.give_all.Given as goal
 -- the nodes so far and those left are all
 abbrev pub invariant-loop-i : goal.invariant-loop-i
 invariant-loop-i g l = record {
-  arrival : l.arrival ≡ Arrive l.fn.message;
-  rest : each_from (gives (core_step g.S.Service.meaning) l.fn.message) (l.count - l.i) l.i l.self ≡ each_from (gives (core_step g.S.Service.meaning) l.fn.message) (length l.fn.self.hosts) 0 l.fn.self;
+  arrival : l.arrival ≡ Arrive l.fn.bytes;
+  rest : each_from (gives (core_step g.S.Service.meaning) l.fn.bytes) (l.count - l.i) l.i l.self ≡ each_from (gives (core_step g.S.Service.meaning) l.fn.bytes) (length l.fn.self.hosts) 0 l.fn.self;
 }

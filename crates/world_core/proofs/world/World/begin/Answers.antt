@@ -1,5 +1,5 @@
 use Rattle.std.proofs.Common.{ap, ◌∙◌}
-use Rattle.smart_base.specs.declared.view.View.{View}
+use Rattle.smart_base.specs.Views.{View}
 use Rattle.world_rules.specs.Worlds.{World, begun}
 use Rattle.world_core.proofs.world.World.begin.Goals as goal
 
