@@ -1,12 +1,13 @@
 -- Each reply that a client accepted is the right one: the service's answer at its request's one place in the list.
-use Rattle.std.proofs.Common.{◌≡◌, ℕ, ◌+◌, ◌<◌, ◌^◌, ◌==◌, ◌++◌, List, [], ◌∷◌, length, refl, ap, ◌∙◌, sym, Option, Some, None, nat_lt, subst, append-nil}
-use Rattle.std.specs.Prelude.{slice_set}
+use Rattle.std.proofs.Common.{◌≡◌, ℕ, ◌+◌, ◌<◌, ◌==◌, ◌++◌, List, [], ◌∷◌, length, refl, ap, ◌∙◌, sym, Option, Some, None, subst, append-nil}
 use Rattle.smart_base.specs.Lists.{Each}
-use Rattle.smart_base.specs.declared.view.View.{View}
-use Rattle.smart_messages.specs.declared.message.Request.{Request}
-use Rattle.smart_messages.specs.declared.message.Answer.{Answer}
+use Rattle.smart_base.specs.Views.{View}
+use Rattle.smart_messages.specs.Forms.{SignedBy}
+use Rattle.smart_messages.specs.Messages.{Batch}
+use Rattle.smart_messages.specs.declared.statement.Request.{Request}
+use Rattle.smart_messages.specs.declared.statement.Answer.{Answer}
 use Rattle.smart_messages.specs.declared.message.Message.{Message}
-use Rattle.smart_messages.specs.declared.message.Message.TheVariants.{Ask}
+use Rattle.smart_messages.specs.declared.message.Message.TheVariants.{Reply}
 use Rattle.smart_service.specs.Services.{Meaning}
 use Rattle.smart_service.specs.declared.table.TableLine.{TableLine}
 use Rattle.node_rules.specs.Replicas.{executions}
@@ -15,7 +16,7 @@ use Rattle.node_rules.specs.Steps.{Outcome, step_of, leaving}
 use Rattle.node_rules.specs.declared.node.Held.{Held}
 use Rattle.node_rules.specs.declared.node.Target.{Target}
 use Rattle.node_rules.specs.declared.node.Target.TheVariants as targets
-use Rattle.world_rules.specs.Clients.{request_of, asking, acceptance, heard}
+use Rattle.world_rules.specs.Clients.{acceptance, heard}
 use Rattle.world_rules.specs.Promises.{HasAsked, IsRight}
 use Rattle.world_rules.specs.Worlds.{Host, World, sends, sends_all, chosen_with, stepped, acceptance_in, hearing, begun}
 use Rattle.world_rules.specs.declared.client.Client.{Client}
@@ -26,7 +27,7 @@ use Rattle.world_rules.specs.declared.message.Origin.{Origin}
 use Rattle.world_rules.specs.declared.message.Origin.TheVariants as origins
 use Rattle.world_laws.specs.Lines.{HasLine}
 use Rattle.world_laws.proofs.Lists.{either, each_end, each_weaker, each_both}
-use Rattle.world_laws.proofs.Keeps.{Keeps}
+use Rattle.world_laws.proofs.Keeps.{ask_of, asked_by, by-sends, Keeps, ReadsSent, reply_has}
 use Rattle.world_laws.proofs.Aligned.{IsExecuted}
 use Rattle.world_laws.proofs.OnePlace.{place_of-line, answer-line}
 use Rattle.world_laws.proofs.Executions.{executions-more, IsOfRequest, request-line, view-line}
@@ -40,7 +41,7 @@ abbrev pub line_accepted : Acceptance → TableLine
 line_accepted a = record { client = a.request.client; seq = a.request.seq; place = a.place; index = a.index; view = a.view; reply = a.reply }
 
 -- an accepted reply tells an execution of the list
-abbrev pub IsTold : {S : Type 0} → Meaning S → View → List (List Request) → Acceptance → Type 0
+abbrev pub IsTold : {S : Type 0} → Meaning S → View → List Batch → Acceptance → Type 0
 IsTold m view chosen a = HasLine (executions m view chosen) (line_accepted a)
 
 -- all accepted replies tell executions of the chosen list
@@ -55,8 +56,7 @@ pub record AcceptedRight {S : Type 0} (m : Meaning S) (w : World S) : Type 0 whe
 
 -- what was accepted stays where a message leaves
 told-sends : {S : Type 0} (m : Meaning S) (w : World S) (origin : Origin) (to : Target) (message : Message) → AcceptedTold m w → AcceptedTold m (sends w origin to message)
-unfolding sends
-told-sends m w origin to message told = either (AcceptedTold m) (nat_lt (length w.sent) (2 ^ 24)) _ _ (record { all = told.all }) (record { all = told.all })
+told-sends {S = S} m w origin to message told = by-sends (λ (v : World S). AcceptedTold m v) w origin to message (λ ending. record { all = told.all }) (λ free room. record { all = told.all })
 
 -- and where many leave
 told-sends_all : {S : Type 0} (m : Meaning S) (id : ℕ) (w : World S) (held : List Held) → AcceptedTold m w → AcceptedTold m (sends_all id w held)
@@ -66,53 +66,56 @@ told-sends_all m id w (h ∷ hs) told = told-sends_all m id (sends w (origins.No
 -- a node's step
 
 -- what is told of the list is told where a batch is chosen
-told-chosen : {S : Type 0} (m : Meaning S) (v : View) (chosen : List (List Request)) (place : ℕ) (waiting : Option (List Request)) (a : Acceptance) → IsTold m v chosen a
+told-chosen : {S : Type 0} (m : Meaning S) (v : View) (chosen : List Batch) (place : ℕ) (waiting : Option Batch) (a : Acceptance) → IsTold m v chosen a
     → IsTold m v (chosen_with chosen place waiting) a
 told-chosen m v chosen place None a told = told
 told-chosen m v chosen place (Some batch) a told =
-    either (λ (list : List (List Request)). IsTold m v list a) (place == length chosen + 1) (chosen ++ batch ∷ []) chosen (executions-more m v chosen (batch ∷ []) (line_accepted a) told) told
+    either (λ (list : List Batch). IsTold m v list a) (place == length chosen + 1) (chosen ++ batch ∷ []) chosen (executions-more m v chosen (batch ∷ []) (line_accepted a) told) told
 
 -- a host's node steps
 told-stepped : {S : Type 0} (m : Meaning S) (w : World S) (i : ℕ) (h : Host S) (o : Outcome S) → AcceptedTold m w → AcceptedTold m (stepped w i h o)
 unfolding stepped
 told-stepped m w i h o told =
-    let more : List (List Request) = chosen_with w.chosen (next_place o.node) o.node.waiting in
+    let more : List Batch = chosen_with w.chosen (next_place o.node) o.node.waiting in
     told-sends_all m h.node.id _ (leaving o.node.firm o.node.held)
     (record { all = each_weaker (IsTold m w.view w.chosen) (IsTold m w.view more) (told-chosen m w.view w.chosen (next_place o.node) o.node.waiting) w.accepted told.all })
 
 -- a client hears
 
 -- a reply tells of the request that it is accepted for
-told-acceptance : {S : Type 0} (m : Meaning S) (v : View) (chosen : List (List Request)) (q : Request) (a : Answer) → q.client ≡ a.client → q.seq ≡ a.seq → IsExecuted m v chosen a
+told-acceptance : {S : Type 0} (m : Meaning S) (v : View) (chosen : List Batch) (q : Request) (a : Answer) → q.client ≡ a.client → q.seq ≡ a.seq → IsExecuted m v chosen a
     → IsTold m v chosen (acceptance q a)
 told-acceptance m v chosen q a client seq executed =
     let make : ℕ → ℕ → TableLine = λ c s. record { client = c; seq = s; place = a.place; index = a.index; view = a.view; reply = a.reply } in
     subst (HasLine (executions m v chosen)) (sym (ap (λ c. make c q.seq) client ∙ ap (make a.client) seq)) executed
 
 -- what a client makes of a reply that tells an execution
-told-heard : {S : Type 0} (m : Meaning S) (v : View) (chosen : List (List Request)) (accepted : List Acceptance) (c : Client) (a : Answer) (h : Heard)
-    → heard v c a ≡ h → IsExecuted m v chosen a → Each (IsTold m v chosen) accepted → Each (IsTold m v chosen) (accepted ++ acceptance_in h)
+told-heard : {S : Type 0} (m : Meaning S) (v : View) (chosen : List Batch) (accepted : List Acceptance) (c : Client) (a : SignedBy Answer) (h : Heard)
+    → heard v c a ≡ h → IsExecuted m v chosen a.statement → Each (IsTold m v chosen) accepted → Each (IsTold m v chosen) (accepted ++ acceptance_in h)
 told-heard m v chosen accepted c a (hears.Counted count need) is executed told = rw append-nil told
 told-heard m v chosen accepted c a (hears.Ignored why) is executed told = rw append-nil told
 told-heard m v chosen accepted c a (hears.Accepted acc) is executed told =
     let taken : Accepts v c a acc = accepts_waiting v c a acc is in
     each_end (IsTold m v chosen) accepted acc told
-    (subst (IsTold m v chosen) (sym taken.is) (told-acceptance m v chosen taken.request a taken.counts.client taken.counts.seq executed))
+    (subst (IsTold m v chosen) (sym taken.is) (told-acceptance m v chosen taken.request a.statement taken.counts.client taken.counts.seq executed))
 
 -- a client hears a reply that tells an execution
-told-hearing : {S : Type 0} (m : Meaning S) (w : World S) (i : ℕ) (c : Client) (a : Answer) → IsExecuted m w.view w.chosen a → AcceptedTold m w → AcceptedTold m (hearing w i c a (heard w.view c a))
+told-hearing : {S : Type 0} (m : Meaning S) (w : World S) (i : ℕ) (c : Client) (a : SignedBy Answer) → IsExecuted m w.view w.chosen a.statement → AcceptedTold m w → AcceptedTold m (hearing w i c a (heard w.view c a))
 unfolding hearing
 told-hearing m w i c a executed told = record { all = told-heard m w.view w.chosen w.accepted c a (heard w.view c a) refl executed told.all }
 
--- where all replies tell executions, each event keeps that the accepted ones do
-pub keeps-told : {S : Type 0} (m : Meaning S) (P : World S → Type 0) → Keeps (step_of m) (λ w. P w × RepliesRight m w) → Keeps (step_of m) (λ w. (P w × RepliesRight m w) × AcceptedTold m w)
-keeps-told m P k =
+-- where all replies tell executions and what was sent is read, each event keeps that the accepted ones do
+pub keeps-told : {S : Type 0} (m : Meaning S) (P : World S → Type 0) → ((w : World S) → P w → ReadsSent w) → Keeps (step_of m) (λ w. P w × RepliesRight m w) → Keeps (step_of m) (λ w. (P w × RepliesRight m w) × AcceptedTold m w)
+keeps-told m P reads k =
     record {
       event = λ w i h event at may p. (k.event w i h event at may p.0, told-stepped m w i h (step_of m h.node event) p.1);
-      hear = λ w i c a at has p. (k.hear w i c a at has p.0, told-hearing m w i c a (reply_sent m P w a p.0 has) p.1);
-      ask = λ w i c op at free p. (
-        k.ask w i c op at free p.0,
-        told-sends m (record w { clients = slice_set w.clients i (asking c (request_of c op)) }) (origins.Client c.id) targets.View (Ask (request_of c op)) (record { all = p.1.all }),
+      hear = λ w i c x a at has read p. (
+        k.hear w i c x a at has read p.0,
+        told-hearing m w i c a (reply_sent m P w a p.0 (reply_has w.sent x (Reply a) (reads w p.0.0 x has) read has)) p.1,
+      );
+      ask = λ w i c op at free few brief p. (
+        k.ask w i c op at free few brief p.0,
+        told-sends m (asked_by w i c op) (origins.Client c.id) targets.View (ask_of c op) (record { all = p.1.all }),
       );
       same = λ w mark told p. (k.same w mark told p.0, record { all = p.1.all });
     }

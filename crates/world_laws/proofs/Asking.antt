@@ -1,19 +1,23 @@
 -- Clients number their requests, remember what they saw, and what they accept rises.
-use Rattle.std.proofs.Common.{◌≡◌, ℕ, zero, suc, ◌+◌, ◌^◌, ◌++◌, ◌≤◌, List, [], ◌∷◌, length, refl, ap, ◌∙◌, sym, Option, Some, None, nat_lt, inl, inr, ◌⊎◌, subst, arith, max, append-nil}
+use Rattle.std.proofs.Common.{◌≡◌, ℕ, zero, suc, ◌+◌, ◌++◌, ◌≤◌, List, [], ◌∷◌, refl, ap, ◌∙◌, sym, Option, Some, None, inl, inr, ◌⊎◌, subst, arith, max, append-nil}
 use Rattle.std.specs.Prelude.{slice_get, slice_set}
 use Rattle.smart_base.specs.Lists.{Each}
-use Rattle.smart_base.specs.declared.view.View.{View}
-use Rattle.smart_messages.specs.declared.message.Request.{Request}
-use Rattle.smart_messages.specs.declared.message.Answer.{Answer}
+use Rattle.smart_base.specs.Views.{View}
+use Rattle.smart_messages.specs.Forms.{SignedBy}
+use Rattle.smart_messages.specs.Kinds.{requests}
+use Rattle.smart_messages.specs.declared.statement.Request.{Request}
+use Rattle.smart_messages.specs.declared.statement.Answer.{Answer}
 use Rattle.smart_messages.specs.declared.message.Message.{Message}
-use Rattle.smart_messages.specs.declared.message.Message.TheVariants.{Ask}
+use Rattle.smart_messages.specs.declared.message.Message.TheVariants.{Ask, Propose, Vote, Reply}
 use Rattle.smart_messages.specs.declared.entry.NodeEvent.{NodeEvent}
 use Rattle.smart_service.specs.Services.{Meaning}
+use Rattle.node_rules.specs.Seals.{signed}
 use Rattle.node_rules.specs.Nodes.{Node}
 use Rattle.node_rules.specs.Steps.{Outcome, leaving}
 use Rattle.node_rules.specs.declared.node.Held.{Held}
 use Rattle.node_rules.specs.declared.node.Target.{Target}
 use Rattle.node_rules.specs.declared.node.Target.TheVariants as targets
+use Rattle.world_rules.specs.Secrets.{group_secret}
 use Rattle.world_rules.specs.Clients.{fresh, request_of, asking, acceptance, heard, after_heard}
 use Rattle.world_rules.specs.Promises.{HasAsked, Rises}
 use Rattle.world_rules.specs.Worlds.{Host, World, sends, sends_all, stepped, acceptance_in, hearing, clients_from, begun}
@@ -24,13 +28,12 @@ use Rattle.world_rules.specs.declared.client.Acceptance.{Acceptance}
 use Rattle.world_rules.specs.declared.client.Heard.{Heard}
 use Rattle.world_rules.specs.declared.client.Heard.TheVariants as hears
 use Rattle.world_rules.specs.declared.message.Ending.{Ending}
-use Rattle.world_rules.specs.declared.message.Ending.TheVariants.{Limit}
 use Rattle.world_rules.specs.declared.message.Origin.{Origin}
 use Rattle.world_rules.specs.declared.message.Origin.TheVariants as origins
 use Rattle.world_rules.specs.declared.message.Sent.{Sent}
-use Rattle.world_laws.proofs.Lists.{either, some-equal, each_end, each_weaker}
+use Rattle.world_laws.proofs.Lists.{some-equal, each_end, each_weaker}
 use Rattle.world_laws.proofs.Numbered.{EachAt, each_at_get, each_at_weaker, each_at_set}
-use Rattle.world_laws.proofs.Keeps.{KeepsLive, live-world_after}
+use Rattle.world_laws.proofs.Keeps.{ask_of, asked_by, by-sends-ended, KeepsLive, live-world_after}
 use Rattle.world_laws.proofs.Asked.{asked_end, asked_now}
 use Rattle.world_laws.proofs.Hearing.{Accepts, accepts_waiting}
 
@@ -68,12 +71,22 @@ node_asks_nothing [] id to message q asked = elim asked [ inl here ↦ absurd (o
     other same = cc
 node_asks_nothing (t ∷ sent) id to message q asked = elim asked [ inl here ↦ inl here | inr later ↦ inr (node_asks_nothing sent id to message q later) ]
 
+-- the message of a request
+abbrev signed_ask : Request → Message
+signed_ask q = Ask (signed requests group_secret q.client q)
+
 -- what a client asks, it asked before or asks now
-asks_one : (sent : List Sent) (origin : Origin) (to : Target) (new q : Request) → HasAsked (sent ++ record { origin = origin; to = to; message = Ask new } ∷ []) q → HasAsked sent q ⊎ (q ≡ new)
+asks_one : (sent : List Sent) (origin : Origin) (to : Target) (new q : Request) → HasAsked (sent ++ record { origin = origin; to = to; message = signed_ask new } ∷ []) q → HasAsked sent q ⊎ (q ≡ new)
 asks_one [] origin to new q asked = elim asked [ inl here ↦ inr (same_request (ap (λ (s : Sent). s.message) here)) | inr later ↦ absurd later ]
   where
-    same_request : Ask new ≡ Ask q → q ≡ new
-    same_request same = cc
+    statement : Message → Request → Request
+    statement (Ask a) r = a.statement
+    statement (Propose p) r = r
+    statement (Vote v) r = r
+    statement (Reply a) r = r
+
+    same_request : signed_ask new ≡ signed_ask q → q ≡ new
+    same_request same = sym (ap (λ (x : Message). statement x new) same)
 asks_one (t ∷ sent) origin to new q asked =
     elim asked [ inl here ↦ inl (inl here) | inr later ↦ elim (asks_one sent origin to new q later) [ inl before ↦ inl (inr before) | inr now ↦ inr now ] ]
 
@@ -97,18 +110,13 @@ right-sent sent sent' ending ending' clients accepted forth back on is =
       rising = is.rising;
     }
 
--- a play that has ended has ended
-ended_not : Some Limit ≡ None → ⊥
-ended_not same = cc
-
 -- a message of a node leaves
 right-node_sends : {S : Type 0} (w : World S) (id : ℕ) (to : Target) (message : Message) → ClientsRight w → ClientsRight (sends w (origins.Node id) to message)
-unfolding sends
 right-node_sends {S = S} w id to message is =
     let s : Sent = record { origin = origins.Node id; to = to; message = message } in
-    either (λ (v : World S). ClientsRight v) (nat_lt (length w.sent) (2 ^ 24)) _ _
-    (record { all = right-sent w.sent (w.sent ++ s ∷ []) w.ending w.ending w.clients w.accepted (asked_end w.sent s) (node_asks_nothing w.sent id to message) (λ on. on) is.all })
-    (record { all = right-sent w.sent w.sent w.ending (Some Limit) w.clients w.accepted (λ q asked. asked) (λ q asked. asked) (λ on. absurd (ended_not on)) is.all })
+    by-sends-ended (λ (v : World S). ClientsRight v) w (origins.Node id) to message
+    (λ ending ended. record { all = right-sent w.sent w.sent w.ending ending w.clients w.accepted (λ q asked. asked) (λ q asked. asked) (λ on. absurd (ended on)) is.all })
+    (λ free room. record { all = right-sent w.sent (w.sent ++ s ∷ []) w.ending w.ending w.clients w.accepted (asked_end w.sent s) (node_asks_nothing w.sent id to message) (λ on. on) is.all })
 
 -- messages of a node leave
 right-sends_all : {S : Type 0} (id : ℕ) (w : World S) (held : List Held) → ClientsRight w → ClientsRight (sends_all id w held)
@@ -171,17 +179,16 @@ right-ask sent sent' ending ending' clients accepted i c op at forth back now on
 
 -- a client asks
 right-asks : {S : Type 0} (w : World S) (i : ℕ) (c : Client) (op : List ℕ) → slice_get w.clients i ≡ Some c → ClientsRight w
-    → ClientsRight (sends (record w { clients = slice_set w.clients i (asking c (request_of c op)) }) (origins.Client c.id) targets.View (Ask (request_of c op)))
-unfolding sends
+    → ClientsRight (sends (asked_by w i c op) (origins.Client c.id) targets.View (ask_of c op))
 right-asks {S = S} w i c op at is =
-    let s : Sent = record { origin = origins.Client c.id; to = targets.View; message = Ask (request_of c op) } in
-    either (λ (v : World S). ClientsRight v) (nat_lt (length w.sent) (2 ^ 24)) _ _
-    (record {
+    let s : Sent = record { origin = origins.Client c.id; to = targets.View; message = ask_of c op } in
+    by-sends-ended (λ (v : World S). ClientsRight v) (asked_by w i c op) (origins.Client c.id) targets.View (ask_of c op)
+    (λ ending ended. record {
+      all = right-ask w.sent w.sent w.ending ending w.clients w.accepted i c op at (λ q asked. asked) (λ q asked. inl asked) (λ on. absurd (ended on)) (λ on. absurd (ended on)) is.all;
+    })
+    (λ free room. record {
       all = right-ask w.sent (w.sent ++ s ∷ []) w.ending w.ending w.clients w.accepted i c op at (asked_end w.sent s) (asks_one w.sent (origins.Client c.id) targets.View (request_of c op))
           (λ on. asked_now w.sent (request_of c op)) (λ on. on) is.all;
-    })
-    (record {
-      all = right-ask w.sent w.sent w.ending (Some Limit) w.clients w.accepted i c op at (λ q asked. asked) (λ q asked. inl asked) (λ on. absurd (ended_not on)) (λ on. absurd (ended_not on)) is.all;
     })
 
 -- a client hears
@@ -205,32 +212,32 @@ rises_end (a ∷ later) b rises below =
     (each_end (λ (x : Acceptance). x.request.client ≡ a.request.client → a.place ≤ x.request.after) later b rises.0 below.0, rises_end later b rises.1 below.1)
 
 -- the reply to the request that waits is accepted
-right-accept : (sent : List Sent) (ending : Option Ending) (clients : List Client) (accepted : List Acceptance) (i : ℕ) (c : Client) (a : Answer) (q : Request)
+right-accept : (sent : List Sent) (ending : Option Ending) (clients : List Client) (accepted : List Acceptance) (i : ℕ) (c : Client) (a : SignedBy Answer) (q : Request)
     → slice_get clients i ≡ Some c → c.waiting ≡ Some q → ending ≡ None → Right sent ending clients accepted
-    → Right sent ending (slice_set clients i (record c { waiting = None; seen = max c.seen a.place; replies = [] })) (accepted ++ acceptance q a ∷ [])
+    → Right sent ending (slice_set clients i (record c { waiting = None; seen = max c.seen a.statement.place; replies = [] })) (accepted ++ acceptance q a.statement ∷ [])
 right-accept sent ending clients accepted i c a q at waits on is =
     let own : ClientRight sent ending accepted i c = each_at_get (ClientRight sent ending accepted) clients i c is.each at in
     let old : Waits sent ending i c.last c.seen q = own.waits q waits in
     record {
-      each = each_at_set (ClientRight sent ending accepted) (ClientRight sent ending (accepted ++ acceptance q a ∷ [])) clients i (record c { waiting = None; seen = max c.seen a.place; replies = [] })
+      each = each_at_set (ClientRight sent ending accepted) (ClientRight sent ending (accepted ++ acceptance q a.statement ∷ [])) clients i (record c { waiting = None; seen = max c.seen a.statement.place; replies = [] })
           (λ j y other right. record {
             id = right.id;
             waits = right.waits;
             last = right.last;
-            seen = each_end (λ (b : Acceptance). b.request.client ≡ j → b.place ≤ y.seen) accepted (acceptance q a) right.seen (λ is_j. absurd (other (sym is_j ∙ old.client)));
+            seen = each_end (λ (b : Acceptance). b.request.client ≡ j → b.place ≤ y.seen) accepted (acceptance q a.statement) right.seen (λ is_j. absurd (other (sym is_j ∙ old.client)));
           })
           is.each
           (record {
             id = own.id;
             waits = λ r none. absurd (no_request r none);
             last = own.last;
-            seen = each_end (λ (b : Acceptance). b.request.client ≡ i → b.place ≤ max c.seen a.place) accepted (acceptance q a)
-                (each_weaker (λ (b : Acceptance). b.request.client ≡ i → b.place ≤ c.seen) (λ (b : Acceptance). b.request.client ≡ i → b.place ≤ max c.seen a.place) (λ b low is_i. higher (low is_i)) accepted own.seen)
+            seen = each_end (λ (b : Acceptance). b.request.client ≡ i → b.place ≤ max c.seen a.statement.place) accepted (acceptance q a.statement)
+                (each_weaker (λ (b : Acceptance). b.request.client ≡ i → b.place ≤ c.seen) (λ (b : Acceptance). b.request.client ≡ i → b.place ≤ max c.seen a.statement.place) (λ b low is_i. higher (low is_i)) accepted own.seen)
                 (λ is_i. highest);
           });
       one = is.one;
-      asked = each_end (λ (b : Acceptance). HasAsked sent b.request) accepted (acceptance q a) is.asked (old.asked on);
-      rising = rises_end accepted (acceptance q a) is.rising
+      asked = each_end (λ (b : Acceptance). HasAsked sent b.request) accepted (acceptance q a.statement) is.asked (old.asked on);
+      rising = rises_end accepted (acceptance q a.statement) is.rising
           (each_weaker (λ (b : Acceptance). b.request.client ≡ i → b.place ≤ c.seen) (λ (b : Acceptance). q.client ≡ b.request.client → b.place ≤ q.after)
           (λ b low same. known (low (sym same ∙ old.client)) old.after) accepted own.seen);
     }
@@ -238,17 +245,17 @@ right-accept sent ending clients accepted i c a q at waits on is =
     no_request : (r : Request) → None ≡ Some r → ⊥
     no_request r same = cc
 
-    higher : {p : ℕ} → p ≤ c.seen → p ≤ max c.seen a.place
+    higher : {p : ℕ} → p ≤ c.seen → p ≤ max c.seen a.statement.place
     higher low = omega arith
 
-    highest : a.place ≤ max c.seen a.place
+    highest : a.statement.place ≤ max c.seen a.statement.place
     highest = omega arith
 
     known : {p : ℕ} → p ≤ c.seen → q.after ≡ c.seen → p ≤ q.after
     known low same = omega arith
 
 -- clients stay right where one hears a reply
-right-heard : (sent : List Sent) (ending : Option Ending) (clients : List Client) (accepted : List Acceptance) (v : View) (i : ℕ) (c : Client) (a : Answer) (h : Heard)
+right-heard : (sent : List Sent) (ending : Option Ending) (clients : List Client) (accepted : List Acceptance) (v : View) (i : ℕ) (c : Client) (a : SignedBy Answer) (h : Heard)
     → slice_get clients i ≡ Some c → ending ≡ None → heard v c a ≡ h → Right sent ending clients accepted
     → Right sent ending (slice_set clients i (after_heard c a h)) (accepted ++ acceptance_in h)
 right-heard sent ending clients accepted v i c a (hears.Counted count need) at on is_h is =
@@ -258,7 +265,7 @@ right-heard sent ending clients accepted v i c a (hears.Ignored why) at on is_h 
     right-same sent ending clients accepted i c (each_at_get (ClientRight sent ending accepted) clients i c is.each at) is
 right-heard sent ending clients accepted v i c a (hears.Accepted acc) at on is_h is =
     let taken : Accepts v c a acc = accepts_waiting v c a acc is_h in
-    subst (λ (b : Acceptance). Right sent ending (slice_set clients i (record c { waiting = None; seen = max c.seen a.place; replies = [] })) (accepted ++ b ∷ [])) (sym taken.is)
+    subst (λ (b : Acceptance). Right sent ending (slice_set clients i (record c { waiting = None; seen = max c.seen a.statement.place; replies = [] })) (accepted ++ b ∷ [])) (sym taken.is)
     (right-accept sent ending clients accepted i c a taken.request at taken.counts.waits on is)
 
 -- clients stay right, whatever the nodes do
@@ -267,8 +274,8 @@ unfolding hearing
 keeps-right step =
     record {
       event = λ w i h event on at may is. right-stepped w i h (step h.node event) is;
-      hear = λ w i c a on at has is. record { all = right-heard w.sent w.ending w.clients w.accepted w.view i c a (heard w.view c a) at on refl is.all };
-      ask = λ w i c op on at free is. right-asks w i c op at is;
+      hear = λ w i c x a on at has read is. record { all = right-heard w.sent w.ending w.clients w.accepted w.view i c a (heard w.view c a) at on refl is.all };
+      ask = λ w i c op on at free few brief is. right-asks w i c op at is;
       mark = λ w s on at is. record { all = is.all };
       tell = λ w line beside is. record { all = is.all };
       rest = λ w is. record { all = is.all };

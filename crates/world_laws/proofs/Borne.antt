@@ -1,63 +1,36 @@
 -- What a member has sent rests on entries that are firm at its node.
-use Rattle.std.proofs.Common.{◌≡◌, ℕ, zero, suc, ◌+◌, ◌^◌, ◌≤◌, ◌++◌, ◌==◌, Bool, true, ◌&&◌, List, [], ◌∷◌, length, refl, ap, ◌∙◌, sym, arith, Option, Some, None, is_some, nat_le, nat_lt, inl, inr, subst, eq-eqb, eqb-true, take, length-append}
-use Rattle.std.proofs.lemmas.Bool.{leb-true}
+use Rattle.std.proofs.Common.{◌≡◌, ℕ, zero, suc, ◌+◌, ◌≤◌, ◌++◌, ◌==◌, Bool, true, ◌&&◌, List, [], ◌∷◌, length, refl, ap, ◌∙◌, sym, arith, Option, Some, None, is_some, inl, inr, subst, eq-eqb, eqb-true, take, length-append}
 use Rattle.std.specs.Prelude.{slice_get, slice_set}
 use Rattle.std.specs.List.{list_any}
 use Rattle.smart_base.specs.Lists.{Each}
-use Rattle.smart_base.specs.declared.view.View.{View}
+use Rattle.smart_base.specs.Views.{View}
 use Rattle.smart_messages.specs.declared.message.Message.{Message}
-use Rattle.smart_messages.specs.declared.message.Message.TheVariants.{Ask}
 use Rattle.smart_messages.specs.declared.entry.LogEntry.{LogEntry}
 use Rattle.smart_messages.specs.declared.entry.NodeEvent.{NodeEvent}
 use Rattle.smart_messages.specs.declared.entry.NodeEvent.TheVariants.{Arrive, Tick, Deliver, Firm}
 use Rattle.smart_service.specs.Services.{Meaning}
 use Rattle.node_rules.specs.Nodes.{Node}
-use Rattle.node_rules.specs.Steps.{Outcome, step_of, leaving, opened}
+use Rattle.node_rules.specs.Steps.{Outcome, step_of, leaving}
 use Rattle.node_rules.specs.declared.node.Held.{Held}
 use Rattle.node_rules.specs.declared.node.Target.{Target}
 use Rattle.node_rules.specs.declared.node.Target.TheVariants as targets
-use Rattle.kept_arrivals.specs.Kept.{node_after}
 use Rattle.world_rules.specs.Repeats.{repeated}
-use Rattle.world_rules.specs.Clients.{request_of, asking}
+use Rattle.world_rules.specs.Secrets.{group_secret}
 use Rattle.world_rules.specs.Worlds.{Host, World, sends, sends_all, host_after, stepped, host_takes, node_takes, settle_once, settle, settle_all, gives, hearing, flow_once, hosts_from, begun}
 use Rattle.world_rules.specs.Plays.{world_after}
 use Rattle.world_rules.specs.declared.line.Line.{Line}
 use Rattle.world_rules.specs.declared.message.Origin.{Origin}
 use Rattle.world_rules.specs.declared.message.Origin.TheVariants as origins
 use Rattle.world_rules.specs.declared.message.Sent.{Sent}
-use Rattle.world_laws.specs.Sending.{IsOwn, rests_on, LeavesFirm, IsBorne, SentFirm}
+use Rattle.world_laws.specs.Sending.{IsOwn, rests_on, IsBorne, SentFirm}
 use Rattle.world_laws.specs.Settling.{flow_begins, flow_goes, message_goes, node_goes}
-use Rattle.world_laws.proofs.Lists.{and_true, either, either_by, some-equal, each_end, each_weaker, each_set, each_get, repeated_keeps, each_from_keeps}
+use Rattle.world_laws.proofs.Lists.{and_true, either, some-equal, each_end, each_weaker, each_set, each_get, repeated_keeps, each_from_keeps}
 use Rattle.world_laws.proofs.Equal.{and_intro}
-use Rattle.world_laws.proofs.Keeps.{MayCome, Keeps, KeepsLive, live, keeps-world_after, live-settle_once, live-settle, live-settle_all, live-flow_once}
+use Rattle.world_laws.proofs.Keeps.{MayCome, ask_of, asked_by, by-sends, Keeps, KeepsLive, live, keeps-world_after, live-settle_once, live-settle, live-settle_all, live-flow_once}
 use Rattle.world_laws.proofs.Says.{or_left, or_right}
 use Rattle.world_laws.proofs.Said.{or_true}
-use Rattle.world_laws.proofs.Onward.{Includes, includes-take, includes-longer, rests-more, HoldsRight, NodeRests, Onward, onward-step, rests-released, rests-opened}
-
--- what leaves
-
--- what leaves rests on entries that are firm
-leaving_rest : (id firm : ℕ) (entries : List LogEntry) (held : List Held) → Each (HoldsRight id entries) held → Each (λ h. IsOwn (origins.Node id) h.to h.message × (rests_on (take firm entries) h.message ≡ true)) (leaving firm held)
-leaving_rest id firm entries [] each = tt
-leaving_rest id firm entries (h ∷ hs) each =
-    either_by (Each (λ x. IsOwn (origins.Node id) x.to x.message × (rests_on (take firm entries) x.message ≡ true))) (nat_le h.needs firm) (h ∷ leaving firm hs) []
-    (λ is. (
-      (each.0.own, rests-more (take h.needs entries) (take firm entries) (includes-longer h.needs firm entries (leb-true h.needs firm is)) h.message each.0.rests),
-      leaving_rest id firm entries hs each.1,
-    ))
-    (λ waits. tt)
-
--- whatever comes, a node's held messages are right
-rests_after : {S : Type 0} (m : Meaning S) (n : Node S) (events : List NodeEvent) → NodeRests n → NodeRests (node_after m n events)
-rests_after m n [] is = is
-rests_after m n (e ∷ es) is = rests_after m (step_of m n e).node es (onward-step m n e is).rests
-
--- so what leaves rests on entries that are firm
-pub leaves_firm : {S : Type 0} (m : Meaning S) (id : ℕ) (view : View) (events : List NodeEvent) → LeavesFirm (node_after m (opened m id view) events)
-leaves_firm {S = S} m id view events =
-    let n : Node S = node_after m (opened m id view) events in
-    each_weaker (λ (h : Held). IsOwn (origins.Node n.id) h.to h.message × (rests_on (take n.firm n.entries) h.message ≡ true)) (λ (h : Held). rests_on (take n.firm n.entries) h.message ≡ true) (λ h is. is.1)
-    (leaving n.firm n.held) (leaving_rest n.id n.firm n.entries n.held (rests_after m (opened m id view) events (rests-opened m id view)).held)
+use Rattle.world_laws.proofs.Leaving.{leaving_rest}
+use Rattle.world_laws.proofs.Onward.{Includes, includes-take, includes-longer, rests-more, NodeRests, Onward, onward-step, rests-released, rests-opened}
 
 -- worlds
 
@@ -73,23 +46,21 @@ pub record Borne {S : Type 0} (w : World S) : Type 0 where
 
 -- a message leaves
 borne-sends : {S : Type 0} (w : World S) (origin : Origin) (to : Target) (message : Message) → IsOwn origin to message → IsBorne w.hosts origin message → Borne w → Borne (sends w origin to message)
-unfolding sends
 borne-sends {S = S} w origin to message own borne is =
     let s : Sent = record { origin = origin; to = to; message = message } in
-    either (λ (v : World S). Borne v) (nat_lt (length w.sent) (2 ^ 24)) _ _
-    (record {
+    by-sends (λ (v : World S). Borne v) w origin to message
+    (λ ending. record { hosts = is.hosts; sent = record { own = is.sent.own; borne = is.sent.borne } })
+    (λ free room. record {
       hosts = is.hosts;
       sent = record {
         own = each_end (λ (t : Sent). IsOwn t.origin t.to t.message) w.sent s is.sent.own own;
         borne = each_end (λ (t : Sent). IsBorne w.hosts t.origin t.message) w.sent s is.sent.borne borne;
       };
     })
-    (record { hosts = is.hosts; sent = record { own = is.sent.own; borne = is.sent.borne } })
 
 -- what is borne stays so where a message leaves
 borne-stays : {S : Type 0} (w : World S) (origin : Origin) (to : Target) (message : Message) (o : Origin) (x : Message) → IsBorne w.hosts o x → IsBorne (sends w origin to message).hosts o x
-unfolding sends
-borne-stays {S = S} w origin to message o x borne = either (λ (v : World S). IsBorne v.hosts o x) (nat_lt (length w.sent) (2 ^ 24)) _ _ borne borne
+borne-stays {S = S} w origin to message o x borne = by-sends (λ (v : World S). IsBorne v.hosts o x) w origin to message (λ ending. borne) (λ free room. borne)
 
 -- messages of a node leave
 borne-sends_all : {S : Type 0} (id : ℕ) (w : World S) (held : List Held) → Each (λ h. IsOwn (origins.Node id) h.to h.message × IsBorne w.hosts (origins.Node id) h.message) held → Borne w → Borne (sends_all id w held)
@@ -143,7 +114,7 @@ borne-set {S = S} hs i h h' at same more (origins.Node id) x borne =
 
 -- what may come of firmness: that all entries are firm
 abbrev FirmAll : {S : Type 0} → Node S → NodeEvent → Type 0
-FirmAll n (Arrive message) = Unit {0}
+FirmAll n (Arrive bytes) = Unit {0}
 FirmAll n Tick = Unit {0}
 FirmAll n Deliver = Unit {0}
 FirmAll n (Firm count) = count ≡ length n.entries
@@ -163,7 +134,7 @@ later-onward n a n' id entries firm low f =
 
 -- a step makes a node later
 later-step : {S : Type 0} (m : Meaning S) (h : Host S) (event : NodeEvent) → FirmAll h.node event → HostRests h → Later h.node (step_of m h.node event).node
-later-step m h (Arrive message) all is = later-onward h.node h.node _ refl refl (omega arith) is.low (onward-step m h.node (Arrive message) is.rests)
+later-step m h (Arrive bytes) all is = later-onward h.node h.node _ refl refl (omega arith) is.low (onward-step m h.node (Arrive bytes) is.rests)
 later-step m h Tick all is = later-onward h.node h.node _ refl refl (omega arith) is.low (onward-step m h.node Tick is.rests)
 later-step m h Deliver all is = later-onward h.node h.node _ refl refl (omega arith) is.low (onward-step m h.node Deliver is.rests)
 later-step m h (Firm count) all is =
@@ -198,7 +169,7 @@ borne-event m w i h event at all is = borne-stepped w i h (step_of m h.node even
 
 -- what may come says so
 may-firm : {S : Type 0} (w : World S) (h : Host S) (event : NodeEvent) → MayCome w h event → FirmAll h.node event
-may-firm w h (Arrive message) may = tt
+may-firm w h (Arrive bytes) may = tt
 may-firm w h Tick may = tt
 may-firm w h Deliver may = tt
 may-firm w h (Firm count) may = may
@@ -209,9 +180,9 @@ unfolding hearing
 keeps-borne m =
     record {
       event = λ w i h event at may is. borne-event m w i h event at (may-firm w h event may) is;
-      hear = λ w i c a at has is. record { hosts = is.hosts; sent = record { own = is.sent.own; borne = is.sent.borne } };
-      ask = λ w i c op at free is.
-          borne-sends (record w { clients = slice_set w.clients i (asking c (request_of c op)) }) (origins.Client c.id) targets.View (Ask (request_of c op)) refl tt
+      hear = λ w i c x a at has read is. record { hosts = is.hosts; sent = record { own = is.sent.own; borne = is.sent.borne } };
+      ask = λ w i c op at free few brief is.
+          borne-sends (asked_by w i c op) (origins.Client c.id) targets.View (ask_of c op) refl tt
           (record { hosts = is.hosts; sent = record { own = is.sent.own; borne = is.sent.borne } });
       same = λ w mark told is. record { hosts = is.hosts; sent = record { own = is.sent.own; borne = is.sent.borne } };
     }
@@ -224,27 +195,27 @@ borne-live m = live (step_of m) Borne (keeps-borne m)
 -- hosts that have just opened rest
 hosts_rest : {S : Type 0} (m : Meaning S) (view : View) (ids : List ℕ) → Each HostRests (hosts_from m view ids)
 hosts_rest m view [] = tt
-hosts_rest m view (id ∷ ids) = (record { rests = rests-opened m id view; low = omega arith }, hosts_rest m view ids)
+hosts_rest m view (id ∷ ids) = (record { rests = rests-opened m group_secret id view; low = omega arith }, hosts_rest m view ids)
 
 -- after any lines
 borne-after : {S : Type 0} (m : Meaning S) (view : View) (ls : List Line) → Borne (world_after (step_of m) (begun m view) ls)
 borne-after m view ls =
     keeps-world_after (step_of m) Borne (keeps-borne m) (begun m view) ls (record { hosts = hosts_rest m view view.members; sent = record { own = tt; borne = tt } })
 
--- a host that is found takes a message
-borne-host_takes : {S : Type 0} (m : Meaning S) (i : ℕ) (message : Message) (w : World S) (found : Option (Host S)) → slice_get w.hosts i ≡ found → Borne w → Borne (host_takes (step_of m) i (Arrive message) w found)
-borne-host_takes m i message w None at is = is
-borne-host_takes m i message w (Some h) at is = borne-event m w i h (Arrive message) at tt is
+-- a host that is found takes bytes
+borne-host_takes : {S : Type 0} (m : Meaning S) (i : ℕ) (bytes : List ℕ) (w : World S) (found : Option (Host S)) → slice_get w.hosts i ≡ found → Borne w → Borne (host_takes (step_of m) i (Arrive bytes) w found)
+borne-host_takes m i bytes w None at is = is
+borne-host_takes m i bytes w (Some h) at is = borne-event m w i h (Arrive bytes) at tt is
 
--- a node takes a message
-borne-node_takes : {S : Type 0} (m : Meaning S) (i : ℕ) (message : Message) (w : World S) → Borne w → Borne (node_takes (step_of m) i (Arrive message) w)
+-- a node takes bytes
+borne-node_takes : {S : Type 0} (m : Meaning S) (i : ℕ) (bytes : List ℕ) (w : World S) → Borne w → Borne (node_takes (step_of m) i (Arrive bytes) w)
 unfolding node_takes
-borne-node_takes {S = S} m i message w is = either (λ (v : World S). Borne v) (is_some w.ending) w _ is (borne-host_takes m i message w (slice_get w.hosts i) refl is)
+borne-node_takes {S = S} m i bytes w is = either (λ (v : World S). Borne v) (is_some w.ending) w _ is (borne-host_takes m i bytes w (slice_get w.hosts i) refl is)
 
 -- and settles
-borne-gives : {S : Type 0} (m : Meaning S) (message : Message) (i : ℕ) (w : World S) → Borne w → Borne (gives (step_of m) message i w)
+borne-gives : {S : Type 0} (m : Meaning S) (bytes : List ℕ) (i : ℕ) (w : World S) → Borne w → Borne (gives (step_of m) bytes i w)
 unfolding gives
-borne-gives m message i w is = live-settle (step_of m) Borne (borne-live m) i (node_takes (step_of m) i (Arrive message) w) (borne-node_takes m i message w is)
+borne-gives m bytes i w is = live-settle (step_of m) Borne (borne-live m) i (node_takes (step_of m) i (Arrive bytes) w) (borne-node_takes m i bytes w is)
 
 -- a node goes on for some turns
 borne-turns : {S : Type 0} (m : Meaning S) (i k : ℕ) (w : World S) → Borne w → Borne (repeated (settle_once (step_of m) i) k w)
@@ -262,12 +233,12 @@ borne-flow {S = S} m view ls turn =
     let w : World S = world_after (step_of m) (begun m view) ls in
     repeated_keeps Borne (flow_once (step_of m)) (live-flow_once (step_of m) Borne (borne-live m)) turn (settle_all (step_of m) w) (live-settle_all (step_of m) Borne (borne-live m) w (borne-after m view ls))
 
--- as a message is given in it, and a node takes it and goes on
-pub firm-given : {S : Type 0} (m : Meaning S) (view : View) (ls : List Line) (turn : ℕ) (message : Message) (nodes i k : ℕ)
-    → SentFirm (node_goes m message i k (message_goes m message nodes (flow_goes m view ls turn)))
-firm-given {S = S} m view ls turn message nodes i k =
+-- as bytes are given in it, and a node takes it and goes on
+pub firm-given : {S : Type 0} (m : Meaning S) (view : View) (ls : List Line) (turn : ℕ) (bytes : List ℕ) (nodes i k : ℕ)
+    → SentFirm (node_goes m bytes i k (message_goes m bytes nodes (flow_goes m view ls turn)))
+firm-given {S = S} m view ls turn bytes nodes i k =
     let w : World S = flow_goes m view ls turn in
     let is : Borne w = borne-flow m view ls turn in
-    let given : Borne (message_goes m message nodes w) = each_from_keeps Borne (gives (step_of m) message) (borne-gives m message) nodes 0 (record w { mark = w.mark + 1 })
+    let given : Borne (message_goes m bytes nodes w) = each_from_keeps Borne (gives (step_of m) bytes) (borne-gives m bytes) nodes 0 (record w { mark = w.mark + 1 })
     (record { hosts = is.hosts; sent = record { own = is.sent.own; borne = is.sent.borne } }) in
-    (borne-turns m i k (node_takes (step_of m) i (Arrive message) (message_goes m message nodes w)) (borne-node_takes m i message (message_goes m message nodes w) given)).sent
+    (borne-turns m i k (node_takes (step_of m) i (Arrive bytes) (message_goes m bytes nodes w)) (borne-node_takes m i bytes (message_goes m bytes nodes w) given)).sent

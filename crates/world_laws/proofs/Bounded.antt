@@ -1,12 +1,11 @@
 -- A flow comes to rest: each turn that changes something raises the mark, which no number of messages passes.
-use Rattle.std.proofs.Common.{◌≡◌, ℕ, zero, suc, ◌+◌, ◌^◌, ◌++◌, ◌≤◌, ◌<◌, List, [], ◌∷◌, length, refl, inl, inr, ◌⊎◌, Option, Some, None, is_some, nat_lt, arith}
+use Rattle.std.proofs.Common.{◌≡◌, ℕ, zero, suc, ◌+◌, ◌^◌, ◌++◌, ◌≤◌, ◌<◌, List, [], ◌∷◌, length, refl, inl, inr, ◌⊎◌, Option, Some, None, is_some, arith}
 use Rattle.std.proofs.lemmas.Bool.{ltb-true}
 use Rattle.std.proofs.lemmas.Option.{slice_get_within}
 use Rattle.std.proofs.lemmas.List.{length-append}
-use Rattle.std.specs.Prelude.{slice_get, slice_set}
-use Rattle.smart_base.specs.declared.view.View.{View}
+use Rattle.std.specs.Prelude.{slice_get}
+use Rattle.smart_base.specs.Views.{View}
 use Rattle.smart_messages.specs.declared.message.Message.{Message}
-use Rattle.smart_messages.specs.declared.message.Message.TheVariants.{Ask}
 use Rattle.smart_messages.specs.declared.entry.NodeEvent.{NodeEvent}
 use Rattle.smart_service.specs.Services.{Meaning}
 use Rattle.node_rules.specs.Nodes.{Node}
@@ -15,7 +14,6 @@ use Rattle.node_rules.specs.declared.node.Held.{Held}
 use Rattle.node_rules.specs.declared.node.Target.{Target}
 use Rattle.node_rules.specs.declared.node.Target.TheVariants as targets
 use Rattle.world_rules.specs.Repeats.{repeated, turns, until_rest}
-use Rattle.world_rules.specs.Clients.{request_of, asking}
 use Rattle.world_rules.specs.Worlds.{Host, World, sends, sends_all, stepped, hearing, flow_sent, flow_once, settle_all, begun}
 use Rattle.world_rules.specs.Plays.{line_played, world_after}
 use Rattle.world_rules.specs.declared.line.Line.{Line}
@@ -23,8 +21,8 @@ use Rattle.world_rules.specs.declared.line.Line.TheVariants as lines
 use Rattle.world_rules.specs.declared.message.Origin.{Origin}
 use Rattle.world_rules.specs.declared.message.Origin.TheVariants as origins
 use Rattle.world_rules.specs.declared.message.Sent.{Sent}
-use Rattle.world_laws.proofs.Lists.{either, either_by}
-use Rattle.world_laws.proofs.Keeps.{KeepsLive, has_at, live-goes, live-settle_all, live-world_after}
+use Rattle.world_laws.proofs.Lists.{either}
+use Rattle.world_laws.proofs.Keeps.{asked_by, ask_of, KeepsLive, by-sends, has_at, live-goes, live-settle_all, live-world_after}
 use Rattle.world_laws.proofs.Rests.{rests_still}
 
 -- the mark has come to a number, no mark passes the messages, and all messages have numbers
@@ -40,14 +38,13 @@ pub record BoundedWorld {S : Type 0} (w : World S) : Type 0 where
 
 -- a message leaves if it has a number
 passed-sends : {S : Type 0} (low : ℕ) (w : World S) (origin : Origin) (to : Target) (message : Message) → Passed low w → Passed low (sends w origin to message)
-unfolding sends
 passed-sends {S = S} low w origin to message is =
     let s : Sent = record { origin = origin; to = to; message = message } in
     let longer : length (w.sent ++ s ∷ []) ≡ length w.sent + 1 = length-append w.sent (s ∷ []) in
-    either_by (λ (v : World S). Passed low v) (nat_lt (length w.sent) (2 ^ 24)) _ _
-    (λ room. let below : length w.sent < 2 ^ 24 = ltb-true (length w.sent) (2 ^ 24) room in
+    by-sends (λ (v : World S). Passed low v) w origin to message
+    (λ ending. record { past = is.past; mark = is.mark; sent = is.sent })
+    (λ free room. let below : length w.sent < 2 ^ 24 = ltb-true (length w.sent) (2 ^ 24) room in
     record { past = is.past; mark = omega (arith, is.mark, longer); sent = omega (arith, below, longer) })
-    (λ full. record { past = is.past; mark = is.mark; sent = is.sent })
 
 -- messages of a node leave
 passed-sends_all : {S : Type 0} (low id : ℕ) (w : World S) (held : List Held) → Passed low w → Passed low (sends_all id w held)
@@ -65,9 +62,9 @@ unfolding hearing
 keeps-passed step low =
     record {
       event = λ w i h event on at may is. passed-stepped low w i h (step h.node event) is;
-      hear = λ w i c a on at has is. record { past = is.past; mark = is.mark; sent = is.sent };
-      ask = λ w i c op on at free is.
-          passed-sends low (record w { clients = slice_set w.clients i (asking c (request_of c op)) }) (origins.Client c.id) targets.View (Ask (request_of c op))
+      hear = λ w i c x a on at has read is. record { past = is.past; mark = is.mark; sent = is.sent };
+      ask = λ w i c op on at free few brief is.
+          passed-sends low (asked_by w i c op) (origins.Client c.id) targets.View (ask_of c op)
           (record { past = is.past; mark = is.mark; sent = is.sent });
       mark = λ w s on at is. record { past = omega (arith, is.past); mark = omega (arith, slice_get_within w.sent w.mark s at); sent = is.sent };
       tell = λ w line beside is. record { past = is.past; mark = is.mark; sent = is.sent };
@@ -80,8 +77,8 @@ keeps-bounded step =
     let k = keeps-passed step 0 in
     record {
       event = λ w i h event on at may is. bounded (k.event w i h event on at may (passed is));
-      hear = λ w i c a on at has is. bounded (k.hear w i c a on at has (passed is));
-      ask = λ w i c op on at free is. bounded (k.ask w i c op on at free (passed is));
+      hear = λ w i c x a on at has read is. bounded (k.hear w i c x a on at has read (passed is));
+      ask = λ w i c op on at free few brief is. bounded (k.ask w i c op on at free few brief (passed is));
       mark = λ w s on at is. bounded (k.mark w s on at (passed is));
       tell = λ w line beside is. bounded (k.tell w line beside (passed is));
       rest = λ w is. bounded (k.rest w (passed is));

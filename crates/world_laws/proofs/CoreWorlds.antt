@@ -1,15 +1,18 @@
 -- The play of cores, which keep no more than they need, is the play of the nodes that keep all.
-use Rattle.std.proofs.Common.{◌≡◌, ℕ, zero, suc, ◌+◌, ◌^◌, ◌++◌, Bool, true, false, List, [], ◌∷◌, length, map, refl, ap, sym, ◌∙◌, cond, Option, Some, None, is_some, nat_lt}
+use Rattle.std.proofs.Common.{◌≡◌, ℕ, zero, suc, ◌+◌, ◌^◌, ◌++◌, Bool, true, false, List, [], ◌∷◌, length, map, refl, ap, sym, ◌∙◌, cond, Option, Some, None, is_some, nat_lt, nat_le, ◌&&◌, Result, Ok, Err}
 use Rattle.std.specs.Prelude.{slice_get, slice_set, option_map}
 use Rattle.std.specs.List.{flat_map}
 use Rattle.std.specs.Option.{option_and_then}
-use Rattle.smart_base.specs.declared.view.View.{View}
-use Rattle.smart_messages.specs.declared.message.Request.{Request}
+use Rattle.smart_base.specs.Views.{View}
+use Rattle.smart_messages.specs.Kinds.{requests}
+use Rattle.smart_messages.specs.Messages.{spelling, decoded}
+use Rattle.smart_messages.specs.declared.statement.Request.{Request}
 use Rattle.smart_messages.specs.declared.message.Message.{Message}
 use Rattle.smart_messages.specs.declared.message.Message.TheVariants.{Ask, Propose, Vote, Reply}
 use Rattle.smart_messages.specs.declared.entry.NodeEvent.{NodeEvent}
 use Rattle.smart_messages.specs.declared.entry.NodeEvent.TheVariants.{Arrive}
 use Rattle.smart_service.specs.Services.{Meaning}
+use Rattle.node_rules.specs.Seals.{signed}
 use Rattle.node_rules.specs.Nodes.{Node, next_place}
 use Rattle.node_rules.specs.Steps.{Outcome, step_of, leaving, opened}
 use Rattle.node_rules.specs.declared.node.Held.{Held}
@@ -18,8 +21,10 @@ use Rattle.node_rules.specs.declared.node.Target.TheVariants as targets
 use Rattle.kept_arrivals.specs.Kept.{trimmed, core_step}
 use Rattle.kept_arrivals.proofs.Steps.{core_step_trimmed, opened_stands}
 use Rattle.world_rules.specs.Repeats.{repeated, turns, until_rest, each_from}
+use Rattle.world_rules.specs.Secrets.{group_secret}
+use Rattle.world_rules.specs.Premises.{collides}
 use Rattle.world_rules.specs.Clients.{request_of, asking}
-use Rattle.world_rules.specs.Worlds.{Host, World, sends, sends_all, told_drop, told_fired, chosen_with, host_after, stepped, host_takes, node_takes, due, takes_due, settle_once, settle, settle_all, gives, give_all, hearing, client_hears, client_takes, client_asks, ask_found, asks, goes, flow_sent, flow_once, flows, hosts_from, begun}
+use Rattle.world_rules.specs.Worlds.{Host, World, sends, sends_all, told_drop, told_fired, chosen_with, host_after, stepped, host_takes, node_takes, due, takes_due, settle_once, settle, settle_all, gives, give_all, hearing, client_hears, hears_bytes, client_takes, client_asks, ask_found, asks, goes, flow_sent, flow_once, flows, hosts_from, begun}
 use Rattle.world_rules.specs.Plays.{line_played, rested, world_after, lines_told}
 use Rattle.world_rules.specs.declared.client.Client.{Client}
 use Rattle.world_rules.specs.declared.message.Origin.{Origin}
@@ -75,7 +80,8 @@ each_from_same t f g same (suc k) i x = ap (λ y. each_from f k (i + 1) y) (same
 -- a message leaves
 sends_same : {S : Type 0} (w : World S) (origin : Origin) (to : Target) (message : Message) → sends (trimmed_world w) origin to message ≡ trimmed_world (sends w origin to message)
 unfolding sends trimmed_world
-sends_same w origin to message = choice_same trimmed_world (nat_lt (length w.sent) (2 ^ 24)) _ _ _ _ refl refl
+sends_same w origin to message =
+    choice_same trimmed_world (collides w.sent message) _ _ _ _ refl (choice_same trimmed_world (nat_lt (length w.sent) (2 ^ 24)) _ _ _ _ refl refl)
 
 -- many messages leave
 sends_all_same : {S : Type 0} (id : ℕ) (w : World S) (held : List Held) → sends_all id (trimmed_world w) held ≡ trimmed_world (sends_all id w held)
@@ -166,41 +172,47 @@ settle_all_same m w =
     ap (λ k. each_from (settle (core_step m)) k 0 (trimmed_world w)) (hosts_same w)
     ∙ each_from_same trimmed_world (settle (core_step m)) (settle (step_of m)) (settle_same m) (length w.hosts) 0 w
 
--- a node takes a message and settles
-gives_same : {S : Type 0} (m : Meaning S) (message : Message) (i : ℕ) (w : World S) → gives (core_step m) message i (trimmed_world w) ≡ trimmed_world (gives (step_of m) message i w)
+-- a node takes bytes and settles
+gives_same : {S : Type 0} (m : Meaning S) (bytes : List ℕ) (i : ℕ) (w : World S) → gives (core_step m) bytes i (trimmed_world w) ≡ trimmed_world (gives (step_of m) bytes i w)
 unfolding gives
-gives_same m message i w =
-    ap (λ v. settle (core_step m) i v) (node_takes_same m i (Arrive message) w) ∙ settle_same m i (node_takes (step_of m) i (Arrive message) w)
+gives_same m bytes i w =
+    ap (λ v. settle (core_step m) i v) (node_takes_same m i (Arrive bytes) w) ∙ settle_same m i (node_takes (step_of m) i (Arrive bytes) w)
 
--- all nodes take a message
-give_all_same : {S : Type 0} (m : Meaning S) (message : Message) (w : World S) → give_all (core_step m) message (trimmed_world w) ≡ trimmed_world (give_all (step_of m) message w)
-give_all_same m message w =
-    ap (λ k. each_from (gives (core_step m) message) k 0 (trimmed_world w)) (hosts_same w)
-    ∙ each_from_same trimmed_world (gives (core_step m) message) (gives (step_of m) message) (gives_same m message) (length w.hosts) 0 w
+-- all nodes take bytes
+give_all_same : {S : Type 0} (m : Meaning S) (bytes : List ℕ) (w : World S) → give_all (core_step m) bytes (trimmed_world w) ≡ trimmed_world (give_all (step_of m) bytes w)
+give_all_same m bytes w =
+    ap (λ k. each_from (gives (core_step m) bytes) k 0 (trimmed_world w)) (hosts_same w)
+    ∙ each_from_same trimmed_world (gives (core_step m) bytes) (gives (step_of m) bytes) (gives_same m bytes) (length w.hosts) 0 w
 
 -- clients
 
--- a client that is found hears a message
-client_hears_same : {S : Type 0} (w : World S) (i : ℕ) (message : Message) (found : Option Client) → client_hears (trimmed_world w) i message found ≡ trimmed_world (client_hears w i message found)
+-- a client hears a message, or bytes that are none
+client_hears_same : {S : Type 0} (w : World S) (i : ℕ) (c : Client) (read : Result Message ℕ) → client_hears (trimmed_world w) i c read ≡ trimmed_world (client_hears w i c read)
 unfolding hearing trimmed_world
-client_hears_same w i message None = refl
-client_hears_same w i (Ask q) (Some c) = refl
-client_hears_same w i (Propose p) (Some c) = refl
-client_hears_same w i (Vote b) (Some c) = refl
-client_hears_same w i (Reply a) (Some c) = refl
+client_hears_same w i c (Err at) = refl
+client_hears_same w i c (Ok (Ask q)) = refl
+client_hears_same w i c (Ok (Propose p)) = refl
+client_hears_same w i c (Ok (Vote b)) = refl
+client_hears_same w i c (Ok (Reply a)) = refl
 
--- the client at an index hears a message
-client_takes_same : {S : Type 0} (i : ℕ) (message : Message) (w : World S) → client_takes i message (trimmed_world w) ≡ trimmed_world (client_takes i message w)
+-- a client that is found hears bytes
+hears_bytes_same : {S : Type 0} (w : World S) (i : ℕ) (bytes : List ℕ) (found : Option Client) → hears_bytes (trimmed_world w) i bytes found ≡ trimmed_world (hears_bytes w i bytes found)
+hears_bytes_same w i bytes None = refl
+hears_bytes_same w i bytes (Some c) = client_hears_same w i c (decoded bytes)
+
+-- the client at an index hears bytes
+client_takes_same : {S : Type 0} (i : ℕ) (bytes : List ℕ) (w : World S) → client_takes i bytes (trimmed_world w) ≡ trimmed_world (client_takes i bytes w)
 unfolding client_takes trimmed_world
-client_takes_same i message w = choice_same trimmed_world (is_some w.ending) _ _ _ _ refl (client_hears_same w i message (slice_get w.clients i))
+client_takes_same i bytes w = choice_same trimmed_world (is_some w.ending) _ _ _ _ refl (hears_bytes_same w i bytes (slice_get w.clients i))
 
 -- a client asks, or tells that it is busy
 client_asks_same : {S : Type 0} (w : World S) (i : ℕ) (c : Client) (op : List ℕ) (waiting : Option Request) → client_asks (trimmed_world w) i c op waiting ≡ trimmed_world (client_asks w i c op waiting)
 unfolding trimmed_world
 client_asks_same w i c op (Some q) = refl
 client_asks_same w i c op None =
-    choice_same trimmed_world (nat_lt (c.last + 1) (2 ^ 63)) _ _ _ _
-    (sends_same (record w { clients = slice_set w.clients i (asking c (request_of c op)) }) (origins.Client c.id) targets.View (Ask (request_of c op))) refl
+    choice_same trimmed_world (nat_lt (c.last + 1) (2 ^ 63) && nat_le (length op) 4096) _ _ _ _
+    (sends_same (record w { clients = slice_set w.clients i (asking c (request_of c op)) }) (origins.Client c.id) targets.View
+    (Ask (signed requests group_secret c.id (request_of c op)))) refl
 
 -- a client that is found asks
 ask_found_same : {S : Type 0} (w : World S) (i : ℕ) (op : List ℕ) (found : Option Client) → ask_found (trimmed_world w) i op found ≡ trimmed_world (ask_found w i op found)
@@ -214,16 +226,16 @@ asks_same i op w = choice_same trimmed_world (is_some w.ending) _ _ _ _ refl (as
 
 -- flow
 
--- a message goes to whom it is for
-goes_same : {S : Type 0} (m : Meaning S) (w : World S) (message : Message) (to : Target) → goes (core_step m) (trimmed_world w) message to ≡ trimmed_world (goes (step_of m) w message to)
-goes_same m w message targets.View = give_all_same m message w
-goes_same m w message (targets.Client id) = client_takes_same id message w
+-- bytes go to whom they are for
+goes_same : {S : Type 0} (m : Meaning S) (w : World S) (bytes : List ℕ) (to : Target) → goes (core_step m) (trimmed_world w) bytes to ≡ trimmed_world (goes (step_of m) w bytes to)
+goes_same m w bytes targets.View = give_all_same m bytes w
+goes_same m w bytes (targets.Client id) = client_takes_same id bytes w
 
 -- the message behind the mark goes, if there is one
 flow_sent_same : {S : Type 0} (m : Meaning S) (w : World S) (found : Option Sent) → flow_sent (core_step m) (trimmed_world w) found ≡ trimmed_world (flow_sent (step_of m) w found)
 unfolding trimmed_world
 flow_sent_same m w None = refl
-flow_sent_same m w (Some s) = goes_same m (record w { mark = w.mark + 1 }) s.message s.to
+flow_sent_same m w (Some s) = goes_same m (record w { mark = w.mark + 1 }) (spelling s.message) s.to
 
 -- one turn of a flow
 flow_once_same : {S : Type 0} (m : Meaning S) (w : World S) → flow_once (core_step m) (trimmed_world w) ≡ trimmed_world (flow_once (step_of m) w)
@@ -291,8 +303,8 @@ hosts_from_same : {S : Type 0} (m : Meaning S) (view : View) (ids : List ℕ) �
 unfolding trimmed_host
 hosts_from_same m view [] = refl
 hosts_from_same m view (id ∷ ids) =
-    ap (λ n. record { node = n; delivered = [] } ∷ map trimmed_host (hosts_from m view ids)) (sym (opened_stands m id view).same)
-    ∙ ap (λ hosts. record { node = opened m id view; delivered = [] } ∷ hosts) (hosts_from_same m view ids)
+    ap (λ n. record { node = n; delivered = [] } ∷ map trimmed_host (hosts_from m view ids)) (sym (opened_stands m group_secret id view).same)
+    ∙ ap (λ hosts. record { node = opened m group_secret id view; delivered = [] } ∷ hosts) (hosts_from_same m view ids)
 
 -- the first world is its own world of cores
 pub begun_same : {S : Type 0} (m : Meaning S) (view : View) → trimmed_world (begun m view) ≡ begun m view

@@ -1,41 +1,188 @@
 -- In a group of one member, a request is chosen and its reply accepted.
-use Rattle.std.proofs.Common.{◌≡◌, ℕ, ◌+◌, ◌≤◌, Bool, true, false, ◌&&◌, ◌||◌, nat_le, List, [], ◌∷◌, length, refl, ap, ◌∙◌, sym, arith, cond, Some, None, is_some, eq-eqb}
+use Rattle.std.proofs.Common.{◌≡◌, ℕ, ◌+◌, ◌++◌, ◌≤◌, Bool, true, false, not, ◌&&◌, ◌||◌, nat_le, List, [], ◌∷◌, length, refl, ap, ◌∙◌, sym, arith, cond, Option, Some, None, is_some, Ok}
+use Rattle.std.proofs.lemmas.Bool.{le-leb}
 use Rattle.std.specs.Prelude.{⊤, slice_get}
 use Rattle.std.specs.Option.{option_and_then}
-use Rattle.smart_base.specs.Lists.{same_bytes}
-use Rattle.smart_messages.specs.declared.message.Answer.{Answer}
+use Rattle.smart_base.specs.Lists.{or_else, same_bytes}
+use Rattle.smart_base.specs.Views.{is_view}
+use Rattle.smart_messages.specs.Forms.{SignedBy}
+use Rattle.smart_messages.specs.Kinds.{requests, proposals, ballots, answers}
+use Rattle.smart_messages.specs.Messages.{Batch, batch_text, FitsBatch, spelling, decoded}
+use Rattle.smart_messages.specs.Spelling.{FitsSlot}
+use Rattle.smart_messages.specs.declared.statement.Answer.{Answer}
+use Rattle.smart_messages.specs.declared.statement.Ballot.{Ballot}
+use Rattle.smart_messages.specs.declared.statement.Proposal.{Proposal}
 use Rattle.smart_messages.specs.declared.message.Message.{Message}
 use Rattle.smart_messages.specs.declared.message.Message.TheVariants.{Ask, Propose, Vote, Reply}
-use Rattle.smart_messages.specs.declared.message.VoteKind.{VoteKind}
-use Rattle.smart_messages.specs.declared.message.VoteKind.TheVariants.{Write, Accept}
-use Rattle.smart_messages.specs.declared.message.Slot.{Slot}
+use Rattle.smart_messages.specs.declared.statement.VoteKind.{VoteKind}
+use Rattle.smart_messages.specs.declared.statement.VoteKind.TheVariants.{Write, Accept}
+use Rattle.smart_messages.specs.declared.statement.Slot.{Slot}
 use Rattle.smart_messages.specs.declared.entry.NodeEvent.{NodeEvent}
 use Rattle.smart_messages.specs.declared.entry.NodeEvent.TheVariants.{Arrive}
 use Rattle.smart_service.specs.Services.{Meaning}
-use Rattle.node_rules.specs.Nodes.{Node}
-use Rattle.node_rules.specs.Steps.{Outcome, step_of, votes, fired_votes, passes, fired_pass}
-use Rattle.node_rules.specs.Arrivals.{slot_why, signer_why, why_ask, why_propose, why_vote, kept}
+use Rattle.node_rules.specs.Seals.{signed, is_verified, digest_of, fits}
+use Rattle.node_rules.specs.Nodes.{Node, next_place}
+use Rattle.node_rules.specs.Steps.{Outcome, step_of, votes, fired_votes, passes, fired_pass, outcome_from, arrival_outcome, reading_outcome, opened}
+use Rattle.node_rules.specs.Arrivals.{slot_why, signer_why, why_ask, why_propose, why_vote, why_dropped, kept}
 use Rattle.node_rules.specs.Replicas.{execute, delivered, executed_lines}
-use Rattle.node_rules.specs.Rules.{deliver_batch, delivery, delivers, proposing, propose_batch, proposes, writing, write_batch, writes, accepting, accept_batch, accepts, deciding, decide_batch, decides}
+use Rattle.node_rules.specs.Rules.{deliver_batch, delivery, delivers, proposing, propose_batch, proposes, writing, write_batch, writes, accepting, accept_batch, accepts, deciding, decide_batch, decides, fired_if}
+use Rattle.node_rules.specs.declared.node.Why.TheVariants.{BadTag, InvalidBatch}
 use Rattle.node_rules.specs.declared.node.Target.TheVariants as targets
-use Rattle.world_rules.specs.Clients.{why_ignored, heard}
+use Rattle.node_rules.specs.declared.node.Fired.TheVariants as fires
+use Rattle.world_rules.specs.Secrets.{group_secret}
+use Rattle.world_rules.specs.Premises.{collides}
+use Rattle.world_rules.specs.Clients.{why_ignored, heard_unless, heard}
 use Rattle.world_rules.specs.Repeats.{repeated, turns, until_rest, each_from}
-use Rattle.world_rules.specs.Worlds.{World, begun, clients_from, asks, sends, stepped, node_takes, due, takes_due, settle_once, settle, settle_all, gives, hearing, client_takes, flow_sent, flow_once, acceptance_in}
+use Rattle.world_rules.specs.Worlds.{Host, World, begun, clients_from, asks, sends, stepped, host_takes, node_takes, due, takes_due, settle_once, settle, settle_all, gives, hearing, client_hears, hears_bytes, client_takes, flow_sent, flow_once}
 use Rattle.world_rules.specs.Plays.{line_played, rested}
 use Rattle.world_rules.specs.Promises.{world_at}
 use Rattle.world_rules.specs.declared.client.Client.{Client}
+use Rattle.world_rules.specs.declared.client.Ignored.TheVariants as reasons
 use Rattle.world_rules.specs.declared.client.Heard.{Heard}
 use Rattle.world_rules.specs.declared.client.Heard.TheVariants as hears
 use Rattle.world_rules.specs.declared.message.Origin.{Origin}
 use Rattle.world_rules.specs.declared.message.Origin.TheVariants as origins
-use Rattle.world_laws.specs.Examples.{lone, ask_and_flow, first_request, first_acceptance}
+use Rattle.world_laws.specs.Examples.{lone, ask_and_flow, first_request, first_signed, first_acceptance}
+use Rattle.world_laws.proofs.Equal.{bytes-itself}
+use Rattle.world_laws.proofs.FitNodes.{IsBrief}
+use Rattle.world_laws.proofs.Genuine.{IsGood, good-genuine, signed-verified, digest_of-length, ask-good, vote-good, reply-good, propose-good, single-fits, single-verified}
 use Rattle.world_laws.proofs.Rests.{rest_is_reached}
+
+-- the messages of the play
+
+-- the slot of the first place
+abbrev first_slot : Slot
+first_slot = record { view = 0; place = 1; regency = 0 }
+
+-- the batch of the request
+abbrev first_batch : Batch
+first_batch = first_signed ∷ []
+
+-- the member's vote for the batch
+abbrev first_ballot : VoteKind → Ballot
+first_ballot kind = record { kind = kind; slot = first_slot; digest = digest_of first_batch }
+
+abbrev first_vote : VoteKind → Message
+first_vote kind = Vote (signed ballots group_secret 1 (first_ballot kind))
+
+-- the member's proposal of the batch
+abbrev first_head : Proposal
+first_head = record { slot = first_slot; digest = digest_of first_batch }
+
+abbrev first_proposal : Message
+first_proposal = Propose (record { head = signed proposals group_secret 1 first_head; batch = first_batch })
+
+-- the member's reply
+abbrev first_answer : {S : Type 0} → Meaning S → Answer
+first_answer m = record { view = 0; place = 1; index = 0; client = 1; seq = 1; reply = m.reply m.first (7 ∷ []) }
+
+abbrev first_reply : {S : Type 0} → Meaning S → SignedBy Answer
+first_reply m = signed answers group_secret 1 (first_answer m)
+
+-- each has a spelling, and its signer's tag
+
+good_ask : IsGood (Ask first_signed)
+good_ask = ask-good 1 first_request (record { client_is = refl; client_fits = omega arith; seq_fits = (omega arith, omega arith); after_fits = omega arith; op_fits = omega arith })
+
+slot_fits : FitsSlot first_slot
+slot_fits = record { view_fits = omega arith; place_fits = (omega arith, omega arith); regency_fits = omega arith }
+
+batch_fits : FitsBatch first_batch
+batch_fits = single-fits first_signed good_ask.fits.content_fits
+
+good_proposal : IsGood first_proposal
+good_proposal = propose-good 1 first_head first_batch (omega arith, omega arith) (record { slot_fits = slot_fits; digest_fits = digest_of-length first_batch }) batch_fits (single-verified first_signed good_ask.tagged)
+
+good_vote : (kind : VoteKind) → IsGood (first_vote kind)
+good_vote kind = vote-good 1 (first_ballot kind) (omega arith, omega arith) (record { slot_fits = slot_fits; digest_fits = digest_of-length first_batch })
+
+good_reply : {S : Type 0} (m : Meaning S) → IsBrief m → IsGood (Reply (first_reply m))
+good_reply m brief =
+    reply-good 1 (first_answer m) (omega arith, omega arith)
+    (record { view_fits = omega arith; place_fits = (omega arith, omega arith); index_fits = omega arith; client_fits = omega arith; seq_fits = (omega arith, omega arith); reply_fits = brief m.first (7 ∷ []) })
+
+-- tests of tags and digests
+
+-- the batch may stand at the first place
+first_fits : fits group_secret first_batch 1 ≡ true
+unfolding fits
+first_fits = all (nat_le (length (batch_text first_batch)) 262144) (is_verified requests group_secret first_signed) (le-leb (length (batch_text first_batch)) 262144 batch_fits.bytes_fit) good_ask.tagged
+  where
+    all : (low tagged : Bool) → low ≡ true → tagged ≡ true → ((low && (tagged && true)) && true) ≡ true
+    all true true is_low is_tagged = refl
+    all true false is_low is_tagged = absurd (cc)
+    all false tagged is_low is_tagged = absurd (cc)
+
+-- what bears its signer's tag is not dropped for it
+right_tag : (tagged : Bool) → tagged ≡ true → cond (not tagged) (Some BadTag) None ≡ None
+right_tag true is = refl
+right_tag false is = absurd (cc)
+
+-- nor is a vote
+right_vote : (tagged : Bool) → tagged ≡ true → or_else (cond (not tagged) (Some BadTag) None) None ≡ None
+right_vote true is = refl
+right_vote false is = absurd (cc)
+
+-- nor is a proposal whose batch may stand and has the digest that it names
+right_proposal : (tagged fit same : Bool) → tagged ≡ true → fit ≡ true → same ≡ true → or_else (cond (not tagged) (Some BadTag) None) (cond (not ((fit && true) && same)) (Some InvalidBatch) None) ≡ None
+right_proposal true true true is_tagged is_fit is_same = refl
+right_proposal true true false is_tagged is_fit is_same = absurd (cc)
+right_proposal true false same is_tagged is_fit is_same = absurd (cc)
+right_proposal false fit same is_tagged is_fit is_same = absurd (cc)
+
+-- one member is a quorum of one
+one_is_enough : {A : Type 0} (x y : A) (same : Bool) → same ≡ true → cond (nat_le 1 (length {A = ℕ} (cond (same || false) (1 ∷ []) []))) x y ≡ x
+one_is_enough x y true is = refl
+one_is_enough x y false is = absurd (cc)
+
+-- a step of a node, with what it accepts and decides
+
+-- an arrival is kept, and the rules pass
+unfoldable passed : {S : Type 0} → Node S → Option Batch → Option Batch → Outcome S
+passed n accepted decided =
+    record {
+      node = decide_batch (accept_batch (writes (proposes n)) accepted) decided;
+      fired = (fired_if fires.Proposed (proposing n) ++ (fired_if fires.Wrote (writing (proposes n)) ++ fired_if fires.Accepted accepted))
+          ++ fired_if (fires.Decided (next_place (accept_batch (writes (proposes n)) accepted))) decided;
+      dropped = None;
+    }
+
+-- so they do
+passed_is : {S : Type 0} (n : Node S) (accepted decided : Option Batch) → accepting (writes (proposes n)) ≡ accepted → deciding (accept_batch (writes (proposes n)) accepted) ≡ decided
+    → outcome_from n [] ≡ passed n accepted decided
+unfolding passed passes votes fired_pass fired_votes accepts decides
+passed_is n accepted decided ea ed =
+    ap (λ a. passed n a (deciding (accept_batch (writes (proposes n)) a))) ea ∙ ap (λ d. passed n accepted d) ed
+
+-- what a message does to a node
+record Takes {S : Type 0} (n : Node S) (x : Message) (accepted decided : Option Batch) : Type 0 where
+  read : decoded (spelling x) ≡ Ok x
+  fine : why_dropped n x ≡ None
+  accepts : accepting (writes (proposes (kept n x))) ≡ accepted
+  decides : deciding (accept_batch (writes (proposes (kept n x))) accepted) ≡ decided
+
+step_is : {S : Type 0} (m : Meaning S) (n : Node S) (x : Message) (accepted decided : Option Batch) → Takes n x accepted decided → step_of m n (Arrive (spelling x)) ≡ passed (kept n x) accepted decided
+unfolding step_of
+step_is m n x accepted decided is = ap (reading_outcome n) is.read ∙ (ap (arrival_outcome n x) is.fine ∙ passed_is (kept n x) accepted decided is.accepts is.decides)
 
 -- turns of a world with one host
 
--- a message is given to the node, which settles in k turns
-unfoldable turn : {S : Type 0} → (Node S → NodeEvent → Outcome S) → ℕ → Message → World S → World S
-turn step k message w = repeated (settle_once step 0) k (node_takes step 0 (Arrive message) (record w { mark = w.mark + 1 }))
+-- the host
+unfoldable host_in : {S : Type 0} → Meaning S → List (Host S) → Host S
+host_in m [] = record { node = opened m group_secret 1 lone; delivered = [] }
+host_in m (h ∷ hs) = h
+
+-- it is found
+host_is : {S : Type 0} (m : Meaning S) (hosts : List (Host S)) → length hosts ≡ 1 → slice_get hosts 0 ≡ Some (host_in m hosts)
+unfolding host_in
+host_is m [] one = absurd (cc)
+host_is m (h ∷ hs) one = refl
+
+-- a message is given to the node, which accepts and decides so and settles in k turns
+unfoldable turn : {S : Type 0} → Meaning S → ℕ → Message → Option Batch → Option Batch → World S → World S
+turn m k x accepted decided w =
+    repeated (settle_once (step_of m) 0) k
+    (stepped (record w { mark = w.mark + 1 }) 0 (host_in m w.hosts) (passed (kept (host_in m w.hosts).node x) accepted decided))
 
 -- a few turns are no more than there are
 few : (k : ℕ) → k ≤ 9 → k ≤ turns
@@ -49,22 +196,33 @@ unfolding settle_once
 settled step k w le none = rest_is_reached (settle_once step 0) k w (few k le) (ap (takes_due step 0 (repeated (settle_once step 0) k w)) none)
 
 -- a message that is for the view is given to the one node
-given : {S : Type 0} (step : Node S → NodeEvent → Outcome S) (k : ℕ) (message : Message) (origin : Origin) (w : World S) → k ≤ 9 → is_some w.ending ≡ false
-    → slice_get w.sent w.mark ≡ Some (record { origin = origin; to = targets.View; message = message }) → length w.hosts ≡ 1
-    → option_and_then due (slice_get (turn step k message w).hosts 0) ≡ None → flow_once step w ≡ turn step k message w
-unfolding flow_once turn gives each_from
-given {S = S} step k message origin w le on at one none =
+given : {S : Type 0} (m : Meaning S) (k : ℕ) (x : Message) (accepted decided : Option Batch) (origin : Origin) (w : World S) → k ≤ 9 → is_some w.ending ≡ false
+    → slice_get w.sent w.mark ≡ Some (record { origin = origin; to = targets.View; message = x }) → length w.hosts ≡ 1
+    → Takes (host_in m w.hosts).node x accepted decided → option_and_then due (slice_get (turn m k x accepted decided w).hosts 0) ≡ None → flow_once (step_of m) w ≡ turn m k x accepted decided w
+unfolding flow_once turn gives each_from node_takes
+given {S = S} m k x accepted decided origin w le on at one takes none =
     let next : World S = record w { mark = w.mark + 1 } in
-    ap (λ over. cond over w (flow_sent step w (slice_get w.sent w.mark))) on
-    ∙ (ap (flow_sent step w) at
-    ∙ (ap (λ hosts. each_from (gives step message) hosts 0 next) one
-    ∙ settled step k (node_takes step 0 (Arrive message) next) le none))
+    ap (λ over. cond over w (flow_sent (step_of m) w (slice_get w.sent w.mark))) on
+    ∙ (ap (flow_sent (step_of m) w) at
+    ∙ (ap (λ hosts. each_from (gives (step_of m) (spelling x)) hosts 0 next) one
+    ∙ (ap (λ over. settle (step_of m) 0 (cond over next (host_takes (step_of m) 0 (Arrive (spelling x)) next (slice_get w.hosts 0)))) on
+    ∙ (ap (λ found. settle (step_of m) 0 (host_takes (step_of m) 0 (Arrive (spelling x)) next found)) (host_is m w.hosts one)
+    ∙ (ap (λ o. settle (step_of m) 0 (stepped next 0 (host_in m w.hosts) o)) (step_is m (host_in m w.hosts).node x accepted decided takes)
+    ∙ settled (step_of m) k (stepped next 0 (host_in m w.hosts) (passed (kept (host_in m w.hosts).node x) accepted decided)) le none)))))
 
--- a message that is for a client is given to it
-given_back : {S : Type 0} (step : Node S → NodeEvent → Outcome S) (message : Message) (origin : Origin) (client : ℕ) (w : World S) → is_some w.ending ≡ false
-    → slice_get w.sent w.mark ≡ Some (record { origin = origin; to = targets.Client client; message = message }) → flow_once step w ≡ client_takes client message (record w { mark = w.mark + 1 })
-unfolding flow_once
-given_back step message origin client w on at = ap (λ over. cond over w (flow_sent step w (slice_get w.sent w.mark))) on ∙ ap (flow_sent step w) at
+-- a reply that is for a client is given to it
+given_back : {S : Type 0} (m : Meaning S) (a : SignedBy Answer) (origin : Origin) (client : ℕ) (c : Client) (h : Heard) (w : World S) → is_some w.ending ≡ false
+    → slice_get w.sent w.mark ≡ Some (record { origin = origin; to = targets.Client client; message = Reply a }) → slice_get w.clients client ≡ Some c
+    → decoded (spelling (Reply a)) ≡ Ok (Reply a) → heard w.view c a ≡ h → flow_once (step_of m) w ≡ hearing (record w { mark = w.mark + 1 }) client c a h
+unfolding flow_once client_takes
+given_back {S = S} m a origin client c h w on at here read hear =
+    let next : World S = record w { mark = w.mark + 1 } in
+    ap (λ over. cond over w (flow_sent (step_of m) w (slice_get w.sent w.mark))) on
+    ∙ (ap (flow_sent (step_of m) w) at
+    ∙ (ap (λ over. cond over next (hears_bytes next client (spelling (Reply a)) (slice_get w.clients client))) on
+    ∙ (ap (hears_bytes next client (spelling (Reply a))) here
+    ∙ (ap (client_hears next client c) read
+    ∙ ap (hearing next client c a) hear))))
 
 -- nothing to give is left
 idle : {S : Type 0} (step : Node S → NodeEvent → Outcome S) (w : World S) → is_some w.ending ≡ false → slice_get w.sent w.mark ≡ None → flow_once step w ≡ w
@@ -72,22 +230,6 @@ unfolding flow_once
 idle step w on at = ap (λ over. cond over w (flow_sent step w (slice_get w.sent w.mark))) on ∙ ap (flow_sent step w) at
 
 -- the worlds of the play
-
--- the slot of the first place
-unfoldable first_slot : Slot
-first_slot = record { view = 0; place = 1; regency = 0 }
-
--- the member's vote for the request
-unfoldable first_vote : VoteKind → Message
-first_vote kind = Vote (record { kind = kind; signer = 1; slot = first_slot; digest = first_request ∷ [] })
-
--- the member's proposal of the request
-unfoldable first_proposal : Message
-first_proposal = Propose (record { signer = 1; slot = first_slot; batch = first_request ∷ [] })
-
--- the member's reply
-unfoldable first_reply : {S : Type 0} → Meaning S → Answer
-first_reply m = record { signer = 1; view = 0; place = 1; index = 0; client = 1; seq = 1; reply = m.reply m.first (7 ∷ []) }
 
 -- the client has asked
 unfoldable asked : {S : Type 0} → Meaning S → World S
@@ -97,29 +239,33 @@ asked m = rested (asks 1 (7 ∷ []) (begun m lone))
 unfoldable begins : {S : Type 0} → Meaning S → World S
 begins m = repeated (settle_once (step_of m) 0) 1 (asked m)
 
--- the node has proposed the request
+-- the node has proposed the batch
 unfoldable proposed : {S : Type 0} → Meaning S → World S
-proposed m = turn (step_of m) 0 (Ask first_request) (begins m)
+proposed m = turn m 0 (Ask first_signed) None None (begins m)
 
--- the node has written its batch
+-- the node has written its digest
 unfoldable wrote : {S : Type 0} → Meaning S → World S
-wrote m = turn (step_of m) 1 first_proposal (proposed m)
+wrote m = turn m 1 first_proposal None None (proposed m)
 
 -- the node has accepted it
 unfoldable accepted : {S : Type 0} → Meaning S → World S
-accepted m = turn (step_of m) 1 (first_vote Write) (wrote m)
+accepted m = turn m 1 (first_vote Write) (Some first_batch) None (wrote m)
 
 -- the node has decided and delivered it
 unfoldable replied : {S : Type 0} → Meaning S → World S
-replied m = turn (step_of m) 2 (first_vote Accept) (accepted m)
+replied m = turn m 2 (first_vote Accept) None (Some first_batch) (accepted m)
+
+-- the client that waits
+abbrev waiting_client : Client
+waiting_client = record { id = 1; last = 1; waiting = Some first_request; seen = 0; replies = [] }
 
 -- the client has heard the reply
 unfoldable answered : {S : Type 0} → Meaning S → World S
-answered m = client_takes 1 (Reply (first_reply m)) (record (replied m) { mark = (replied m).mark + 1 })
+answered m = hearing (record (replied m) { mark = (replied m).mark + 1 }) 1 waiting_client (first_reply m) (hears.Accepted (first_acceptance m))
 
 -- what the facts on these worlds unfold to compute them
 unfoldable computed : ⊤
-unfolding asks sends clients_from repeated settle_once node_takes stepped step_of votes fired_votes passes fired_pass slot_why signer_why why_ask why_propose why_vote kept execute delivered executed_lines deliver_batch delivery delivers proposing propose_batch proposes writing write_batch writes accepting accept_batch accepts deciding decide_batch decides turn first_slot first_vote first_proposal first_reply asked begins proposed wrote accepted replied client_takes hearing answered
+unfolding asks sends collides clients_from repeated settle_once node_takes stepped step_of votes fired_votes passes fired_pass passed host_in slot_why signer_why why_ask why_propose why_vote kept execute delivered executed_lines deliver_batch delivery delivers proposing propose_batch proposes writing write_batch writes accepting accept_batch accepts deciding decide_batch decides turn asked begins proposed wrote accepted replied hearing answered
 computed = tt
 
 -- the turns of the play
@@ -132,48 +278,71 @@ turn_begins m = settled (step_of m) 1 (asked m) (omega arith) refl
 -- the request is given
 turn_proposed : {S : Type 0} (m : Meaning S) → flow_once (step_of m) (begins m) ≡ proposed m
 unfolding computed
-turn_proposed m = given (step_of m) 0 (Ask first_request) (origins.Client 1) (begins m) (omega arith) refl refl refl refl
+turn_proposed m =
+    given m 0 (Ask first_signed) None None (origins.Client 1) (begins m) (omega arith) refl refl refl
+    (record {
+      read = (good-genuine (Ask first_signed) good_ask).read;
+      fine = right_tag (is_verified requests group_secret first_signed) good_ask.tagged;
+      accepts = refl;
+      decides = refl;
+    }) refl
 
 -- the proposal is given
 turn_wrote : {S : Type 0} (m : Meaning S) → flow_once (step_of m) (proposed m) ≡ wrote m
 unfolding computed
-turn_wrote m = given (step_of m) 1 first_proposal (origins.Node 1) (proposed m) (omega arith) refl refl refl refl
+turn_wrote m =
+    given m 1 first_proposal None None (origins.Node 1) (proposed m) (omega arith) refl refl refl
+    (record {
+      read = (good-genuine first_proposal good_proposal).read;
+      fine = right_proposal (is_verified proposals group_secret (signed proposals group_secret 1 first_head)) (fits group_secret first_batch 1)
+          (same_bytes (digest_of first_batch) (digest_of first_batch)) (signed-verified proposals group_secret 1 first_head) first_fits (bytes-itself (digest_of first_batch));
+      accepts = refl;
+      decides = refl;
+    }) refl
 
 -- the vote to write is given
 turn_accepted : {S : Type 0} (m : Meaning S) → flow_once (step_of m) (wrote m) ≡ accepted m
 unfolding computed
-turn_accepted m = given (step_of m) 1 (first_vote Write) (origins.Node 1) (wrote m) (omega arith) refl refl refl refl
+turn_accepted m =
+    given m 1 (first_vote Write) (Some first_batch) None (origins.Node 1) (wrote m) (omega arith) refl refl refl
+    (record {
+      read = (good-genuine (first_vote Write) (good_vote Write)).read;
+      fine = right_vote (is_verified ballots group_secret (signed ballots group_secret 1 (first_ballot Write))) (good_vote Write).tagged;
+      accepts = one_is_enough (Some first_batch) None (same_bytes (digest_of first_batch) (digest_of first_batch)) (bytes-itself (digest_of first_batch));
+      decides = refl;
+    }) refl
 
 -- the vote to accept is given
 turn_replied : {S : Type 0} (m : Meaning S) → flow_once (step_of m) (accepted m) ≡ replied m
 unfolding computed
-turn_replied m = given (step_of m) 2 (first_vote Accept) (origins.Node 1) (accepted m) (omega arith) refl refl refl refl
+turn_replied m =
+    given m 2 (first_vote Accept) None (Some first_batch) (origins.Node 1) (accepted m) (omega arith) refl refl refl
+    (record {
+      read = (good-genuine (first_vote Accept) (good_vote Accept)).read;
+      fine = right_vote (is_verified ballots group_secret (signed ballots group_secret 1 (first_ballot Accept))) (good_vote Accept).tagged;
+      accepts = refl;
+      decides = one_is_enough (Some first_batch) None (same_bytes (digest_of first_batch) (digest_of first_batch)) (bytes-itself (digest_of first_batch));
+    }) refl
 
 -- what the client hears
 
--- bytes are the same as themselves
-same_as_itself : (bytes : List ℕ) → same_bytes bytes bytes ≡ true
-same_as_itself [] = refl
-same_as_itself (b ∷ bytes) = rw (eq-eqb b b refl) (same_as_itself bytes)
-
--- one reply is a quorum of one member
-one_is_enough : (x y : Heard) (same : Bool) → same ≡ true → cond (nat_le 1 (length {A = ℕ} (cond ((true && same) || false) (1 ∷ []) []))) x y ≡ x
-one_is_enough x y true is = refl
-one_is_enough x y false is = absurd (cc)
-
--- the client that waits
-abbrev waiting_client : Client
-waiting_client = record { id = 1; last = 1; waiting = Some first_request; seen = 0; replies = [] }
+-- what bears its signer's tag is not ignored for it
+not_ignored : (tagged : Bool) → tagged ≡ true → cond (not tagged) (Some reasons.BadTag) None ≡ None
+not_ignored true is = refl
+not_ignored false is = absurd (cc)
 
 -- the client accepts the reply
-accepts_first : {S : Type 0} (m : Meaning S) → heard lone waiting_client (first_reply m) ≡ hears.Accepted (first_acceptance m)
-unfolding heard why_ignored first_reply
-accepts_first m = one_is_enough (hears.Accepted (first_acceptance m)) _ (same_bytes (m.reply m.first (7 ∷ [])) (m.reply m.first (7 ∷ []))) (same_as_itself (m.reply m.first (7 ∷ [])))
+accepts_first : {S : Type 0} (m : Meaning S) → IsBrief m → heard lone waiting_client (first_reply m) ≡ hears.Accepted (first_acceptance m)
+unfolding heard why_ignored
+accepts_first m brief =
+    ap (λ why. heard_unless lone waiting_client (first_reply m) why (Some first_request)) (not_ignored (is_verified answers group_secret (first_reply m)) (good_reply m brief).tagged)
+    ∙ one_is_enough (hears.Accepted (first_acceptance m)) _ (same_bytes (m.reply m.first (7 ∷ [])) (m.reply m.first (7 ∷ []))) (bytes-itself (m.reply m.first (7 ∷ [])))
 
 -- the reply is given
-turn_answered : {S : Type 0} (m : Meaning S) → flow_once (step_of m) (replied m) ≡ answered m
+turn_answered : {S : Type 0} (m : Meaning S) → IsBrief m → flow_once (step_of m) (replied m) ≡ answered m
 unfolding computed
-turn_answered m = given_back (step_of m) (Reply (first_reply m)) (origins.Node 1) 1 (replied m) refl refl
+turn_answered m brief =
+    given_back m (first_reply m) (origins.Node 1) 1 waiting_client (hears.Accepted (first_acceptance m)) (replied m) refl refl refl (good-genuine (Reply (first_reply m)) (good_reply m brief)).read (accepts_first m brief)
 
 -- no message is left
 turn_over : {S : Type 0} (m : Meaning S) → flow_once (step_of m) (answered m) ≡ answered m
@@ -183,25 +352,30 @@ turn_over m = idle (step_of m) (answered m) refl refl
 -- the play
 
 -- the flow ends where the client has heard the reply
-flow_is : {S : Type 0} (m : Meaning S) → until_rest (flow_once (step_of m)) (begins m) ≡ answered m
+flow_is : {S : Type 0} (m : Meaning S) → IsBrief m → until_rest (flow_once (step_of m)) (begins m) ≡ answered m
 unfolding repeated
-flow_is {S = S} m =
+flow_is {S = S} m brief =
     let f : World S → World S = flow_once (step_of m) in
     let all : repeated f 5 (begins m) ≡ answered m =
-    ap (repeated f 4) (turn_proposed m) ∙ (ap (repeated f 3) (turn_wrote m) ∙ (ap (repeated f 2) (turn_accepted m) ∙ (ap (repeated f 1) (turn_replied m) ∙ turn_answered m))) in
+    ap (repeated f 4) (turn_proposed m) ∙ (ap (repeated f 3) (turn_wrote m) ∙ (ap (repeated f 2) (turn_accepted m) ∙ (ap (repeated f 1) (turn_replied m) ∙ turn_answered m brief))) in
     rest_is_reached f 5 (begins m) (few 5 (omega arith)) (ap f all ∙ (turn_over m ∙ sym all)) ∙ all
 
 -- so does the play
-play_is : {S : Type 0} (m : Meaning S) → world_at m lone ask_and_flow 2 ≡ rested (answered m)
+play_is : {S : Type 0} (m : Meaning S) → IsBrief m → world_at m lone ask_and_flow 2 ≡ rested (answered m)
 unfolding line_played asked
-play_is m = ap rested (ap (until_rest (flow_once (step_of m))) (turn_begins m) ∙ flow_is m)
+play_is m brief = ap rested (ap (until_rest (flow_once (step_of m))) (turn_begins m) ∙ flow_is m brief)
 
--- the request is chosen
-pub first_chosen : {S : Type 0} (m : Meaning S) → (world_at m lone ask_and_flow 2).chosen ≡ (first_request ∷ []) ∷ []
+-- one member is a group
+pub lone_is : is_view lone ≡ true
+unfolding is_view
+lone_is = refl
+
+-- the batch of the request is chosen
+pub first_chosen : {S : Type 0} (m : Meaning S) → IsBrief m → (world_at m lone ask_and_flow 2).chosen ≡ (first_signed ∷ []) ∷ []
 unfolding computed
-first_chosen {S = S} m = ap (λ (w : World S). w.chosen) (play_is m)
+first_chosen {S = S} m brief = ap (λ (w : World S). w.chosen) (play_is m brief)
 
 -- its reply is accepted
-pub first_accepted : {S : Type 0} (m : Meaning S) → (world_at m lone ask_and_flow 2).accepted ≡ first_acceptance m ∷ []
+pub first_accepted : {S : Type 0} (m : Meaning S) → IsBrief m → (world_at m lone ask_and_flow 2).accepted ≡ first_acceptance m ∷ []
 unfolding computed
-first_accepted {S = S} m = ap (λ (w : World S). w.accepted) (play_is m) ∙ ap acceptance_in (accepts_first m)
+first_accepted {S = S} m brief = ap (λ (w : World S). w.accepted) (play_is m brief)

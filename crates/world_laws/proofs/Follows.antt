@@ -1,14 +1,13 @@
 -- A node keeps its name, its book grows, and it decides one batch at a time.
-use Rattle.std.proofs.Common.{◌≡◌, ℕ, ◌+◌, ◌≤◌, ◌++◌, Bool, true, false, List, [], ◌∷◌, length, refl, ap, ◌∙◌, arith, cond, Option, Some, None, length-append}
+use Rattle.std.proofs.Common.{◌≡◌, ℕ, ◌+◌, ◌≤◌, ◌++◌, Bool, true, false, List, [], ◌∷◌, length, refl, ap, ◌∙◌, arith, cond, Option, Some, None, length-append, Result, Ok, Err}
 use Rattle.std.specs.List.{flat_map}
 use Rattle.std.proofs.lemmas.Grind.{flat_map-append}
 use Rattle.smart_base.specs.Lists.{Each}
-use Rattle.smart_messages.specs.Equality.{digest_of}
-use Rattle.smart_messages.specs.declared.message.Request.{Request}
-use Rattle.smart_messages.specs.declared.message.Slot.{Slot}
+use Rattle.smart_messages.specs.Messages.{Batch, decoded}
+use Rattle.smart_messages.specs.declared.statement.Slot.{Slot}
 use Rattle.smart_messages.specs.declared.message.Message.{Message}
 use Rattle.smart_messages.specs.declared.message.Message.TheVariants.{Ask, Propose, Vote, Reply}
-use Rattle.smart_messages.specs.declared.message.VoteKind.TheVariants.{Write, Accept}
+use Rattle.smart_messages.specs.declared.statement.VoteKind.TheVariants.{Write, Accept}
 use Rattle.smart_messages.specs.declared.entry.LogEntry.{LogEntry}
 use Rattle.smart_messages.specs.declared.entry.LogEntry.TheVariants.{Wrote, Accepted, Decided}
 use Rattle.smart_messages.specs.declared.entry.NodeEvent.{NodeEvent}
@@ -16,10 +15,11 @@ use Rattle.smart_messages.specs.declared.entry.NodeEvent.TheVariants.{Arrive, Ti
 use Rattle.smart_service.specs.Services.{Meaning}
 use Rattle.smart_service.specs.declared.table.TableLine.{TableLine}
 use Rattle.node_rules.specs.Replicas.{delivered}
+use Rattle.node_rules.specs.Seals.{digest_of}
 use Rattle.node_rules.specs.Nodes.{Node, next_place, open_slot, holding, recording}
 use Rattle.node_rules.specs.Arrivals.{why_dropped, kept}
 use Rattle.node_rules.specs.Rules.{settled, reply_of, replying, lines_to_answer, deliver_batch, delivers, delivery, proposing, propose_batch, proposes, writing, write_batch, writes, backers, accepting, accept_batch, accepts, deciding, decide_batch, decides, fired_if}
-use Rattle.node_rules.specs.Steps.{votes, fired_votes, passes, fired_pass, arrival_outcome, step_of}
+use Rattle.node_rules.specs.Steps.{votes, fired_votes, passes, fired_pass, arrival_outcome, reading_outcome, step_of}
 use Rattle.node_rules.specs.declared.node.Why.{Why}
 use Rattle.node_rules.specs.declared.node.Target.TheVariants as targets
 use Rattle.node_rules.specs.declared.node.Delivery.{Delivery}
@@ -35,25 +35,25 @@ use Rattle.world_laws.proofs.Said.{HasAccepted, accepted_grows}
 -- the same member's node, with a book that has grown
 pub record Follows {S : Type 0} (n n' : Node S) : Type 0 where
   pub id : n'.id ≡ n.id
-  pub grows : (slot : Slot) (batch : List Request) → HasAccepted n.entries slot batch → HasAccepted n'.entries slot batch
+  pub grows : (slot : Slot) (digest : List ℕ) → HasAccepted n.entries slot digest → HasAccepted n'.entries slot digest
 
 -- a node follows itself
 follows-same : {S : Type 0} (n : Node S) → Follows n n
-follows-same n = record { id = refl; grows = λ slot batch has. has }
+follows-same n = record { id = refl; grows = λ slot digest has. has }
 
 -- a node that follows a follower follows
 follows-then : {S : Type 0} (a b c : Node S) → Follows a b → Follows b c → Follows a c
-follows-then a b c f g = record { id = g.id ∙ f.id; grows = λ slot batch has. g.grows slot batch (f.grows slot batch has) }
+follows-then a b c f g = record { id = g.id ∙ f.id; grows = λ slot digest has. g.grows slot digest (f.grows slot digest has) }
 
 -- an entry more
 follows-recording : {S : Type 0} (n : Node S) (e : LogEntry) → Follows n (recording n e)
-follows-recording n e = record { id = refl; grows = λ slot batch has. accepted_grows n.entries e slot batch has }
+follows-recording n e = record { id = refl; grows = λ slot digest has. accepted_grows n.entries e slot digest has }
 
 -- held replies change neither name nor book
 follows-replying : {S : Type 0} (n : Node S) (lines : List TableLine) → Follows n (replying n lines)
 follows-replying n [] = follows-same n
 follows-replying n (l ∷ ls) =
-    let f = follows-replying (holding n (targets.Client l.client) (reply_of n.id l)) ls in
+    let f = follows-replying (holding n (targets.Client l.client) (reply_of n.secret n.id l)) ls in
     record { id = f.id; grows = f.grows }
 
 -- both branches follow
@@ -64,13 +64,13 @@ follows-if false n x y fx fy = fy
 -- an arrival changes neither name nor book
 follows-kept : {S : Type 0} (n : Node S) (message : Message) → Follows n (kept n message)
 unfolding kept
-follows-kept n (Ask q) = follows-if _ n _ n (record { id = refl; grows = λ slot batch has. has }) (follows-same n)
-follows-kept n (Propose p) = record { id = refl; grows = λ slot batch has. has }
-follows-kept n (Vote b) = record { id = refl; grows = λ slot batch has. has }
+follows-kept n (Ask q) = follows-if _ n _ n (record { id = refl; grows = λ slot digest has. has }) (follows-same n)
+follows-kept n (Propose p) = record { id = refl; grows = λ slot digest has. has }
+follows-kept n (Vote b) = record { id = refl; grows = λ slot digest has. has }
 follows-kept n (Reply a) = follows-same n
 
 -- nor does a delivery
-follows-deliver_batch : {S : Type 0} (m : Meaning S) (n : Node S) (batch : Option (List Request)) → Follows n (deliver_batch m n batch)
+follows-deliver_batch : {S : Type 0} (m : Meaning S) (n : Node S) (batch : Option Batch) → Follows n (deliver_batch m n batch)
 unfolding deliver_batch
 follows-deliver_batch m n None = follows-same n
 follows-deliver_batch m n (Some batch) =
@@ -85,25 +85,25 @@ unfolding delivers
 follows-delivers m n = follows-deliver_batch m n n.waiting
 
 -- nor does a proposal
-follows-propose_batch : {S : Type 0} (n : Node S) (batch : Option (List Request)) → Follows n (propose_batch n batch)
+follows-propose_batch : {S : Type 0} (n : Node S) (batch : Option Batch) → Follows n (propose_batch n batch)
 unfolding propose_batch
 follows-propose_batch n None = follows-same n
-follows-propose_batch n (Some batch) = record { id = refl; grows = λ slot batch has. has }
+follows-propose_batch n (Some batch) = record { id = refl; grows = λ slot digest has. has }
 
 -- what is written stands at the end of the book
-follows-write_batch : {S : Type 0} (n : Node S) (batch : Option (List Request)) → Follows n (write_batch n batch)
+follows-write_batch : {S : Type 0} (n : Node S) (batch : Option Batch) → Follows n (write_batch n batch)
 unfolding write_batch
 follows-write_batch n None = follows-same n
 follows-write_batch n (Some batch) = let f = follows-recording n (Wrote (open_slot n) (digest_of batch)) in record { id = refl; grows = f.grows }
 
 -- so does what is accepted
-follows-accept_batch : {S : Type 0} (n : Node S) (batch : Option (List Request)) → Follows n (accept_batch n batch)
+follows-accept_batch : {S : Type 0} (n : Node S) (batch : Option Batch) → Follows n (accept_batch n batch)
 unfolding accept_batch
 follows-accept_batch n None = follows-same n
 follows-accept_batch n (Some batch) = let f = follows-recording n (Accepted (open_slot n) (backers n Write batch) batch) in record { id = refl; grows = f.grows }
 
 -- and what is decided
-follows-decide_batch : {S : Type 0} (n : Node S) (batch : Option (List Request)) → Follows n (decide_batch n batch)
+follows-decide_batch : {S : Type 0} (n : Node S) (batch : Option Batch) → Follows n (decide_batch n batch)
 unfolding decide_batch
 follows-decide_batch n None = follows-same n
 follows-decide_batch n (Some batch) = let f = follows-recording n (Decided (open_slot n) (backers n Accept batch) batch) in record { id = refl; grows = f.grows }
@@ -127,10 +127,15 @@ follows-arrival : {S : Type 0} (n : Node S) (message : Message) (why : Option Wh
 follows-arrival n message None = follows-then n (kept n message) _ (follows-kept n message) (follows-passes (kept n message))
 follows-arrival n message (Some why) = follows-same n
 
+-- bytes that come, and their pass
+follows-reading : {S : Type 0} (n : Node S) (read : Result Message ℕ) → Follows n (reading_outcome n read).node
+follows-reading n (Ok message) = follows-arrival n message (why_dropped n message)
+follows-reading n (Err at) = follows-same n
+
 -- a step
 pub follows-step : {S : Type 0} (m : Meaning S) (n : Node S) (event : NodeEvent) → Follows n (step_of m n event).node
 unfolding step_of
-follows-step m n (Arrive message) = follows-arrival n message (why_dropped n message)
+follows-step m n (Arrive bytes) = follows-reading n (decoded bytes)
 follows-step m n Tick = follows-passes n
 follows-step m n Deliver = follows-then n (delivers m n) _ (follows-delivers m n) (follows-passes (delivers m n))
 follows-step m n (Firm count) = let f = follows-passes (record n { firm = count }) in record { id = f.id; grows = f.grows }
@@ -141,13 +146,13 @@ pub record DecidesNext {S : Type 0} (n n' : Node S) : Type 0 where
   pub rest : n'.waiting ≡ None → length (decided_of n'.entries) ≤ length (decided_of n.entries)
 
 -- who writes decides nothing
-decided-write_batch : {S : Type 0} (n : Node S) (batch : Option (List Request)) → decided_of (write_batch n batch).entries ≡ decided_of n.entries
+decided-write_batch : {S : Type 0} (n : Node S) (batch : Option Batch) → decided_of (write_batch n batch).entries ≡ decided_of n.entries
 unfolding write_batch
 decided-write_batch n None = refl
 decided-write_batch n (Some batch) = decided-none n.entries (Wrote (open_slot n) (digest_of batch)) refl
 
 -- who accepts decides nothing
-decided-accept_batch : {S : Type 0} (n : Node S) (batch : Option (List Request)) → decided_of (accept_batch n batch).entries ≡ decided_of n.entries
+decided-accept_batch : {S : Type 0} (n : Node S) (batch : Option Batch) → decided_of (accept_batch n batch).entries ≡ decided_of n.entries
 unfolding accept_batch
 decided-accept_batch n None = refl
 decided-accept_batch n (Some batch) = decided-none n.entries (Accepted (open_slot n) (backers n Write batch) batch) refl
@@ -161,21 +166,21 @@ decided-votes n =
 
 -- a node that decides nothing
 next-same : {S : Type 0} (n n' : Node S) → decided_of n'.entries ≡ decided_of n.entries → DecidesNext n n'
-next-same n n' same = let e = ap (λ (bs : List (List Request)). length bs) same in record { most = omega (arith, e); rest = λ is. omega (arith, e) }
+next-same n n' same = let e = ap (λ (bs : List Batch). length bs) same in record { most = omega (arith, e); rest = λ is. omega (arith, e) }
 
 -- a node that decides has its batch wait
-next-decide_batch : {S : Type 0} (n : Node S) (batch : Option (List Request)) → DecidesNext n (decide_batch n batch)
+next-decide_batch : {S : Type 0} (n : Node S) (batch : Option Batch) → DecidesNext n (decide_batch n batch)
 unfolding decide_batch
 next-decide_batch n None = next-same n n refl
 next-decide_batch n (Some batch) =
     let more = decided-append n.entries (Decided (open_slot n) (backers n Accept batch) batch) in
-    let e = ap (λ (bs : List (List Request)). length bs) more ∙ length-append (decided_of n.entries) (batch ∷ []) in
+    let e = ap (λ (bs : List Batch). length bs) more ∙ length-append (decided_of n.entries) (batch ∷ []) in
     record { most = omega (arith, e); rest = λ is. absurd (cc) }
 
 -- a node with the same decided batches before it
 next-after : {S : Type 0} (a b c : Node S) → decided_of b.entries ≡ decided_of a.entries → DecidesNext b c → DecidesNext a c
 next-after a b c same next =
-    let e = ap (λ (bs : List (List Request)). length bs) same in
+    let e = ap (λ (bs : List Batch). length bs) same in
     record { most = omega (arith, e, next.most); rest = λ is. omega (arith, e, next.rest is) }
 
 -- a pass decides one batch at most
@@ -188,10 +193,15 @@ next-arrival : {S : Type 0} (n : Node S) (message : Message) (why : Option Why) 
 next-arrival n message None = next-after n (kept n message) (passes (kept n message)) (ap decided_of (entries-kept n message)) (next-passes (kept n message))
 next-arrival n message (Some why) = next-same n n refl
 
+-- so do bytes that come
+next-reading : {S : Type 0} (n : Node S) (read : Result Message ℕ) → DecidesNext n (reading_outcome n read).node
+next-reading n (Ok message) = next-arrival n message (why_dropped n message)
+next-reading n (Err at) = next-same n n refl
+
 -- so does a step
 pub next-step : {S : Type 0} (m : Meaning S) (n : Node S) (event : NodeEvent) → DecidesNext n (step_of m n event).node
 unfolding step_of
-next-step m n (Arrive message) = next-arrival n message (why_dropped n message)
+next-step m n (Arrive bytes) = next-reading n (decoded bytes)
 next-step m n Tick = next-passes n
 next-step m n Deliver = next-after n (delivers m n) (passes (delivers m n)) (ap decided_of (entries-delivers m n)) (next-passes (delivers m n))
 next-step m n (Firm count) = next-after n (record n { firm = count }) (passes (record n { firm = count })) refl (next-passes (record n { firm = count }))
@@ -217,24 +227,24 @@ due-votes n x =
     due-append n (fired_if fires.Proposed (proposing x)) _ (proposed (proposing x))
     (due-append n (fired_if fires.Wrote (writing (proposes x))) _ (wrote (writing (proposes x))) (accepted (accepting (writes (proposes x)))))
   where
-    proposed : (batch : Option (List Request)) → AllDue n (fired_if fires.Proposed batch)
+    proposed : (batch : Option Batch) → AllDue n (fired_if fires.Proposed batch)
     proposed None = tt
     proposed (Some batch) = tt
 
-    wrote : (batch : Option (List Request)) → AllDue n (fired_if fires.Wrote batch)
+    wrote : (batch : Option Batch) → AllDue n (fired_if fires.Wrote batch)
     wrote None = tt
     wrote (Some batch) = tt
 
-    accepted : (batch : Option (List Request)) → AllDue n (fired_if fires.Accepted batch)
+    accepted : (batch : Option Batch) → AllDue n (fired_if fires.Accepted batch)
     accepted None = tt
     accepted (Some batch) = tt
 
 -- a pass delivers nothing
-due-pass : {S : Type 0} (n x : Node S) → AllDue n (fired_pass x)
+pub due-pass : {S : Type 0} (n x : Node S) → AllDue n (fired_pass x)
 unfolding fired_pass
 due-pass n x = due-append n (fired_votes x) _ (due-votes n x) (decided (next_place (votes x)) (deciding (votes x)))
   where
-    decided : (place : ℕ) (batch : Option (List Request)) → AllDue n (fired_if (fires.Decided place) batch)
+    decided : (place : ℕ) (batch : Option Batch) → AllDue n (fired_if (fires.Decided place) batch)
     decided place None = tt
     decided place (Some batch) = tt
 
@@ -243,8 +253,13 @@ due-arrival : {S : Type 0} (n : Node S) (message : Message) (why : Option Why) �
 due-arrival n message None = due-pass n (kept n message)
 due-arrival n message (Some why) = tt
 
+-- nor do bytes that come
+due-reading : {S : Type 0} (n : Node S) (read : Result Message ℕ) → AllDue n (reading_outcome n read).fired
+due-reading n (Ok message) = due-arrival n message (why_dropped n message)
+due-reading n (Err at) = tt
+
 -- a delivery delivers what waited
-due-delivery : {S : Type 0} (m : Meaning S) (n : Node S) (batch : Option (List Request)) → n.waiting ≡ batch → AllDue n (delivery m n batch)
+due-delivery : {S : Type 0} (m : Meaning S) (n : Node S) (batch : Option Batch) → n.waiting ≡ batch → AllDue n (delivery m n batch)
 unfolding delivery
 due-delivery m n None at = tt
 due-delivery m n (Some batch) at = ((at, refl), tt)
@@ -252,7 +267,7 @@ due-delivery m n (Some batch) at = ((at, refl), tt)
 -- a step delivers what waited at most
 pub due-step : {S : Type 0} (m : Meaning S) (n : Node S) (event : NodeEvent) → Each (WasDue n) (flat_map delivery_in (step_of m n event).fired)
 unfolding step_of
-due-step m n (Arrive message) = due-arrival n message (why_dropped n message)
+due-step m n (Arrive bytes) = due-reading n (decoded bytes)
 due-step m n Tick = due-pass n n
 due-step m n Deliver = due-append n (delivery m n n.waiting) (fired_pass (delivers m n)) (due-delivery m n n.waiting refl) (due-pass n (delivers m n))
 due-step m n (Firm count) = due-pass n (record n { firm = count })

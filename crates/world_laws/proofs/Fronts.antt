@@ -1,7 +1,7 @@
 -- Lists that begin with another.
 use Rattle.std.proofs.Common.{◌≡◌, ℕ, zero, suc, ◌+◌, ◌≤◌, ◌++◌, List, [], ◌∷◌, length, refl, ap, arith, Some, take, add-one}
 use Rattle.std.specs.Prelude.{slice_get}
-use Rattle.smart_messages.specs.declared.message.Request.{Request}
+use Rattle.smart_messages.specs.Messages.{Batch}
 use Rattle.node_rules.specs.Replicas.{batch_at}
 
 -- a list begins with another
@@ -52,10 +52,10 @@ front-take (x ∷ xs) (y ∷ ys) (suc p) front le =
 -- batches by their places
 
 -- places count from 1
-pub batch_at-next : (list : List (List Request)) (k : ℕ) → batch_at list (k + 1) ≡ slice_get list k
+pub batch_at-next : (list : List Batch) (k : ℕ) → batch_at list (k + 1) ≡ slice_get list k
 batch_at-next list k = rw add-one refl
 
 -- the batch at a place of the front is that of the list
-pub front-batch_at : (xs ys : List (List Request)) (place : ℕ) (batch : List Request) → take (length xs) ys ≡ xs → batch_at xs place ≡ Some batch → batch_at ys place ≡ Some batch
+pub front-batch_at : (xs ys : List Batch) (place : ℕ) (batch : Batch) → take (length xs) ys ≡ xs → batch_at xs place ≡ Some batch → batch_at ys place ≡ Some batch
 front-batch_at xs ys zero batch front at = absurd (cc)
 front-batch_at xs ys (suc k) batch front at = front-get xs ys k batch front at

@@ -1,11 +1,10 @@
 -- The list of chosen batches only grows, and the view stays.
-use Rattle.std.proofs.Common.{◌≡◌, ℕ, zero, suc, ◌+◌, ◌≤◌, ◌^◌, ◌==◌, ◌++◌, List, [], ◌∷◌, length, refl, ◌∙◌, arith, Option, Some, None, take, nat_lt}
-use Rattle.std.specs.Prelude.{slice_set}
-use Rattle.smart_base.specs.declared.view.View.{View}
-use Rattle.smart_messages.specs.declared.message.Request.{Request}
-use Rattle.smart_messages.specs.declared.message.Answer.{Answer}
+use Rattle.std.proofs.Common.{◌≡◌, ℕ, zero, suc, ◌+◌, ◌≤◌, ◌==◌, ◌++◌, List, [], ◌∷◌, length, refl, ◌∙◌, arith, Option, Some, None, take}
+use Rattle.smart_base.specs.Views.{View}
+use Rattle.smart_messages.specs.Forms.{SignedBy}
+use Rattle.smart_messages.specs.Messages.{Batch}
+use Rattle.smart_messages.specs.declared.statement.Answer.{Answer}
 use Rattle.smart_messages.specs.declared.message.Message.{Message}
-use Rattle.smart_messages.specs.declared.message.Message.TheVariants.{Ask}
 use Rattle.smart_messages.specs.declared.entry.NodeEvent.{NodeEvent}
 use Rattle.smart_service.specs.Services.{Meaning}
 use Rattle.node_rules.specs.Nodes.{Node, next_place}
@@ -13,7 +12,7 @@ use Rattle.node_rules.specs.Steps.{Outcome, step_of, leaving}
 use Rattle.node_rules.specs.declared.node.Held.{Held}
 use Rattle.node_rules.specs.declared.node.Target.{Target}
 use Rattle.node_rules.specs.declared.node.Target.TheVariants as targets
-use Rattle.world_rules.specs.Clients.{request_of, asking, heard}
+use Rattle.world_rules.specs.Clients.{heard}
 use Rattle.world_rules.specs.Worlds.{Host, World, sends, sends_all, chosen_with, stepped, hearing, begun}
 use Rattle.world_rules.specs.Plays.{line_played, rested, world_after}
 use Rattle.world_rules.specs.Promises.{world_at}
@@ -23,15 +22,14 @@ use Rattle.world_rules.specs.declared.line.Line.{Line}
 use Rattle.world_rules.specs.declared.message.Origin.{Origin}
 use Rattle.world_rules.specs.declared.message.Origin.TheVariants as origins
 use Rattle.world_laws.proofs.Lists.{either}
-use Rattle.world_laws.proofs.Keeps.{Keeps, keeps-world_after}
+use Rattle.world_laws.proofs.Keeps.{ask_of, asked_by, by-sends, Keeps, keeps-world_after}
 use Rattle.world_laws.proofs.Fronts.{IsFront, front-same, front-append}
 
 -- messages that leave change neither the list nor the view
 
 -- a message that leaves keeps the list
 pub chosen-sends : {S : Type 0} (w : World S) (origin : Origin) (to : Target) (message : Message) → (sends w origin to message).chosen ≡ w.chosen
-unfolding sends
-chosen-sends {S = S} w origin to message = either (λ (v : World S). v.chosen ≡ w.chosen) (nat_lt (length w.sent) (2 ^ 24)) _ _ refl refl
+chosen-sends {S = S} w origin to message = by-sends (λ (v : World S). v.chosen ≡ w.chosen) w origin to message (λ ending. refl) (λ free room. refl)
 
 -- so do held messages
 pub chosen-sends_all : {S : Type 0} (id : ℕ) (w : World S) (held : List Held) → (sends_all id w held).chosen ≡ w.chosen
@@ -40,8 +38,7 @@ chosen-sends_all id w (h ∷ hs) = chosen-sends_all id (sends w (origins.Node id
 
 -- a message that leaves keeps the view
 pub view-sends : {S : Type 0} (w : World S) (origin : Origin) (to : Target) (message : Message) → (sends w origin to message).view ≡ w.view
-unfolding sends
-view-sends {S = S} w origin to message = either (λ (v : World S). v.view ≡ w.view) (nat_lt (length w.sent) (2 ^ 24)) _ _ refl refl
+view-sends {S = S} w origin to message = by-sends (λ (v : World S). v.view ≡ w.view) w origin to message (λ ending. refl) (λ free room. refl)
 
 -- so do held messages
 pub view-sends_all : {S : Type 0} (id : ℕ) (w : World S) (held : List Held) → (sends_all id w held).view ≡ w.view
@@ -51,10 +48,10 @@ view-sends_all id w (h ∷ hs) = view-sends_all id (sends w (origins.Node id) h.
 -- events
 
 -- a list with the batch that waits at a node begins with what it began with
-front-chosen_with : (front chosen : List (List Request)) (place : ℕ) (waiting : Option (List Request)) → take (length front) chosen ≡ front → take (length front) (chosen_with chosen place waiting) ≡ front
+front-chosen_with : (front chosen : List Batch) (place : ℕ) (waiting : Option Batch) → take (length front) chosen ≡ front → take (length front) (chosen_with chosen place waiting) ≡ front
 front-chosen_with front chosen place None is = is
 front-chosen_with front chosen place (Some batch) is =
-    either (λ (c : List (List Request)). take (length front) c ≡ front) (place == length chosen + 1) (chosen ++ batch ∷ []) chosen (front-append front chosen (batch ∷ []) is) is
+    either (λ (c : List Batch). take (length front) c ≡ front) (place == length chosen + 1) (chosen ++ batch ∷ []) chosen (front-append front chosen (batch ∷ []) is) is
 
 -- a step adds the batch that waits
 chosen-stepped : {S : Type 0} (w : World S) (i : ℕ) (h : Host S) (o : Outcome S) → (stepped w i h o).chosen ≡ chosen_with w.chosen (next_place o.node) o.node.waiting
@@ -67,22 +64,22 @@ unfolding stepped
 view-stepped w i h o = view-sends_all h.node.id _ (leaving o.node.firm o.node.held)
 
 -- a client that hears keeps the list
-chosen-hearing : {S : Type 0} (w : World S) (i : ℕ) (c : Client) (a : Answer) (h : Heard) → (hearing w i c a h).chosen ≡ w.chosen
+chosen-hearing : {S : Type 0} (w : World S) (i : ℕ) (c : Client) (a : SignedBy Answer) (h : Heard) → (hearing w i c a h).chosen ≡ w.chosen
 unfolding hearing
 chosen-hearing w i c a h = refl
 
 -- a client that hears keeps the view
-view-hearing : {S : Type 0} (w : World S) (i : ℕ) (c : Client) (a : Answer) (h : Heard) → (hearing w i c a h).view ≡ w.view
+view-hearing : {S : Type 0} (w : World S) (i : ℕ) (c : Client) (a : SignedBy Answer) (h : Heard) → (hearing w i c a h).view ≡ w.view
 unfolding hearing
 view-hearing w i c a h = refl
 
 -- each event keeps what the list began with
-pub front-kept : {S : Type 0} (step : Node S → NodeEvent → Outcome S) (front : List (List Request)) → Keeps step (λ w. take (length front) w.chosen ≡ front)
+pub front-kept : {S : Type 0} (step : Node S → NodeEvent → Outcome S) (front : List Batch) → Keeps step (λ w. take (length front) w.chosen ≡ front)
 front-kept step front =
     record {
       event = λ w i h event at may is. rw chosen-stepped (front-chosen_with front w.chosen (next_place (step h.node event).node) (step h.node event).node.waiting is);
-      hear = λ w i c a at has is. rw chosen-hearing is;
-      ask = λ w i c op at free is. rw chosen-sends is;
+      hear = λ w i c x a at has read is. rw chosen-hearing is;
+      ask = λ w i c op at free few brief is. rw chosen-sends is;
       same = λ w mark told is. is;
     }
 
@@ -91,8 +88,8 @@ pub view-kept : {S : Type 0} (step : Node S → NodeEvent → Outcome S) (view :
 view-kept step view =
     record {
       event = λ w i h event at may is. view-stepped w i h (step h.node event) ∙ is;
-      hear = λ w i c a at has is. view-hearing w i c a (heard w.view c a) ∙ is;
-      ask = λ w i c op at free is. view-sends (record w { clients = slice_set w.clients i (asking c (request_of c op)) }) (origins.Client c.id) targets.View (Ask (request_of c op)) ∙ is;
+      hear = λ w i c x a at has read is. view-hearing w i c a (heard w.view c a) ∙ is;
+      ask = λ w i c op at free few brief is. view-sends (asked_by w i c op) (origins.Client c.id) targets.View (ask_of c op) ∙ is;
       same = λ w mark told is. is;
     }
 

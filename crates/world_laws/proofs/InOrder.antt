@@ -1,10 +1,10 @@
 -- A node delivers its decided batches in order.
-use Rattle.std.proofs.Common.{◌≡◌, ℕ, zero, suc, ◌+◌, ◌≤◌, ◌^◌, ◌++◌, Bool, true, false, List, [], ◌∷◌, length, refl, ap, ◌∙◌, sym, arith, cond, Option, Some, None, is_some, is_none, nat_lt, take, length-append}
+use Rattle.std.proofs.Common.{◌≡◌, ℕ, zero, suc, ◌+◌, ◌≤◌, ◌^◌, ◌++◌, Bool, true, false, List, [], ◌∷◌, length, refl, ap, ◌∙◌, sym, arith, cond, Option, Some, None, is_some, is_none, nat_lt, take, length-append, Result, Ok, Err}
 use Rattle.std.proofs.lemmas.List.{take-append-le}
 use Rattle.std.specs.Prelude.{slice_get}
-use Rattle.smart_base.specs.Views.{present}
-use Rattle.smart_base.specs.declared.view.View.{View}
-use Rattle.smart_messages.specs.declared.message.Request.{Request}
+use Rattle.smart_base.specs.Views.{View, present}
+use Rattle.smart_messages.specs.Messages.{Batch, decoded}
+use Rattle.smart_messages.specs.declared.statement.Request.{Request}
 use Rattle.smart_messages.specs.declared.message.Message.{Message}
 use Rattle.smart_messages.specs.declared.message.Message.TheVariants.{Ask, Propose, Vote, Reply}
 use Rattle.smart_messages.specs.declared.entry.LogEntry.{LogEntry}
@@ -18,11 +18,11 @@ use Rattle.node_rules.specs.Replicas.{is_next, execute, execute_all, at_next, de
 use Rattle.node_rules.specs.Nodes.{Node, view_of, next_place, open_slot, is_free, holding, recording}
 use Rattle.node_rules.specs.Arrivals.{why_dropped, offered, kept}
 use Rattle.node_rules.specs.Rules.{settled, reply_of, replying, lines_to_answer, deliver_batch, delivers, proposing, propose_batch, proposes, writing, write_batch, writes, backers, accepting, accept_batch, accepts, deciding, decide_batch, decides}
-use Rattle.node_rules.specs.Steps.{votes, passes, arrival_outcome, step_of, opened, released}
+use Rattle.node_rules.specs.Steps.{votes, passes, arrival_outcome, reading_outcome, step_of, opened, released}
 use Rattle.node_rules.specs.declared.node.Why.{Why}
 use Rattle.node_rules.specs.declared.node.Target.TheVariants as targets
-use Rattle.smart_messages.specs.declared.message.VoteKind.TheVariants.{Write, Accept}
-use Rattle.smart_messages.specs.Equality.{digest_of}
+use Rattle.smart_messages.specs.declared.statement.VoteKind.TheVariants.{Write, Accept}
+use Rattle.node_rules.specs.Seals.{digest_of}
 use Rattle.kept_arrivals.specs.Kept.{node_after}
 use Rattle.world_laws.specs.Books.{decided_of, DeliversInOrder}
 use Rattle.world_laws.proofs.Lists.{and_true}
@@ -77,12 +77,12 @@ unfolding execute
 place-execute m r i q = place-if (is_next r.table q) _ r refl
 
 -- requests keep the place
-place-execute_all : {S : Type 0} (m : Meaning S) (r : Replica S) (i : ℕ) (qs : List Request) → (execute_all m r i qs).place ≡ r.place
+place-execute_all : {S : Type 0} (m : Meaning S) (r : Replica S) (i : ℕ) (qs : Batch) → (execute_all m r i qs).place ≡ r.place
 place-execute_all m r i [] = refl
-place-execute_all m r i (q ∷ qs) = place-execute_all m (execute m r i q) (i + 1) qs ∙ place-execute m r i q
+place-execute_all m r i (q ∷ qs) = place-execute_all m (execute m r i q.statement) (i + 1) qs ∙ place-execute m r i q.statement
 
 -- a batch more is a place more
-pub place-delivered : {S : Type 0} (m : Meaning S) (r : Replica S) (batch : List Request) → (delivered m r batch).place ≡ r.place + 1
+pub place-delivered : {S : Type 0} (m : Meaning S) (r : Replica S) (batch : Batch) → (delivered m r batch).place ≡ r.place + 1
 unfolding delivered
 place-delivered m r batch = place-execute_all m (at_next r) 0 batch
 
@@ -97,22 +97,22 @@ unfolding execute
 views-execute m r i q = views-if (is_next r.table q) _ r refl
 
 -- requests change no view
-views-execute_all : {S : Type 0} (m : Meaning S) (r : Replica S) (i : ℕ) (qs : List Request) → (execute_all m r i qs).views ≡ r.views
+views-execute_all : {S : Type 0} (m : Meaning S) (r : Replica S) (i : ℕ) (qs : Batch) → (execute_all m r i qs).views ≡ r.views
 views-execute_all m r i [] = refl
-views-execute_all m r i (q ∷ qs) = views-execute_all m (execute m r i q) (i + 1) qs ∙ views-execute m r i q
+views-execute_all m r i (q ∷ qs) = views-execute_all m (execute m r i q.statement) (i + 1) qs ∙ views-execute m r i q.statement
 
 -- a batch changes no view
-pub views-delivered : {S : Type 0} (m : Meaning S) (r : Replica S) (batch : List Request) → (delivered m r batch).views ≡ r.views
+pub views-delivered : {S : Type 0} (m : Meaning S) (r : Replica S) (batch : Batch) → (delivered m r batch).views ≡ r.views
 unfolding delivered
 views-delivered m r batch = views-execute_all m (at_next r) 0 batch
 
 -- batches change no view
-pub views-after_batches : {S : Type 0} (m : Meaning S) (r : Replica S) (bs : List (List Request)) → (after_batches m r bs).views ≡ r.views
+pub views-after_batches : {S : Type 0} (m : Meaning S) (r : Replica S) (bs : List Batch) → (after_batches m r bs).views ≡ r.views
 views-after_batches m r [] = refl
 views-after_batches m r (b ∷ bs) = views-after_batches m (delivered m r b) bs ∙ views-delivered m r b
 
 -- the state after one more batch
-pub after_end : {S : Type 0} (m : Meaning S) (r : Replica S) (bs : List (List Request)) (b : List Request) → after_batches m r (bs ++ b ∷ []) ≡ delivered m (after_batches m r bs) b
+pub after_end : {S : Type 0} (m : Meaning S) (r : Replica S) (bs : List Batch) (b : Batch) → after_batches m r (bs ++ b ∷ []) ≡ delivered m (after_batches m r bs) b
 after_end m r [] b = refl
 after_end m r (c ∷ bs) b = after_end m (delivered m r c) bs b
 
@@ -127,7 +127,7 @@ view-in_order {S = S} m view n d =
 in_order-replying : {S : Type 0} (m : Meaning S) (view : View) (n : Node S) (lines : List TableLine) → DeliversInOrder m view n → DeliversInOrder m view (replying n lines)
 in_order-replying m view n [] d = d
 in_order-replying m view n (l ∷ ls) d =
-    in_order-replying m view (holding n (targets.Client l.client) (reply_of n.id l)) ls (record { replica = d.replica; waiting = d.waiting; count = d.count })
+    in_order-replying m view (holding n (targets.Client l.client) (reply_of n.secret n.id l)) ls (record { replica = d.replica; waiting = d.waiting; count = d.count })
 
 -- an entry that decides nothing
 in_order-recording : {S : Type 0} (m : Meaning S) (view : View) (n : Node S) (e : LogEntry) → decided_of (e ∷ []) ≡ [] → DeliversInOrder m view n → DeliversInOrder m view (recording n e)
@@ -136,12 +136,12 @@ in_order-recording m view n e none d =
     record { replica = rw same d.replica; waiting = rw same d.waiting; count = rw same d.count }
 
 -- delivery takes the batch that waits
-in_order-deliver_batch : {S : Type 0} (m : Meaning S) (view : View) (n : Node S) (batch : Option (List Request)) → n.waiting ≡ batch → DeliversInOrder m view n → DeliversInOrder m view (deliver_batch m n batch)
+in_order-deliver_batch : {S : Type 0} (m : Meaning S) (view : View) (n : Node S) (batch : Option Batch) → n.waiting ≡ batch → DeliversInOrder m view n → DeliversInOrder m view (deliver_batch m n batch)
 unfolding deliver_batch
 in_order-deliver_batch m view n None at d = d
 in_order-deliver_batch {S = S} m view n (Some batch) at d =
     let r : Replica S = delivered m n.replica batch in
-    let ds : List (List Request) = decided_of n.entries in
+    let ds : List Batch = decided_of n.entries in
     let next : r.place ≡ n.replica.place + 1 = place-delivered m n.replica batch in
     let full : length ds ≡ n.replica.place + 1 = rw at at d.count in
     let taken : take r.place ds ≡ take n.replica.place ds ++ batch ∷ [] =
@@ -149,7 +149,7 @@ in_order-deliver_batch {S = S} m view n (Some batch) at d =
     in_order-replying m view (record n { replica = r; waiting = None; pool = settled r.table n.pool }) (lines_to_answer m n batch)
     (record {
       replica = sym (after_end m (empty m view) (take n.replica.place ds) batch ∙ ap (λ (x : Replica S). delivered m x batch) (sym d.replica))
-          ∙ ap (λ (xs : List (List Request)). state m view xs) (sym taken);
+          ∙ ap (λ (xs : List Batch). state m view xs) (sym taken);
       waiting = sym (get-past ds r.place (omega (arith, next, full)));
       count = full ∙ sym next;
     })
@@ -160,11 +160,11 @@ unfolding delivers
 in_order-delivers m view n d = in_order-deliver_batch m view n n.waiting refl d
 
 -- a batch that is decided where none waits, waits at the next place
-in_order-decide_batch : {S : Type 0} (m : Meaning S) (view : View) (n : Node S) (batch : Option (List Request)) → (is_some batch ≡ true → n.waiting ≡ None) → DeliversInOrder m view n → DeliversInOrder m view (decide_batch n batch)
+in_order-decide_batch : {S : Type 0} (m : Meaning S) (view : View) (n : Node S) (batch : Option Batch) → (is_some batch ≡ true → n.waiting ≡ None) → DeliversInOrder m view n → DeliversInOrder m view (decide_batch n batch)
 unfolding decide_batch
 in_order-decide_batch m view n None free d = d
 in_order-decide_batch m view n (Some batch) free d =
-    let ds : List (List Request) = decided_of n.entries in
+    let ds : List Batch = decided_of n.entries in
     let e : LogEntry = Decided (open_slot n) (backers n Accept batch) batch in
     let more : decided_of (n.entries ++ e ∷ []) ≡ ds ++ batch ∷ [] = decided-append n.entries e in
     let full : length ds ≡ n.replica.place = rw (free refl) at d.count in
@@ -182,26 +182,26 @@ in_order-if m view false x y dx dy = dy
 -- an arrival that is kept
 pub in_order-kept : {S : Type 0} (m : Meaning S) (view : View) (n : Node S) (message : Message) → DeliversInOrder m view n → DeliversInOrder m view (kept n message)
 unfolding kept
-in_order-kept m view n (Ask q) d = in_order-if m view (is_next n.replica.table q) (record n { pool = offered n.pool q }) n (record { replica = d.replica; waiting = d.waiting; count = d.count }) d
+in_order-kept m view n (Ask q) d = in_order-if m view (is_next n.replica.table q.statement) (record n { pool = offered n.pool q }) n (record { replica = d.replica; waiting = d.waiting; count = d.count }) d
 in_order-kept m view n (Propose p) d = record { replica = d.replica; waiting = d.waiting; count = d.count }
 in_order-kept m view n (Vote b) d = record { replica = d.replica; waiting = d.waiting; count = d.count }
 in_order-kept m view n (Reply a) d = d
 
 -- a proposal
-in_order-propose_batch : {S : Type 0} (m : Meaning S) (view : View) (n : Node S) (batch : Option (List Request)) → DeliversInOrder m view n → DeliversInOrder m view (propose_batch n batch)
+in_order-propose_batch : {S : Type 0} (m : Meaning S) (view : View) (n : Node S) (batch : Option Batch) → DeliversInOrder m view n → DeliversInOrder m view (propose_batch n batch)
 unfolding propose_batch
 in_order-propose_batch m view n None d = d
 in_order-propose_batch m view n (Some batch) d = record { replica = d.replica; waiting = d.waiting; count = d.count }
 
 -- a batch that is written
-in_order-write_batch : {S : Type 0} (m : Meaning S) (view : View) (n : Node S) (batch : Option (List Request)) → DeliversInOrder m view n → DeliversInOrder m view (write_batch n batch)
+in_order-write_batch : {S : Type 0} (m : Meaning S) (view : View) (n : Node S) (batch : Option Batch) → DeliversInOrder m view n → DeliversInOrder m view (write_batch n batch)
 unfolding write_batch
 in_order-write_batch m view n None d = d
 in_order-write_batch m view n (Some batch) d =
     let q = in_order-recording m view n (Wrote (open_slot n) (digest_of batch)) refl d in record { replica = q.replica; waiting = q.waiting; count = q.count }
 
 -- a batch that is accepted
-in_order-accept_batch : {S : Type 0} (m : Meaning S) (view : View) (n : Node S) (batch : Option (List Request)) → DeliversInOrder m view n → DeliversInOrder m view (accept_batch n batch)
+in_order-accept_batch : {S : Type 0} (m : Meaning S) (view : View) (n : Node S) (batch : Option Batch) → DeliversInOrder m view n → DeliversInOrder m view (accept_batch n batch)
 unfolding accept_batch
 in_order-accept_batch m view n None d = d
 in_order-accept_batch m view n (Some batch) d =
@@ -240,10 +240,15 @@ in_order-arrival : {S : Type 0} (m : Meaning S) (view : View) (n : Node S) (mess
 in_order-arrival m view n message None d = in_order-passes m view (kept n message) (in_order-kept m view n message d)
 in_order-arrival m view n message (Some why) d = d
 
+-- bytes that come, and their pass
+in_order-reading : {S : Type 0} (m : Meaning S) (view : View) (n : Node S) (read : Result Message ℕ) → DeliversInOrder m view n → DeliversInOrder m view (reading_outcome n read).node
+in_order-reading m view n (Ok message) d = in_order-arrival m view n message (why_dropped n message) d
+in_order-reading m view n (Err at) d = d
+
 -- a step
 pub in_order-step : {S : Type 0} (m : Meaning S) (view : View) (n : Node S) (event : NodeEvent) → DeliversInOrder m view n → DeliversInOrder m view (step_of m n event).node
 unfolding step_of
-in_order-step m view n (Arrive message) d = in_order-arrival m view n message (why_dropped n message) d
+in_order-step m view n (Arrive bytes) d = in_order-reading m view n (decoded bytes) d
 in_order-step m view n Tick d = in_order-passes m view n d
 in_order-step m view n Deliver d = in_order-passes m view (delivers m n) (in_order-delivers m view n d)
 in_order-step m view n (Firm count) d = in_order-passes m view (record n { firm = count }) (record { replica = d.replica; waiting = d.waiting; count = d.count })
@@ -254,8 +259,8 @@ in_order_after m view n [] d = d
 in_order_after m view n (e ∷ es) d = in_order_after m view (step_of m n e).node es (in_order-step m view n e d)
 
 -- an opened node has nothing to deliver
-pub in_order-opened : {S : Type 0} (m : Meaning S) (id : ℕ) (view : View) → DeliversInOrder m view (opened m id view)
-in_order-opened m id view = record { replica = refl; waiting = refl; count = refl }
+pub in_order-opened : {S : Type 0} (m : Meaning S) (secret : List ℕ) (id : ℕ) (view : View) → DeliversInOrder m view (opened m secret id view)
+in_order-opened m secret id view = record { replica = refl; waiting = refl; count = refl }
 
 -- messages that leave change nothing of it
 pub in_order-released : {S : Type 0} (m : Meaning S) (view : View) (n : Node S) → DeliversInOrder m view n → DeliversInOrder m view (released n)

@@ -1,20 +1,28 @@
 -- What each event of a world keeps, the lines of a script keep.
-use Rattle.std.proofs.Common.{◌≡◌, ℕ, zero, suc, ◌+◌, ◌^◌, ◌++◌, Bool, true, false, List, [], ◌∷◌, length, refl, ap, cond, Option, Some, None, is_some, nat_lt, inl, inr, ◌⊎◌}
+use Rattle.std.proofs.Common.{◌≡◌, ℕ, zero, suc, ◌+◌, ◌^◌, ◌<◌, ◌≤◌, ◌++◌, ◌∙◌, ◌&&◌, Bool, true, false, List, [], ◌∷◌, length, refl, ap, cond, Option, Some, None, is_some, nat_lt, nat_le, inl, inr, ◌⊎◌, subst, Result, Ok, Err}
+use Rattle.std.proofs.lemmas.Bool.{ltb-true, leb-true}
 use Rattle.std.specs.Prelude.{slice_get, slice_set}
 use Rattle.std.specs.Option.{option_and_then}
-use Rattle.smart_messages.specs.declared.message.Request.{Request}
-use Rattle.smart_messages.specs.declared.message.Answer.{Answer}
+use Rattle.smart_base.specs.Lists.{or_else}
+use Rattle.smart_messages.specs.Forms.{SignedBy}
+use Rattle.smart_messages.specs.Kinds.{requests}
+use Rattle.smart_messages.specs.Messages.{spelling, decoded}
+use Rattle.smart_messages.specs.declared.statement.Request.{Request}
+use Rattle.smart_messages.specs.declared.statement.Answer.{Answer}
 use Rattle.smart_messages.specs.declared.message.Message.{Message}
 use Rattle.smart_messages.specs.declared.message.Message.TheVariants.{Ask, Propose, Vote, Reply}
 use Rattle.smart_messages.specs.declared.entry.NodeEvent.{NodeEvent}
 use Rattle.smart_messages.specs.declared.entry.NodeEvent.TheVariants.{Arrive, Tick, Deliver, Firm}
+use Rattle.node_rules.specs.Seals.{signed}
 use Rattle.node_rules.specs.Nodes.{Node}
 use Rattle.node_rules.specs.Steps.{Outcome, leaving}
 use Rattle.node_rules.specs.declared.node.Held.{Held}
 use Rattle.node_rules.specs.declared.node.Target.{Target}
 use Rattle.node_rules.specs.declared.node.Target.TheVariants as targets
+use Rattle.world_rules.specs.Secrets.{group_secret}
+use Rattle.world_rules.specs.Premises.{collides}
 use Rattle.world_rules.specs.Clients.{request_of, asking, heard}
-use Rattle.world_rules.specs.Worlds.{Host, World, telling, sends, sends_all, stepped, host_takes, node_takes, due, takes_due, settle_once, settle, settle_all, gives, give_all, hearing, client_hears, client_takes, client_asks, ask_found, asks, goes, flow_sent, flow_once}
+use Rattle.world_rules.specs.Worlds.{Host, World, summary_of, telling, sends, sends_all, stepped, host_takes, node_takes, due, takes_due, settle_once, settle, settle_all, gives, give_all, hearing, client_hears, hears_bytes, client_takes, client_asks, ask_found, asks, goes, flow_sent, flow_once}
 use Rattle.world_rules.specs.Plays.{line_played, rested, world_after}
 use Rattle.world_rules.specs.declared.client.Client.{Client}
 use Rattle.world_rules.specs.declared.client.Heard.{Heard}
@@ -25,19 +33,36 @@ use Rattle.world_rules.specs.declared.line.OutLine.TheVariants as outs
 use Rattle.world_rules.specs.declared.message.Origin.{Origin}
 use Rattle.world_rules.specs.declared.message.Origin.TheVariants as origins
 use Rattle.world_rules.specs.declared.message.Sent.{Sent}
-use Rattle.world_laws.proofs.Lists.{either, either_by, until_rest_keeps, each_from_keeps, some-equal}
+use Rattle.world_rules.specs.declared.message.Ending.{Ending}
+use Rattle.world_rules.specs.declared.message.Ending.TheVariants.{Limit, Premise}
+use Rattle.world_rules.specs.declared.message.Premise.TheVariants.{Collision}
+use Rattle.world_laws.proofs.Lists.{and_true, either_by, until_rest_keeps, each_from_keeps, some-equal}
 
 -- a message was sent
 abbrev pub HasMessage : List Sent → Message → Type 0
 HasMessage [] message = ⊥
 HasMessage (s ∷ sent) message = (s.message ≡ message) ⊎ HasMessage sent message
 
--- what may come to a node: a message that was sent, and firmness of all its entries
+-- bytes are those of a message that was sent
+pub record IsSent (sent : List Sent) (bytes : List ℕ) : Type 0 where
+  pub message : Message
+  pub spelled : bytes ≡ spelling message
+  pub has : HasMessage sent message
+
+-- what may come to a node: the bytes of a message that was sent, and firmness of all its entries
 abbrev pub MayCome : {S : Type 0} → World S → Host S → NodeEvent → Type 0
-MayCome w h (Arrive message) = HasMessage w.sent message
+MayCome w h (Arrive bytes) = IsSent w.sent bytes
 MayCome w h Tick = Unit {0}
 MayCome w h Deliver = Unit {0}
 MayCome w h (Firm count) = count ≡ length h.node.entries
+
+-- the request that a client asks, with its tag
+abbrev pub ask_of : Client → List ℕ → Message
+ask_of c op = Ask (signed requests group_secret c.id (request_of c op))
+
+-- the world in which a client has asked and its request has not left
+abbrev pub asked_by : {S : Type 0} → World S → ℕ → Client → List ℕ → World S
+asked_by w i c op = record w { clients = slice_set w.clients i (asking c (request_of c op)) }
 
 -- a transcript line that tells of no accepted reply
 abbrev pub IsBeside : OutLine → Type 0
@@ -56,11 +81,12 @@ IsBeside (outs.End lines messages) = Unit {0}
 pub record Keeps {S : Type 0} (step : Node S → NodeEvent → Outcome S) (P : World S → Type 0) : Type 0 where
   -- a host's node takes an event
   pub event : (w : World S) (i : ℕ) (h : Host S) (event : NodeEvent) → slice_get w.hosts i ≡ Some h → MayCome w h event → P w → P (stepped w i h (step h.node event))
-  -- a client hears a reply
-  pub hear : (w : World S) (i : ℕ) (c : Client) (a : Answer) → slice_get w.clients i ≡ Some c → HasMessage w.sent (Reply a) → P w → P (hearing w i c a (heard w.view c a))
+  -- a client hears the bytes of a message that are read as a reply
+  pub hear : (w : World S) (i : ℕ) (c : Client) (x : Message) (a : SignedBy Answer) → slice_get w.clients i ≡ Some c → HasMessage w.sent x → decoded (spelling x) ≡ Ok (Reply a)
+      → P w → P (hearing w i c a (heard w.view c a))
   -- a client asks
-  pub ask : (w : World S) (i : ℕ) (c : Client) (op : List ℕ) → slice_get w.clients i ≡ Some c → c.waiting ≡ None → P w
-      → P (sends (record w { clients = slice_set w.clients i (asking c (request_of c op)) }) (origins.Client c.id) targets.View (Ask (request_of c op)))
+  pub ask : (w : World S) (i : ℕ) (c : Client) (op : List ℕ) → slice_get w.clients i ≡ Some c → c.waiting ≡ None → c.last + 1 < 2 ^ 63 → length op ≤ 4096 → P w
+      → P (sends (asked_by w i c op) (origins.Client c.id) targets.View (ask_of c op))
   -- nothing but the flow's mark and the transcript changes
   pub same : (w : World S) (mark : ℕ) (told : List OutLine) → P w → P (record w { mark = mark; told = told })
 
@@ -68,11 +94,12 @@ pub record Keeps {S : Type 0} (step : Node S → NodeEvent → Outcome S) (P : W
 pub record KeepsLive {S : Type 0} (step : Node S → NodeEvent → Outcome S) (P : World S → Type 0) : Type 0 where
   -- a host's node takes an event
   pub event : (w : World S) (i : ℕ) (h : Host S) (event : NodeEvent) → w.ending ≡ None → slice_get w.hosts i ≡ Some h → MayCome w h event → P w → P (stepped w i h (step h.node event))
-  -- a client hears a reply
-  pub hear : (w : World S) (i : ℕ) (c : Client) (a : Answer) → w.ending ≡ None → slice_get w.clients i ≡ Some c → HasMessage w.sent (Reply a) → P w → P (hearing w i c a (heard w.view c a))
+  -- a client hears the bytes of a message that are read as a reply
+  pub hear : (w : World S) (i : ℕ) (c : Client) (x : Message) (a : SignedBy Answer) → w.ending ≡ None → slice_get w.clients i ≡ Some c → HasMessage w.sent x → decoded (spelling x) ≡ Ok (Reply a)
+      → P w → P (hearing w i c a (heard w.view c a))
   -- a client asks
-  pub ask : (w : World S) (i : ℕ) (c : Client) (op : List ℕ) → w.ending ≡ None → slice_get w.clients i ≡ Some c → c.waiting ≡ None → P w
-      → P (sends (record w { clients = slice_set w.clients i (asking c (request_of c op)) }) (origins.Client c.id) targets.View (Ask (request_of c op)))
+  pub ask : (w : World S) (i : ℕ) (c : Client) (op : List ℕ) → w.ending ≡ None → slice_get w.clients i ≡ Some c → c.waiting ≡ None → c.last + 1 < 2 ^ 63 → length op ≤ 4096 → P w
+      → P (sends (asked_by w i c op) (origins.Client c.id) targets.View (ask_of c op))
   -- a flow goes on to the message behind the mark
   pub mark : (w : World S) (s : Sent) → w.ending ≡ None → slice_get w.sent w.mark ≡ Some s → P w → P (record w { mark = w.mark + 1 })
   -- a line is told that tells of no accepted reply, and nothing else changes
@@ -85,8 +112,8 @@ pub live : {S : Type 0} (step : Node S → NodeEvent → Outcome S) (P : World S
 live step P k =
     record {
       event = λ w i h event on at may p. k.event w i h event at may p;
-      hear = λ w i c a on at has p. k.hear w i c a at has p;
-      ask = λ w i c op on at free p. k.ask w i c op at free p;
+      hear = λ w i c x a on at has read p. k.hear w i c x a at has read p;
+      ask = λ w i c op on at free low brief p. k.ask w i c op at free low brief p;
       mark = λ w s on at p. k.same w (w.mark + 1) w.told p;
       tell = λ w line beside p. k.same w w.mark (w.told ++ line ∷ []) p;
       rest = λ w p. k.same w w.mark [] p;
@@ -97,12 +124,40 @@ pub live-both : {S : Type 0} (step : Node S → NodeEvent → Outcome S) (P Q : 
 live-both step P Q k l =
     record {
       event = λ w i h event on at may is. (k.event w i h event on at may is.0, l.event w i h event on at may is.1);
-      hear = λ w i c a on at has is. (k.hear w i c a on at has is.0, l.hear w i c a on at has is.1);
-      ask = λ w i c op on at free is. (k.ask w i c op on at free is.0, l.ask w i c op on at free is.1);
+      hear = λ w i c x a on at has read is. (k.hear w i c x a on at has read is.0, l.hear w i c x a on at has read is.1);
+      ask = λ w i c op on at free low brief is. (k.ask w i c op on at free low brief is.0, l.ask w i c op on at free low brief is.1);
       mark = λ w s on at is. (k.mark w s on at is.0, l.mark w s on at is.1);
       tell = λ w line beside is. (k.tell w line beside is.0, l.tell w line beside is.1);
       rest = λ w is. (k.rest w is.0, l.rest w is.1);
     }
+
+-- messages leave
+
+-- the world with one more message
+abbrev pub numbered : {S : Type 0} → World S → Origin → Target → Message → World S
+numbered w origin to message =
+    record w {
+      sent = w.sent ++ record { origin = origin; to = to; message = message } ∷ [];
+      told = w.told ++ outs.Sent (length w.sent + 1) origin (summary_of message) ∷ [];
+    }
+
+-- one of two is there where the second is
+ended_or : (ending : Option Ending) (e : Ending) → or_else ending (Some e) ≡ None → ⊥
+ended_or None e none = cc
+ended_or (Some f) e none = cc
+
+-- a message has left, and clashes with none before; or the play has ended, and nothing else has changed
+pub by-sends-ended : {S : Type 0} (P : World S → Type 0) (w : World S) (origin : Origin) (to : Target) (message : Message) → ((ending : Option Ending) → (ending ≡ None → ⊥) → P (record w { ending = ending }))
+    → (collides w.sent message ≡ false → nat_lt (length w.sent) (2 ^ 24) ≡ true → P (numbered w origin to message)) → P (sends w origin to message)
+unfolding sends
+by-sends-ended P w origin to message over on =
+    either_by P (collides w.sent message) _ _ (λ clashes. over (Some (Premise Collision)) (λ none. ended_or None (Premise Collision) none))
+    (λ free. either_by P (nat_lt (length w.sent) (2 ^ 24)) _ _ (λ room. on free room) (λ full. over (or_else w.ending (Some Limit)) (λ none. ended_or w.ending Limit none)))
+
+-- the same where it does not matter that the play has ended
+pub by-sends : {S : Type 0} (P : World S → Type 0) (w : World S) (origin : Origin) (to : Target) (message : Message) → ((ending : Option Ending) → P (record w { ending = ending }))
+    → (collides w.sent message ≡ false → nat_lt (length w.sent) (2 ^ 24) ≡ true → P (numbered w origin to message)) → P (sends w origin to message)
+by-sends P w origin to message over on = by-sends-ended P w origin to message (λ ending ended. over ending) on
 
 -- messages stay
 
@@ -112,8 +167,7 @@ has_end (t ∷ sent) s x has = elim has [ inl here ↦ inl here | inr later ↦ 
 
 -- a message that was sent stays so where another leaves
 pub has-sends : {S : Type 0} (w : World S) (origin : Origin) (to : Target) (message x : Message) → HasMessage w.sent x → HasMessage (sends w origin to message).sent x
-unfolding sends
-has-sends {S = S} w origin to message x has = either (λ (v : World S). HasMessage v.sent x) (nat_lt (length w.sent) (2 ^ 24)) _ _ (has_end w.sent _ x has) has
+has-sends {S = S} w origin to message x has = by-sends (λ (v : World S). HasMessage v.sent x) w origin to message (λ ending. has) (λ free room. has_end w.sent _ x has)
 
 -- and where many leave
 pub has-sends_all : {S : Type 0} (id : ℕ) (w : World S) (held : List Held) (x : Message) → HasMessage w.sent x → HasMessage (sends_all id w held).sent x
@@ -126,7 +180,7 @@ unfolding stepped
 has-stepped w i h o x has = has-sends_all h.node.id _ (leaving o.node.firm o.node.held) x has
 
 -- and where a client has heard a reply
-pub has-hearing : {S : Type 0} (w : World S) (i : ℕ) (c : Client) (a : Answer) (h : Heard) (x : Message) → HasMessage w.sent x → HasMessage (hearing w i c a h).sent x
+pub has-hearing : {S : Type 0} (w : World S) (i : ℕ) (c : Client) (a : SignedBy Answer) (h : Heard) (x : Message) → HasMessage w.sent x → HasMessage (hearing w i c a h).sent x
 unfolding hearing
 has-hearing w i c a h x has = has
 
@@ -135,8 +189,8 @@ pub carries : {S : Type 0} (step : Node S → NodeEvent → Outcome S) (P : Worl
 carries step P x k =
     record {
       event = λ w i h event at may p. (k.event w i h event at may p.0, has-stepped w i h (step h.node event) x p.1);
-      hear = λ w i c a at has p. (k.hear w i c a at has p.0, has-hearing w i c a (heard w.view c a) x p.1);
-      ask = λ w i c op at free p. (k.ask w i c op at free p.0, has-sends (record w { clients = slice_set w.clients i (asking c (request_of c op)) }) (origins.Client c.id) targets.View (Ask (request_of c op)) x p.1);
+      hear = λ w i c y a at has read p. (k.hear w i c y a at has read p.0, has-hearing w i c a (heard w.view c a) x p.1);
+      ask = λ w i c op at free low brief p. (k.ask w i c op at free low brief p.0, has-sends (asked_by w i c op) (origins.Client c.id) targets.View (ask_of c op) x p.1);
       same = λ w mark told p. (k.same w mark told p.0, p.1);
     }
 
@@ -145,8 +199,8 @@ pub live-carries : {S : Type 0} (step : Node S → NodeEvent → Outcome S) (P :
 live-carries step P x k =
     record {
       event = λ w i h event on at may p. (k.event w i h event on at may p.0, has-stepped w i h (step h.node event) x p.1);
-      hear = λ w i c a on at has p. (k.hear w i c a on at has p.0, has-hearing w i c a (heard w.view c a) x p.1);
-      ask = λ w i c op on at free p. (k.ask w i c op on at free p.0, has-sends (record w { clients = slice_set w.clients i (asking c (request_of c op)) }) (origins.Client c.id) targets.View (Ask (request_of c op)) x p.1);
+      hear = λ w i c y a on at has read p. (k.hear w i c y a on at has read p.0, has-hearing w i c a (heard w.view c a) x p.1);
+      ask = λ w i c op on at free low brief p. (k.ask w i c op on at free low brief p.0, has-sends (asked_by w i c op) (origins.Client c.id) targets.View (ask_of c op) x p.1);
       mark = λ w s on at p. (k.mark w s on at p.0, p.1);
       tell = λ w line beside p. (k.tell w line beside p.0, p.1);
       rest = λ w p. (k.rest w p.0, p.1);
@@ -213,43 +267,54 @@ live-settle step P k i w p = until_rest_keeps P (settle_once step i) (live-settl
 pub live-settle_all : {S : Type 0} (step : Node S → NodeEvent → Outcome S) (P : World S → Type 0) → KeepsLive step P → (w : World S) → P w → P (settle_all step w)
 live-settle_all step P k w p = each_from_keeps P (settle step) (live-settle step P k) (length w.hosts) 0 w p
 
--- a message that was sent is given
+-- the bytes of a message that was sent are given
 
--- a node takes a message that was sent, and settles
-live-gives : {S : Type 0} (step : Node S → NodeEvent → Outcome S) (P : World S → Type 0) → KeepsLive step P → (message : Message) (i : ℕ) (w : World S)
-    → P w × HasMessage w.sent message → P (gives step message i w) × HasMessage (gives step message i w).sent message
+-- a node takes the bytes of a message that was sent, and settles
+live-gives : {S : Type 0} (step : Node S → NodeEvent → Outcome S) (P : World S → Type 0) → KeepsLive step P → (x : Message) (i : ℕ) (w : World S)
+    → P w × HasMessage w.sent x → P (gives step (spelling x) i w) × HasMessage (gives step (spelling x) i w).sent x
 unfolding gives
-live-gives {S = S} step P k message i w p =
-    let Q : World S → Type 0 = λ v. P v × HasMessage v.sent message in
-    let kq : KeepsLive step Q = live-carries step P message k in
-    live-settle step Q kq i (node_takes step i (Arrive message) w) (live-node_takes step Q kq i (Arrive message) w (λ h at. p.1) p)
+live-gives {S = S} step P k x i w p =
+    let Q : World S → Type 0 = λ v. P v × HasMessage v.sent x in
+    let kq : KeepsLive step Q = live-carries step P x k in
+    live-settle step Q kq i (node_takes step i (Arrive (spelling x)) w)
+    (live-node_takes step Q kq i (Arrive (spelling x)) w (λ h at. record { message = x; spelled = refl; has = p.1 }) p)
 
--- all nodes take a message that was sent
-live-give_all : {S : Type 0} (step : Node S → NodeEvent → Outcome S) (P : World S → Type 0) → KeepsLive step P → (message : Message) (w : World S) → HasMessage w.sent message → P w → P (give_all step message w)
-live-give_all {S = S} step P k message w has p =
-    (each_from_keeps (λ (v : World S). P v × HasMessage v.sent message) (gives step message) (live-gives step P k message) (length w.hosts) 0 w (p, has)).0
+-- all nodes take the bytes of a message that was sent
+live-give_all : {S : Type 0} (step : Node S → NodeEvent → Outcome S) (P : World S → Type 0) → KeepsLive step P → (x : Message) (w : World S) → HasMessage w.sent x → P w → P (give_all step (spelling x) w)
+live-give_all {S = S} step P k x w has p =
+    (each_from_keeps (λ (v : World S). P v × HasMessage v.sent x) (gives step (spelling x)) (live-gives step P k x) (length w.hosts) 0 w (p, has)).0
 
 -- clients
 
--- a client that is found hears a message
-live-client_hears : {S : Type 0} (step : Node S → NodeEvent → Outcome S) (P : World S → Type 0) → KeepsLive step P → (i : ℕ) (message : Message) (w : World S) (found : Option Client)
-    → w.ending ≡ None → slice_get w.clients i ≡ found → HasMessage w.sent message → P w → P (client_hears w i message found)
-live-client_hears step P k i message w None on at has p = p
-live-client_hears step P k i (Ask q) w (Some c) on at has p = k.tell w _ tt p
-live-client_hears step P k i (Propose o) w (Some c) on at has p = k.tell w _ tt p
-live-client_hears step P k i (Vote b) w (Some c) on at has p = k.tell w _ tt p
-live-client_hears step P k i (Reply a) w (Some c) on at has p = k.hear w i c a on at has p
+-- a client hears what its bytes are read as
+live-client_hears : {S : Type 0} (step : Node S → NodeEvent → Outcome S) (P : World S → Type 0) → KeepsLive step P → (i : ℕ) (x : Message) (w : World S) (c : Client) (read : Result Message ℕ)
+    → w.ending ≡ None → slice_get w.clients i ≡ Some c → HasMessage w.sent x → decoded (spelling x) ≡ read → P w → P (client_hears w i c read)
+live-client_hears step P k i x w c (Err at) on here has is p = k.tell w _ tt p
+live-client_hears step P k i x w c (Ok (Ask q)) on here has is p = k.tell w _ tt p
+live-client_hears step P k i x w c (Ok (Propose o)) on here has is p = k.tell w _ tt p
+live-client_hears step P k i x w c (Ok (Vote b)) on here has is p = k.tell w _ tt p
+live-client_hears step P k i x w c (Ok (Reply a)) on here has is p = k.hear w i c x a on here has is p
 
--- the client at an index hears a message
-live-client_takes : {S : Type 0} (step : Node S → NodeEvent → Outcome S) (P : World S → Type 0) → KeepsLive step P → (i : ℕ) (message : Message) (w : World S) → HasMessage w.sent message → P w → P (client_takes i message w)
+-- a client that is found hears bytes
+live-hears_bytes : {S : Type 0} (step : Node S → NodeEvent → Outcome S) (P : World S → Type 0) → KeepsLive step P → (i : ℕ) (x : Message) (w : World S) (found : Option Client)
+    → w.ending ≡ None → slice_get w.clients i ≡ found → HasMessage w.sent x → P w → P (hears_bytes w i (spelling x) found)
+live-hears_bytes step P k i x w None on at has p = p
+live-hears_bytes step P k i x w (Some c) on at has p = live-client_hears step P k i x w c (decoded (spelling x)) on at has refl p
+
+-- the client at an index hears bytes
+live-client_takes : {S : Type 0} (step : Node S → NodeEvent → Outcome S) (P : World S → Type 0) → KeepsLive step P → (i : ℕ) (x : Message) (w : World S) → HasMessage w.sent x → P w → P (client_takes i (spelling x) w)
 unfolding client_takes
-live-client_takes step P k i message w has p = either_by P (is_some w.ending) w _ (λ over. p) (λ on. live-client_hears step P k i message w (slice_get w.clients i) (none_is w.ending on) refl has p)
+live-client_takes step P k i x w has p = either_by P (is_some w.ending) w _ (λ over. p) (λ on. live-hears_bytes step P k i x w (slice_get w.clients i) (none_is w.ending on) refl has p)
 
 -- a client asks, or tells that it is busy
 live-client_asks : {S : Type 0} (step : Node S → NodeEvent → Outcome S) (P : World S → Type 0) → KeepsLive step P → (w : World S) (i : ℕ) (c : Client) (op : List ℕ) (waiting : Option Request)
     → w.ending ≡ None → slice_get w.clients i ≡ Some c → c.waiting ≡ waiting → P w → P (client_asks w i c op waiting)
 live-client_asks step P k w i c op (Some q) on at is p = k.tell w _ tt p
-live-client_asks step P k w i c op None on at is p = either P (nat_lt (c.last + 1) (2 ^ 63)) _ w (k.ask w i c op on at is p) p
+live-client_asks step P k w i c op None on at is p =
+    either_by P (nat_lt (c.last + 1) (2 ^ 63) && nat_le (length op) 4096) _ w
+    (λ may. let both = and_true (nat_lt (c.last + 1) (2 ^ 63)) (nat_le (length op) 4096) may in
+    k.ask w i c op on at is (ltb-true (c.last + 1) (2 ^ 63) both.0) (leb-true (length op) 4096 both.1) p)
+    (λ not_may. p)
 
 -- a client that is found asks
 live-ask_found : {S : Type 0} (step : Node S → NodeEvent → Outcome S) (P : World S → Type 0) → KeepsLive step P → (w : World S) (i : ℕ) (op : List ℕ) (found : Option Client)
@@ -271,9 +336,9 @@ has_at (t ∷ sent) zero s at = inl (ap (λ (x : Sent). x.message) (some-equal t
 has_at (t ∷ sent) (suc i) s at = inr (has_at sent i s at)
 
 -- a message goes to whom it is for
-pub live-goes : {S : Type 0} (step : Node S → NodeEvent → Outcome S) (P : World S → Type 0) → KeepsLive step P → (w : World S) (message : Message) (to : Target) → HasMessage w.sent message → P w → P (goes step w message to)
-live-goes step P k w message targets.View has p = live-give_all step P k message w has p
-live-goes step P k w message (targets.Client id) has p = live-client_takes step P k id message w has p
+pub live-goes : {S : Type 0} (step : Node S → NodeEvent → Outcome S) (P : World S → Type 0) → KeepsLive step P → (w : World S) (x : Message) (to : Target) → HasMessage w.sent x → P w → P (goes step w (spelling x) to)
+live-goes step P k w x targets.View has p = live-give_all step P k x w has p
+live-goes step P k w x (targets.Client id) has p = live-client_takes step P k id x w has p
 
 -- the message behind the mark goes, if there is one
 live-flow_sent : {S : Type 0} (step : Node S → NodeEvent → Outcome S) (P : World S → Type 0) → KeepsLive step P → (w : World S) (found : Option Sent) → w.ending ≡ None → slice_get w.sent w.mark ≡ found → P w → P (flow_sent step w found)
@@ -310,3 +375,57 @@ keeps-line_played step P k w line p = live-line_played step P (live step P k) w 
 -- all lines of a script
 pub keeps-world_after : {S : Type 0} (step : Node S → NodeEvent → Outcome S) (P : World S → Type 0) → Keeps step P → (w : World S) (ls : List Line) → P w → P (world_after step w ls)
 keeps-world_after step P k w ls p = live-world_after step P (live step P k) w ls p
+
+-- what holds where each message that was sent is read as itself
+
+-- each message that was sent is read from its bytes as itself
+abbrev pub ReadsSent : {S : Type 0} → World S → Type 0
+ReadsSent w = (x : Message) → HasMessage w.sent x → decoded (spelling x) ≡ Ok x
+
+-- bytes are read as a message that was sent, whose bytes they are
+pub record Comes (sent : List Sent) (bytes : List ℕ) : Type 0 where
+  pub message : Message
+  pub has : HasMessage sent message
+  pub spelled : bytes ≡ spelling message
+  pub read : decoded bytes ≡ Ok message
+
+-- what may come to a node: bytes that are read as a message that was sent, and firmness of all its entries
+abbrev pub MayRead : {S : Type 0} → World S → Host S → NodeEvent → Type 0
+MayRead w h (Arrive bytes) = Comes w.sent bytes
+MayRead w h Tick = Unit {0}
+MayRead w h Deliver = Unit {0}
+MayRead w h (Firm count) = count ≡ length h.node.entries
+
+-- a fact on worlds that each event keeps where what was sent is read
+pub record KeepsRead {S : Type 0} (step : Node S → NodeEvent → Outcome S) (P : World S → Type 0) : Type 0 where
+  -- a host's node takes an event
+  pub event : (w : World S) (i : ℕ) (h : Host S) (event : NodeEvent) → slice_get w.hosts i ≡ Some h → MayRead w h event → P w → P (stepped w i h (step h.node event))
+  -- a client hears a reply
+  pub hear : (w : World S) (i : ℕ) (c : Client) (a : SignedBy Answer) → slice_get w.clients i ≡ Some c → HasMessage w.sent (Reply a) → P w → P (hearing w i c a (heard w.view c a))
+  -- a client asks
+  pub ask : (w : World S) (i : ℕ) (c : Client) (op : List ℕ) → slice_get w.clients i ≡ Some c → c.waiting ≡ None → P w
+      → P (sends (asked_by w i c op) (origins.Client c.id) targets.View (ask_of c op))
+  -- nothing but the flow's mark and the transcript changes
+  pub same : (w : World S) (mark : ℕ) (told : List OutLine) → P w → P (record w { mark = mark; told = told })
+
+-- what may come is read where what was sent is
+pub may_read : {S : Type 0} (w : World S) (h : Host S) (event : NodeEvent) → ReadsSent w → MayCome w h event → MayRead w h event
+may_read w h (Arrive bytes) reads may =
+    record { message = may.message; has = may.has; spelled = may.spelled; read = ap (λ b. decoded b) may.spelled ∙ reads may.message may.has }
+may_read w h Tick reads may = tt
+may_read w h Deliver reads may = tt
+may_read w h (Firm count) reads may = may
+
+-- and a reply is the message that was sent
+pub reply_has : (sent : List Sent) (x y : Message) → decoded (spelling x) ≡ Ok x → decoded (spelling x) ≡ Ok y → HasMessage sent x → HasMessage sent y
+reply_has sent x y own other has = let same : x ≡ y = cc in subst (λ (z : Message). HasMessage sent z) same has
+
+-- beside a fact by which what was sent is read, and which is kept, all is kept that is kept where what was sent is read
+pub keeps-reading : {S : Type 0} (step : Node S → NodeEvent → Outcome S) (R P : World S → Type 0) → Keeps step R → ((w : World S) → R w → ReadsSent w) → KeepsRead step P → Keeps step (λ w. R w × P w)
+keeps-reading step R P r reads k =
+    record {
+      event = λ w i h event at may is. (r.event w i h event at may is.0, k.event w i h event at (may_read w h event (reads w is.0) may) is.1);
+      hear = λ w i c x a at has read is. (r.hear w i c x a at has read is.0, k.hear w i c a at (reply_has w.sent x (Reply a) (reads w is.0 x has) read has) is.1);
+      ask = λ w i c op at free few brief is. (r.ask w i c op at free few brief is.0, k.ask w i c op at free is.1);
+      same = λ w mark told is. (r.same w mark told is.0, k.same w mark told is.1);
+    }

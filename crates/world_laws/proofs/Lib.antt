@@ -1,4 +1,5 @@
 pub mod Lists
+pub mod Ascending
 pub mod Keeps
 pub mod Aligned
 pub mod OnePlace
@@ -12,6 +13,7 @@ pub mod Certified
 pub mod Said
 pub mod Sound
 pub mod Follows
+pub mod Counted
 pub mod Says
 pub mod Fronts
 pub mod Chosen
@@ -32,7 +34,14 @@ pub mod Steady
 pub mod Settles
 pub mod Example
 pub mod Onward
+pub mod Leaving
+pub mod Given
 pub mod Replied
 pub mod Borne
 pub mod Voters
 pub mod WritesOnce
+pub mod Genuine
+pub mod FitNodes
+pub mod Fitting
+pub mod NoClash
+pub mod Grounded

@@ -1,9 +1,9 @@
 -- A node accepts once for each slot.
-use Rattle.std.proofs.Common.{◌≡◌, ℕ, ◌+◌, ◌≤◌, ◌++◌, Bool, true, false, not, List, [], ◌∷◌, refl, ap, arith, cond, Option, Some, None, is_some}
+use Rattle.std.proofs.Common.{◌≡◌, ℕ, ◌+◌, ◌≤◌, ◌++◌, Bool, true, false, not, List, [], ◌∷◌, refl, ap, arith, cond, Option, Some, None, is_some, Result, Ok, Err}
 use Rattle.std.specs.List.{list_any}
+use Rattle.smart_messages.specs.Messages.{Batch, decoded}
 use Rattle.smart_messages.specs.Equality.{same_slot}
-use Rattle.smart_messages.specs.declared.message.Request.{Request}
-use Rattle.smart_messages.specs.declared.message.Slot.{Slot}
+use Rattle.smart_messages.specs.declared.statement.Slot.{Slot}
 use Rattle.smart_messages.specs.declared.message.Message.{Message}
 use Rattle.smart_messages.specs.declared.message.Message.TheVariants.{Ask, Propose, Vote, Reply}
 use Rattle.smart_messages.specs.declared.entry.LogEntry.{LogEntry}
@@ -13,11 +13,13 @@ use Rattle.smart_messages.specs.declared.entry.NodeEvent.TheVariants.{Arrive, Ti
 use Rattle.smart_service.specs.Services.{Meaning}
 use Rattle.smart_service.specs.declared.table.TableLine.{TableLine}
 use Rattle.node_rules.specs.Replicas.{delivered}
-use Rattle.node_rules.specs.Nodes.{Node, is_open, open_slot, is_accepted}
+use Rattle.node_rules.specs.Nodes.{Node, holding, is_open, open_slot, is_accepted}
 use Rattle.node_rules.specs.Arrivals.{why_dropped, kept}
-use Rattle.node_rules.specs.Rules.{settled, replying, lines_to_answer, deliver_batch, delivers, proposing, propose_batch, proposes, writing, write_batch, writes, accepting, accept_batch, accepts, deciding, decide_batch, decides}
-use Rattle.node_rules.specs.Steps.{votes, passes, arrival_outcome, step_of}
+use Rattle.node_rules.specs.Rules.{settled, reply_of, replying, lines_to_answer, deliver_batch, delivers, proposing, propose_batch, proposes, writing, write_batch, writes, accepting, accept_batch, accepts, deciding, decide_batch, decides}
+use Rattle.node_rules.specs.Steps.{votes, passes, arrival_outcome, reading_outcome, step_of}
 use Rattle.node_rules.specs.declared.node.Why.{Why}
+use Rattle.node_rules.specs.declared.node.Target.TheVariants as targets
+use Rattle.node_rules.specs.Seals.{digest_of}
 use Rattle.kept_arrivals.specs.Kept.{node_after}
 use Rattle.world_laws.specs.Books.{passing, AcceptsOnce}
 use Rattle.world_laws.proofs.Lists.{and_true, or_false, not_true}
@@ -28,7 +30,7 @@ use Rattle.world_laws.proofs.Equal.{same_slot-equal}
 -- held replies
 pub entries-replying : {S : Type 0} (n : Node S) (lines : List TableLine) → (replying n lines).entries ≡ n.entries
 entries-replying n [] = refl
-entries-replying n (l ∷ ls) = entries-replying _ ls
+entries-replying n (l ∷ ls) = entries-replying (holding n (targets.Client l.client) (reply_of n.secret n.id l)) ls
 
 -- both branches keep the book
 entries-if : {S : Type 0} (b : Bool) (x y : Node S) → x.entries ≡ y.entries → (cond b x y).entries ≡ y.entries
@@ -44,7 +46,7 @@ entries-kept n (Vote b) = refl
 entries-kept n (Reply a) = refl
 
 -- a delivery
-pub entries-deliver_batch : {S : Type 0} (m : Meaning S) (n : Node S) (batch : Option (List Request)) → (deliver_batch m n batch).entries ≡ n.entries
+pub entries-deliver_batch : {S : Type 0} (m : Meaning S) (n : Node S) (batch : Option Batch) → (deliver_batch m n batch).entries ≡ n.entries
 unfolding deliver_batch
 entries-deliver_batch m n None = refl
 entries-deliver_batch m n (Some batch) =
@@ -58,7 +60,7 @@ unfolding delivers
 entries-delivers m n = entries-deliver_batch m n n.waiting
 
 -- a proposal
-pub entries-propose_batch : {S : Type 0} (n : Node S) (batch : Option (List Request)) → (propose_batch n batch).entries ≡ n.entries
+pub entries-propose_batch : {S : Type 0} (n : Node S) (batch : Option Batch) → (propose_batch n batch).entries ≡ n.entries
 unfolding propose_batch
 entries-propose_batch n None = refl
 entries-propose_batch n (Some batch) = refl
@@ -86,7 +88,7 @@ none_passes p (x ∷ xs) none =
     omega (arith, ap (λ b. passed b) parts.0, none_passes p xs parts.1)
 
 -- an entry that accepts at a slot where none was accepted
-pub once_accepted : (entries : List LogEntry) (slot : Slot) (voters : List ℕ) (batch : List Request) → list_any (is_accepted slot) entries ≡ false → AcceptsOnce entries → AcceptsOnce (entries ++ Accepted slot voters batch ∷ [])
+pub once_accepted : (entries : List LogEntry) (slot : Slot) (voters : List ℕ) (batch : Batch) → list_any (is_accepted slot) entries ≡ false → AcceptsOnce entries → AcceptsOnce (entries ++ Accepted slot voters batch ∷ [])
 once_accepted entries slot voters batch none once other = rw passing-end (cases (same_slot slot other) refl)
   where
     cases : (b : Bool) → same_slot slot other ≡ b → passing (is_accepted other) entries + (cond b 1 0 + 0) ≤ 1
@@ -102,19 +104,19 @@ pub once_as : {S : Type 0} (n n' : Node S) → n'.entries ≡ n.entries → Once
 once_as n n' same once slot = rw same (once slot)
 
 -- a batch that is written accepts nothing
-pub once-write_batch : {S : Type 0} (n : Node S) (batch : Option (List Request)) → Once n → Once (write_batch n batch)
+pub once-write_batch : {S : Type 0} (n : Node S) (batch : Option Batch) → Once n → Once (write_batch n batch)
 unfolding write_batch
 once-write_batch n None once = once
-once-write_batch n (Some batch) once = once_more n.entries (Wrote (open_slot n) batch) (λ slot. refl) once
+once-write_batch n (Some batch) once = once_more n.entries (Wrote (open_slot n) (digest_of batch)) (λ slot. refl) once
 
 -- a batch that is decided accepts nothing
-pub once-decide_batch : {S : Type 0} (n : Node S) (batch : Option (List Request)) → Once n → Once (decide_batch n batch)
+pub once-decide_batch : {S : Type 0} (n : Node S) (batch : Option Batch) → Once n → Once (decide_batch n batch)
 unfolding decide_batch
 once-decide_batch n None once = once
 once-decide_batch n (Some batch) once = once_more n.entries _ (λ slot. refl) once
 
 -- a batch is accepted only where none was
-pub once-accept_batch : {S : Type 0} (n : Node S) (batch : Option (List Request)) → (is_some batch ≡ true → list_any (is_accepted (open_slot n)) n.entries ≡ false) → Once n → Once (accept_batch n batch)
+pub once-accept_batch : {S : Type 0} (n : Node S) (batch : Option Batch) → (is_some batch ≡ true → list_any (is_accepted (open_slot n)) n.entries ≡ false) → Once n → Once (accept_batch n batch)
 unfolding accept_batch
 once-accept_batch n None none once = once
 once-accept_batch n (Some batch) none once = once_accepted n.entries (open_slot n) _ batch (none refl) once
@@ -148,10 +150,15 @@ once-arrival : {S : Type 0} (n : Node S) (message : Message) (why : Option Why) 
 once-arrival n message None once = once-passes (kept n message) (once_as n (kept n message) (entries-kept n message) once)
 once-arrival n message (Some why) once = once
 
+-- bytes that come, and their pass
+once-reading : {S : Type 0} (n : Node S) (read : Result Message ℕ) → Once n → Once (reading_outcome n read).node
+once-reading n (Ok message) once = once-arrival n message (why_dropped n message) once
+once-reading n (Err at) once = once
+
 -- a step
 pub once-step : {S : Type 0} (m : Meaning S) (n : Node S) (event : NodeEvent) → Once n → Once (step_of m n event).node
 unfolding step_of
-once-step m n (Arrive message) once = once-arrival n message (why_dropped n message) once
+once-step m n (Arrive bytes) once = once-reading n (decoded bytes) once
 once-step m n Tick once = once-passes n once
 once-step m n Deliver once = once-passes (delivers m n) (once_as n (delivers m n) (entries-delivers m n) once)
 once-step m n (Firm count) once = once-passes (record n { firm = count }) once

@@ -1,17 +1,17 @@
 -- One list holds throughout a script.
-use Rattle.std.proofs.Common.{ℕ, List, take}
+use Rattle.std.proofs.Common.{◌≡◌, ℕ, true, List, take}
 use Rattle.smart_base.specs.Lists.{Each}
-use Rattle.smart_base.specs.declared.view.View.{View}
+use Rattle.smart_base.specs.Views.{View, is_view}
 use Rattle.smart_service.specs.Services.{Meaning}
 use Rattle.node_rules.specs.Steps.{step_of}
 use Rattle.world_rules.specs.Worlds.{World, begun}
 use Rattle.world_rules.specs.Plays.{lines_told}
 use Rattle.world_rules.specs.Promises.{IsAnswered, OneList, OneListThroughout, world_at}
 use Rattle.world_rules.specs.declared.line.Line.{Line}
-use Rattle.world_laws.specs.Groups.{Distinct}
 use Rattle.world_laws.proofs.Keeps.{Keeps, keeps-world_after}
+use Rattle.world_laws.proofs.FitNodes.{IsBrief}
 use Rattle.world_laws.proofs.Chosen.{ChosenRight}
-use Rattle.world_laws.proofs.ChosenKept.{chosen-kept, chosen-begun, chosen-aligned, chosen-prefix}
+use Rattle.world_laws.proofs.ChosenKept.{right-reads, chosen-kept, chosen-begun, chosen-aligned, chosen-prefix}
 use Rattle.world_laws.proofs.Grows.{list-grows}
 use Rattle.world_laws.proofs.Replies.{RepliesRight, keeps-replies, replies-begun}
 use Rattle.world_laws.proofs.Asked.{asked-after}
@@ -24,33 +24,33 @@ abbrev pub ToldRight : {S : Type 0} → Meaning S → World S → Type 0
 ToldRight m w = (ChosenRight m w × RepliesRight m w) × AcceptedTold m w
 
 -- each event keeps that
-pub keeps-told_right : {S : Type 0} (m : Meaning S) → Keeps (step_of m) (ToldRight m)
-keeps-told_right m = keeps-told m (ChosenRight m) (keeps-replies m (ChosenRight m) (chosen-kept m) (chosen-aligned m))
+pub keeps-told_right : {S : Type 0} (m : Meaning S) → IsBrief m → Keeps (step_of m) (ToldRight m)
+keeps-told_right m brief = keeps-told m (ChosenRight m) (right-reads m) (keeps-replies m (ChosenRight m) (chosen-kept m brief) (chosen-aligned m))
 
 -- so it holds after each line of a script
-pub told_right-at : {S : Type 0} (m : Meaning S) (view : View) → Distinct view.members → (ls : List Line) (k : ℕ) → ToldRight m (world_at m view ls k)
-told_right-at m view distinct ls k =
-    keeps-world_after (step_of m) (ToldRight m) (keeps-told_right m) (begun m view) (take k ls) ((chosen-begun m view distinct, replies-begun m view), told-begun m view)
+pub told_right-at : {S : Type 0} (m : Meaning S) → IsBrief m → (view : View) → is_view view ≡ true → (ls : List Line) (k : ℕ) → ToldRight m (world_at m view ls k)
+told_right-at m brief view is ls k =
+    keeps-world_after (step_of m) (ToldRight m) (keeps-told_right m brief) (begun m view) (take k ls) ((chosen-begun m view is, replies-begun m view), told-begun m view)
 
 -- and all accepted replies are right
-pub accepted-at : {S : Type 0} (m : Meaning S) (view : View) → Distinct view.members → (ls : List Line) (k : ℕ) → AcceptedRight m (world_at m view ls k)
-accepted-at m view distinct ls k =
-    accepted-right m (world_at m view ls k) (asked-after m view (take k ls)) (right-after m (step_of m) view (take k ls)) (told_right-at m view distinct ls k).1
+pub accepted-at : {S : Type 0} (m : Meaning S) → IsBrief m → (view : View) → is_view view ≡ true → (ls : List Line) (k : ℕ) → AcceptedRight m (world_at m view ls k)
+accepted-at m brief view is ls k =
+    accepted-right m (world_at m view ls k) (asked-after m brief view (take k ls) is) (right-after m (step_of m) view (take k ls)) (told_right-at m brief view is ls k).1
 
 -- one list holds after each line of a script
-pub one_list-at : {S : Type 0} (m : Meaning S) (view : View) → Distinct view.members → (ls : List Line) (k : ℕ) → OneList m (world_at m view ls k)
-one_list-at m view distinct ls k =
+pub one_list-at : {S : Type 0} (m : Meaning S) → IsBrief m → (view : View) → is_view view ≡ true → (ls : List Line) (k : ℕ) → OneList m (world_at m view ls k)
+one_list-at m brief view is ls k =
     record {
-      hosts = chosen-prefix m (world_at m view ls k) (told_right-at m view distinct ls k).0.0;
-      accepted = (accepted-at m view distinct ls k).all;
+      hosts = chosen-prefix m (world_at m view ls k) (told_right-at m brief view is ls k).0.0;
+      accepted = (accepted-at m brief view is ls k).all;
       rising = (right-after m (step_of m) view (take k ls)).all.rising;
     }
 
 -- each line that told of an accepted reply until then tells its answer
-pub told-at : {S : Type 0} (m : Meaning S) (view : View) → Distinct view.members → (ls : List Line) (k : ℕ)
+pub told-at : {S : Type 0} (m : Meaning S) → IsBrief m → (view : View) → is_view view ≡ true → (ls : List Line) (k : ℕ)
     → Each (IsAnswered m view (world_at m view ls k).chosen) (lines_told (step_of m) (begun m view) (take k ls))
-told-at m view distinct ls k = lines-answered m view (take k ls) (accepted-at m view distinct ls k)
+told-at m brief view is ls k = lines-answered m view (take k ls) (accepted-at m brief view is ls k)
 
 -- one list holds throughout a script and only grows, and the lines of accepted replies tell its answers
-pub one_list-throughout : {S : Type 0} (m : Meaning S) (view : View) → Distinct view.members → (ls : List Line) → OneListThroughout m view ls
-one_list-throughout m view distinct ls = record { one_list = one_list-at m view distinct ls; grows = list-grows m view ls; told = told-at m view distinct ls }
+pub one_list-throughout : {S : Type 0} (m : Meaning S) → IsBrief m → (view : View) → is_view view ≡ true → (ls : List Line) → OneListThroughout m view ls
+one_list-throughout m brief view is ls = record { one_list = one_list-at m brief view is ls; grows = list-grows m view ls; told = told-at m brief view is ls }

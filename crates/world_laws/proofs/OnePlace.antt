@@ -4,8 +4,9 @@ use Rattle.std.proofs.lemmas.Bool.{eq-eqb, eqb-true}
 use Rattle.std.specs.Prelude.{option_map}
 use Rattle.std.specs.Option.{option_to_list}
 use Rattle.smart_base.specs.Lists.{Each}
-use Rattle.smart_base.specs.declared.view.View.{View}
-use Rattle.smart_messages.specs.declared.message.Request.{Request}
+use Rattle.smart_base.specs.Views.{View}
+use Rattle.smart_messages.specs.Messages.{Batch}
+use Rattle.smart_messages.specs.declared.statement.Request.{Request}
 use Rattle.smart_service.specs.Services.{Meaning}
 use Rattle.smart_service.specs.Tables.{last_seq, with_line}
 use Rattle.smart_service.specs.declared.table.TableLine.{TableLine}
@@ -71,11 +72,11 @@ execute_grows m r i q true is c = rw is (put_grows r.table (line_of m r i q) c (
 execute_grows m r i q false is c = rw is (omega arith)
 
 -- no client's number falls
-execute_all_grows : {S : Type 0} (m : Meaning S) (r : Replica S) (i : ℕ) (qs : List Request) (c : ℕ) → last_seq r.table c ≤ last_seq (execute_all m r i qs).table c
+execute_all_grows : {S : Type 0} (m : Meaning S) (r : Replica S) (i : ℕ) (qs : Batch) (c : ℕ) → last_seq r.table c ≤ last_seq (execute_all m r i qs).table c
 execute_all_grows m r i [] c = omega arith
 execute_all_grows m r i (q ∷ qs) c =
-    let one = execute_grows m r i q (is_next r.table q) refl c in
-    let rest = execute_all_grows m (execute m r i q) (i + 1) qs c in
+    let one = execute_grows m r i q.statement (is_next r.table q.statement) refl c in
+    let rest = execute_all_grows m (execute m r i q.statement) (i + 1) qs c in
     omega (arith, one, rest)
 
 -- of two replicas at one place, a choice is at that place
@@ -89,12 +90,12 @@ unfolding execute
 place-execute m r i q = place_if (is_next r.table q) _ r refl
 
 -- requests leave the place
-pub place-execute_all : {S : Type 0} (m : Meaning S) (r : Replica S) (i : ℕ) (qs : List Request) → (execute_all m r i qs).place ≡ r.place
+pub place-execute_all : {S : Type 0} (m : Meaning S) (r : Replica S) (i : ℕ) (qs : Batch) → (execute_all m r i qs).place ≡ r.place
 place-execute_all m r i [] = refl
-place-execute_all m r i (q ∷ qs) = place-execute_all m (execute m r i q) (i + 1) qs ∙ place-execute m r i q
+place-execute_all m r i (q ∷ qs) = place-execute_all m (execute m r i q.statement) (i + 1) qs ∙ place-execute m r i q.statement
 
 -- a batch takes the next place
-pub place-delivered : {S : Type 0} (m : Meaning S) (r : Replica S) (batch : List Request) → (delivered m r batch).place ≡ r.place + 1
+pub place-delivered : {S : Type 0} (m : Meaning S) (r : Replica S) (batch : Batch) → (delivered m r batch).place ≡ r.place + 1
 unfolding delivered
 place-delivered m r batch = place-execute_all m (at_next r) 0 batch
 
@@ -128,13 +129,13 @@ made_later m r last i q l made =
     record { there = made.there ∙ place-execute m r i q; behind = omega (arith, made.behind); above = omega (arith, grows, made.above); upto = made.upto }
 
 -- all lines that requests make
-made_all : {S : Type 0} (m : Meaning S) (r : Replica S) (i : ℕ) (qs : List Request) → Each (Made r (execute_all m r i qs) i) (lines_of m r i qs)
+made_all : {S : Type 0} (m : Meaning S) (r : Replica S) (i : ℕ) (qs : Batch) → Each (Made r (execute_all m r i qs) i) (lines_of m r i qs)
 made_all m r i [] = tt
 made_all {S = S} m r i (q ∷ qs) =
-    let last : Replica S = execute_all m (execute m r i q) (i + 1) qs in
-    each_append (Made r last i) (option_to_list (line_made m r i q)) (lines_of m (execute m r i q) (i + 1) qs)
-    (made_one m r last i q (is_next r.table q) refl (execute_all_grows m (execute m r i q) (i + 1) qs))
-    (each_weaker (Made (execute m r i q) last (i + 1)) (Made r last i) (made_later m r last i q) _ (made_all m (execute m r i q) (i + 1) qs))
+    let last : Replica S = execute_all m (execute m r i q.statement) (i + 1) qs in
+    each_append (Made r last i) (option_to_list (line_made m r i q.statement)) (lines_of m (execute m r i q.statement) (i + 1) qs)
+    (made_one m r last i q.statement (is_next r.table q.statement) refl (execute_all_grows m (execute m r i q.statement) (i + 1) qs))
+    (each_weaker (Made (execute m r i q.statement) last (i + 1)) (Made r last i) (made_later m r last i q.statement) _ (made_all m (execute m r i q.statement) (i + 1) qs))
 
 -- the line of the first request stands before the later ones
 order_one : {S : Type 0} (m : Meaning S) (r last : Replica S) (i : ℕ) (q : Request) (rest : List TableLine) (next : Bool) → is_next r.table q ≡ next
@@ -151,11 +152,11 @@ order_one m r last i q rest true is made order =
 order_one m r last i q rest false is made order = order
 
 -- the lines of requests stand in order
-order_lines : {S : Type 0} (m : Meaning S) (r : Replica S) (i : ℕ) (qs : List Request) → InOrder (lines_of m r i qs)
+order_lines : {S : Type 0} (m : Meaning S) (r : Replica S) (i : ℕ) (qs : Batch) → InOrder (lines_of m r i qs)
 order_lines m r i [] = tt
 order_lines m r i (q ∷ qs) =
-    order_one m r (execute_all m (execute m r i q) (i + 1) qs) i q (lines_of m (execute m r i q) (i + 1) qs) (is_next r.table q) refl
-    (made_all m (execute m r i q) (i + 1) qs) (order_lines m (execute m r i q) (i + 1) qs)
+    order_one m r (execute_all m (execute m r i q.statement) (i + 1) qs) i q.statement (lines_of m (execute m r i q.statement) (i + 1) qs) (is_next r.table q.statement) refl
+    (made_all m (execute m r i q.statement) (i + 1) qs) (order_lines m (execute m r i q.statement) (i + 1) qs)
 
 -- a line that batches make behind a replica
 record Later {S : Type 0} (r : Replica S) (l : TableLine) : Type 0 where
@@ -163,17 +164,17 @@ record Later {S : Type 0} (r : Replica S) (l : TableLine) : Type 0 where
   above : last_seq r.table l.client < l.seq
 
 -- the lines that a batch makes
-made_delivered : {S : Type 0} (m : Meaning S) (r : Replica S) (batch : List Request) → Each (Made (at_next r) (delivered m r batch) 0) (executed_lines m r batch)
+made_delivered : {S : Type 0} (m : Meaning S) (r : Replica S) (batch : Batch) → Each (Made (at_next r) (delivered m r batch) 0) (executed_lines m r batch)
 unfolding delivered executed_lines
 made_delivered m r batch = made_all m (at_next r) 0 batch
 
 -- the lines of a batch stand in order
-order_delivered : {S : Type 0} (m : Meaning S) (r : Replica S) (batch : List Request) → InOrder (executed_lines m r batch)
+order_delivered : {S : Type 0} (m : Meaning S) (r : Replica S) (batch : Batch) → InOrder (executed_lines m r batch)
 unfolding executed_lines
 order_delivered m r batch = order_lines m (at_next r) 0 batch
 
 -- a batch lowers no client's number
-delivered_grows : {S : Type 0} (m : Meaning S) (r : Replica S) (batch : List Request) (c : ℕ) → last_seq r.table c ≤ last_seq (delivered m r batch).table c
+delivered_grows : {S : Type 0} (m : Meaning S) (r : Replica S) (batch : Batch) (c : ℕ) → last_seq r.table c ≤ last_seq (delivered m r batch).table c
 unfolding delivered
 delivered_grows m r batch c = execute_all_grows m (at_next r) 0 batch c
 
@@ -182,14 +183,14 @@ later_here : {S : Type 0} (r last : Replica S) (l : TableLine) → Made (at_next
 later_here r last l made = record { beyond = omega (arith, made.there); above = made.above }
 
 -- what stands behind a batch stands behind the replica before it
-later_on : {S : Type 0} (m : Meaning S) (r : Replica S) (batch : List Request) (l : TableLine) → Later (delivered m r batch) l → Later r l
+later_on : {S : Type 0} (m : Meaning S) (r : Replica S) (batch : Batch) (l : TableLine) → Later (delivered m r batch) l → Later r l
 later_on m r batch l later =
     let place = place-delivered m r batch in
     let grows = delivered_grows m r batch l.client in
     record { beyond = omega (arith, place, later.beyond); above = omega (arith, grows, later.above) }
 
 -- all lines that batches make
-later_all : {S : Type 0} (m : Meaning S) (r : Replica S) (bs : List (List Request)) → Each (Later r) (executions_from m r bs)
+later_all : {S : Type 0} (m : Meaning S) (r : Replica S) (bs : List Batch) → Each (Later r) (executions_from m r bs)
 later_all m r [] = tt
 later_all m r (batch ∷ bs) =
     each_append (Later r) (executed_lines m r batch) (executions_from m (delivered m r batch) bs)
@@ -197,7 +198,7 @@ later_all m r (batch ∷ bs) =
     (each_weaker (Later (delivered m r batch)) (Later r) (later_on m r batch) _ (later_all m (delivered m r batch) bs))
 
 -- a line of a batch stands before the lines of later batches
-made_before : {S : Type 0} (m : Meaning S) (r : Replica S) (batch : List Request) (a b : TableLine) → Made (at_next r) (delivered m r batch) 0 a → Later (delivered m r batch) b → Before a b
+made_before : {S : Type 0} (m : Meaning S) (r : Replica S) (batch : Batch) (a b : TableLine) → Made (at_next r) (delivered m r batch) 0 a → Later (delivered m r batch) b → Before a b
 made_before m r batch a b made later =
     let place = place-delivered m r batch in
     record {
@@ -206,7 +207,7 @@ made_before m r batch a b made later =
     }
 
 -- the lines of batches stand in order
-order_from : {S : Type 0} (m : Meaning S) (r : Replica S) (bs : List (List Request)) → InOrder (executions_from m r bs)
+order_from : {S : Type 0} (m : Meaning S) (r : Replica S) (bs : List Batch) → InOrder (executions_from m r bs)
 order_from m r [] = tt
 order_from m r (batch ∷ bs) =
     order_append (executed_lines m r batch) (executions_from m (delivered m r batch) bs) (order_delivered m r batch) (order_from m (delivered m r batch) bs)
@@ -215,7 +216,7 @@ order_from m r (batch ∷ bs) =
     (executed_lines m r batch) (made_delivered m r batch))
 
 -- the lines of a list's executions stand in order
-pub order-executions : {S : Type 0} (m : Meaning S) (v : View) (list : List (List Request)) → InOrder (executions m v list)
+pub order-executions : {S : Type 0} (m : Meaning S) (v : View) (list : List Batch) → InOrder (executions m v list)
 order-executions m v list = order_from m (empty m v) list
 
 -- one line
@@ -239,7 +240,7 @@ order_of (x ∷ xs) order a b ha hb =
     ]
 
 -- a request is executed once
-pub once-executions : {S : Type 0} (m : Meaning S) (v : View) (list : List (List Request)) (a b : TableLine) → HasLine (executions m v list) a → HasLine (executions m v list) b
+pub once-executions : {S : Type 0} (m : Meaning S) (v : View) (list : List Batch) (a b : TableLine) → HasLine (executions m v list) a → HasLine (executions m v list) b
     → a.client ≡ b.client → a.seq ≡ b.seq → a ≡ b
 once-executions m v list a b ha hb client seq =
     elim (order_of (executions m v list) (order-executions m v list) a b ha hb) [
@@ -252,7 +253,7 @@ not_before : (a b : TableLine) → Before a b → a.place ≡ b.place → a.inde
 not_before a b before place index = elim before.stands [ inl less ↦ omega (arith, less, place) | inr same ↦ omega (arith, same.1, index) ]
 
 -- at a place and an index, one request is executed
-pub one_there : {S : Type 0} (m : Meaning S) (v : View) (list : List (List Request)) (a b : TableLine) → HasLine (executions m v list) a → HasLine (executions m v list) b
+pub one_there : {S : Type 0} (m : Meaning S) (v : View) (list : List Batch) (a b : TableLine) → HasLine (executions m v list) a → HasLine (executions m v list) b
     → a.place ≡ b.place → a.index ≡ b.index → a ≡ b
 one_there m v list a b ha hb place index =
     elim (order_of (executions m v list) (order-executions m v list) a b ha hb) [
@@ -289,14 +290,14 @@ both_equal : (a b c d : ℕ) → ((a == c) && (b == d)) ≡ true → (a ≡ c) �
 both_equal a b c d is = let parts = and_true (a == c) (b == d) is in (eqb-true a c parts.0, eqb-true b d parts.1)
 
 -- the place of a request is that of its line
-pub place_of-line : {S : Type 0} (m : Meaning S) (v : View) (list : List (List Request)) (l : TableLine) → HasLine (executions m v list) l → place_of m v list l.client l.seq ≡ Some (l.place, l.index)
+pub place_of-line : {S : Type 0} (m : Meaning S) (v : View) (list : List Batch) (l : TableLine) → HasLine (executions m v list) l → place_of m v list l.client l.seq ≡ Some (l.place, l.index)
 place_of-line m v list l has =
     ap (option_map (λ (line : TableLine). (line.place, line.index)))
     (first_line-one (λ line. (line.client == l.client) && (line.seq == l.seq)) (executions m v list) l has (both_true l.client l.seq l.client l.seq refl refl)
     (λ x there is. let same = both_equal x.client x.seq l.client l.seq is in once-executions m v list x l there has same.0 same.1))
 
 -- the answer at the place of a line is its reply
-pub answer-line : {S : Type 0} (m : Meaning S) (v : View) (list : List (List Request)) (l : TableLine) → HasLine (executions m v list) l → answer m v list l.place l.index ≡ Some l.reply
+pub answer-line : {S : Type 0} (m : Meaning S) (v : View) (list : List Batch) (l : TableLine) → HasLine (executions m v list) l → answer m v list l.place l.index ≡ Some l.reply
 answer-line m v list l has =
     ap (option_map (λ (line : TableLine). line.reply))
     (first_line-one (λ line. (line.place == l.place) && (line.index == l.index)) (executions m v list) l has (both_true l.place l.index l.place l.index refl refl)

@@ -1,17 +1,19 @@
 -- Each message that a node holds is its own and rests on entries that it waits for; and a node's book only grows.
-use Rattle.std.proofs.Common.{◌≡◌, ℕ, zero, suc, ◌≤◌, ◌++◌, ◌==◌, Bool, true, false, ◌||◌, List, [], ◌∷◌, length, refl, ap, ◌∙◌, sym, arith, Option, Some, None, subst, append-nil, append_assoc, eq-eqb}
+use Rattle.std.proofs.Common.{◌≡◌, ℕ, zero, suc, ◌≤◌, ◌++◌, ◌==◌, Bool, true, false, ◌||◌, List, [], ◌∷◌, length, refl, ap, ◌∙◌, sym, arith, Option, Some, None, subst, append-nil, append_assoc, eq-eqb, Result, Ok, Err}
 use Rattle.std.proofs.lemmas.List.{take_all}
 use Rattle.std.specs.Prelude.{take, slice_get}
 use Rattle.std.specs.List.{list_any}
-use Rattle.smart_base.specs.Lists.{Each}
-use Rattle.smart_base.specs.Views.{is_member}
-use Rattle.smart_base.specs.declared.view.View.{View}
-use Rattle.smart_messages.specs.Equality.{same_slot, same_digest, digest_of}
-use Rattle.smart_messages.specs.declared.message.Request.{Request}
-use Rattle.smart_messages.specs.declared.message.Slot.{Slot}
+use Rattle.smart_base.specs.Lists.{Each, same_bytes}
+use Rattle.smart_base.specs.Views.{View, is_member}
+use Rattle.smart_messages.specs.Messages.{Batch, decoded}
+use Rattle.smart_messages.specs.Equality.{same_slot}
+use Rattle.smart_messages.specs.Forms.{SignedBy}
+use Rattle.smart_messages.specs.Kinds.{proposals}
+use Rattle.smart_messages.specs.declared.statement.Request.{Request}
+use Rattle.smart_messages.specs.declared.statement.Slot.{Slot}
 use Rattle.smart_messages.specs.declared.message.Message.{Message}
 use Rattle.smart_messages.specs.declared.message.Message.TheVariants.{Ask, Propose, Vote, Reply}
-use Rattle.smart_messages.specs.declared.message.VoteKind.TheVariants.{Write, Accept}
+use Rattle.smart_messages.specs.declared.statement.VoteKind.TheVariants.{Write, Accept}
 use Rattle.smart_messages.specs.declared.entry.LogEntry.{LogEntry}
 use Rattle.smart_messages.specs.declared.entry.LogEntry.TheVariants.{Wrote, Accepted, Decided}
 use Rattle.smart_messages.specs.declared.entry.NodeEvent.{NodeEvent}
@@ -19,10 +21,11 @@ use Rattle.smart_messages.specs.declared.entry.NodeEvent.TheVariants.{Arrive, Ti
 use Rattle.smart_service.specs.Services.{Meaning}
 use Rattle.smart_service.specs.declared.table.TableLine.{TableLine}
 use Rattle.node_rules.specs.Replicas.{is_next, delivered, executed_lines, at_next}
+use Rattle.node_rules.specs.Seals.{signed, digest_of}
 use Rattle.node_rules.specs.Nodes.{Node, view_of, next_place, open_slot, holding, recording}
 use Rattle.node_rules.specs.Arrivals.{why_dropped, offered, kept}
 use Rattle.node_rules.specs.Rules.{settled, reply_of, replying, lines_to_answer, deliver_batch, delivers, proposing, propose_batch, proposes, ballot, writing, write_batch, writes, backers, accepting, accept_batch, accepts, deciding, decide_batch, decides}
-use Rattle.node_rules.specs.Steps.{votes, passes, arrival_outcome, step_of, released, opened}
+use Rattle.node_rules.specs.Steps.{votes, passes, arrival_outcome, reading_outcome, step_of, released, opened}
 use Rattle.node_rules.specs.declared.node.Why.{Why}
 use Rattle.node_rules.specs.declared.node.Held.{Held}
 use Rattle.node_rules.specs.declared.node.Target.{Target}
@@ -30,7 +33,7 @@ use Rattle.node_rules.specs.declared.node.Target.TheVariants as targets
 use Rattle.world_rules.specs.declared.message.Origin.TheVariants as origins
 use Rattle.world_laws.specs.Sending.{IsOwn, votes_for, decides_for, rests_on}
 use Rattle.world_laws.proofs.Lists.{either, each_end, each_weaker}
-use Rattle.world_laws.proofs.Equal.{and_intro, slot-itself, batch-itself}
+use Rattle.world_laws.proofs.Equal.{and_intro, slot-itself, bytes-itself}
 use Rattle.world_laws.proofs.Executions.{OfRequest, of_delivered}
 use Rattle.world_laws.proofs.Authentic.{each-staying}
 
@@ -80,8 +83,8 @@ end_passes p (y ∷ xs) x is = later (p y) (list_any p (xs ++ x ∷ [])) (end_pa
 pub rests-more : (xs ys : List LogEntry) → Includes xs ys → (message : Message) → rests_on xs message ≡ true → rests_on ys message ≡ true
 rests-more xs ys more (Ask q) is = refl
 rests-more xs ys more (Propose p) is = refl
-rests-more xs ys more (Vote b) is = more (votes_for b b.kind) is
-rests-more xs ys more (Reply a) is = more (decides_for a) is
+rests-more xs ys more (Vote b) is = more (votes_for b.statement b.statement.kind) is
+rests-more xs ys more (Reply a) is = more (decides_for a.statement) is
 
 -- nodes
 
@@ -91,7 +94,7 @@ pub record HoldsRight (id : ℕ) (entries : List LogEntry) (h : Held) : Type 0 w
   pub rests : rests_on (take h.needs entries) h.message ≡ true
 
 -- a book has decided the batch that waits, if one does, at a place
-abbrev pub IsDecided : ℕ → List LogEntry → Option (List Request) → Type 0
+abbrev pub IsDecided : ℕ → List LogEntry → Option Batch → Type 0
 IsDecided place entries None = Unit {0}
 IsDecided place entries (Some batch) = (p : LogEntry → Bool) → ((slot : Slot) (voters : List ℕ) → slot.place ≡ place → p (Decided slot voters batch) ≡ true) → list_any p entries ≡ true
 
@@ -122,7 +125,7 @@ onward-then a b c f g =
     }
 
 -- a batch that is decided is so in a longer book
-decided-more : (place : ℕ) (entries more : List LogEntry) (waiting : Option (List Request)) → IsDecided place entries waiting → IsDecided place (entries ++ more) waiting
+decided-more : (place : ℕ) (entries more : List LogEntry) (waiting : Option Batch) → IsDecided place entries waiting → IsDecided place (entries ++ more) waiting
 decided-more place entries more None is = tt
 decided-more place entries more (Some batch) is = λ p all. includes-append entries more p (is p all)
 
@@ -146,33 +149,33 @@ rests-recording : {S : Type 0} (n : Node S) (e : LogEntry) → NodeRests n → N
 rests-recording n e is = record { held = holds-more n.id n.entries (e ∷ []) n.held is.held; waits = decided-more (next_place n) n.entries (e ∷ []) n.waiting is.waits }
 
 -- a reply rests on the decision of its place
-rests-reply : (entries : List LogEntry) (id place : ℕ) (batch : List Request) (l : TableLine) → IsDecided place entries (Some batch)
-    → l.place ≡ place → (q : Request) → slice_get batch l.index ≡ Some q → q.client ≡ l.client → q.seq ≡ l.seq → rests_on entries (reply_of id l) ≡ true
-rests-reply entries id place batch l decided at q there client seq =
+rests-reply : (entries : List LogEntry) (secret : List ℕ) (id place : ℕ) (batch : Batch) (l : TableLine) → IsDecided place entries (Some batch)
+    → l.place ≡ place → (q : SignedBy Request) → slice_get batch l.index ≡ Some q → q.statement.client ≡ l.client → q.statement.seq ≡ l.seq → rests_on entries (reply_of secret id l) ≡ true
+rests-reply entries secret id place batch l decided at q there client seq =
     decided _ (λ slot voters same. and_intro (slot.place == l.place) _ (eq-eqb slot.place l.place (same ∙ sym at))
-    (rw there (and_intro (q.client == l.client) (q.seq == l.seq) (eq-eqb q.client l.client client) (eq-eqb q.seq l.seq seq))))
+    (rw there (and_intro (q.statement.client == l.client) (q.statement.seq == l.seq) (eq-eqb q.statement.client l.client client) (eq-eqb q.statement.seq l.seq seq))))
 
 -- replies are held
-onward-replying : {S : Type 0} (n : Node S) (lines : List TableLine) → Each (λ l. rests_on n.entries (reply_of n.id l) ≡ true) lines → NodeRests n → Onward n (replying n lines)
+onward-replying : {S : Type 0} (n : Node S) (lines : List TableLine) → Each (λ l. rests_on n.entries (reply_of n.secret n.id l) ≡ true) lines → NodeRests n → Onward n (replying n lines)
 onward-replying n [] each is = onward-same n is
 onward-replying n (l ∷ ls) each is =
-    let f = onward-replying (holding n (targets.Client l.client) (reply_of n.id l)) ls each.1
-    (rests-holding n (targets.Client l.client) (reply_of n.id l) (refl, refl) each.0 is) in
+    let f = onward-replying (holding n (targets.Client l.client) (reply_of n.secret n.id l)) ls each.1
+    (rests-holding n (targets.Client l.client) (reply_of n.secret n.id l) (refl, refl) each.0 is) in
     record { id = f.id; firm = f.firm; more = f.more; book = f.book; rests = f.rests }
 
 -- the replies to a batch that is decided rest on its decision
-replies_rest : {S : Type 0} (m : Meaning S) (n : Node S) (batch : List Request) → IsDecided (next_place n) n.entries (Some batch)
-    → Each (λ l. rests_on n.entries (reply_of n.id l) ≡ true) (lines_to_answer m n batch)
+replies_rest : {S : Type 0} (m : Meaning S) (n : Node S) (batch : Batch) → IsDecided (next_place n) n.entries (Some batch)
+    → Each (λ l. rests_on n.entries (reply_of n.secret n.id l) ≡ true) (lines_to_answer m n batch)
 replies_rest m n batch decided =
-    either (λ (ls : List TableLine). Each (λ l. rests_on n.entries (reply_of n.id l) ≡ true) ls) (is_member (view_of n) n.id) (executed_lines m n.replica batch) []
-    (each_weaker (OfRequest (at_next n.replica) 0 batch) (λ l. rests_on n.entries (reply_of n.id l) ≡ true)
-    (λ l of. rests-reply n.entries n.id (next_place n) batch l decided of.at_place of.request
+    either (λ (ls : List TableLine). Each (λ l. rests_on n.entries (reply_of n.secret n.id l) ≡ true) ls) (is_member (view_of n) n.id) (executed_lines m n.replica batch) []
+    (each_weaker (OfRequest (at_next n.replica) 0 batch) (λ l. rests_on n.entries (reply_of n.secret n.id l) ≡ true)
+    (λ l of. rests-reply n.entries n.secret n.id (next_place n) batch l decided of.at_place of.request
     (subst (λ (i : ℕ). slice_get batch i ≡ Some of.request) (sym (of.at_index ∙ omega arith)) of.there) of.own_client of.own_seq)
     (executed_lines m n.replica batch) (of_delivered m n.replica batch))
     tt
 
 -- the batch that waits is delivered
-onward-deliver_batch : {S : Type 0} (m : Meaning S) (n : Node S) (batch : Option (List Request)) → n.waiting ≡ batch → NodeRests n → Onward n (deliver_batch m n batch)
+onward-deliver_batch : {S : Type 0} (m : Meaning S) (n : Node S) (batch : Option Batch) → n.waiting ≡ batch → NodeRests n → Onward n (deliver_batch m n batch)
 unfolding deliver_batch
 onward-deliver_batch m n None at is = onward-same n is
 onward-deliver_batch m n (Some batch) at is =
@@ -190,7 +193,7 @@ onward-delivers m n is = onward-deliver_batch m n n.waiting refl is
 onward-kept : {S : Type 0} (n : Node S) (message : Message) → NodeRests n → Onward n (kept n message)
 unfolding kept
 onward-kept {S = S} n (Ask q) is =
-    either (λ (x : Node S). Onward n x) (is_next n.replica.table q) (record n { pool = offered n.pool q }) n
+    either (λ (x : Node S). Onward n x) (is_next n.replica.table q.statement) (record n { pool = offered n.pool q }) n
     (record { id = refl; firm = refl; more = []; book = sym (append-nil n.entries); rests = record { held = is.held; waits = is.waits } })
     (onward-same n is)
 onward-kept n (Propose p) is = record { id = refl; firm = refl; more = []; book = sym (append-nil n.entries); rests = record { held = is.held; waits = is.waits } }
@@ -198,38 +201,38 @@ onward-kept n (Vote b) is = record { id = refl; firm = refl; more = []; book = s
 onward-kept n (Reply a) is = onward-same n is
 
 -- a batch is proposed
-onward-propose_batch : {S : Type 0} (n : Node S) (batch : Option (List Request)) → NodeRests n → Onward n (propose_batch n batch)
+onward-propose_batch : {S : Type 0} (n : Node S) (batch : Option Batch) → NodeRests n → Onward n (propose_batch n batch)
 unfolding propose_batch
 onward-propose_batch n None is = onward-same n is
 onward-propose_batch n (Some batch) is =
-    let r = rests-holding (record n { proposed = n.proposed ++ open_slot n ∷ [] }) targets.View (Propose (record { signer = n.id; slot = open_slot n; batch = batch })) refl refl
+    let r = rests-holding (record n { proposed = n.proposed ++ open_slot n ∷ [] }) targets.View (Propose (record { head = signed proposals n.secret n.id (record { slot = open_slot n; digest = digest_of batch }); batch = batch })) refl refl
     (record { held = is.held; waits = is.waits }) in
     record { id = refl; firm = refl; more = []; book = sym (append-nil n.entries); rests = record { held = r.held; waits = r.waits } }
 
 -- a batch is written, and the vote rests on the entry
-onward-write_batch : {S : Type 0} (n : Node S) (batch : Option (List Request)) → NodeRests n → Onward n (write_batch n batch)
+onward-write_batch : {S : Type 0} (n : Node S) (batch : Option Batch) → NodeRests n → Onward n (write_batch n batch)
 unfolding write_batch
 onward-write_batch n None is = onward-same n is
 onward-write_batch n (Some batch) is =
     let entry : LogEntry = Wrote (open_slot n) (digest_of batch) in
     let r = rests-holding (recording n entry) targets.View (ballot n Write batch) refl
-    (end_passes _ n.entries entry (and_intro (same_slot (open_slot n) (open_slot n)) (same_digest batch batch) (slot-itself (open_slot n)) (batch-itself batch)))
+    (end_passes _ n.entries entry (and_intro (same_slot (open_slot n) (open_slot n)) (same_bytes (digest_of batch) (digest_of batch)) (slot-itself (open_slot n)) (bytes-itself (digest_of batch))))
     (rests-recording n entry is) in
     record { id = refl; firm = refl; more = entry ∷ []; book = refl; rests = record { held = r.held; waits = r.waits } }
 
 -- so is one that is accepted
-onward-accept_batch : {S : Type 0} (n : Node S) (batch : Option (List Request)) → NodeRests n → Onward n (accept_batch n batch)
+onward-accept_batch : {S : Type 0} (n : Node S) (batch : Option Batch) → NodeRests n → Onward n (accept_batch n batch)
 unfolding accept_batch
 onward-accept_batch n None is = onward-same n is
 onward-accept_batch n (Some batch) is =
     let entry : LogEntry = Accepted (open_slot n) (backers n Write batch) batch in
     let r = rests-holding (recording n entry) targets.View (ballot n Accept batch) refl
-    (end_passes _ n.entries entry (and_intro (same_slot (open_slot n) (open_slot n)) (same_digest batch batch) (slot-itself (open_slot n)) (batch-itself batch)))
+    (end_passes _ n.entries entry (and_intro (same_slot (open_slot n) (open_slot n)) (same_bytes (digest_of batch) (digest_of batch)) (slot-itself (open_slot n)) (bytes-itself (digest_of batch))))
     (rests-recording n entry is) in
     record { id = refl; firm = refl; more = entry ∷ []; book = refl; rests = record { held = r.held; waits = r.waits } }
 
 -- a batch is decided, and waits
-onward-decide_batch : {S : Type 0} (n : Node S) (batch : Option (List Request)) → NodeRests n → Onward n (decide_batch n batch)
+onward-decide_batch : {S : Type 0} (n : Node S) (batch : Option Batch) → NodeRests n → Onward n (decide_batch n batch)
 unfolding decide_batch
 onward-decide_batch n None is = onward-same n is
 onward-decide_batch n (Some batch) is =
@@ -266,9 +269,14 @@ onward-arrival n message None is =
     onward-then n (kept n message) (passes (kept n message)) f (onward-passes (kept n message) f.rests)
 onward-arrival n message (Some why) is = onward-same n is
 
+-- bytes that come, and their pass
+onward-reading : {S : Type 0} (n : Node S) (read : Result Message ℕ) → NodeRests n → Onward n (reading_outcome n read).node
+onward-reading n (Ok message) is = onward-arrival n message (why_dropped n message) is
+onward-reading n (Err at) is = onward-same n is
+
 -- the node as an event finds it: firmness is what the event says
 abbrev pub told_firm : {S : Type 0} → Node S → NodeEvent → Node S
-told_firm n (Arrive message) = n
+told_firm n (Arrive bytes) = n
 told_firm n Tick = n
 told_firm n Deliver = n
 told_firm n (Firm count) = record n { firm = count }
@@ -276,7 +284,7 @@ told_firm n (Firm count) = record n { firm = count }
 -- a step
 pub onward-step : {S : Type 0} (m : Meaning S) (n : Node S) (event : NodeEvent) → NodeRests n → Onward (told_firm n event) (step_of m n event).node
 unfolding step_of
-onward-step m n (Arrive message) is = onward-arrival n message (why_dropped n message) is
+onward-step m n (Arrive bytes) is = onward-reading n (decoded bytes) is
 onward-step m n Tick is = onward-passes n is
 onward-step m n Deliver is =
     let f : Onward n (delivers m n) = onward-delivers m n is in
@@ -288,5 +296,5 @@ pub rests-released : {S : Type 0} (n : Node S) → NodeRests n → NodeRests (re
 rests-released n is = record { held = each-staying (HoldsRight n.id n.entries) n.firm n.held is.held; waits = is.waits }
 
 -- a node that has opened holds nothing
-pub rests-opened : {S : Type 0} (m : Meaning S) (id : ℕ) (view : View) → NodeRests (opened m id view)
-rests-opened m id view = record { held = tt; waits = tt }
+pub rests-opened : {S : Type 0} (m : Meaning S) (secret : List ℕ) (id : ℕ) (view : View) → NodeRests (opened m secret id view)
+rests-opened m secret id view = record { held = tt; waits = tt }

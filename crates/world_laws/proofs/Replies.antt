@@ -1,11 +1,10 @@
 -- Each reply that a node holds or that was sent tells an execution of the chosen list.
-use Rattle.std.proofs.Common.{◌≡◌, ℕ, ◌+◌, ◌^◌, ◌==◌, ◌++◌, List, [], ◌∷◌, length, refl, Option, Some, None, nat_le, nat_lt, inl, inr, subst}
-use Rattle.std.specs.Prelude.{slice_set}
+use Rattle.std.proofs.Common.{◌≡◌, ℕ, ◌+◌, ◌==◌, ◌++◌, List, [], ◌∷◌, length, refl, Option, Some, None, inl, inr, subst, Result, Ok, Err}
 use Rattle.smart_base.specs.Lists.{Each}
-use Rattle.smart_base.specs.Views.{is_member}
-use Rattle.smart_base.specs.declared.view.View.{View}
-use Rattle.smart_messages.specs.declared.message.Request.{Request}
-use Rattle.smart_messages.specs.declared.message.Answer.{Answer}
+use Rattle.smart_base.specs.Views.{View, is_member}
+use Rattle.smart_messages.specs.Forms.{SignedBy}
+use Rattle.smart_messages.specs.Messages.{Batch, decoded}
+use Rattle.smart_messages.specs.declared.statement.Answer.{Answer}
 use Rattle.smart_messages.specs.declared.message.Message.{Message}
 use Rattle.smart_messages.specs.declared.message.Message.TheVariants.{Ask, Propose, Vote, Reply}
 use Rattle.smart_messages.specs.declared.entry.NodeEvent.{NodeEvent}
@@ -17,12 +16,12 @@ use Rattle.node_rules.specs.Replicas.{is_next, delivered, executed_lines, execut
 use Rattle.node_rules.specs.Nodes.{Node, view_of, next_place, holding}
 use Rattle.node_rules.specs.Arrivals.{why_dropped, offered, kept}
 use Rattle.node_rules.specs.Rules.{settled, reply_of, replying, lines_to_answer, deliver_batch, delivers, proposing, propose_batch, proposes, writing, write_batch, writes, accepting, accept_batch, accepts, deciding, decide_batch, decides}
-use Rattle.node_rules.specs.Steps.{Outcome, votes, passes, arrival_outcome, step_of, leaving, staying}
+use Rattle.node_rules.specs.Steps.{Outcome, votes, passes, arrival_outcome, reading_outcome, step_of, leaving}
 use Rattle.node_rules.specs.declared.node.Why.{Why}
 use Rattle.node_rules.specs.declared.node.Held.{Held}
 use Rattle.node_rules.specs.declared.node.Target.{Target}
 use Rattle.node_rules.specs.declared.node.Target.TheVariants as targets
-use Rattle.world_rules.specs.Clients.{request_of, asking, heard}
+use Rattle.world_rules.specs.Clients.{heard}
 use Rattle.world_rules.specs.Worlds.{Host, World, sends, sends_all, chosen_with, host_after, stepped, hearing, hosts_from, begun}
 use Rattle.world_rules.specs.declared.client.Client.{Client}
 use Rattle.world_rules.specs.declared.client.Heard.{Heard}
@@ -31,19 +30,20 @@ use Rattle.world_rules.specs.declared.message.Origin.TheVariants as origins
 use Rattle.world_rules.specs.declared.message.Sent.{Sent}
 use Rattle.world_laws.specs.Lines.{HasLine}
 use Rattle.world_laws.proofs.Lists.{either, each_end, each_weaker, each_set, each_get}
-use Rattle.world_laws.proofs.Keeps.{HasMessage, Keeps}
+use Rattle.world_laws.proofs.Keeps.{HasMessage, ask_of, asked_by, by-sends, Keeps}
+use Rattle.world_laws.proofs.Authentic.{each-leaving, each-staying}
 use Rattle.world_laws.proofs.Aligned.{Aligned, AllAligned, line_told, IsExecuted}
 use Rattle.world_laws.proofs.Executions.{executions-more, executed-at}
 
 -- a message that is a reply tells an execution of a list
-abbrev pub ReplyRight : {S : Type 0} → Meaning S → View → List (List Request) → Message → Type 0
+abbrev pub ReplyRight : {S : Type 0} → Meaning S → View → List Batch → Message → Type 0
 ReplyRight m view chosen (Ask q) = Unit {0}
 ReplyRight m view chosen (Propose p) = Unit {0}
 ReplyRight m view chosen (Vote b) = Unit {0}
-ReplyRight m view chosen (Reply a) = IsExecuted m view chosen a
+ReplyRight m view chosen (Reply a) = IsExecuted m view chosen a.statement
 
 -- so does each reply that a node holds
-abbrev pub HeldRight : {S : Type 0} → Meaning S → View → List (List Request) → Node S → Type 0
+abbrev pub HeldRight : {S : Type 0} → Meaning S → View → List Batch → Node S → Type 0
 HeldRight m view chosen n = Each (λ h. ReplyRight m view chosen h.message) n.held
 
 -- each reply that is held or was sent tells an execution of the chosen list
@@ -54,18 +54,18 @@ pub record RepliesRight {S : Type 0} (m : Meaning S) (w : World S) : Type 0 wher
 -- a list that grows
 
 -- what a reply tells of a list, it tells of a longer one
-right-more : {S : Type 0} (m : Meaning S) (v : View) (list more : List (List Request)) (x : Message) → ReplyRight m v list x → ReplyRight m v (list ++ more) x
+right-more : {S : Type 0} (m : Meaning S) (v : View) (list more : List Batch) (x : Message) → ReplyRight m v list x → ReplyRight m v (list ++ more) x
 right-more m v list more (Ask q) right = tt
 right-more m v list more (Propose p) right = tt
 right-more m v list more (Vote b) right = tt
-right-more m v list more (Reply a) right = executions-more m v list more (line_told a) right
+right-more m v list more (Reply a) right = executions-more m v list more (line_told a.statement) right
 
 -- what a reply tells stays told where a batch is chosen
-right-chosen : {S : Type 0} (m : Meaning S) (v : View) (chosen : List (List Request)) (place : ℕ) (waiting : Option (List Request)) (x : Message) → ReplyRight m v chosen x
+right-chosen : {S : Type 0} (m : Meaning S) (v : View) (chosen : List Batch) (place : ℕ) (waiting : Option Batch) (x : Message) → ReplyRight m v chosen x
     → ReplyRight m v (chosen_with chosen place waiting) x
 right-chosen m v chosen place None x right = right
 right-chosen m v chosen place (Some batch) x right =
-    either (λ (list : List (List Request)). ReplyRight m v list x) (place == length chosen + 1) (chosen ++ batch ∷ []) chosen (right-more m v chosen (batch ∷ []) x right) right
+    either (λ (list : List Batch). ReplyRight m v list x) (place == length chosen + 1) (chosen ++ batch ∷ []) chosen (right-more m v chosen (batch ∷ []) x right) right
 
 -- rules of a node
 
@@ -75,15 +75,15 @@ each_inside P [] inside = tt
 each_inside P (l ∷ ls) inside = (inside l (inl refl), each_inside P ls (λ x has. inside x (inr has)))
 
 -- a node that replies with executions holds right replies
-held-replying : {S : Type 0} (m : Meaning S) (v : View) (chosen : List (List Request)) (n : Node S) (lines : List TableLine) → HeldRight m v chosen n → Each (HasLine (executions m v chosen)) lines
+held-replying : {S : Type 0} (m : Meaning S) (v : View) (chosen : List Batch) (n : Node S) (lines : List TableLine) → HeldRight m v chosen n → Each (HasLine (executions m v chosen)) lines
     → HeldRight m v chosen (replying n lines)
 held-replying m v chosen n [] held each = held
 held-replying m v chosen n (l ∷ ls) held each =
-    held-replying m v chosen (holding n (targets.Client l.client) (reply_of n.id l)) ls
-    (each_end (λ (h : Held). ReplyRight m v chosen h.message) n.held (record { to = targets.Client l.client; message = reply_of n.id l; needs = length n.entries }) held each.0) each.1
+    held-replying m v chosen (holding n (targets.Client l.client) (reply_of n.secret n.id l)) ls
+    (each_end (λ (h : Held). ReplyRight m v chosen h.message) n.held (record { to = targets.Client l.client; message = reply_of n.secret n.id l; needs = length n.entries }) held each.0) each.1
 
 -- the lines that a host's node answers are executions of the list along which it stands
-answered_lines : {S : Type 0} (m : Meaning S) (v : View) (chosen : List (List Request)) (h : Host S) (batch : List Request) → Aligned m v chosen h → h.node.waiting ≡ Some batch
+answered_lines : {S : Type 0} (m : Meaning S) (v : View) (chosen : List Batch) (h : Host S) (batch : Batch) → Aligned m v chosen h → h.node.waiting ≡ Some batch
     → Each (HasLine (executions m v chosen)) (lines_to_answer m h.node batch)
 answered_lines {S = S} m v chosen h batch aligned waits =
     either (Each (HasLine (executions m v chosen))) (is_member (view_of h.node) h.node.id) (executed_lines m h.node.replica batch) []
@@ -92,7 +92,7 @@ answered_lines {S = S} m v chosen h batch aligned waits =
     tt
 
 -- so a host that delivers holds right replies
-held-deliver_batch : {S : Type 0} (m : Meaning S) (v : View) (chosen : List (List Request)) (h : Host S) (waiting : Option (List Request)) → Aligned m v chosen h → h.node.waiting ≡ waiting
+held-deliver_batch : {S : Type 0} (m : Meaning S) (v : View) (chosen : List Batch) (h : Host S) (waiting : Option Batch) → Aligned m v chosen h → h.node.waiting ≡ waiting
     → HeldRight m v chosen h.node → HeldRight m v chosen (deliver_batch m h.node waiting)
 unfolding deliver_batch
 held-deliver_batch m v chosen h None aligned waits held = held
@@ -102,39 +102,39 @@ held-deliver_batch {S = S} m v chosen h (Some batch) aligned waits held =
     (answered_lines m v chosen h batch aligned waits)
 
 -- an arrival holds no reply
-held-kept : {S : Type 0} (m : Meaning S) (v : View) (chosen : List (List Request)) (n : Node S) (x : Message) → HeldRight m v chosen n → HeldRight m v chosen (kept n x)
+held-kept : {S : Type 0} (m : Meaning S) (v : View) (chosen : List Batch) (n : Node S) (x : Message) → HeldRight m v chosen n → HeldRight m v chosen (kept n x)
 unfolding kept
-held-kept m v chosen n (Ask q) held = either (HeldRight m v chosen) (is_next n.replica.table q) (record n { pool = offered n.pool q }) n held held
+held-kept m v chosen n (Ask q) held = either (HeldRight m v chosen) (is_next n.replica.table q.statement) (record n { pool = offered n.pool q }) n held held
 held-kept m v chosen n (Propose p) held = held
 held-kept m v chosen n (Vote b) held = held
 held-kept m v chosen n (Reply a) held = held
 
 -- a proposal is no reply
-held-propose_batch : {S : Type 0} (m : Meaning S) (v : View) (chosen : List (List Request)) (n : Node S) (batch : Option (List Request)) → HeldRight m v chosen n → HeldRight m v chosen (propose_batch n batch)
+held-propose_batch : {S : Type 0} (m : Meaning S) (v : View) (chosen : List Batch) (n : Node S) (batch : Option Batch) → HeldRight m v chosen n → HeldRight m v chosen (propose_batch n batch)
 unfolding propose_batch
 held-propose_batch m v chosen n None held = held
 held-propose_batch m v chosen n (Some batch) held = each_end (λ (h : Held). ReplyRight m v chosen h.message) n.held _ held tt
 
 -- a vote to write is no reply
-held-write_batch : {S : Type 0} (m : Meaning S) (v : View) (chosen : List (List Request)) (n : Node S) (batch : Option (List Request)) → HeldRight m v chosen n → HeldRight m v chosen (write_batch n batch)
+held-write_batch : {S : Type 0} (m : Meaning S) (v : View) (chosen : List Batch) (n : Node S) (batch : Option Batch) → HeldRight m v chosen n → HeldRight m v chosen (write_batch n batch)
 unfolding write_batch
 held-write_batch m v chosen n None held = held
 held-write_batch m v chosen n (Some batch) held = each_end (λ (h : Held). ReplyRight m v chosen h.message) n.held _ held tt
 
 -- a vote to accept is no reply
-held-accept_batch : {S : Type 0} (m : Meaning S) (v : View) (chosen : List (List Request)) (n : Node S) (batch : Option (List Request)) → HeldRight m v chosen n → HeldRight m v chosen (accept_batch n batch)
+held-accept_batch : {S : Type 0} (m : Meaning S) (v : View) (chosen : List Batch) (n : Node S) (batch : Option Batch) → HeldRight m v chosen n → HeldRight m v chosen (accept_batch n batch)
 unfolding accept_batch
 held-accept_batch m v chosen n None held = held
 held-accept_batch m v chosen n (Some batch) held = each_end (λ (h : Held). ReplyRight m v chosen h.message) n.held _ held tt
 
 -- a decision holds nothing
-held-decide_batch : {S : Type 0} (m : Meaning S) (v : View) (chosen : List (List Request)) (n : Node S) (batch : Option (List Request)) → HeldRight m v chosen n → HeldRight m v chosen (decide_batch n batch)
+held-decide_batch : {S : Type 0} (m : Meaning S) (v : View) (chosen : List Batch) (n : Node S) (batch : Option Batch) → HeldRight m v chosen n → HeldRight m v chosen (decide_batch n batch)
 unfolding decide_batch
 held-decide_batch m v chosen n None held = held
 held-decide_batch m v chosen n (Some batch) held = held
 
 -- the rules behind delivery hold no reply
-held-passes : {S : Type 0} (m : Meaning S) (v : View) (chosen : List (List Request)) (n : Node S) → HeldRight m v chosen n → HeldRight m v chosen (passes n)
+held-passes : {S : Type 0} (m : Meaning S) (v : View) (chosen : List Batch) (n : Node S) → HeldRight m v chosen n → HeldRight m v chosen (passes n)
 unfolding passes votes proposes writes accepts decides
 held-passes m v chosen n held =
     let proposed : HeldRight m v chosen (proposes n) = held-propose_batch m v chosen n (proposing n) held in
@@ -143,45 +143,37 @@ held-passes m v chosen n held =
     held-decide_batch m v chosen (votes n) (deciding (votes n)) accepted
 
 -- an arrival, kept or dropped, leaves held replies right
-held-arrival : {S : Type 0} (m : Meaning S) (v : View) (chosen : List (List Request)) (n : Node S) (x : Message) (why : Option Why) → HeldRight m v chosen n
+held-arrival : {S : Type 0} (m : Meaning S) (v : View) (chosen : List Batch) (n : Node S) (x : Message) (why : Option Why) → HeldRight m v chosen n
     → HeldRight m v chosen (arrival_outcome n x why).node
 held-arrival m v chosen n x None held = held-passes m v chosen (kept n x) (held-kept m v chosen n x held)
 held-arrival m v chosen n x (Some why) held = held
 
+-- so do bytes
+held-reading : {S : Type 0} (m : Meaning S) (v : View) (chosen : List Batch) (n : Node S) (read : Result Message ℕ) → HeldRight m v chosen n → HeldRight m v chosen (reading_outcome n read).node
+held-reading m v chosen n (Ok x) held = held-arrival m v chosen n x (why_dropped n x) held
+held-reading m v chosen n (Err at) held = held
+
 -- a step of a host's node leaves held replies right
-held-step : {S : Type 0} (m : Meaning S) (v : View) (chosen : List (List Request)) (h : Host S) (event : NodeEvent) → Aligned m v chosen h → HeldRight m v chosen h.node
+held-step : {S : Type 0} (m : Meaning S) (v : View) (chosen : List Batch) (h : Host S) (event : NodeEvent) → Aligned m v chosen h → HeldRight m v chosen h.node
     → HeldRight m v chosen (step_of m h.node event).node
 unfolding step_of delivers
-held-step m v chosen h (Arrive x) aligned held = held-arrival m v chosen h.node x (why_dropped h.node x) held
+held-step m v chosen h (Arrive bytes) aligned held = held-reading m v chosen h.node (decoded bytes) held
 held-step m v chosen h Tick aligned held = held-passes m v chosen h.node held
 held-step m v chosen h Deliver aligned held = held-passes m v chosen (deliver_batch m h.node h.node.waiting) (held-deliver_batch m v chosen h h.node.waiting aligned refl held)
 held-step m v chosen h (Firm count) aligned held = held-passes m v chosen (record h.node { firm = count }) held
 
 -- messages that leave
 
--- what holds of all that is held, holds of what leaves
-each-leaving : (P : Held → Type 0) (firm : ℕ) (held : List Held) → Each P held → Each P (leaving firm held)
-each-leaving P firm [] each = tt
-each-leaving P firm (h ∷ hs) each = either (Each P) (nat_le h.needs firm) (h ∷ leaving firm hs) [] (each.0, each-leaving P firm hs each.1) tt
-
--- what holds of all that is held, holds of what stays
-each-staying : (P : Held → Type 0) (firm : ℕ) (held : List Held) → Each P held → Each P (staying firm held)
-each-staying P firm [] each = tt
-each-staying P firm (h ∷ hs) each = either (Each P) (nat_le h.needs firm) (staying firm hs) (h ∷ hs) (each-staying P firm hs each.1) each
-
 -- a right message leaves
 right-sends : {S : Type 0} (m : Meaning S) (w : World S) (origin : Origin) (to : Target) (x : Message) → ReplyRight m w.view w.chosen x → RepliesRight m w → RepliesRight m (sends w origin to x)
-unfolding sends
-right-sends m w origin to x right r =
-    either (RepliesRight m) (nat_lt (length w.sent) (2 ^ 24)) _ _
-    (record { sent = each_end (λ (s : Sent). ReplyRight m w.view w.chosen s.message) w.sent (record { origin = origin; to = to; message = x }) r.sent right; held = r.held })
-    (record { sent = r.sent; held = r.held })
+right-sends {S = S} m w origin to x right r =
+    by-sends (λ (v : World S). RepliesRight m v) w origin to x (λ ending. record { sent = r.sent; held = r.held })
+    (λ free room. record { sent = each_end (λ (s : Sent). ReplyRight m w.view w.chosen s.message) w.sent (record { origin = origin; to = to; message = x }) r.sent right; held = r.held })
 
 -- the view and the list stay where messages leave
 same_list-sends : {S : Type 0} (m : Meaning S) (w : World S) (origin : Origin) (to : Target) (x y : Message) → ReplyRight m w.view w.chosen y
     → ReplyRight m (sends w origin to x).view (sends w origin to x).chosen y
-unfolding sends
-same_list-sends {S = S} m w origin to x y right = either (λ (v : World S). ReplyRight m v.view v.chosen y) (nat_lt (length w.sent) (2 ^ 24)) _ _ right right
+same_list-sends {S = S} m w origin to x y right = by-sends (λ (v : World S). ReplyRight m v.view v.chosen y) w origin to x (λ ending. right) (λ free room. right)
 
 -- right messages leave
 right-sends_all : {S : Type 0} (m : Meaning S) (id : ℕ) (w : World S) (held : List Held) → Each (λ h. ReplyRight m w.view w.chosen h.message) held → RepliesRight m w → RepliesRight m (sends_all id w held)
@@ -199,7 +191,7 @@ right-sends_all {S = S} m id w (h ∷ hs) each r =
 right-stepped : {S : Type 0} (m : Meaning S) (w : World S) (i : ℕ) (h : Host S) (o : Outcome S) → HeldRight m w.view w.chosen o.node → RepliesRight m w → RepliesRight m (stepped w i h o)
 unfolding stepped
 right-stepped {S = S} m w i h o held r =
-    let chosen : List (List Request) = chosen_with w.chosen (next_place o.node) o.node.waiting in
+    let chosen : List Batch = chosen_with w.chosen (next_place o.node) o.node.waiting in
     let more : (x : Message) → ReplyRight m w.view w.chosen x → ReplyRight m w.view chosen x = right-chosen m w.view w.chosen (next_place o.node) o.node.waiting in
     let all : Each (λ (x : Held). ReplyRight m w.view chosen x.message) o.node.held =
     each_weaker (λ (x : Held). ReplyRight m w.view w.chosen x.message) (λ (x : Held). ReplyRight m w.view chosen x.message) (λ x. more x.message) o.node.held held in
@@ -213,7 +205,7 @@ right-stepped {S = S} m w i h o held r =
     })
 
 -- a client that hears sends nothing
-right-hearing : {S : Type 0} (m : Meaning S) (w : World S) (i : ℕ) (c : Client) (a : Answer) (h : Heard) → RepliesRight m w → RepliesRight m (hearing w i c a h)
+right-hearing : {S : Type 0} (m : Meaning S) (w : World S) (i : ℕ) (c : Client) (a : SignedBy Answer) (h : Heard) → RepliesRight m w → RepliesRight m (hearing w i c a h)
 unfolding hearing
 right-hearing m w i c a h r = record { sent = r.sent; held = r.held }
 
@@ -227,17 +219,17 @@ keeps-replies {S = S} m P k aligned =
             (held-step m w.view w.chosen h event (each_get (Aligned m w.view w.chosen) w.hosts i h (aligned w p.0).hosts at)
             (each_get (λ (g : Host S). HeldRight m w.view w.chosen g.node) w.hosts i h p.1.held at)) p.1,
       );
-      hear = λ w i c a at has p. (k.hear w i c a at has p.0, right-hearing m w i c a (heard w.view c a) p.1);
-      ask = λ w i c op at free p. (
-        k.ask w i c op at free p.0,
-        right-sends m (record w { clients = slice_set w.clients i (asking c (request_of c op)) }) (origins.Client c.id) targets.View (Ask (request_of c op)) tt
+      hear = λ w i c x a at has read p. (k.hear w i c x a at has read p.0, right-hearing m w i c a (heard w.view c a) p.1);
+      ask = λ w i c op at free few brief p. (
+        k.ask w i c op at free few brief p.0,
+        right-sends m (asked_by w i c op) (origins.Client c.id) targets.View (ask_of c op) tt
             (record { sent = p.1.sent; held = p.1.held }),
       );
       same = λ w mark told p. (k.same w mark told p.0, record { sent = p.1.sent; held = p.1.held });
     }
 
 -- opened nodes hold nothing
-held-hosts_from : {S : Type 0} (m : Meaning S) (view v : View) (chosen : List (List Request)) (ids : List ℕ) → Each (λ h. HeldRight m v chosen h.node) (hosts_from m view ids)
+held-hosts_from : {S : Type 0} (m : Meaning S) (view v : View) (chosen : List Batch) (ids : List ℕ) → Each (λ h. HeldRight m v chosen h.node) (hosts_from m view ids)
 held-hosts_from m view v chosen [] = tt
 held-hosts_from m view v chosen (id ∷ ids) = (tt, held-hosts_from m view v chosen ids)
 
@@ -248,12 +240,12 @@ replies-begun m view = record { sent = tt; held = held-hosts_from m view view []
 -- replies that were sent
 
 -- a message that was sent is right where all are
-message_right : {S : Type 0} (m : Meaning S) (v : View) (chosen : List (List Request)) (sent : List Sent) (x : Message) → Each (λ s. ReplyRight m v chosen s.message) sent → HasMessage sent x
+message_right : {S : Type 0} (m : Meaning S) (v : View) (chosen : List Batch) (sent : List Sent) (x : Message) → Each (λ s. ReplyRight m v chosen s.message) sent → HasMessage sent x
     → ReplyRight m v chosen x
 message_right m v chosen [] x each has = absurd has
 message_right m v chosen (s ∷ sent) x each has =
     elim has [ inl here ↦ subst (ReplyRight m v chosen) here each.0 | inr later ↦ message_right m v chosen sent x each.1 later ]
 
 -- a reply that was sent tells an execution of the chosen list
-pub reply_sent : {S : Type 0} (m : Meaning S) (P : World S → Type 0) (w : World S) (a : Answer) → P w × RepliesRight m w → HasMessage w.sent (Reply a) → IsExecuted m w.view w.chosen a
+pub reply_sent : {S : Type 0} (m : Meaning S) (P : World S → Type 0) (w : World S) (a : SignedBy Answer) → P w × RepliesRight m w → HasMessage w.sent (Reply a) → IsExecuted m w.view w.chosen a.statement
 reply_sent m P w a p has = message_right m w.view w.chosen w.sent (Reply a) p.1.sent has

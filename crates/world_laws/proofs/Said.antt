@@ -1,83 +1,90 @@
 -- What messages and books say that members have accepted.
-use Rattle.std.proofs.Common.{◌≡◌, ℕ, ◌++◌, Bool, true, false, ◌&&◌, ◌||◌, ◌==◌, List, [], ◌∷◌, refl, inl, inr, ◌⊎◌, subst, eqb-true}
+use Rattle.std.proofs.Common.{◌≡◌, ℕ, ◌++◌, Bool, true, false, ◌&&◌, ◌||◌, ◌==◌, List, [], ◌∷◌, refl, inl, inr, ◌⊎◌, subst, eqb-true, Result, Ok, Err}
 use Rattle.std.specs.List.{list_any}
-use Rattle.smart_base.specs.Lists.{Each}
-use Rattle.smart_messages.specs.Equality.{same_slot, same_kind, same_digest}
-use Rattle.smart_messages.specs.declared.message.Request.{Request}
-use Rattle.smart_messages.specs.declared.message.Slot.{Slot}
-use Rattle.smart_messages.specs.declared.message.Ballot.{Ballot}
+use Rattle.smart_base.specs.Lists.{Each, same_bytes}
+use Rattle.smart_messages.specs.Forms.{SignedBy}
+use Rattle.smart_messages.specs.Messages.{Batch, decoded}
+use Rattle.smart_messages.specs.Equality.{same_slot, same_kind}
+use Rattle.smart_messages.specs.declared.statement.Slot.{Slot}
+use Rattle.smart_messages.specs.declared.statement.Ballot.{Ballot}
 use Rattle.smart_messages.specs.declared.message.Message.{Message}
 use Rattle.smart_messages.specs.declared.message.Message.TheVariants.{Ask, Propose, Vote, Reply}
-use Rattle.smart_messages.specs.declared.message.VoteKind.{VoteKind}
-use Rattle.smart_messages.specs.declared.message.VoteKind.TheVariants.{Write, Accept}
+use Rattle.smart_messages.specs.declared.statement.VoteKind.{VoteKind}
+use Rattle.smart_messages.specs.declared.statement.VoteKind.TheVariants.{Write, Accept}
 use Rattle.smart_messages.specs.declared.entry.LogEntry.{LogEntry}
 use Rattle.smart_messages.specs.declared.entry.LogEntry.TheVariants.{Opened, Wrote, Accepted, Decided}
 use Rattle.smart_messages.specs.declared.entry.NodeEvent.{NodeEvent}
 use Rattle.smart_messages.specs.declared.entry.NodeEvent.TheVariants.{Arrive, Tick, Deliver, Firm}
+use Rattle.node_rules.specs.Seals.{digest_of}
 use Rattle.node_rules.specs.Nodes.{is_vote, has_vote}
 use Rattle.world_laws.proofs.Lists.{and_true}
-use Rattle.world_laws.proofs.Equal.{same_batch-equal, same_kind-equal, same_slot-equal}
+use Rattle.world_laws.proofs.Equal.{same_bytes-equal, same_kind-equal, same_slot-equal}
 
--- the book has accepted this batch for the slot
-abbrev pub HasAccepted : List LogEntry → Slot → List Request → Type 0
-HasAccepted [] slot batch = ⊥
-HasAccepted (Opened ∷ es) slot batch = HasAccepted es slot batch
-HasAccepted (Wrote s digest ∷ es) slot batch = HasAccepted es slot batch
-HasAccepted (Accepted s voters b ∷ es) slot batch = ((s ≡ slot) × (b ≡ batch)) ⊎ HasAccepted es slot batch
-HasAccepted (Decided s voters b ∷ es) slot batch = HasAccepted es slot batch
+-- the book has accepted for the slot a batch of this digest
+abbrev pub HasAccepted : List LogEntry → Slot → List ℕ → Type 0
+HasAccepted [] slot digest = ⊥
+HasAccepted (Opened ∷ es) slot digest = HasAccepted es slot digest
+HasAccepted (Wrote s d ∷ es) slot digest = HasAccepted es slot digest
+HasAccepted (Accepted s voters b ∷ es) slot digest = ((s ≡ slot) × (digest_of b ≡ digest)) ⊎ HasAccepted es slot digest
+HasAccepted (Decided s voters b ∷ es) slot digest = HasAccepted es slot digest
 
 -- an accept vote says what is so
-abbrev pub BallotSaid : (ℕ → Slot → List Request → Type 0) → VoteKind → Ballot → Type 0
+abbrev pub BallotSaid : (ℕ → Slot → List ℕ → Type 0) → VoteKind → SignedBy Ballot → Type 0
 BallotSaid T Write b = Unit {0}
-BallotSaid T Accept b = T b.signer b.slot b.digest
+BallotSaid T Accept b = T b.signer b.statement.slot b.statement.digest
 
 -- a message says what is so
-abbrev pub Said : (ℕ → Slot → List Request → Type 0) → Message → Type 0
+abbrev pub Said : (ℕ → Slot → List ℕ → Type 0) → Message → Type 0
 Said T (Ask q) = Unit {0}
 Said T (Propose p) = Unit {0}
-Said T (Vote b) = BallotSaid T b.kind b
+Said T (Vote b) = BallotSaid T b.statement.kind b
 Said T (Reply a) = Unit {0}
 
+-- bytes say what is so, if they are a message
+abbrev pub ReadSaid : (ℕ → Slot → List ℕ → Type 0) → Result Message ℕ → Type 0
+ReadSaid T (Ok message) = Said T message
+ReadSaid T (Err at) = Unit {0}
+
 -- what arrives says what is so
-abbrev pub EventSaid : (ℕ → Slot → List Request → Type 0) → NodeEvent → Type 0
-EventSaid T (Arrive message) = Said T message
+abbrev pub EventSaid : (ℕ → Slot → List ℕ → Type 0) → NodeEvent → Type 0
+EventSaid T (Arrive bytes) = ReadSaid T (decoded bytes)
 EventSaid T Tick = Unit {0}
 EventSaid T Deliver = Unit {0}
 EventSaid T (Firm count) = Unit {0}
 
 -- a message of a member that its own book bears out
 abbrev pub OwnSaid : List LogEntry → ℕ → Message → Type 0
-OwnSaid entries id message = Said (λ member slot batch. (member ≡ id) × HasAccepted entries slot batch) message
+OwnSaid entries id message = Said (λ member slot digest. (member ≡ id) × HasAccepted entries slot digest) message
 
 -- what was so stays so
 
 -- a vote that says what is so, of a saying that says more
-ballot_weaker : (T U : ℕ → Slot → List Request → Type 0) → ((m : ℕ) (s : Slot) (b : List Request) → T m s b → U m s b) → (kind : VoteKind) (b : Ballot) → BallotSaid T kind b → BallotSaid U kind b
+ballot_weaker : (T U : ℕ → Slot → List ℕ → Type 0) → ((m : ℕ) (s : Slot) (d : List ℕ) → T m s d → U m s d) → (kind : VoteKind) (b : SignedBy Ballot) → BallotSaid T kind b → BallotSaid U kind b
 ballot_weaker T U weaker Write b said = tt
-ballot_weaker T U weaker Accept b said = weaker b.signer b.slot b.digest said
+ballot_weaker T U weaker Accept b said = weaker b.signer b.statement.slot b.statement.digest said
 
 -- so does a message
-pub said_weaker : (T U : ℕ → Slot → List Request → Type 0) → ((m : ℕ) (s : Slot) (b : List Request) → T m s b → U m s b) → (message : Message) → Said T message → Said U message
+pub said_weaker : (T U : ℕ → Slot → List ℕ → Type 0) → ((m : ℕ) (s : Slot) (d : List ℕ) → T m s d → U m s d) → (message : Message) → Said T message → Said U message
 said_weaker T U weaker (Ask q) said = tt
 said_weaker T U weaker (Propose p) said = tt
-said_weaker T U weaker (Vote b) said = ballot_weaker T U weaker b.kind b said
+said_weaker T U weaker (Vote b) said = ballot_weaker T U weaker b.statement.kind b said
 said_weaker T U weaker (Reply a) said = tt
 
 -- books grow
 
 -- what a book has accepted it keeps
-pub accepted_grows : (es : List LogEntry) (e : LogEntry) (slot : Slot) (batch : List Request) → HasAccepted es slot batch → HasAccepted (es ++ e ∷ []) slot batch
-accepted_grows [] e slot batch has = absurd has
-accepted_grows (Opened ∷ es) e slot batch has = accepted_grows es e slot batch has
-accepted_grows (Wrote s b ∷ es) e slot batch has = accepted_grows es e slot batch has
-accepted_grows (Accepted s vs b ∷ es) e slot batch has = elim has [ inl here ↦ inl here | inr later ↦ inr (accepted_grows es e slot batch later) ]
-accepted_grows (Decided s vs b ∷ es) e slot batch has = accepted_grows es e slot batch has
+pub accepted_grows : (es : List LogEntry) (e : LogEntry) (slot : Slot) (digest : List ℕ) → HasAccepted es slot digest → HasAccepted (es ++ e ∷ []) slot digest
+accepted_grows [] e slot digest has = absurd has
+accepted_grows (Opened ∷ es) e slot digest has = accepted_grows es e slot digest has
+accepted_grows (Wrote s d ∷ es) e slot digest has = accepted_grows es e slot digest has
+accepted_grows (Accepted s vs b ∷ es) e slot digest has = elim has [ inl here ↦ inl here | inr later ↦ inr (accepted_grows es e slot digest later) ]
+accepted_grows (Decided s vs b ∷ es) e slot digest has = accepted_grows es e slot digest has
 
 -- an accept entry at the end is accepted
-pub accepted_end : (es : List LogEntry) (voters : List ℕ) (slot : Slot) (batch : List Request) → HasAccepted (es ++ Accepted slot voters batch ∷ []) slot batch
+pub accepted_end : (es : List LogEntry) (voters : List ℕ) (slot : Slot) (batch : Batch) → HasAccepted (es ++ Accepted slot voters batch ∷ []) slot (digest_of batch)
 accepted_end [] voters slot batch = inl (refl, refl)
 accepted_end (Opened ∷ es) voters slot batch = accepted_end es voters slot batch
-accepted_end (Wrote s b ∷ es) voters slot batch = accepted_end es voters slot batch
+accepted_end (Wrote s d ∷ es) voters slot batch = accepted_end es voters slot batch
 accepted_end (Accepted s vs b ∷ es) voters slot batch = inr (accepted_end es voters slot batch)
 accepted_end (Decided s vs b ∷ es) voters slot batch = accepted_end es voters slot batch
 
@@ -89,21 +96,22 @@ or_true true b is = inl refl
 or_true false b is = inr is
 
 -- an accept vote that is kept says that its member accepted
-vote_said : (T : ℕ → Slot → List Request → Type 0) (member : ℕ) (slot : Slot) (digest : List Request) (message : Message) → Said T message → is_vote Accept member slot digest message ≡ true → T member slot digest
+vote_said : (T : ℕ → Slot → List ℕ → Type 0) (member : ℕ) (slot : Slot) (digest : List ℕ) (message : Message) → Said T message → is_vote Accept member slot digest message ≡ true → T member slot digest
 vote_said T member slot digest (Ask q) said is = absurd (cc)
 vote_said T member slot digest (Propose p) said is = absurd (cc)
 vote_said T member slot digest (Vote b) said is =
-    let three = and_true (same_kind b.kind Accept && (b.signer == member) && same_slot b.slot slot) (same_digest b.digest digest) is in
-    let two = and_true (same_kind b.kind Accept && (b.signer == member)) (same_slot b.slot slot) three.0 in
-    let one = and_true (same_kind b.kind Accept) (b.signer == member) two.0 in
-    let by_kind = subst (λ (k : VoteKind). BallotSaid T k b) (same_kind-equal b.kind Accept one.0) said in
-    let by_signer = subst (λ (x : ℕ). T x b.slot b.digest) (eqb-true b.signer member one.1) by_kind in
-    let by_slot = subst (λ (x : Slot). T member x b.digest) (same_slot-equal b.slot slot two.1) by_signer in
-    subst (λ (x : List Request). T member slot x) (same_batch-equal b.digest digest three.1) by_slot
+    let v = b.statement in
+    let three = and_true (same_kind v.kind Accept && (b.signer == member) && same_slot v.slot slot) (same_bytes v.digest digest) is in
+    let two = and_true (same_kind v.kind Accept && (b.signer == member)) (same_slot v.slot slot) three.0 in
+    let one = and_true (same_kind v.kind Accept) (b.signer == member) two.0 in
+    let by_kind = subst (λ (k : VoteKind). BallotSaid T k b) (same_kind-equal v.kind Accept one.0) said in
+    let by_signer = subst (λ (x : ℕ). T x v.slot v.digest) (eqb-true b.signer member one.1) by_kind in
+    let by_slot = subst (λ (x : Slot). T member x v.digest) (same_slot-equal v.slot slot two.1) by_signer in
+    subst (λ (x : List ℕ). T member slot x) (same_bytes-equal v.digest digest three.1) by_slot
 vote_said T member slot digest (Reply a) said is = absurd (cc)
 
 -- where all that came is so, a member whose accept vote came has accepted
-pub any_said : (T : ℕ → Slot → List Request → Type 0) (member : ℕ) (slot : Slot) (digest : List Request) (ms : List Message) → Each (Said T) ms → has_vote ms Accept slot digest member ≡ true → T member slot digest
+pub any_said : (T : ℕ → Slot → List ℕ → Type 0) (member : ℕ) (slot : Slot) (digest : List ℕ) (ms : List Message) → Each (Said T) ms → has_vote ms Accept slot digest member ≡ true → T member slot digest
 any_said T member slot digest [] each is = absurd (cc)
 any_said T member slot digest (x ∷ xs) each is =
     elim (or_true (is_vote Accept member slot digest x) (list_any (is_vote Accept member slot digest) xs) is)

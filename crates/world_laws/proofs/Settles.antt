@@ -3,9 +3,8 @@ use Rattle.std.proofs.Common.{◌≡◌, ℕ, zero, suc, ◌+◌, ◌^◌, ◌�
 use Rattle.std.specs.Prelude.{slice_get, slice_set}
 use Rattle.std.specs.Option.{option_and_then}
 use Rattle.smart_base.specs.Lists.{Each}
-use Rattle.smart_base.specs.declared.view.View.{View}
+use Rattle.smart_base.specs.Views.{View}
 use Rattle.smart_messages.specs.declared.message.Message.{Message}
-use Rattle.smart_messages.specs.declared.message.Message.TheVariants.{Ask}
 use Rattle.smart_messages.specs.declared.entry.NodeEvent.{NodeEvent}
 use Rattle.smart_messages.specs.declared.entry.NodeEvent.TheVariants.{Arrive, Deliver, Firm}
 use Rattle.smart_service.specs.Services.{Meaning}
@@ -15,7 +14,7 @@ use Rattle.node_rules.specs.declared.node.Held.{Held}
 use Rattle.node_rules.specs.declared.node.Target.{Target}
 use Rattle.node_rules.specs.declared.node.Target.TheVariants as targets
 use Rattle.world_rules.specs.Repeats.{repeated, turns, until_rest}
-use Rattle.world_rules.specs.Clients.{request_of, asking}
+use Rattle.world_rules.specs.Secrets.{group_secret}
 use Rattle.world_rules.specs.Worlds.{Host, World, sends, sends_all, host_after, stepped, host_takes, node_takes, due, takes_due, settle_once, settle, settle_all, gives, hearing, flow_once, hosts_from, begun}
 use Rattle.world_rules.specs.Plays.{world_after}
 use Rattle.world_rules.specs.declared.line.Line.{Line}
@@ -23,7 +22,7 @@ use Rattle.world_rules.specs.declared.message.Origin.{Origin}
 use Rattle.world_rules.specs.declared.message.Origin.TheVariants as origins
 use Rattle.world_laws.specs.Settling.{HasSettled, flow_begins, flow_goes, message_goes}
 use Rattle.world_laws.proofs.Lists.{either, each_set, each_get, repeated_keeps, until_rest_keeps, each_from_keeps}
-use Rattle.world_laws.proofs.Keeps.{Keeps, KeepsLive, live, live-settle_all, live-flow_once, keeps-world_after}
+use Rattle.world_laws.proofs.Keeps.{ask_of, asked_by, by-sends, Keeps, KeepsLive, live, live-settle_all, live-flow_once, keeps-world_after}
 use Rattle.world_laws.proofs.Rests.{rests_still}
 use Rattle.world_laws.proofs.Steady.{Steady, steady-step, steady-released, steady-opened, firm-step, place-firm, place-deliver}
 
@@ -31,8 +30,7 @@ use Rattle.world_laws.proofs.Steady.{Steady, steady-step, steady-released, stead
 
 -- messages that leave change no host
 hosts-sends : {S : Type 0} (w : World S) (origin : Origin) (to : Target) (message : Message) → (sends w origin to message).hosts ≡ w.hosts
-unfolding sends
-hosts-sends {S = S} w origin to message = either (λ (v : World S). v.hosts ≡ w.hosts) (nat_lt (length w.sent) (2 ^ 24)) _ _ refl refl
+hosts-sends {S = S} w origin to message = by-sends (λ (v : World S). v.hosts ≡ w.hosts) w origin to message (λ ending. refl) (λ free room. refl)
 
 -- nor do many
 hosts-sends_all : {S : Type 0} (id : ℕ) (w : World S) (held : List Held) → (sends_all id w held).hosts ≡ w.hosts
@@ -74,10 +72,10 @@ unfolding hearing
 keeps-steady {S = S} m =
     record {
       event = λ w i h event at may is. steady-stepped m w i h event at is;
-      hear = λ w i c a at has is. record { all = is.all };
-      ask = λ w i c op at free is. record {
+      hear = λ w i c x a at has read is. record { all = is.all };
+      ask = λ w i c op at free few brief is. record {
         all = subst (λ (hosts : List (Host S)). Each (λ g. Steady g.node) hosts)
-            (sym (hosts-sends (record w { clients = slice_set w.clients i (asking c (request_of c op)) }) (origins.Client c.id) targets.View (Ask (request_of c op)))) is.all;
+            (sym (hosts-sends (asked_by w i c op) (origins.Client c.id) targets.View (ask_of c op))) is.all;
       };
       same = λ w mark told is. record { all = is.all };
     }
@@ -85,7 +83,7 @@ keeps-steady {S = S} m =
 -- nodes that have just opened are steady
 hosts_steady : {S : Type 0} (m : Meaning S) (view : View) (ids : List ℕ) → Each (λ h. Steady h.node) (hosts_from m view ids)
 hosts_steady m view [] = tt
-hosts_steady m view (id ∷ ids) = (steady-opened m id view, hosts_steady m view ids)
+hosts_steady m view (id ∷ ids) = (steady-opened m group_secret id view, hosts_steady m view ids)
 
 -- after any lines all nodes are steady
 steady-after : {S : Type 0} (m : Meaning S) (view : View) (ls : List Line) → AllSteady (world_after (step_of m) (begun m view) ls)
@@ -111,10 +109,10 @@ steady-settle : {S : Type 0} (m : Meaning S) (i : ℕ) (w : World S) → AllStea
 unfolding settle_once
 steady-settle m i w is = until_rest_keeps AllSteady (settle_once (step_of m) i) (λ v steady. steady-takes_due m i v (option_and_then due (slice_get v.hosts i)) steady) w is
 
--- and where it is given a message
-steady-gives : {S : Type 0} (m : Meaning S) (message : Message) (i : ℕ) (w : World S) → AllSteady w → AllSteady (gives (step_of m) message i w)
+-- and where it is given bytes
+steady-gives : {S : Type 0} (m : Meaning S) (bytes : List ℕ) (i : ℕ) (w : World S) → AllSteady w → AllSteady (gives (step_of m) bytes i w)
 unfolding gives
-steady-gives m message i w is = steady-settle m i (node_takes (step_of m) i (Arrive message) w) (steady-node_takes m i (Arrive message) w is)
+steady-gives m bytes i w is = steady-settle m i (node_takes (step_of m) i (Arrive bytes) w) (steady-node_takes m i (Arrive bytes) w is)
 
 -- turns
 
@@ -232,15 +230,15 @@ steady-flow {S = S} m view ls k =
     let w : World S = world_after (step_of m) (begun m view) ls in
     repeated_keeps AllSteady (flow_once (step_of m)) (live-flow_once (step_of m) AllSteady kept) k (settle_all (step_of m) w) (live-settle_all (step_of m) AllSteady kept w (steady-after m view ls))
 
--- as a message is given to all nodes, each settles
-settles-message : {S : Type 0} (m : Meaning S) (w : World S) (message : Message) (nodes i : ℕ) → AllSteady w → HasSettled m i (gives (step_of m) message i (message_goes m message nodes w))
+-- as bytes are given to all nodes, each settles
+settles-bytes : {S : Type 0} (m : Meaning S) (w : World S) (bytes : List ℕ) (nodes i : ℕ) → AllSteady w → HasSettled m i (gives (step_of m) bytes i (message_goes m bytes nodes w))
 unfolding gives
-settles-message {S = S} m w message nodes i is =
-    let v : World S = message_goes m message nodes w in
-    settles m i (node_takes (step_of m) i (Arrive message) v)
-    (steady-node_takes m i (Arrive message) v (each_from_keeps AllSteady (gives (step_of m) message) (steady-gives m message) nodes 0 (record w { mark = w.mark + 1 }) (record { all = is.all })))
+settles-bytes {S = S} m w bytes nodes i is =
+    let v : World S = message_goes m bytes nodes w in
+    settles m i (node_takes (step_of m) i (Arrive bytes) v)
+    (steady-node_takes m i (Arrive bytes) v (each_from_keeps AllSteady (gives (step_of m) bytes) (steady-gives m bytes) nodes 0 (record w { mark = w.mark + 1 }) (record { all = is.all })))
 
 -- so in each turn of a flow
-pub settles-given : {S : Type 0} (m : Meaning S) (view : View) (ls : List Line) (k : ℕ) (message : Message) (nodes i : ℕ)
-    → HasSettled m i (gives (step_of m) message i (message_goes m message nodes (flow_goes m view ls k)))
-settles-given m view ls k message nodes i = settles-message m (flow_goes m view ls k) message nodes i (steady-flow m view ls k)
+pub settles-given : {S : Type 0} (m : Meaning S) (view : View) (ls : List Line) (k : ℕ) (bytes : List ℕ) (nodes i : ℕ)
+    → HasSettled m i (gives (step_of m) bytes i (message_goes m bytes nodes (flow_goes m view ls k)))
+settles-given m view ls k bytes nodes i = settles-bytes m (flow_goes m view ls k) bytes nodes i (steady-flow m view ls k)

@@ -1,27 +1,27 @@
 -- A node whose rules have passed: one more pass writes nothing down.
-use Rattle.std.proofs.Common.{◌≡◌, ℕ, ◌+◌, ◌^◌, ◌<◌, ◌++◌, Bool, true, false, not, ◌&&◌, ◌||◌, List, [], ◌∷◌, length, refl, ap, ◌∙◌, sym, arith, cond, Option, Some, None, is_some, is_none, nat_lt}
+use Rattle.std.proofs.Common.{◌≡◌, ℕ, ◌+◌, ◌^◌, ◌<◌, ◌++◌, Bool, true, false, not, ◌&&◌, ◌||◌, List, [], ◌∷◌, length, refl, ap, ◌∙◌, sym, arith, cond, Option, Some, None, is_some, is_none, nat_lt, Result, Ok, Err}
 use Rattle.std.proofs.lemmas.Bool.{ltb-true}
 use Rattle.std.specs.List.{list_any}
-use Rattle.smart_base.specs.Views.{is_member}
-use Rattle.smart_messages.specs.declared.message.Request.{Request}
+use Rattle.smart_base.specs.Views.{View, is_member}
+use Rattle.smart_messages.specs.Messages.{Batch, decoded}
 use Rattle.smart_messages.specs.declared.message.Message.{Message}
 use Rattle.smart_messages.specs.declared.message.Message.TheVariants.{Ask, Propose, Vote, Reply}
-use Rattle.smart_messages.specs.declared.message.VoteKind.TheVariants.{Write}
+use Rattle.smart_messages.specs.declared.statement.VoteKind.TheVariants.{Write}
 use Rattle.smart_messages.specs.declared.entry.LogEntry.{LogEntry}
 use Rattle.smart_messages.specs.declared.entry.LogEntry.TheVariants.{Wrote, Accepted}
 use Rattle.smart_messages.specs.declared.entry.NodeEvent.{NodeEvent}
 use Rattle.smart_messages.specs.declared.entry.NodeEvent.TheVariants.{Arrive, Tick, Deliver, Firm}
-use Rattle.smart_messages.specs.Equality.{digest_of}
-use Rattle.smart_base.specs.declared.view.View.{View}
 use Rattle.smart_service.specs.Services.{Meaning}
 use Rattle.smart_service.specs.declared.table.TableLine.{TableLine}
 use Rattle.smart_service.specs.declared.replica.Replica.{Replica}
 use Rattle.node_rules.specs.Replicas.{is_next, delivered}
-use Rattle.node_rules.specs.Nodes.{Node, view_of, next_place, decided_place, open_slot, is_free, is_open, recording, proposal_of, is_wrote, is_accepted}
+use Rattle.node_rules.specs.Seals.{digest_of}
+use Rattle.node_rules.specs.Nodes.{Node, view_of, next_place, decided_place, open_slot, is_free, is_open, holding, recording, proposal_of, is_wrote, is_accepted}
 use Rattle.node_rules.specs.Arrivals.{why_dropped, offered, kept}
-use Rattle.node_rules.specs.Rules.{settled, replying, lines_to_answer, deliver_batch, delivers, proposing, propose_batch, proposes, writing, write_batch, writes, backers, backed, accepting, accept_batch, accepts, deciding, decide_batch, decides}
-use Rattle.node_rules.specs.Steps.{votes, passes, arrival_outcome, step_of, released, opened}
+use Rattle.node_rules.specs.Rules.{settled, reply_of, replying, lines_to_answer, deliver_batch, delivers, proposing, propose_batch, proposes, writing, write_batch, writes, backers, backed, accepting, accept_batch, accepts, deciding, decide_batch, decides}
+use Rattle.node_rules.specs.Steps.{votes, passes, arrival_outcome, reading_outcome, step_of, released, opened}
 use Rattle.node_rules.specs.declared.node.Why.{Why}
+use Rattle.node_rules.specs.declared.node.Target.TheVariants as targets
 use Rattle.world_laws.proofs.Lists.{and_true, either}
 use Rattle.world_laws.proofs.Equal.{slot-same}
 use Rattle.world_laws.proofs.Once.{entries-propose_batch, guard_passed}
@@ -78,27 +78,27 @@ unfolding writing
 writing-recording n e none = rw any_end (still_none (is_open n) (list_any (is_wrote (open_slot n)) n.entries) (is_wrote (open_slot n) e) (proposal_of n.arrivals (open_slot n)) none)
 
 -- nor does writing
-writing-write_batch : {S : Type 0} (n : Node S) (batch : Option (List Request)) → writing n ≡ batch → writing (write_batch n batch) ≡ None
+writing-write_batch : {S : Type 0} (n : Node S) (batch : Option Batch) → writing n ≡ batch → writing (write_batch n batch) ≡ None
 unfolding write_batch writing
 writing-write_batch n None is = is
 writing-write_batch n (Some batch) is =
     rw any_end (none_again (is_open n) (list_any (is_wrote (open_slot n)) n.entries) (is_wrote (open_slot n) (Wrote (open_slot n) (digest_of batch))) (proposal_of n.arrivals (open_slot n)) (slot-same (open_slot n) (open_slot n) refl))
 
 -- nor does accepting
-writing-accept_batch : {S : Type 0} (n : Node S) (batch : Option (List Request)) → writing n ≡ None → writing (accept_batch n batch) ≡ None
+writing-accept_batch : {S : Type 0} (n : Node S) (batch : Option Batch) → writing n ≡ None → writing (accept_batch n batch) ≡ None
 unfolding accept_batch writing
 writing-accept_batch n None none = none
 writing-accept_batch n (Some batch) none = writing-recording n (Accepted (open_slot n) (backers n Write batch) batch) none
 
 -- what is accepted is not due to accept
-accepting-accept_batch : {S : Type 0} (n : Node S) (batch : Option (List Request)) → accepting n ≡ batch → accepting (accept_batch n batch) ≡ None
+accepting-accept_batch : {S : Type 0} (n : Node S) (batch : Option Batch) → accepting n ≡ batch → accepting (accept_batch n batch) ≡ None
 unfolding accept_batch accepting
 accepting-accept_batch n None is = is
 accepting-accept_batch n (Some batch) is =
     rw any_end (none_again (is_open n) (list_any (is_accepted (open_slot n)) n.entries) (is_accepted (open_slot n) (Accepted (open_slot n) (backers n Write batch) batch)) (backed n Write (proposal_of n.arrivals (open_slot n))) (slot-same (open_slot n) (open_slot n) refl))
 
 -- where a batch is decided nothing is due, and else nothing more
-done-decide_batch : {S : Type 0} (n : Node S) (batch : Option (List Request)) → deciding n ≡ batch → writing n ≡ None → accepting n ≡ None → Done (decide_batch n batch)
+done-decide_batch : {S : Type 0} (n : Node S) (batch : Option Batch) → deciding n ≡ batch → writing n ≡ None → accepting n ≡ None → Done (decide_batch n batch)
 unfolding decide_batch writing accepting deciding
 done-decide_batch n None is w a = record { wrote = w; accepted = a; decided = is }
 done-decide_batch n (Some batch) is w a =
@@ -116,25 +116,25 @@ done-passes {S = S} n =
 -- the last place
 
 -- a proposal leaves it
-decided_place-propose_batch : {S : Type 0} (n : Node S) (batch : Option (List Request)) → decided_place (propose_batch n batch) ≡ decided_place n
+decided_place-propose_batch : {S : Type 0} (n : Node S) (batch : Option Batch) → decided_place (propose_batch n batch) ≡ decided_place n
 unfolding propose_batch
 decided_place-propose_batch n None = refl
 decided_place-propose_batch n (Some batch) = refl
 
 -- so does a batch that is written
-decided_place-write_batch : {S : Type 0} (n : Node S) (batch : Option (List Request)) → decided_place (write_batch n batch) ≡ decided_place n
+decided_place-write_batch : {S : Type 0} (n : Node S) (batch : Option Batch) → decided_place (write_batch n batch) ≡ decided_place n
 unfolding write_batch
 decided_place-write_batch n None = refl
 decided_place-write_batch n (Some batch) = refl
 
 -- and one that is accepted
-decided_place-accept_batch : {S : Type 0} (n : Node S) (batch : Option (List Request)) → decided_place (accept_batch n batch) ≡ decided_place n
+decided_place-accept_batch : {S : Type 0} (n : Node S) (batch : Option Batch) → decided_place (accept_batch n batch) ≡ decided_place n
 unfolding accept_batch
 decided_place-accept_batch n None = refl
 decided_place-accept_batch n (Some batch) = refl
 
 -- a batch is decided where the next place is a number of 63 bits
-below-decide_batch : {S : Type 0} (n : Node S) (batch : Option (List Request)) → (is_some batch ≡ true → is_free n ≡ true) → decided_place n < 2 ^ 63 → decided_place (decide_batch n batch) < 2 ^ 63
+below-decide_batch : {S : Type 0} (n : Node S) (batch : Option Batch) → (is_some batch ≡ true → is_free n ≡ true) → decided_place n < 2 ^ 63 → decided_place (decide_batch n batch) < 2 ^ 63
 unfolding decide_batch
 below-decide_batch n None free below = below
 below-decide_batch n (Some batch) free below = ltb-true (next_place n) (2 ^ 63) (and_true (is_none n.waiting) (nat_lt (next_place n) (2 ^ 63)) (free refl)).1
@@ -163,7 +163,7 @@ steady-passes n below = record { done = done-passes n; below = below-passes n be
 -- an arrival leaves the last place
 decided_place-kept : {S : Type 0} (n : Node S) (message : Message) → decided_place (kept n message) ≡ decided_place n
 unfolding kept
-decided_place-kept {S = S} n (Ask q) = either (λ (x : Node S). decided_place x ≡ decided_place n) (is_next n.replica.table q) (record n { pool = offered n.pool q }) n refl refl
+decided_place-kept {S = S} n (Ask q) = either (λ (x : Node S). decided_place x ≡ decided_place n) (is_next n.replica.table q.statement) (record n { pool = offered n.pool q }) n refl refl
 decided_place-kept n (Propose p) = refl
 decided_place-kept n (Vote b) = refl
 decided_place-kept n (Reply a) = refl
@@ -171,31 +171,36 @@ decided_place-kept n (Reply a) = refl
 -- replies leave the replica
 pub replica-replying : {S : Type 0} (n : Node S) (lines : List TableLine) → (replying n lines).replica ≡ n.replica
 replica-replying n [] = refl
-replica-replying n (l ∷ ls) = replica-replying _ ls
+replica-replying n (l ∷ ls) = replica-replying (holding n (targets.Client l.client) (reply_of n.secret n.id l)) ls
 
 -- and the last place
 decided_place-replying : {S : Type 0} (n : Node S) (lines : List TableLine) → decided_place (replying n lines) ≡ decided_place n
 decided_place-replying n [] = refl
-decided_place-replying n (l ∷ ls) = decided_place-replying _ ls
+decided_place-replying n (l ∷ ls) = decided_place-replying (holding n (targets.Client l.client) (reply_of n.secret n.id l)) ls
 
 -- a delivery leaves the last place
-decided_place-deliver_batch : {S : Type 0} (m : Meaning S) (n : Node S) (batch : Option (List Request)) → n.waiting ≡ batch → decided_place (deliver_batch m n batch) ≡ decided_place n
+decided_place-deliver_batch : {S : Type 0} (m : Meaning S) (n : Node S) (batch : Option Batch) → n.waiting ≡ batch → decided_place (deliver_batch m n batch) ≡ decided_place n
 unfolding deliver_batch
 decided_place-deliver_batch m n None at = refl
 decided_place-deliver_batch {S = S} m n (Some batch) at =
     let r : Replica S = delivered m n.replica batch in
     decided_place-replying (record n { replica = r; waiting = None; pool = settled r.table n.pool }) (lines_to_answer m n batch)
-    ∙ (place-delivered m n.replica batch ∙ sym (ap (λ (waiting : Option (List Request)). cond (is_some waiting) (n.replica.place + 1) n.replica.place) at))
+    ∙ (place-delivered m n.replica batch ∙ sym (ap (λ (waiting : Option Batch). cond (is_some waiting) (n.replica.place + 1) n.replica.place) at))
 
 -- an arrival leaves a steady node
 steady-arrival : {S : Type 0} (n : Node S) (message : Message) (why : Option Why) → Steady n → Steady (arrival_outcome n message why).node
 steady-arrival n message None is = steady-passes (kept n message) (omega (arith, decided_place-kept n message, is.below))
 steady-arrival n message (Some why) is = is
 
+-- so do bytes that come
+steady-reading : {S : Type 0} (n : Node S) (read : Result Message ℕ) → Steady n → Steady (reading_outcome n read).node
+steady-reading n (Ok message) is = steady-arrival n message (why_dropped n message) is
+steady-reading n (Err at) is = is
+
 -- so does each event
 pub steady-step : {S : Type 0} (m : Meaning S) (n : Node S) (event : NodeEvent) → Steady n → Steady (step_of m n event).node
 unfolding step_of delivers
-steady-step m n (Arrive message) is = steady-arrival n message (why_dropped n message) is
+steady-step m n (Arrive bytes) is = steady-reading n (decoded bytes) is
 steady-step m n Tick is = steady-passes n is.below
 steady-step m n Deliver is = steady-passes (deliver_batch m n n.waiting) (omega (arith, decided_place-deliver_batch m n n.waiting refl, is.below))
 steady-step m n (Firm count) is = steady-passes (record n { firm = count }) is.below
@@ -206,10 +211,10 @@ unfolding writing accepting deciding
 steady-released n is = record { done = record { wrote = is.done.wrote; accepted = is.done.accepted; decided = is.done.decided }; below = is.below }
 
 -- a node that opens is steady
-pub steady-opened : {S : Type 0} (m : Meaning S) (id : ℕ) (view : View) → Steady (opened m id view)
+pub steady-opened : {S : Type 0} (m : Meaning S) (secret : List ℕ) (id : ℕ) (view : View) → Steady (opened m secret id view)
 unfolding writing accepting deciding
-steady-opened {S = S} m id view =
-    let n : Node S = opened m id view in
+steady-opened {S = S} m secret id view =
+    let n : Node S = opened m secret id view in
     record {
       done = record {
         wrote = nothing (is_open n && not (list_any (is_wrote (open_slot n)) n.entries));
@@ -219,26 +224,26 @@ steady-opened {S = S} m id view =
       below = omega arith;
     }
   where
-    nothing : (b : Bool) → cond {A = Option (List Request)} b None None ≡ None
+    nothing : (b : Bool) → cond {A = Option Batch} b None None ≡ None
     nothing true = refl
     nothing false = refl
 
 -- a pass over a steady node
 
 -- proposals leave what is due to write
-writing-propose_batch : {S : Type 0} (n : Node S) (batch : Option (List Request)) → writing (propose_batch n batch) ≡ writing n
+writing-propose_batch : {S : Type 0} (n : Node S) (batch : Option Batch) → writing (propose_batch n batch) ≡ writing n
 unfolding propose_batch writing
 writing-propose_batch n None = refl
 writing-propose_batch n (Some batch) = refl
 
 -- and to accept
-accepting-propose_batch : {S : Type 0} (n : Node S) (batch : Option (List Request)) → accepting (propose_batch n batch) ≡ accepting n
+accepting-propose_batch : {S : Type 0} (n : Node S) (batch : Option Batch) → accepting (propose_batch n batch) ≡ accepting n
 unfolding propose_batch accepting
 accepting-propose_batch n None = refl
 accepting-propose_batch n (Some batch) = refl
 
 -- and to decide
-deciding-propose_batch : {S : Type 0} (n : Node S) (batch : Option (List Request)) → deciding (propose_batch n batch) ≡ deciding n
+deciding-propose_batch : {S : Type 0} (n : Node S) (batch : Option Batch) → deciding (propose_batch n batch) ≡ deciding n
 unfolding propose_batch deciding
 deciding-propose_batch n None = refl
 deciding-propose_batch n (Some batch) = refl
@@ -255,7 +260,7 @@ passes-done {S = S} n is =
     ∙ (ap (λ (x : Node S). decide_batch x (deciding x)) accepted ∙ decided)
 
 -- a proposal leaves the firm entries
-firm-propose_batch : {S : Type 0} (n : Node S) (batch : Option (List Request)) → (propose_batch n batch).firm ≡ n.firm
+firm-propose_batch : {S : Type 0} (n : Node S) (batch : Option Batch) → (propose_batch n batch).firm ≡ n.firm
 unfolding propose_batch
 firm-propose_batch n None = refl
 firm-propose_batch n (Some batch) = refl
@@ -276,31 +281,31 @@ firm-step {S = S} m n is =
 -- the place of a replica
 
 -- a proposal leaves the replica
-replica-propose_batch : {S : Type 0} (n : Node S) (batch : Option (List Request)) → (propose_batch n batch).replica ≡ n.replica
+replica-propose_batch : {S : Type 0} (n : Node S) (batch : Option Batch) → (propose_batch n batch).replica ≡ n.replica
 unfolding propose_batch
 replica-propose_batch n None = refl
 replica-propose_batch n (Some batch) = refl
 
 -- so does a batch that is written
-replica-write_batch : {S : Type 0} (n : Node S) (batch : Option (List Request)) → (write_batch n batch).replica ≡ n.replica
+replica-write_batch : {S : Type 0} (n : Node S) (batch : Option Batch) → (write_batch n batch).replica ≡ n.replica
 unfolding write_batch
 replica-write_batch n None = refl
 replica-write_batch n (Some batch) = refl
 
 -- and one that is accepted
-replica-accept_batch : {S : Type 0} (n : Node S) (batch : Option (List Request)) → (accept_batch n batch).replica ≡ n.replica
+replica-accept_batch : {S : Type 0} (n : Node S) (batch : Option Batch) → (accept_batch n batch).replica ≡ n.replica
 unfolding accept_batch
 replica-accept_batch n None = refl
 replica-accept_batch n (Some batch) = refl
 
 -- and one that is decided
-replica-decide_batch : {S : Type 0} (n : Node S) (batch : Option (List Request)) → (decide_batch n batch).replica ≡ n.replica
+replica-decide_batch : {S : Type 0} (n : Node S) (batch : Option Batch) → (decide_batch n batch).replica ≡ n.replica
 unfolding decide_batch
 replica-decide_batch n None = refl
 replica-decide_batch n (Some batch) = refl
 
 -- a pass leaves the replica
-replica-passes : {S : Type 0} (n : Node S) → (passes n).replica ≡ n.replica
+pub replica-passes : {S : Type 0} (n : Node S) → (passes n).replica ≡ n.replica
 unfolding passes votes proposes writes accepts decides
 replica-passes {S = S} n =
     let p : Node S = propose_batch n (proposing n) in
@@ -314,7 +319,7 @@ unfolding step_of
 place-firm {S = S} m n count = ap (λ (r : Replica S). r.place) (replica-passes (record n { firm = count }))
 
 -- a batch that waits takes the next place where it is delivered
-place-deliver_batch : {S : Type 0} (m : Meaning S) (n : Node S) (waiting : Option (List Request)) → is_some waiting ≡ true → (deliver_batch m n waiting).replica.place ≡ n.replica.place + 1
+pub place-deliver_batch : {S : Type 0} (m : Meaning S) (n : Node S) (waiting : Option Batch) → is_some waiting ≡ true → (deliver_batch m n waiting).replica.place ≡ n.replica.place + 1
 unfolding deliver_batch
 place-deliver_batch m n None waits = absurd (cc)
 place-deliver_batch {S = S} m n (Some batch) waits =

@@ -1,13 +1,14 @@
 -- Each line of a transcript that tells of an accepted reply tells the service's answer.
-use Rattle.std.proofs.Common.{◌≡◌, ℕ, ◌^◌, ◌++◌, List, [], ◌∷◌, length, refl, ap, ◌∙◌, sym, Option, Some, None, nat_lt, inl, inr, ◌⊎◌, subst}
-use Rattle.std.specs.Prelude.{slice_get, slice_set}
+use Rattle.std.proofs.Common.{◌≡◌, ℕ, ◌++◌, List, [], ◌∷◌, refl, ap, ◌∙◌, sym, Option, Some, None, inl, inr, ◌⊎◌, subst}
+use Rattle.std.specs.Prelude.{slice_get}
 use Rattle.std.specs.List.{flat_map}
 use Rattle.smart_base.specs.Lists.{Each}
-use Rattle.smart_base.specs.declared.view.View.{View}
-use Rattle.smart_messages.specs.declared.message.Request.{Request}
-use Rattle.smart_messages.specs.declared.message.Answer.{Answer}
+use Rattle.smart_base.specs.Views.{View}
+use Rattle.smart_messages.specs.Forms.{SignedBy}
+use Rattle.smart_messages.specs.Messages.{Batch}
+use Rattle.smart_messages.specs.declared.statement.Request.{Request}
+use Rattle.smart_messages.specs.declared.statement.Answer.{Answer}
 use Rattle.smart_messages.specs.declared.message.Message.{Message}
-use Rattle.smart_messages.specs.declared.message.Message.TheVariants.{Ask}
 use Rattle.smart_messages.specs.declared.entry.NodeEvent.{NodeEvent}
 use Rattle.smart_service.specs.Services.{Meaning}
 use Rattle.node_rules.specs.Nodes.{Node}
@@ -18,7 +19,7 @@ use Rattle.node_rules.specs.declared.node.Target.{Target}
 use Rattle.node_rules.specs.declared.node.Target.TheVariants as targets
 use Rattle.node_rules.specs.declared.node.Fired.{Fired}
 use Rattle.node_rules.specs.declared.node.Fired.TheVariants as fires
-use Rattle.world_rules.specs.Clients.{request_of, asking, heard}
+use Rattle.world_rules.specs.Clients.{heard}
 use Rattle.world_rules.specs.Promises.{IsRight, IsAnswered}
 use Rattle.world_rules.specs.Worlds.{Host, World, sends, sends_all, told_drop, told_fired, stepped, told_heard, acceptance_in, hearing, begun}
 use Rattle.world_rules.specs.Plays.{line_played, rested, world_after, lines_told}
@@ -32,9 +33,9 @@ use Rattle.world_rules.specs.declared.line.OutLine.TheVariants as outs
 use Rattle.world_rules.specs.declared.message.Origin.{Origin}
 use Rattle.world_rules.specs.declared.message.Origin.TheVariants as origins
 use Rattle.world_rules.specs.declared.message.Sent.{Sent}
-use Rattle.world_laws.proofs.Lists.{either, each_end, each_append, each_weaker}
+use Rattle.world_laws.proofs.Lists.{each_end, each_append, each_weaker}
 use Rattle.world_laws.proofs.Numbered.{each_at_get}
-use Rattle.world_laws.proofs.Keeps.{IsBeside, Keeps, KeepsLive, live-line_played, keeps-world_after}
+use Rattle.world_laws.proofs.Keeps.{IsBeside, ask_of, asked_by, by-sends, Keeps, KeepsLive, live-line_played, keeps-world_after}
 use Rattle.world_laws.proofs.Hearing.{Accepts, accepts_waiting}
 use Rattle.world_laws.proofs.Asking.{ClientRight, ClientsRight, keeps-right, right-begun}
 use Rattle.world_laws.proofs.Accepted.{AcceptedRight}
@@ -77,9 +78,8 @@ of_last (b ∷ accepted) a line is = inr (of_last accepted a line is)
 
 -- a message that leaves tells of no accepted reply
 stems-sends : {S : Type 0} (w : World S) (origin : Origin) (to : Target) (message : Message) → ToldStems w → ToldStems (sends w origin to message)
-unfolding sends
-stems-sends w origin to message is =
-    either ToldStems (nat_lt (length w.sent) (2 ^ 24)) _ _ (record { all = each_end (Stems w.accepted) w.told _ is.all (inl tt) }) (record { all = is.all })
+stems-sends {S = S} w origin to message is =
+    by-sends (λ (v : World S). ToldStems v) w origin to message (λ ending. record { all = is.all }) (λ free room. record { all = each_end (Stems w.accepted) w.told _ is.all (inl tt) })
 
 -- nor do many
 stems-sends_all : {S : Type 0} (id : ℕ) (w : World S) (held : List Held) → ToldStems w → ToldStems (sends_all id w held)
@@ -119,7 +119,7 @@ stems-stepped w i h o is =
 -- a client hears
 
 -- what a client tells of a reply that it hears
-stems-heard : (accepted : List Acceptance) (v : View) (c : Client) (a : Answer) (h : Heard) → heard v c a ≡ h → ((q : Request) → c.waiting ≡ Some q → q.client ≡ c.id) → Stems (accepted ++ acceptance_in h) (told_heard c.id h)
+stems-heard : (accepted : List Acceptance) (v : View) (c : Client) (a : SignedBy Answer) (h : Heard) → heard v c a ≡ h → ((q : Request) → c.waiting ≡ Some q → q.client ≡ c.id) → Stems (accepted ++ acceptance_in h) (told_heard c.id h)
 stems-heard accepted v c a (hears.Counted count need) is own = inl tt
 stems-heard accepted v c a (hears.Ignored why) is own = inl tt
 stems-heard accepted v c a (hears.Accepted acc) is own =
@@ -134,7 +134,7 @@ waits_own w i c at right q waits =
     (own.waits q waits).client ∙ sym own.id
 
 -- a client hears a reply
-stems-hearing : {S : Type 0} (w : World S) (i : ℕ) (c : Client) (a : Answer) → ((q : Request) → c.waiting ≡ Some q → q.client ≡ c.id) → ToldStems w → ToldStems (hearing w i c a (heard w.view c a))
+stems-hearing : {S : Type 0} (w : World S) (i : ℕ) (c : Client) (a : SignedBy Answer) → ((q : Request) → c.waiting ≡ Some q → q.client ≡ c.id) → ToldStems w → ToldStems (hearing w i c a (heard w.view c a))
 unfolding hearing
 stems-hearing w i c a own is =
     let h : Heard = heard w.view c a in
@@ -155,10 +155,10 @@ keeps-stemming step =
     let k = keeps-right step in
     record {
       event = λ w i h event on at may is. (k.event w i h event on at may is.0, stems-stepped w i h (step h.node event) is.1);
-      hear = λ w i c a on at has is. (k.hear w i c a on at has is.0, stems-hearing w i c a (waits_own w i c at is.0) is.1);
-      ask = λ w i c op on at free is. (
-        k.ask w i c op on at free is.0,
-        stems-sends (record w { clients = slice_set w.clients i (asking c (request_of c op)) }) (origins.Client c.id) targets.View (Ask (request_of c op)) (record { all = is.1.all }),
+      hear = λ w i c x a on at has read is. (k.hear w i c x a on at has read is.0, stems-hearing w i c a (waits_own w i c at is.0) is.1);
+      ask = λ w i c op on at free few brief is. (
+        k.ask w i c op on at free few brief is.0,
+        stems-sends (asked_by w i c op) (origins.Client c.id) targets.View (ask_of c op) (record { all = is.1.all }),
       );
       mark = λ w s on at is. (k.mark w s on at is.0, record { all = is.1.all });
       tell = λ w line beside is. (k.tell w line beside is.0, record { all = each_end (Stems w.accepted) w.told line is.1.all (inl beside) });
@@ -169,8 +169,7 @@ keeps-stemming step =
 
 -- where a message leaves
 accepted-sends : {S : Type 0} (w : World S) (origin : Origin) (to : Target) (message : Message) → (sends w origin to message).accepted ≡ w.accepted
-unfolding sends
-accepted-sends {S = S} w origin to message = either (λ (v : World S). v.accepted ≡ w.accepted) (nat_lt (length w.sent) (2 ^ 24)) _ _ refl refl
+accepted-sends {S = S} w origin to message = by-sends (λ (v : World S). v.accepted ≡ w.accepted) w origin to message (λ ending. refl) (λ free room. refl)
 
 -- where many leave
 accepted-sends_all : {S : Type 0} (id : ℕ) (w : World S) (held : List Held) → (sends_all id w held).accepted ≡ w.accepted
@@ -183,7 +182,7 @@ unfolding stepped
 accepted-stepped w i h o = accepted-sends_all h.node.id _ (leaving o.node.firm o.node.held)
 
 -- where a client hears, more is accepted
-accepted-hearing : {S : Type 0} (w : World S) (i : ℕ) (c : Client) (a : Answer) (h : Heard) → (hearing w i c a h).accepted ≡ w.accepted ++ acceptance_in h
+accepted-hearing : {S : Type 0} (w : World S) (i : ℕ) (c : Client) (a : SignedBy Answer) (h : Heard) → (hearing w i c a h).accepted ≡ w.accepted ++ acceptance_in h
 unfolding hearing
 accepted-hearing w i c a h = refl
 
@@ -192,8 +191,8 @@ keeps-stems : {S : Type 0} (step : Node S → NodeEvent → Outcome S) (line : O
 keeps-stems step line =
     record {
       event = λ w i h event at may stems. rw accepted-stepped stems;
-      hear = λ w i c a at has stems. rw accepted-hearing (stems_more w.accepted (acceptance_in (heard w.view c a)) line stems);
-      ask = λ w i c op at free stems. rw accepted-sends stems;
+      hear = λ w i c x a at has read stems. rw accepted-hearing (stems_more w.accepted (acceptance_in (heard w.view c a)) line stems);
+      ask = λ w i c op at free few brief stems. rw accepted-sends stems;
       same = λ w mark told stems. stems;
     }
 
@@ -211,7 +210,7 @@ lines-stem {S = S} step w (l ∷ ls) is =
     (lines-stem step (rested played) ls ((keeps-stemming step).rest played stemming))
 
 -- a line that tells of no accepted reply
-beside-answered : {S : Type 0} (m : Meaning S) (view : View) (chosen : List (List Request)) (line : OutLine) → IsBeside line → IsAnswered m view chosen line
+beside-answered : {S : Type 0} (m : Meaning S) (view : View) (chosen : List Batch) (line : OutLine) → IsBeside line → IsAnswered m view chosen line
 beside-answered m view chosen (outs.Group members faulty) beside = tt
 beside-answered m view chosen (outs.Sent number origin summary) beside = tt
 beside-answered m view chosen (outs.Decided member place) beside = tt
@@ -224,7 +223,7 @@ beside-answered m view chosen (outs.Busy client seq) beside = tt
 beside-answered m view chosen (outs.End lines messages) beside = tt
 
 -- a line that tells of an accepted reply that is right
-of-answered : {S : Type 0} (m : Meaning S) (view : View) (sent : List Sent) (chosen : List (List Request)) (accepted : List Acceptance) (line : OutLine)
+of-answered : {S : Type 0} (m : Meaning S) (view : View) (sent : List Sent) (chosen : List Batch) (accepted : List Acceptance) (line : OutLine)
     → Each (IsRight m view sent chosen) accepted → IsOf accepted line → IsAnswered m view chosen line
 of-answered m view sent chosen [] line right is = absurd is
 of-answered m view sent chosen (a ∷ accepted) line right is =
@@ -234,7 +233,7 @@ of-answered m view sent chosen (a ∷ accepted) line right is =
     ]
 
 -- a line that stems from accepted replies that are right
-stems-answered : {S : Type 0} (m : Meaning S) (view : View) (sent : List Sent) (chosen : List (List Request)) (accepted : List Acceptance) → Each (IsRight m view sent chosen) accepted
+stems-answered : {S : Type 0} (m : Meaning S) (view : View) (sent : List Sent) (chosen : List Batch) (accepted : List Acceptance) → Each (IsRight m view sent chosen) accepted
     → (line : OutLine) → Stems accepted line → IsAnswered m view chosen line
 stems-answered m view sent chosen accepted right line stems =
     elim stems [ inl beside ↦ beside-answered m view chosen line beside | inr is ↦ of-answered m view sent chosen accepted line right is ]

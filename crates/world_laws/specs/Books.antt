@@ -1,8 +1,8 @@
 -- What is promised of a node and its book, whatever comes to it.
 use Rattle.std.specs.Prelude.{ℕ, ◌+◌, ◌≡◌, ◌≤◌, Bool, List, [], ◌∷◌, length, if◌then◌else◌, take, slice_get}
-use Rattle.smart_base.specs.declared.view.View.{View}
-use Rattle.smart_messages.specs.declared.message.Request.{Request}
-use Rattle.smart_messages.specs.declared.message.Slot.{Slot}
+use Rattle.smart_base.specs.Views.{View}
+use Rattle.smart_messages.specs.Messages.{Batch}
+use Rattle.smart_messages.specs.declared.statement.Slot.{Slot}
 use Rattle.smart_messages.specs.declared.entry.LogEntry.{LogEntry}
 use Rattle.smart_messages.specs.declared.entry.LogEntry.TheVariants.{Opened, Wrote, Accepted, Decided}
 use Rattle.smart_service.specs.Services.{Meaning}
@@ -19,7 +19,7 @@ abbrev pub AcceptsOnce : List LogEntry → Type 0
 AcceptsOnce entries = (slot : Slot) → passing (is_accepted slot) entries ≤ 1
 
 -- the batches that a book has decided, in order
-abbrev pub decided_of : List LogEntry → List (List Request)
+abbrev pub decided_of : List LogEntry → List Batch
 decided_of [] = []
 decided_of (Opened ∷ es) = decided_of es
 decided_of (Wrote s digest ∷ es) = decided_of es

@@ -1,7 +1,6 @@
 -- The worlds of a play in which a node settles.
 use Rattle.std.specs.Prelude.{ℕ, ◌+◌, ◌≡◌, List}
-use Rattle.smart_base.specs.declared.view.View.{View}
-use Rattle.smart_messages.specs.declared.message.Message.{Message}
+use Rattle.smart_base.specs.Views.{View}
 use Rattle.smart_messages.specs.declared.entry.NodeEvent.TheVariants.{Arrive}
 use Rattle.smart_service.specs.Services.{Meaning}
 use Rattle.node_rules.specs.Steps.{step_of}
@@ -22,10 +21,10 @@ flow_begins m view ls nodes = each_from (settle (step_of m)) nodes 0 (world_afte
 abbrev pub flow_goes : {S : Type 0} → Meaning S → View → List Line → ℕ → World S
 flow_goes m view ls k = repeated (flow_once (step_of m)) k (settle_all (step_of m) (world_after (step_of m) (begun m view) ls))
 
--- a message is given, and the first nodes have taken it and settled
-abbrev pub message_goes : {S : Type 0} → Meaning S → Message → ℕ → World S → World S
-message_goes m message nodes w = each_from (gives (step_of m) message) nodes 0 (record w { mark = w.mark + 1 })
+-- bytes are given, and the first nodes have taken them and settled
+abbrev pub message_goes : {S : Type 0} → Meaning S → List ℕ → ℕ → World S → World S
+message_goes m bytes nodes w = each_from (gives (step_of m) bytes) nodes 0 (record w { mark = w.mark + 1 })
 
--- a node has taken a message, and for so many turns what was due
-abbrev pub node_goes : {S : Type 0} → Meaning S → Message → ℕ → ℕ → World S → World S
-node_goes m message i k w = repeated (settle_once (step_of m) i) k (node_takes (step_of m) i (Arrive message) w)
+-- a node has taken bytes, and for so many turns what was due
+abbrev pub node_goes : {S : Type 0} → Meaning S → List ℕ → ℕ → ℕ → World S → World S
+node_goes m bytes i k w = repeated (settle_once (step_of m) i) k (node_takes (step_of m) i (Arrive bytes) w)

@@ -1,17 +1,17 @@
 -- The members whose votes a book's entries rest on.
-use Rattle.std.specs.Prelude.{ℕ, ◌≡◌, ◌≤◌, ◌⊎◌, List, [], ◌∷◌, length}
-use Rattle.smart_base.specs.Lists.{Each}
-use Rattle.smart_base.specs.Views.{quorum}
-use Rattle.smart_base.specs.declared.view.View.{View}
-use Rattle.smart_messages.specs.Equality.{digest_of}
-use Rattle.smart_messages.specs.declared.message.Request.{Request}
-use Rattle.smart_messages.specs.declared.message.Slot.{Slot}
-use Rattle.smart_messages.specs.declared.message.VoteKind.{VoteKind}
-use Rattle.smart_messages.specs.declared.message.VoteKind.TheVariants.{Write, Accept}
+use Rattle.std.specs.Prelude.{ℕ, ◌≡◌, ◌≤◌, ◌⊎◌, List, [], ◌∷◌}
+use Rattle.smart_base.specs.Lists.{Each, Distinct}
+use Rattle.smart_base.specs.Views.{View, weight_of, quorum}
+use Rattle.smart_messages.specs.Kinds.{ballots}
+use Rattle.smart_messages.specs.Messages.{Batch}
+use Rattle.smart_messages.specs.declared.statement.Slot.{Slot}
+use Rattle.smart_messages.specs.declared.statement.VoteKind.{VoteKind}
+use Rattle.smart_messages.specs.declared.statement.VoteKind.TheVariants.{Write, Accept}
 use Rattle.smart_messages.specs.declared.message.Message.{Message}
 use Rattle.smart_messages.specs.declared.message.Message.TheVariants.{Vote}
 use Rattle.smart_messages.specs.declared.entry.LogEntry.{LogEntry}
 use Rattle.smart_messages.specs.declared.entry.LogEntry.TheVariants.{Opened, Wrote, Accepted, Decided}
+use Rattle.node_rules.specs.Seals.{signed, digest_of}
 use Rattle.node_rules.specs.Nodes.{Node, is_wrote}
 use Rattle.world_laws.specs.Books.{passing}
 
@@ -30,19 +30,22 @@ abbrev pub IsAmong : List Message → Message → Type 0
 IsAmong [] message = ⊥
 IsAmong (m ∷ ms) message = (m ≡ message) ⊎ IsAmong ms message
 
--- as many members of the view as a quorum needs, and each one's vote of a kind for the batch in the slot has arrived
-pub record IsCertificate (view : View) (arrivals : List Message) (kind : VoteKind) (slot : Slot) (batch : List Request) (voters : List ℕ) : Type 0 where
+-- as many members of the view as a quorum needs, each once, and each one's vote of a kind for the batch in the slot has arrived, with its
+-- tag
+pub record IsCertificate (view : View) (secret : List ℕ) (arrivals : List Message) (kind : VoteKind) (slot : Slot) (batch : Batch) (voters : List ℕ)
+    : Type 0 where
   pub members : AreSome voters view.members
-  pub enough : length voters ≡ quorum view
-  pub voted : Each (λ v. IsAmong arrivals (Vote (record { kind = kind; signer = v; slot = slot; digest = digest_of batch }))) voters
+  pub once : Distinct voters
+  pub enough : weight_of view voters ≡ quorum view
+  pub voted : Each (λ v. IsAmong arrivals (Vote (signed ballots secret v (record { kind = kind; slot = slot; digest = digest_of batch })))) voters
 
 -- an entry that accepts names members that wrote for its batch, and one that decides names members that accepted it
-abbrev pub IsVoted : View → List Message → LogEntry → Type 0
-IsVoted view arrivals Opened = Unit {0}
-IsVoted view arrivals (Wrote slot digest) = Unit {0}
-IsVoted view arrivals (Accepted slot voters batch) = IsCertificate view arrivals Write slot batch voters
-IsVoted view arrivals (Decided slot voters batch) = IsCertificate view arrivals Accept slot batch voters
+abbrev pub IsVoted : View → List ℕ → List Message → LogEntry → Type 0
+IsVoted view secret arrivals Opened = Unit {0}
+IsVoted view secret arrivals (Wrote slot digest) = Unit {0}
+IsVoted view secret arrivals (Accepted slot voters batch) = IsCertificate view secret arrivals Write slot batch voters
+IsVoted view secret arrivals (Decided slot voters batch) = IsCertificate view secret arrivals Accept slot batch voters
 
 -- each entry of a node's book does
 pub record AllVoted {S : Type 0} (view : View) (n : Node S) : Type 0 where
-  pub each : Each (IsVoted view n.arrivals) n.entries
+  pub each : Each (IsVoted view n.secret n.arrivals) n.entries

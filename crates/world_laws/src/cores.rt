@@ -1,6 +1,6 @@
 //! A play of cores, which keep only what still matters.
 ghost use Rattle.std.specs.Prelude.{◌≡◌, List};
-ghost use Rattle.smart_base.specs.declared.view.View.{View};
+ghost use Rattle.smart_base.specs.Views.{View};
 ghost use Rattle.node_rules.specs.Steps.{step_of};
 ghost use Rattle.kept_arrivals.specs.Kept.{core_step};
 ghost use Rattle.world_rules.specs.Worlds.{begun};

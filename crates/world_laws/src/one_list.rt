@@ -1,31 +1,30 @@
 //! One list, whatever happens.
-ghost use Rattle.std.specs.Prelude.{◌≡◌, ◌∷◌, [], List};
-ghost use Rattle.smart_base.specs.declared.view.View.{View};
+ghost use Rattle.std.specs.Prelude.{◌≡◌, ◌∷◌, [], List, true};
+ghost use Rattle.smart_base.specs.Views.{View, is_view};
 ghost use Rattle.world_rules.specs.declared.line.Line.{Line};
 ghost use Rattle.world_rules.specs.Promises.{OneListThroughout, world_at};
-ghost use Rattle.world_laws.specs.Groups.{Distinct};
-ghost use Rattle.world_laws.specs.Examples.{lone, ask_and_flow, first_request, first_acceptance};
+ghost use Rattle.world_laws.specs.Examples.{lone, ask_and_flow, first_signed, first_acceptance};
 
 use smart_service::service::Service;
 
-/// In every play, over any group whose members are distinct and for any lines, one list of batches
-/// holds after each line. Each node has delivered a front of it: its service, its table and its
-/// views are those after that front, and each batch that it ever delivered is the list's at its
-/// place. Each reply that a client accepted is the service's answer at the one place where its
-/// request stands in the list, the request there is the one that the client asked, the reply states
-/// the view in force there, and that place is past every place that the client knew. The list
-/// only grows: what it holds after one line, it begins with after every later one. Each line of the
+/// In every play, over any group and for any lines, one list of batches holds after each line. Each
+/// node has delivered a front of it: its service, its table and its views are those after that
+/// front, and it has delivered one batch at each place of that front, in order: the list's there.
+/// Each reply that a client accepted is the service's answer at the one place where its request
+/// stands in the list, the request there is the one that the client asked, the reply states the
+/// view in force there, and that place is past every place that the client knew. The list only
+/// grows: what it holds after one line, it begins with after every later one. Each line of the
 /// transcript that tells of an accepted reply names the one place of its request in the list, and
 /// tells the service's answer there.
 pub fn one_list_throughout<S: Service>()
-    ensures { (view : View) (ls : List Line) → Distinct view.members → OneListThroughout S.meaning view ls }
+    ensures { (view : View) (ls : List Line) → is_view view ≡ true → OneListThroughout S.meaning view ls }
 {}
 
 /// The law speaks of more than empty lists. In a group of one member, whatever the service, a client
 /// asks for an operation, and messages flow: then the list is the batch of that request, and the
 /// client has accepted the service's first reply, at the first place.
 pub fn one_request_is_answered<S: Service>()
-    ensures distinct { Distinct lone.members }
-    ensures chosen { (world_at S.meaning lone ask_and_flow 2).chosen ≡ (first_request ∷ []) ∷ [] }
+    ensures group { is_view lone ≡ true }
+    ensures chosen { (world_at S.meaning lone ask_and_flow 2).chosen ≡ (first_signed ∷ []) ∷ [] }
     ensures accepted { (world_at S.meaning lone ask_and_flow 2).accepted ≡ first_acceptance S.meaning ∷ [] }
 {}

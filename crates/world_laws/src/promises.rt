@@ -1,9 +1,9 @@
 //! Laws of what is sent, and of what it rests on.
-ghost use Rattle.std.specs.Prelude.{◌≡◌, ◌++◌, ◌∷◌, [], ℕ, List};
-ghost use Rattle.smart_base.specs.declared.view.View.{View};
-ghost use Rattle.smart_messages.specs.declared.message.Request.{Request};
-ghost use Rattle.smart_messages.specs.declared.message.Answer.{Answer};
-ghost use Rattle.smart_messages.specs.declared.message.Message.{Message};
+ghost use Rattle.std.specs.Prelude.{◌≡◌, ◌++◌, ◌∷◌, [], ℕ, List, true};
+ghost use Rattle.smart_base.specs.Views.{View, is_view};
+ghost use Rattle.smart_messages.specs.Forms.{SignedBy};
+ghost use Rattle.smart_messages.specs.declared.statement.Request.{Request};
+ghost use Rattle.smart_messages.specs.declared.statement.Answer.{Answer};
 ghost use Rattle.smart_messages.specs.declared.entry.NodeEvent.{NodeEvent};
 ghost use Rattle.node_rules.specs.Steps.{step_of, opened};
 ghost use Rattle.kept_arrivals.specs.Kept.{node_after};
@@ -15,27 +15,36 @@ ghost use Rattle.world_rules.specs.declared.client.Client.{Client};
 ghost use Rattle.world_rules.specs.declared.client.Acceptance.{Acceptance};
 ghost use Rattle.world_rules.specs.declared.client.Heard.TheVariants as hears;
 ghost use Rattle.world_rules.specs.declared.line.Line.{Line};
-ghost use Rattle.world_laws.specs.Sending.{hears_all, IsGiven, QuorumsReplied, LeavesFirm, SentFirm};
+ghost use Rattle.world_laws.specs.Sending.{hears_all, IsGiven, QuorumsReplied, LeavesFirm, SentFirm, AllGenuine};
 ghost use Rattle.world_laws.specs.Settling.{flow_begins, flow_goes, message_goes, node_goes};
 
 use smart_service::service::Service;
 
 /// Whatever replies come to a client that asks, in whatever order: what it accepts is a reply to its
-/// request, and a quorum of the view's members have given that very reply. And in every play, of each
-/// reply that a client accepted, a quorum of the view's members have sent it to that client.
+/// request, and a quorum of the view's members have given that very reply, each with its own tag. And
+/// in every play, of each reply that a client accepted, a quorum of the view's members have sent it to
+/// that client.
 pub fn a_quorum_replied<S: Service>()
-    ensures client { (view : View) (c : Client) (q : Request) (answers : List Answer) (a : Answer) (accepted : Acceptance) →
-        heard view (hears_all view (asking c q) answers) a ≡ hears.Accepted accepted → IsGiven view q (answers ++ a ∷ []) accepted }
-    ensures world { (view : View) (ls : List Line) → QuorumsReplied (world_after (step_of S.meaning) (begun S.meaning view) ls) }
+    ensures client { (view : View) (c : Client) (q : Request) (replies : List (SignedBy Answer)) (a : SignedBy Answer) (accepted : Acceptance) →
+        heard view (hears_all view (asking c q) replies) a ≡ hears.Accepted accepted → IsGiven view q (replies ++ a ∷ []) accepted }
+    ensures world { (view : View) (ls : List Line) → is_view view ≡ true → QuorumsReplied (world_after (step_of S.meaning) (begun S.meaning view) ls) }
 {}
 
-/// A vote leaves when its entry is firm, and a reply when the decision of its request is. Whatever
-/// comes to a node, what leaves it rests on firm entries. And in each world of a play, as a flow
-/// begins and in each turn of it, while a node settles and while one takes a message, each message
-/// that was sent names who sent it, and rests on entries that are firm at that member's node.
+/// A vote leaves only when its entry is firm, and a reply only when the decision of its request is.
+/// Of requests and proposals nothing is said. Whatever comes to a node that has let nothing go yet,
+/// each vote and reply that would leave it now rests on firm entries. And in each world of a play, as
+/// a flow begins and in each turn of it, while a node settles and while one takes bytes, each message
+/// that was sent names as its signer who sent it, and a vote or a reply rests on entries that are
+/// firm at that member's node.
 pub fn votes_leave_when_firm<S: Service>()
-    ensures node { (id : ℕ) (view : View) (events : List NodeEvent) → LeavesFirm (node_after S.meaning (opened S.meaning id view) events) }
+    ensures node { (secret : List ℕ) (id : ℕ) (view : View) (events : List NodeEvent) → LeavesFirm (node_after S.meaning (opened S.meaning secret id view) events) }
     ensures first { (view : View) (ls : List Line) (nodes i k : ℕ) → SentFirm (repeated (settle_once (step_of S.meaning) i) k (flow_begins S.meaning view ls nodes)) }
-    ensures given { (view : View) (ls : List Line) (turn : ℕ) (message : Message) (nodes i k : ℕ) →
-        SentFirm (node_goes S.meaning message i k (message_goes S.meaning message nodes (flow_goes S.meaning view ls turn))) }
+    ensures given { (view : View) (ls : List Line) (turn : ℕ) (bytes : List ℕ) (nodes i k : ℕ) →
+        SentFirm (node_goes S.meaning bytes i k (message_goes S.meaning bytes nodes (flow_goes S.meaning view ls turn))) }
+{}
+
+/// In every play each message that was sent is read from its bytes as itself, by whoever is given
+/// them, and bears the tag of its signer over its statement. So does each request of a batch in it.
+pub fn what_is_sent_is_read<S: Service>()
+    ensures { (view : View) (ls : List Line) → is_view view ≡ true → AllGenuine (world_after (step_of S.meaning) (begun S.meaning view) ls) }
 {}

@@ -1,7 +1,6 @@
 //! Laws of rest: what is repeated until it changes nothing.
 ghost use Rattle.std.specs.Prelude.{◌≡◌, ◌≤◌, ℕ, List};
-ghost use Rattle.smart_base.specs.declared.view.View.{View};
-ghost use Rattle.smart_messages.specs.declared.message.Message.{Message};
+ghost use Rattle.smart_base.specs.Views.{View};
 ghost use Rattle.node_rules.specs.Steps.{step_of};
 ghost use Rattle.world_rules.specs.Repeats.{repeated, turns, until_rest};
 ghost use Rattle.world_rules.specs.Worlds.{World, settle, gives, flow_once, begun};
@@ -21,12 +20,12 @@ pub fn flow_rests<S: Service>()
 {}
 
 /// A node that settles comes to rest, whenever a play has it settle: as a flow begins, behind the
-/// nodes that settle before it, and in each turn of a flow, whatever message the nodes are given.
+/// nodes that settle before it, and in each turn of a flow, whatever bytes the nodes are given.
 /// One more turn changes nothing.
 pub fn settling_rests<S: Service>()
     ensures first { (view : View) (ls : List Line) (nodes i : ℕ) → HasSettled S.meaning i (settle (step_of S.meaning) i (flow_begins S.meaning view ls nodes)) }
-    ensures given { (view : View) (ls : List Line) (k : ℕ) (message : Message) (nodes i : ℕ) →
-        HasSettled S.meaning i (gives (step_of S.meaning) message i (message_goes S.meaning message nodes (flow_goes S.meaning view ls k))) }
+    ensures given { (view : View) (ls : List Line) (k : ℕ) (bytes : List ℕ) (nodes i : ℕ) →
+        HasSettled S.meaning i (gives (step_of S.meaning) bytes i (message_goes S.meaning bytes nodes (flow_goes S.meaning view ls k))) }
 {}
 
 /// What changes nothing in a world is the end of its repetition there.

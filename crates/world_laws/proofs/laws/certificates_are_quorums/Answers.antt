@@ -2,4 +2,4 @@ use Rattle.world_laws.proofs.Voters.{all_voted}
 use Rattle.world_laws.proofs.laws.certificates_are_quorums.Goals as goal
 
 pub returns : goal.returns
-returns g c = λ id view events. all_voted g.S.Service.meaning id view events
+returns g c = λ secret id view events viewed. all_voted g.S.Service.meaning secret id view events viewed

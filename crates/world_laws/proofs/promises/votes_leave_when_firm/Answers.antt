@@ -1,9 +1,10 @@
-use Rattle.world_laws.proofs.Borne.{leaves_firm, firm-first, firm-given}
+use Rattle.world_laws.proofs.Leaving.{leaves_firm}
+use Rattle.world_laws.proofs.Borne.{firm-first, firm-given}
 use Rattle.world_laws.proofs.promises.votes_leave_when_firm.Goals as goal
 
 pub returns : goal.returns
 returns g c = record {
-  node = λ id view events. leaves_firm g.S.Service.meaning id view events;
+  node = λ secret id view events. leaves_firm g.S.Service.meaning secret id view events;
   first = λ view ls nodes i k. firm-first g.S.Service.meaning view ls nodes i k;
-  given = λ view ls turn message nodes i k. firm-given g.S.Service.meaning view ls turn message nodes i k;
+  given = λ view ls turn bytes nodes i k. firm-given g.S.Service.meaning view ls turn bytes nodes i k;
 }

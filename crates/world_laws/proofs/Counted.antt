@@ -1,0 +1,101 @@
+-- A step of a node takes as many places as it delivers batches, and delivers them there.
+use Rattle.std.proofs.Common.{◌≡◌, ℕ, ◌+◌, ◌++◌, List, [], ◌∷◌, length, refl, ap, ◌∙◌, arith, Option, Some, None, length-append, append-nil, subst, sym, Result, Ok, Err}
+use Rattle.std.specs.List.{flat_map}
+use Rattle.std.proofs.lemmas.Grind.{flat_map-append}
+use Rattle.smart_base.specs.Lists.{Each}
+use Rattle.smart_messages.specs.Messages.{Batch, decoded}
+use Rattle.smart_messages.specs.declared.message.Message.{Message}
+use Rattle.smart_messages.specs.declared.message.Message.TheVariants.{Ask, Propose, Vote, Reply}
+use Rattle.smart_messages.specs.declared.entry.NodeEvent.{NodeEvent}
+use Rattle.smart_messages.specs.declared.entry.NodeEvent.TheVariants.{Arrive, Tick, Deliver, Firm}
+use Rattle.smart_service.specs.Services.{Meaning}
+use Rattle.smart_service.specs.declared.replica.Replica.{Replica}
+use Rattle.node_rules.specs.Replicas.{is_next}
+use Rattle.node_rules.specs.Nodes.{Node, next_place}
+use Rattle.node_rules.specs.Arrivals.{why_dropped, offered, kept}
+use Rattle.node_rules.specs.Rules.{deliver_batch, delivers, delivery}
+use Rattle.node_rules.specs.Steps.{Outcome, fired_pass, outcome_from, arrival_outcome, reading_outcome, step_of}
+use Rattle.node_rules.specs.declared.node.Why.{Why}
+use Rattle.node_rules.specs.declared.node.Fired.{Fired}
+use Rattle.node_rules.specs.declared.node.Delivery.{Delivery}
+use Rattle.world_rules.specs.Worlds.{delivery_in}
+use Rattle.world_rules.specs.Promises.{AtPlaces}
+use Rattle.world_laws.proofs.Lists.{either}
+use Rattle.world_laws.proofs.Follows.{WasDue, due-pass}
+use Rattle.world_laws.proofs.Steady.{replica-passes, place-deliver_batch}
+
+-- where no batch waits, none is due
+none_due : {S : Type 0} (n : Node S) (ds : List Delivery) → n.waiting ≡ None → Each (WasDue n) ds → ds ≡ []
+none_due n [] none each = refl
+none_due n (d ∷ ds) none each = let waits : n.waiting ≡ Some d.batch = each.0.0 in absurd (cc)
+
+-- a pass delivers none
+pass-delivers : {S : Type 0} (n : Node S) → flat_map delivery_in (fired_pass n) ≡ []
+pass-delivers n = none_due (record n { waiting = None }) (flat_map delivery_in (fired_pass n)) refl (due-pass (record n { waiting = None }) n)
+
+-- a step takes as many places more as it delivers batches, and delivers them there
+pub record Advances {S : Type 0} (n : Node S) (o : Outcome S) : Type 0 where
+  pub count : o.node.replica.place ≡ n.replica.place + length (flat_map delivery_in o.fired)
+  pub places : AtPlaces (next_place n) (flat_map delivery_in o.fired)
+
+-- a pass takes no place
+advances-pass : {S : Type 0} (n : Node S) (x : Node S) → x.replica ≡ n.replica → Advances n (outcome_from x [])
+advances-pass {S = S} n x same =
+    let place = ap (λ (r : Replica S). r.place) (replica-passes x ∙ same) in
+    let none = ap (λ (ds : List Delivery). length ds) (pass-delivers x) in
+    record { count = omega (arith, place, none); places = subst (λ (ds : List Delivery). AtPlaces (next_place n) ds) (sym (pass-delivers x)) tt }
+
+-- an arrival leaves the replica
+replica-kept : {S : Type 0} (n : Node S) (message : Message) → (kept n message).replica ≡ n.replica
+unfolding kept
+replica-kept {S = S} n (Ask q) = either (λ (x : Node S). x.replica ≡ n.replica) (is_next n.replica.table q.statement) (record n { pool = offered n.pool q }) n refl refl
+replica-kept n (Propose p) = refl
+replica-kept n (Vote b) = refl
+replica-kept n (Reply a) = refl
+
+-- an arrival takes no place
+advances-arrival : {S : Type 0} (n : Node S) (message : Message) (why : Option Why) → Advances n (arrival_outcome n message why)
+advances-arrival n message None = advances-pass n (kept n message) (replica-kept n message)
+advances-arrival n message (Some why) = record { count = omega arith; places = tt }
+
+-- nor do bytes that come
+advances-reading : {S : Type 0} (n : Node S) (read : Result Message ℕ) → Advances n (reading_outcome n read)
+advances-reading n (Ok message) = advances-arrival n message (why_dropped n message)
+advances-reading n (Err at) = record { count = omega arith; places = tt }
+
+-- a batch that is delivered takes one
+place-delivery : {S : Type 0} (m : Meaning S) (n : Node S) (batch : Option Batch) → (deliver_batch m n batch).replica.place ≡ n.replica.place + length (flat_map delivery_in (delivery m n batch))
+unfolding deliver_batch delivery
+place-delivery m n None = omega arith
+place-delivery m n (Some batch) = place-deliver_batch m n (Some batch) refl
+
+-- the next
+places-delivery : {S : Type 0} (m : Meaning S) (n : Node S) (batch : Option Batch) → AtPlaces (next_place n) (flat_map delivery_in (delivery m n batch))
+unfolding delivery
+places-delivery m n None = tt
+places-delivery m n (Some batch) = (refl, tt)
+
+-- deliveries behind others
+pub places-append : (place : ℕ) (ds es : List Delivery) → AtPlaces place ds → AtPlaces (place + length ds) es → AtPlaces place (ds ++ es)
+places-append place [] es first later = subst (λ (k : ℕ). AtPlaces k es) (omega arith) later
+places-append place (d ∷ ds) es first later = (first.0, places-append (place + 1) ds es first.1 (subst (λ (k : ℕ). AtPlaces k es) (omega arith) later))
+
+-- a step that delivers takes it too
+advances-deliver : {S : Type 0} (m : Meaning S) (n : Node S) (x : Node S) (fired : List Fired) → x.replica.place ≡ n.replica.place + length (flat_map delivery_in fired)
+    → AtPlaces (next_place n) (flat_map delivery_in fired) → Advances n (outcome_from x fired)
+advances-deliver {S = S} m n x fired place places =
+    let same = ap (λ (r : Replica S). r.place) (replica-passes x) in
+    let none = ap (λ (ds : List Delivery). length ds) (pass-delivers x) in
+    let both = ap (λ (ds : List Delivery). length ds) (flat_map-append delivery_in fired (fired_pass x)) in
+    record {
+      count = omega (arith, same, none, both, place, length-append (flat_map delivery_in fired) (flat_map delivery_in (fired_pass x)));
+      places = rw (flat_map-append, pass-delivers x, append-nil) places;
+    }
+
+-- so each event takes as many places as it delivers batches
+pub advances-step : {S : Type 0} (m : Meaning S) (n : Node S) (event : NodeEvent) → Advances n (step_of m n event)
+unfolding step_of delivers
+advances-step m n (Arrive bytes) = advances-reading n (decoded bytes)
+advances-step m n Tick = advances-pass n n refl
+advances-step m n Deliver = advances-deliver m n (deliver_batch m n n.waiting) (delivery m n n.waiting) (place-delivery m n n.waiting) (places-delivery m n n.waiting)
+advances-step m n (Firm count) = advances-pass n (record n { firm = count }) refl

@@ -1,0 +1,39 @@
+-- What leaves a node rests on entries that are firm.
+use Rattle.std.proofs.Common.{◌≡◌, ℕ, true, List, [], ◌∷◌, nat_le, take}
+use Rattle.std.proofs.lemmas.Bool.{leb-true}
+use Rattle.smart_base.specs.Lists.{Each}
+use Rattle.smart_base.specs.Views.{View}
+use Rattle.smart_messages.specs.declared.entry.LogEntry.{LogEntry}
+use Rattle.smart_messages.specs.declared.entry.NodeEvent.{NodeEvent}
+use Rattle.smart_service.specs.Services.{Meaning}
+use Rattle.node_rules.specs.Nodes.{Node}
+use Rattle.node_rules.specs.Steps.{step_of, leaving, opened}
+use Rattle.node_rules.specs.declared.node.Held.{Held}
+use Rattle.kept_arrivals.specs.Kept.{node_after}
+use Rattle.world_rules.specs.declared.message.Origin.TheVariants as origins
+use Rattle.world_laws.specs.Sending.{IsOwn, rests_on, LeavesFirm}
+use Rattle.world_laws.proofs.Lists.{either_by, each_weaker}
+use Rattle.world_laws.proofs.Onward.{includes-longer, rests-more, HoldsRight, NodeRests, onward-step, rests-opened}
+
+-- what leaves rests on entries that are firm
+pub leaving_rest : (id firm : ℕ) (entries : List LogEntry) (held : List Held) → Each (HoldsRight id entries) held → Each (λ h. IsOwn (origins.Node id) h.to h.message × (rests_on (take firm entries) h.message ≡ true)) (leaving firm held)
+leaving_rest id firm entries [] each = tt
+leaving_rest id firm entries (h ∷ hs) each =
+    either_by (Each (λ x. IsOwn (origins.Node id) x.to x.message × (rests_on (take firm entries) x.message ≡ true))) (nat_le h.needs firm) (h ∷ leaving firm hs) []
+    (λ is. (
+      (each.0.own, rests-more (take h.needs entries) (take firm entries) (includes-longer h.needs firm entries (leb-true h.needs firm is)) h.message each.0.rests),
+      leaving_rest id firm entries hs each.1,
+    ))
+    (λ waits. tt)
+
+-- whatever comes, a node's held messages are right
+rests_after : {S : Type 0} (m : Meaning S) (n : Node S) (events : List NodeEvent) → NodeRests n → NodeRests (node_after m n events)
+rests_after m n [] is = is
+rests_after m n (e ∷ es) is = rests_after m (step_of m n e).node es (onward-step m n e is).rests
+
+-- so what leaves rests on entries that are firm
+pub leaves_firm : {S : Type 0} (m : Meaning S) (secret : List ℕ) (id : ℕ) (view : View) (events : List NodeEvent) → LeavesFirm (node_after m (opened m secret id view) events)
+leaves_firm {S = S} m secret id view events =
+    let n : Node S = node_after m (opened m secret id view) events in
+    each_weaker (λ (h : Held). IsOwn (origins.Node n.id) h.to h.message × (rests_on (take n.firm n.entries) h.message ≡ true)) (λ (h : Held). rests_on (take n.firm n.entries) h.message ≡ true) (λ h is. is.1)
+    (leaving n.firm n.held) (leaving_rest n.id n.firm n.entries n.held (rests_after m (opened m secret id view) events (rests-opened m secret id view)).held)

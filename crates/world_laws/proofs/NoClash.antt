@@ -1,0 +1,138 @@
+-- Batches that a play has met are one where their digests are.
+use Rattle.std.proofs.Common.{◌≡◌, ℕ, ◌++◌, ◌&&◌, ◌∙◌, Bool, true, false, not, List, [], ◌∷◌, refl, sym, ap, subst, inl, inr, ◌⊎◌, append-nil, length, Ok, ◌+◌}
+use Rattle.std.proofs.lemmas.Grind.{flat_map-append}
+use Rattle.std.specs.List.{list_any}
+use Rattle.smart_base.specs.Cuts.{Cut}
+use Rattle.smart_base.specs.Lists.{Each, same_bytes}
+use Rattle.smart_messages.specs.Kinds.{requests}
+use Rattle.smart_messages.specs.Messages.{Batch, batch_text, FitsBatch}
+use Rattle.smart_messages.specs.Reading.{batch_at}
+use Rattle.smart_messages.proofs.Messages.{batch_law}
+use Rattle.smart_messages.specs.declared.message.Message.{Message}
+use Rattle.smart_messages.specs.declared.message.Message.TheVariants.{Ask, Propose, Vote, Reply}
+use Rattle.node_rules.specs.Seals.{digest_of}
+use Rattle.world_rules.specs.Premises.{batches_in, met, clash, collides}
+use Rattle.world_rules.specs.declared.message.Sent.{Sent}
+use Rattle.world_laws.proofs.Lists.{or_false}
+use Rattle.world_laws.proofs.Equal.{same_bytes-equal, bytes-itself}
+use Rattle.world_laws.proofs.Certified.{Exact}
+use Rattle.world_laws.proofs.Genuine.{IsGood}
+
+-- a batch is among batches
+abbrev pub HasBatch : List Batch → Batch → Type 0
+HasBatch [] batch = ⊥
+HasBatch (b ∷ bs) batch = (b ≡ batch) ⊎ HasBatch bs batch
+
+-- a batch was in a message that was sent
+abbrev pub IsMet : List Sent → Batch → Type 0
+IsMet sent batch = HasBatch (met sent) batch
+
+-- among more batches
+
+pub has-left : (xs ys : List Batch) (b : Batch) → HasBatch xs b → HasBatch (xs ++ ys) b
+has-left [] ys b has = absurd has
+has-left (x ∷ xs) ys b has = elim has [ inl here ↦ inl here | inr later ↦ inr (has-left xs ys b later) ]
+
+pub has-right : (xs ys : List Batch) (b : Batch) → HasBatch ys b → HasBatch (xs ++ ys) b
+has-right [] ys b has = has
+has-right (x ∷ xs) ys b has = inr (has-right xs ys b has)
+
+has-either : (xs ys : List Batch) (b : Batch) → HasBatch (xs ++ ys) b → HasBatch xs b ⊎ HasBatch ys b
+has-either [] ys b has = inr has
+has-either (x ∷ xs) ys b has =
+    elim has [ inl here ↦ inl (inl here) | inr later ↦ elim (has-either xs ys b later) [ inl front ↦ inl (inr front) | inr back ↦ inr back ] ]
+
+-- one more message
+
+met-end : (sent : List Sent) (s : Sent) → met (sent ++ s ∷ []) ≡ met sent ++ batches_in s.message
+met-end sent s = flat_map-append (λ (t : Sent). batches_in t.message) sent (s ∷ []) ∙ ap (λ bs. met sent ++ bs) (append-nil (batches_in s.message))
+
+-- what was met stays met
+pub met-grows : (sent : List Sent) (s : Sent) (batch : Batch) → IsMet sent batch → IsMet (sent ++ s ∷ []) batch
+met-grows sent s batch is = rw (met-end sent s) (has-left (met sent) (batches_in s.message) batch is)
+
+-- digests
+
+-- of batches that were met and have one digest the texts are one
+pub record TextsExact (sent : List Sent) : Type 0 where
+  pub same : (a b : Batch) → IsMet sent a → IsMet sent b → digest_of a ≡ digest_of b → batch_text a ≡ batch_text b
+
+-- batches that do not clash
+no_clash : (a b : Batch) → clash a b ≡ false → digest_of a ≡ digest_of b → batch_text a ≡ batch_text b
+no_clash a b none same =
+    same_bytes-equal (batch_text a) (batch_text b)
+    (second (same_bytes (digest_of a) (digest_of b)) (same_bytes (batch_text a) (batch_text b)) (subst (λ (d : List ℕ). same_bytes (digest_of a) d ≡ true) same (bytes-itself (digest_of a))) none)
+  where
+    second : (x y : Bool) → x ≡ true → (x && not y) ≡ false → y ≡ true
+    second true true is none = refl
+    second true false is none = absurd (cc)
+    second false y is none = absurd (cc)
+
+-- what no batch passes
+none_passes : (p : Batch → Bool) (bs : List Batch) (b : Batch) → list_any p bs ≡ false → HasBatch bs b → p b ≡ false
+none_passes p [] b none has = absurd has
+none_passes p (x ∷ xs) b none has =
+    let parts = or_false (p x) (list_any p xs) none in
+    elim has [ inl here ↦ subst (λ (y : Batch). p y ≡ false) here parts.0 | inr later ↦ none_passes p xs b parts.1 later ]
+
+-- a message has one batch at most
+one_batch : (message : Message) (a b : Batch) → HasBatch (batches_in message) a → HasBatch (batches_in message) b → a ≡ b
+one_batch (Ask q) a b ha hb = absurd ha
+one_batch (Propose p) a b ha hb = elim ha [ inl here ↦ elim hb [ inl there ↦ sym here ∙ there | inr none ↦ absurd none ] | inr none ↦ absurd none ]
+one_batch (Vote v) a b ha hb = absurd ha
+one_batch (Reply r) a b ha hb = absurd ha
+
+-- a batch of a message that does not collide, and one met before
+old_new : (sent : List Sent) (message : Message) (a b : Batch) → collides sent message ≡ false → IsMet sent a → HasBatch (batches_in message) b → digest_of b ≡ digest_of a → batch_text b ≡ batch_text a
+unfolding collides
+old_new sent message a b free old new same =
+    no_clash b a (none_passes (clash b) (met sent) a (none_passes (λ batch. list_any (clash batch) (met sent)) (batches_in message) b free new) old) same
+
+-- so texts stay exact where a message leaves that does not collide
+pub texts-end : (sent : List Sent) (s : Sent) → collides sent s.message ≡ false → TextsExact sent → TextsExact (sent ++ s ∷ [])
+texts-end sent s free exact =
+    record {
+      same = λ a b ma mb same.
+          let ha : HasBatch (met sent ++ batches_in s.message) a = subst (λ (bs : List Batch). HasBatch bs a) (met-end sent s) ma in
+          let hb : HasBatch (met sent ++ batches_in s.message) b = subst (λ (bs : List Batch). HasBatch bs b) (met-end sent s) mb in
+          elim (has-either (met sent) (batches_in s.message) a ha) [
+            | inl olda ↦ elim (has-either (met sent) (batches_in s.message) b hb) [
+              | inl oldb ↦ exact.same a b olda oldb same
+              | inr newb ↦ sym (old_new sent s.message a b free olda newb (sym same))
+            ]
+            | inr newa ↦ elim (has-either (met sent) (batches_in s.message) b hb) [
+              | inl oldb ↦ old_new sent s.message b a free oldb newa same
+              | inr newb ↦ ap batch_text (one_batch s.message a b newa newb)
+            ]
+          ];
+    }
+
+-- batches of one text
+
+-- a text is one batch's
+pub text-batch : (a b : Batch) → FitsBatch a → FitsBatch b → batch_text a ≡ batch_text b → a ≡ b
+text-batch a b fa fb same =
+    let c : Cut = record { at = 0; left = batch_text a } in
+    let d : Cut = record { at = 0 + length (batch_text a); left = [] } in
+    let one : batch_at requests c ≡ Ok (a, d) = batch_law.again c a d fa (record { left = sym (append-nil (batch_text a)); at = refl }) in
+    let other : batch_at requests c ≡ Ok (b, d) =
+    batch_law.again c b d fb (record { left = same ∙ sym (append-nil (batch_text b)); at = ap (λ (t : List ℕ). 0 + length t) same }) in
+    let pairs : (a, d) ≡ (b, d) = cc in
+    ap (λ (x : Batch × Cut). x.0) pairs
+
+-- what was met in messages that have a spelling has one
+met-fits : (sent : List Sent) (batch : Batch) → Each (λ s. IsGood s.message) sent → IsMet sent batch → FitsBatch batch
+met-fits [] batch each is = absurd is
+met-fits (s ∷ sent) batch each is =
+    elim (has-either (batches_in s.message) (met sent) batch is) [ inl here ↦ in_fits s.message each.0 here | inr later ↦ met-fits sent batch each.1 later ]
+  where
+    in_fits : (x : Message) → IsGood x → HasBatch (batches_in x) batch → FitsBatch batch
+    in_fits (Ask q) good has = absurd has
+    in_fits (Propose p) good has = elim has [ inl here ↦ subst (λ (b : Batch). FitsBatch b) here good.fits.content_fits.1 | inr none ↦ absurd none ]
+    in_fits (Vote v) good has = absurd has
+    in_fits (Reply r) good has = absurd has
+
+-- so batches that were met are one where their digests are
+pub met-exact : (sent : List Sent) → Each (λ s. IsGood s.message) sent → TextsExact sent → Exact (IsMet sent)
+met-exact sent each exact =
+    record { one = λ a b ma mb same. text-batch a b (met-fits sent a each ma) (met-fits sent b each mb) (exact.same a b ma mb same) }
