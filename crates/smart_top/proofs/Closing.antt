@@ -8,6 +8,7 @@ use Rattle.kept_arrivals.specs.Kept.{core_step}
 use Rattle.node_rules.specs.Steps.{step_of}
 use Rattle.world_rules.specs.Plays.{Play}
 use Rattle.world_rules.specs.Texts.{text_of}
+use Rattle.world_laws.proofs.FitNodes.{IsBrief}
 use Rattle.smart_top.specs.declared.status.Refusal.{Refusal}
 use Rattle.smart_top.specs.declared.reader.Halt.{Halt}
 use Rattle.smart_top.specs.declared.reader.Halt.TheVariants as halts
@@ -50,10 +51,10 @@ ended-run m left left' written now wants wants' r None is end e = ended-play m l
 ended-run m left left' written now wants wants' r (Some why) is end e = absurd (cc)
 
 -- a run that has written its whole transcript
-pub close-ended : {S : Type 0} (m : Meaning S) (left left' written now now' : Option (List ℕ)) (wants wants' : ℕ) (bytes input line : List ℕ) (script : Reading S)
+pub close-ended : {S : Type 0} (m : Meaning S) (brief : IsBrief m) (left left' written now now' : Option (List ℕ)) (wants wants' : ℕ) (bytes input line : List ℕ) (script : Reading S)
     → script_lines input ≡ whole_lines [] bytes → IsLeft left input → IsAtEnd left' → HasTaken (core_step m) m bytes written now line script → Appends now now' (text_of (end_told script.count script.play))
     → RunEnd m left left' written now' wants wants' (end_of script)
-close-ended {S = S} m left left' written now now' wants wants' bytes input line script all is_left end taken told =
+close-ended {S = S} m brief left left' written now now' wants wants' bytes input line script all is_left end taken told =
     let r : Reading S = script_read (step_of m) m input in
     let read : script ≡ trimmed_reading r = all-read m written now bytes input line script all taken in
     ended-run m left left' written now' wants wants' script script.refused taken.going end
@@ -63,21 +64,21 @@ close-ended {S = S} m left left' written now now' wants wants' bytes input line 
       status_is = ap (λ (q : Reading S). end_of q) read ∙ core-end r;
       text = subst (λ text. Appends written now' text) (all-told m written now bytes input line script all taken)
           (appends-then written now now' (text_after (core_step m) m bytes) (text_of (end_told script.count script.play)) taken.text told);
-      played = played m (script_lines input);
+      played = played m brief (script_lines input);
     })
 
 -- a run whose end was not written
-pub close-unwritten : {S : Type 0} (m : Meaning S) (left written now now' : Option (List ℕ)) (bytes input line : List ℕ) (script : Reading S)
+pub close-unwritten : {S : Type 0} (m : Meaning S) (brief : IsBrief m) (left written now now' : Option (List ℕ)) (bytes input line : List ℕ) (script : Reading S)
     → script_lines input ≡ whole_lines [] bytes → IsLeft left input → now' ≡ now → HasTaken (core_step m) m bytes written now line script → WroteLines m left written now'
-close-unwritten m left written now now' bytes input line script all is_left same taken =
-    told-lines m left written now' bytes input (record { more = []; split = all ∙ sym (append-nil (whole_lines [] bytes)) }) is_left
+close-unwritten m brief left written now now' bytes input line script all is_left same taken =
+    told-lines m brief left written now' bytes input (record { more = []; split = all ∙ sym (append-nil (whole_lines [] bytes)) }) is_left
     (record { text = subst (λ w. Appends written w (text_after (core_step m) m bytes)) (sym same) taken.text })
 
 -- a run of whose end only a front was written
-close-broken : {S : Type 0} (m : Meaning S) (left written now now' : Option (List ℕ)) (bytes input line : List ℕ) (script : Reading S) (count : ℕ)
+close-broken : {S : Type 0} (m : Meaning S) (brief : IsBrief m) (left written now now' : Option (List ℕ)) (bytes input line : List ℕ) (script : Reading S) (count : ℕ)
     → script_lines input ≡ whole_lines [] bytes → IsLeft left input → HasTaken (core_step m) m bytes written now line script → Appends now now' (take count (text_of (end_told script.count script.play)))
     → WroteFront m left written now'
-close-broken m left written now now' bytes input line script count all is_left taken told =
+close-broken m brief left written now now' bytes input line script count all is_left taken told =
     let some = front_behind (text_after (core_step m) m bytes) (text_of (end_told script.count script.play)) [] count in
     let whole = ap (λ text. text_after (core_step m) m bytes ++ text) (append-nil (text_of (end_told script.count script.play))) ∙ all-told m written now bytes input line script all taken in
     record {
@@ -86,21 +87,21 @@ close-broken m left written now now' bytes input line script count all is_left t
       count = some.0;
       text = subst (λ text. Appends written now' text) (sym some.1 ∙ ap (λ text. take some.0 text) whole)
           (appends-then written now now' (text_after (core_step m) m bytes) (take count (text_of (end_told script.count script.play))) taken.text told);
-      played = played m (script_lines input);
+      played = played m brief (script_lines input);
     }
 
 -- a run that stopped at its end
-pub close-halted : {S : Type 0} (m : Meaning S) (left left' written now now' : Option (List ℕ)) (wants wants' : ℕ) (bytes input line : List ℕ) (script : Reading S) (halt : Halt)
+pub close-halted : {S : Type 0} (m : Meaning S) (brief : IsBrief m) (left left' written now now' : Option (List ℕ)) (wants wants' : ℕ) (bytes input line : List ℕ) (script : Reading S) (halt : Halt)
     → script_lines input ≡ whole_lines [] bytes → IsLeft left input → HasTaken (core_step m) m bytes written now line script → (halt ≡ halts.Refused → ⊥) → (halt ≡ halts.NoMemory → now' ≡ now)
     → (halt ≡ halts.SinkMemory → Rose wants wants') → (count : ℕ) × Appends now now' (take count (text_of (end_told script.count script.play)))
     → RunEnd m left left' written now' wants wants' (halt_end script halt)
-close-halted m left left' written now now' wants wants' bytes input line script halts.Refused all is_left taken never same rose told = absurd (never refl)
-close-halted m left left' written now now' wants wants' bytes input line script halts.WriteFault all is_left taken never same rose told =
-    close-broken m left written now now' bytes input line script told.0 all is_left taken told.1
-close-halted m left left' written now now' wants wants' bytes input line script halts.SinkMemory all is_left taken never same rose told =
-    inr (rose refl, close-broken m left written now now' bytes input line script told.0 all is_left taken told.1)
-close-halted m left left' written now now' wants wants' bytes input line script halts.NoMemory all is_left taken never same rose told =
-    inl (close-unwritten m left written now now' bytes input line script all is_left (same refl) taken)
+close-halted m brief left left' written now now' wants wants' bytes input line script halts.Refused all is_left taken never same rose told = absurd (never refl)
+close-halted m brief left left' written now now' wants wants' bytes input line script halts.WriteFault all is_left taken never same rose told =
+    close-broken m brief left written now now' bytes input line script told.0 all is_left taken told.1
+close-halted m brief left left' written now now' wants wants' bytes input line script halts.SinkMemory all is_left taken never same rose told =
+    inr (rose refl, close-broken m brief left written now now' bytes input line script told.0 all is_left taken told.1)
+close-halted m brief left left' written now now' wants wants' bytes input line script halts.NoMemory all is_left taken never same rose told =
+    inl (close-unwritten m brief left written now now' bytes input line script all is_left (same refl) taken)
 
 -- the last line
 
@@ -133,15 +134,15 @@ last-starts bytes P some w = of_front w.front w.rest w.split
     of_front (b ∷ c ∷ front) rest split = absurd (cc)
 
 -- a run that the last line has stopped
-pub last-halted : {S : Type 0} (m : Meaning S) (left left' written now : Option (List ℕ)) (wants wants' : ℕ) (bytes : List ℕ) (script : Reading S) (halt : Halt)
+pub last-halted : {S : Type 0} (m : Meaning S) (brief : IsBrief m) (left left' written now : Option (List ℕ)) (wants wants' : ℕ) (bytes : List ℕ) (script : Reading S) (halt : Halt)
     → (rest_of [] bytes ≡ [] → ⊥) → IsLeft left bytes → (halt ≡ halts.SinkMemory → Rose wants wants') → Halted (core_step m) m bytes (10 ∷ []) written now script halt
     → RunEnd m left left' written now wants wants' (halt_end script halt)
-last-halted m left left' written now wants wants' bytes script halts.Refused some is_left rose w =
-    refused-run m left left' written now wants wants' script script.refused w.holds.is (refused-ends m left written now (bytes ++ w.front) bytes script (last-starts bytes _ some w) is_left w.holds)
-last-halted m left left' written now wants wants' bytes script halts.WriteFault some is_left rose w = broken-front m left written now (bytes ++ w.front) bytes (begins _ _ (last-starts bytes _ some w)) is_left w.holds
-last-halted m left left' written now wants wants' bytes script halts.SinkMemory some is_left rose w =
-    inr (rose refl, broken-front m left written now (bytes ++ w.front) bytes (begins _ _ (last-starts bytes _ some w)) is_left w.holds)
-last-halted m left left' written now wants wants' bytes script halts.NoMemory some is_left rose w = inl (told-lines m left written now (bytes ++ w.front) bytes (begins _ _ (last-starts bytes _ some w)) is_left w.holds)
+last-halted m brief left left' written now wants wants' bytes script halts.Refused some is_left rose w =
+    refused-run m left left' written now wants wants' script script.refused w.holds.is (refused-ends m brief left written now (bytes ++ w.front) bytes script (last-starts bytes _ some w) is_left w.holds)
+last-halted m brief left left' written now wants wants' bytes script halts.WriteFault some is_left rose w = broken-front m brief left written now (bytes ++ w.front) bytes (begins _ _ (last-starts bytes _ some w)) is_left w.holds
+last-halted m brief left left' written now wants wants' bytes script halts.SinkMemory some is_left rose w =
+    inr (rose refl, broken-front m brief left written now (bytes ++ w.front) bytes (begins _ _ (last-starts bytes _ some w)) is_left w.holds)
+last-halted m brief left left' written now wants wants' bytes script halts.NoMemory some is_left rose w = inl (told-lines m brief left written now (bytes ++ w.front) bytes (begins _ _ (last-starts bytes _ some w)) is_left w.holds)
 
 -- a line that is not empty is one
 pub not_empty : (line : List ℕ) → (length line == 0) ≡ false → line ≡ [] → ⊥

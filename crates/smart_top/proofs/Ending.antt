@@ -8,6 +8,7 @@ use Rattle.kept_arrivals.specs.Kept.{core_step}
 use Rattle.node_rules.specs.Steps.{step_of}
 use Rattle.world_rules.specs.Texts.{text_of}
 use Rattle.world_rules.specs.declared.line.OutLine.{OutLine}
+use Rattle.world_laws.proofs.FitNodes.{IsBrief}
 use Rattle.world_laws.proofs.OneListLaw.{one_list-throughout}
 use Rattle.smart_top.specs.declared.status.Refusal.{Refusal}
 use Rattle.smart_top.specs.declared.status.Refusal.TheVariants as refusals
@@ -37,8 +38,8 @@ pub begins : (bytes input : List ℕ) → Starts bytes input → Begins bytes in
 begins bytes input s = let front = lines-front bytes s.rest in record { more = front.0; split = s.same ∙ front.1 }
 
 -- lines that were read are played
-pub played : {S : Type 0} (m : Meaning S) (ls : List (List ℕ)) → ArePlayed m ls
-played m ls = record { tell = tells-read m ls; one_list = one_list_holds m (λ view distinct lines. one_list-throughout m view distinct lines) ls }
+pub played : {S : Type 0} (m : Meaning S) (brief : IsBrief m) (ls : List (List ℕ)) → ArePlayed m ls
+played m brief ls = record { tell = tells-read m ls; one_list = one_list_holds m (λ view is lines. one_list-throughout m brief view is lines) ls }
 
 -- the text that cores tell is the text that nodes tell
 pub same-text : {S : Type 0} (m : Meaning S) (bytes : List ℕ) → text_after (core_step m) m bytes ≡ text_after (step_of m) m bytes
@@ -58,9 +59,9 @@ transcript-front {S = S} m bytes input b =
     )
 
 -- a run that broke off has written a front of the transcript
-pub broken-front : {S : Type 0} (m : Meaning S) (left written now : Option (List ℕ)) (bytes input : List ℕ) → Begins bytes input → IsLeft left input
+pub broken-front : {S : Type 0} (m : Meaning S) (brief : IsBrief m) (left written now : Option (List ℕ)) (bytes input : List ℕ) → Begins bytes input → IsLeft left input
     → HasBroken (core_step m) m bytes written now → WroteFront m left written now
-broken-front m left written now bytes input b is_left broken =
+broken-front m brief left written now bytes input b is_left broken =
     let front = transcript-front m bytes input b in
     let some = front_of (text_after (step_of m) m bytes) front.0 broken.count in
     record {
@@ -69,13 +70,13 @@ broken-front m left written now bytes input b is_left broken =
       count = some.0;
       text = subst (λ text. Appends written now text)
           (ap (λ text. take broken.count text) (same-text m bytes) ∙ (sym some.1 ∙ ap (λ text. take some.0 text) (sym front.1))) broken.text;
-      played = played m (script_lines input);
+      played = played m brief (script_lines input);
     }
 
 -- a run that told whole lines has written the transcript of the input's first lines
-pub told-lines : {S : Type 0} (m : Meaning S) (left written now : Option (List ℕ)) (bytes input : List ℕ) → Begins bytes input → IsLeft left input
+pub told-lines : {S : Type 0} (m : Meaning S) (brief : IsBrief m) (left written now : Option (List ℕ)) (bytes input : List ℕ) → Begins bytes input → IsLeft left input
     → HasTold (core_step m) m bytes written now → WroteLines m left written now
-told-lines m left written now bytes input b is_left told =
+told-lines m brief left written now bytes input b is_left told =
     record {
       input = input;
       is_left = is_left;
@@ -83,7 +84,7 @@ told-lines m left written now bytes input b is_left told =
       rest = b.more;
       split = b.split;
       text = subst (λ text. Appends written now text) (same-text m bytes) told.text;
-      played = played m (whole_lines [] bytes);
+      played = played m brief (whole_lines [] bytes);
     }
 
 -- a refused line's status depends on the refusal and the count alone
@@ -139,9 +140,9 @@ reads-closed {S = S} m bytes closed input s (inl same) is =
 reads-closed m bytes closed input s (inr long) is = subst (λ c. ReadsAs m c input) (sym long.0) (reads-long m bytes input s long.1)
 
 -- a run that a refused line has ended
-pub refused-ends : {S : Type 0} (m : Meaning S) (left written now : Option (List ℕ)) (bytes input : List ℕ) (script : Reading S) → Starts bytes input → IsLeft left input
+pub refused-ends : {S : Type 0} (m : Meaning S) (brief : IsBrief m) (left written now : Option (List ℕ)) (bytes input : List ℕ) (script : Reading S) → Starts bytes input → IsLeft left input
     → HasRefused (core_step m) m bytes written now script → Ends m left written now (end_of script)
-refused-ends {S = S} m left written now bytes input script s is_left refused =
+refused-ends {S = S} m brief left written now bytes input script s is_left refused =
     let r : Reading S = script_after (step_of m) m refused.closed in
     let whole : List (List ℕ) = whole_lines [] refused.closed in
     let why : script.refused ≡ r.refused = refused.refused ∙ core-refused m whole in
@@ -157,7 +158,7 @@ refused-ends {S = S} m left written now bytes input script s is_left refused =
       is_left = is_left;
       status_is = end-refused script r refused.is why (refused.count ∙ core-count m whole) ∙ sym (ap (λ (q : Reading S). end_of q) reads.read);
       text = subst (λ x. Appends written now x) (same-text m refused.closed ∙ sym text) refused.text;
-      played = played m (script_lines input);
+      played = played m brief (script_lines input);
     }
 
 -- a refused line ends a run by its status
@@ -165,6 +166,7 @@ pub refused-run : {S : Type 0} (m : Meaning S) (left left' written now : Option 
     → Ends m left written now (end_by r x) → RunEnd m left left' written now wants wants' (end_by r x)
 refused-run m left left' written now wants wants' r None is e = absurd (cc)
 refused-run m left left' written now wants wants' r (Some (refusals.Script kind)) is e = e
+refused-run m left left' written now wants wants' r (Some (refusals.Premise which)) is e = e
 refused-run m left left' written now wants wants' r (Some refusals.Limit) is e = e
 
 -- what was consumed, and what is left
@@ -206,35 +208,35 @@ within-starts left left' bytes piece P consumed w =
           some.1,
     )
 
-pub halted-end : {S : Type 0} (m : Meaning S) (left left' written now : Option (List ℕ)) (wants wants' : ℕ) (bytes piece : List ℕ) (script : Reading S) (halt : Halt)
+pub halted-end : {S : Type 0} (m : Meaning S) (brief : IsBrief m) (left left' written now : Option (List ℕ)) (wants wants' : ℕ) (bytes piece : List ℕ) (script : Reading S) (halt : Halt)
     → Consumes left left' (bytes ++ piece) → (halt ≡ halts.SinkMemory → Rose wants wants') → Halted (core_step m) m bytes piece written now script halt
     → RunEnd m left left' written now wants wants' (halt_end script halt)
-halted-end m left left' written now wants wants' bytes piece script halts.Refused consumed rose w =
+halted-end m brief left left' written now wants wants' bytes piece script halts.Refused consumed rose w =
     let i = within-starts left left' bytes piece _ consumed w in
-    refused-run m left left' written now wants wants' script script.refused w.holds.is (refused-ends m left written now (bytes ++ w.front) i.0 script i.1 i.2 w.holds)
-halted-end m left left' written now wants wants' bytes piece script halts.WriteFault consumed rose w =
-    let i = within-starts left left' bytes piece _ consumed w in broken-front m left written now (bytes ++ w.front) i.0 (begins _ _ i.1) i.2 w.holds
-halted-end m left left' written now wants wants' bytes piece script halts.SinkMemory consumed rose w =
-    let i = within-starts left left' bytes piece _ consumed w in inr (rose refl, broken-front m left written now (bytes ++ w.front) i.0 (begins _ _ i.1) i.2 w.holds)
-halted-end m left left' written now wants wants' bytes piece script halts.NoMemory consumed rose w =
-    let i = within-starts left left' bytes piece _ consumed w in inl (told-lines m left written now (bytes ++ w.front) i.0 (begins _ _ i.1) i.2 w.holds)
+    refused-run m left left' written now wants wants' script script.refused w.holds.is (refused-ends m brief left written now (bytes ++ w.front) i.0 script i.1 i.2 w.holds)
+halted-end m brief left left' written now wants wants' bytes piece script halts.WriteFault consumed rose w =
+    let i = within-starts left left' bytes piece _ consumed w in broken-front m brief left written now (bytes ++ w.front) i.0 (begins _ _ i.1) i.2 w.holds
+halted-end m brief left left' written now wants wants' bytes piece script halts.SinkMemory consumed rose w =
+    let i = within-starts left left' bytes piece _ consumed w in inr (rose refl, broken-front m brief left written now (bytes ++ w.front) i.0 (begins _ _ i.1) i.2 w.holds)
+halted-end m brief left left' written now wants wants' bytes piece script halts.NoMemory consumed rose w =
+    let i = within-starts left left' bytes piece _ consumed w in inl (told-lines m brief left written now (bytes ++ w.front) i.0 (begins _ _ i.1) i.2 w.holds)
 
 -- a read that failed
-pub read-failed : {S : Type 0} (m : Meaning S) (left now_left left' written now : Option (List ℕ)) (bytes line : List ℕ) (script : Reading S) → Keeps now_left left'
+pub read-failed : {S : Type 0} (m : Meaning S) (brief : IsBrief m) (left now_left left' written now : Option (List ℕ)) (bytes line : List ℕ) (script : Reading S) → Keeps now_left left'
     → GoesOn (core_step m) m bytes left now_left written now line script → WroteAllRead m left left' written now
-read-failed {S = S} m left now_left left' written now bytes line script keeps g =
+read-failed {S = S} m brief left now_left left' written now bytes line script keeps g =
     record {
       read = bytes;
       consumed = consumes-keeps left now_left left' bytes g.consumed keeps;
       going = sym (core-refused m (whole_lines [] bytes)) ∙ (ap (λ (r : Reading S). r.refused) (sym g.taken.script_is) ∙ g.taken.going);
       text = subst (λ text. Appends written now text) (same-text m bytes) g.taken.text;
-      played = played m (whole_lines [] bytes);
+      played = played m brief (whole_lines [] bytes);
     }
 
 -- a read that wanted memory
-pub read-unread : {S : Type 0} (m : Meaning S) (left left' written now : Option (List ℕ)) (bytes line : List ℕ) (script : Reading S)
+pub read-unread : {S : Type 0} (m : Meaning S) (brief : IsBrief m) (left left' written now : Option (List ℕ)) (bytes line : List ℕ) (script : Reading S)
     → GoesOn (core_step m) m bytes left left' written now line script → WroteLines m left written now
-read-unread m left left' written now bytes line script g =
+read-unread m brief left left' written now bytes line script g =
     let some = input_of left left' bytes g.consumed in
     let front = lines-front bytes some.0 in
-    told-lines m left written now bytes (bytes ++ some.0) (record { more = front.0; split = front.1 }) some.1 (record { text = g.taken.text })
+    told-lines m brief left written now bytes (bytes ++ some.0) (record { more = front.0; split = front.1 }) some.1 (record { text = g.taken.text })

@@ -7,3 +7,4 @@ pub mod ReadingTells
 pub mod Feeding
 pub mod Ending
 pub mod Closing
+pub mod ReadingLines

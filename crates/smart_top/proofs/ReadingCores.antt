@@ -1,7 +1,7 @@
 -- A script that is read by cores is read as by the nodes that keep all.
 use Rattle.std.proofs.Common.{◌≡◌, ℕ, ◌+◌, ◌++◌, Bool, true, false, List, [], ◌∷◌, refl, ap, sym, ◌∙◌, cond, Option, Some, None, is_some}
 use Rattle.std.specs.Prelude.{not, option_map}
-use Rattle.smart_base.specs.declared.view.View.{View}
+use Rattle.smart_base.specs.Views.{View}
 use Rattle.smart_service.specs.Services.{Meaning}
 use Rattle.node_rules.specs.Steps.{step_of}
 use Rattle.kept_arrivals.specs.Kept.{core_step}
@@ -11,7 +11,8 @@ use Rattle.world_rules.specs.Scripts.{is_text, is_nothing, line_of, group_line, 
 use Rattle.world_rules.specs.declared.line.Line.{Line}
 use Rattle.world_laws.specs.Cores.{trimmed_world}
 use Rattle.world_laws.proofs.CoreWorlds.{core_line, begun_same}
-use Rattle.smart_top.specs.Readings.{Reading, unread, group_taken, play_begun, header_taken, played_into, line_done, told_by, told_done, taken_at, told_at, is_full, line_taken, line_told, script_lines, reading_after, told_after, script_read, end_by, end_of, last_told, transcript}
+use Rattle.world_rules.specs.declared.message.Ending.{Ending}
+use Rattle.smart_top.specs.Readings.{Reading, unread, group_taken, play_begun, header_taken, played_until, played_into, line_done, told_until, told_by, told_done, taken_at, told_at, is_full, line_taken, line_told, script_lines, reading_after, told_after, script_read, end_by, end_of, last_told, transcript}
 use Rattle.smart_top.specs.declared.status.Refusal.{Refusal}
 
 -- a play of which each node keeps no more than it needs
@@ -48,9 +49,15 @@ header_same m r l (Some view) =
     choice_same trimmed_reading (is_app_line l) _ _ _ _ (ap (λ p. record r { play = Some p; count = r.count + 1 }) (begun_play m view)) refl
 
 -- a world behind a line
+played_until_same : {S : Type 0} (r : Reading S) (p : Play S) (line : Line) (w : World S) (ending : Option Ending)
+    → played_until (trimmed_reading r) (trimmed_play p) line (trimmed_world w) ending ≡ trimmed_reading (played_until r p line w ending)
+unfolding trimmed_world
+played_until_same r p line w None = refl
+played_until_same r p line w (Some ending) = refl
+
 played_same : {S : Type 0} (r : Reading S) (p : Play S) (line : Line) (w : World S) → played_into (trimmed_reading r) (trimmed_play p) line (trimmed_world w) ≡ trimmed_reading (played_into r p line w)
 unfolding trimmed_world
-played_same r p line w = choice_same trimmed_reading (is_some w.ending) _ _ _ _ refl refl
+played_same r p line w = played_until_same r p line w w.ending
 
 -- a line behind the header
 done_same : {S : Type 0} (m : Meaning S) (r : Reading S) (p : Play S) (line : Option Line) → line_done (core_step m) (trimmed_reading r) (trimmed_play p) line ≡ trimmed_reading (line_done (step_of m) r p line)
@@ -59,9 +66,14 @@ done_same m r p (Some line) =
     ap (λ w. played_into (trimmed_reading r) (trimmed_play p) line w) (core_line m p.world line) ∙ played_same r p line (line_played (step_of m) p.world line)
 
 -- what a world tells
+told_until_same : {S : Type 0} (w : World S) (ending : Option Ending) → told_until (trimmed_world w) ending ≡ told_until w ending
+unfolding trimmed_world
+told_until_same w None = refl
+told_until_same w (Some ending) = refl
+
 told_by_same : {S : Type 0} (w : World S) → told_by (trimmed_world w) ≡ told_by w
 unfolding trimmed_world
-told_by_same w = refl
+told_by_same w = told_until_same w w.ending
 
 -- what a line behind the header tells
 told_done_same : {S : Type 0} (m : Meaning S) (p : Play S) (line : Option Line) → told_done (core_step m) (trimmed_play p) line ≡ told_done (step_of m) p line

@@ -2,7 +2,7 @@
 use Rattle.std.proofs.Common.{◌≡◌, ◌<◌, ◌+◌, ◌^◌, ◌∙◌, ℕ, true, false, List, refl, ap, sym, Option, Some, None, is_some}
 use Rattle.std.specs.Prelude.{not}
 use Rattle.std.proofs.lemmas.Bool.{leb-false}
-use Rattle.smart_base.specs.declared.view.View.{View}
+use Rattle.smart_base.specs.Views.{View}
 use Rattle.smart_messages.specs.declared.entry.NodeEvent.{NodeEvent}
 use Rattle.smart_service.specs.Services.{Meaning}
 use Rattle.node_rules.specs.Nodes.{Node}
@@ -11,7 +11,9 @@ use Rattle.world_rules.specs.Plays.{Play, line_played}
 use Rattle.world_rules.specs.Scripts.{is_text, is_nothing, line_of, group_line, is_app_line}
 use Rattle.world_rules.specs.declared.line.Line.{Line}
 use Rattle.world_laws.proofs.Lists.{either, either_by}
-use Rattle.smart_top.specs.Readings.{Reading, group_taken, header_taken, line_done, taken_at, is_full, line_taken}
+use Rattle.world_rules.specs.Worlds.{World}
+use Rattle.world_rules.specs.declared.message.Ending.{Ending}
+use Rattle.smart_top.specs.Readings.{Reading, group_taken, header_taken, played_until, line_done, taken_at, is_full, line_taken}
 
 -- a script that has counted one more line than another, unless it refuses one
 abbrev Counts : {S : Type 0} → Reading S → Reading S → Type 0
@@ -27,10 +29,15 @@ header-counts : {S : Type 0} (m : Meaning S) (r : Reading S) (l : List ℕ) (gro
 header-counts m r l None = group-counts r (group_line l)
 header-counts m r l (Some view) = either (Counts r) (is_app_line l) _ _ (λ none. refl) (λ none. absurd (cc))
 
+-- a line that was played, by what has ended the world there
+played-counts : {S : Type 0} (r : Reading S) (p : Play S) (line : Line) (w : World S) (ending : Option Ending) → Counts r (played_until r p line w ending)
+played-counts r p line w None = λ none. refl
+played-counts r p line w (Some ending) = λ none. absurd (cc)
+
 -- a line behind the header
 done-counts : {S : Type 0} (step : Node S → NodeEvent → Outcome S) (r : Reading S) (p : Play S) (line : Option Line) → Counts r (line_done step r p line)
 done-counts step r p None = λ none. absurd (cc)
-done-counts step r p (Some line) = either (Counts r) (is_some (line_played step p.world line).ending) _ _ (λ none. absurd (cc)) (λ none. refl)
+done-counts step r p (Some line) = played-counts r p line (line_played step p.world line) (line_played step p.world line).ending
 
 -- a line by where the script stands
 at-counts : {S : Type 0} (step : Node S → NodeEvent → Outcome S) (m : Meaning S) (r : Reading S) (l : List ℕ) (play : Option (Play S)) → Counts r (taken_at step m r l play)

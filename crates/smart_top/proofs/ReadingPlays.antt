@@ -1,9 +1,9 @@
 -- What is read keeps one list.
-use Rattle.std.proofs.Common.{◌≡◌, ℕ, zero, suc, ◌+◌, ◌<◌, Bool, true, false, ◌||◌, ◌==◌, List, [], ◌∷◌, ◌++◌, take, drop, refl, ap, sym, ◌∙◌, arith, Option, Some, None, is_some, subst, eqb-true}
-use Rattle.std.specs.Prelude.{not, position}
-use Rattle.std.specs.List.{list_any}
+use Rattle.std.proofs.Common.{◌≡◌, ℕ, ◌+◌, true, false, ◌==◌, List, [], ◌∷◌, ◌++◌, take, drop, refl, ap, sym, ◌∙◌, arith, Option, Some, None, is_some, subst}
+use Rattle.std.specs.Prelude.{not, position, nat_le, ◌&&◌, ◌*◌}
+use Rattle.std.proofs.lemmas.Bool.Decides.{nat_tests}
 use Rattle.smart_base.specs.Decimals.{number_of}
-use Rattle.smart_base.specs.declared.view.View.{View}
+use Rattle.smart_base.specs.Views.{View, is_view}
 use Rattle.smart_service.specs.Services.{Meaning}
 use Rattle.node_rules.specs.Steps.{step_of}
 use Rattle.world_rules.specs.Worlds.{begun}
@@ -11,77 +11,57 @@ use Rattle.world_rules.specs.Plays.{Play, line_played, rested, world_after}
 use Rattle.world_rules.specs.Promises.{OneListThroughout}
 use Rattle.world_rules.specs.Scripts.{is_text, is_nothing, line_of, members_from, view_for, group_words, group_line, is_app_line}
 use Rattle.world_rules.specs.declared.line.Line.{Line}
+use Rattle.world_rules.specs.declared.message.Ending.{Ending}
+use Rattle.world_script.proofs.Members.{first_view}
 use Rattle.world_laws.proofs.Lists.{either, either_by}
-use Rattle.world_laws.specs.Groups.{Distinct}
 use Rattle.world_laws.proofs.Grows.{world_after-append}
-use Rattle.smart_top.specs.Readings.{Reading, unread, counting, refusing, group_taken, header_taken, line_done, taken_at, is_full, line_taken, reading_after}
+use Rattle.smart_top.specs.Readings.{Reading, unread, counting, refusing, group_taken, header_taken, played_until, line_done, taken_at, is_full, line_taken, reading_after}
 use Rattle.smart_top.specs.Runs.{OneListHolds}
 use Rattle.smart_top.specs.declared.status.Kind.TheVariants.{Word}
 use Rattle.smart_top.specs.declared.status.Refusal.{Refusal}
 use Rattle.smart_top.specs.declared.status.Refusal.TheVariants as refusals
 
--- members are distinct
+-- the group of a header
 
--- a number below the first is no member
-none_below : (x first count : ℕ) → x < first → list_any (λ y. y == x) (members_from first count) ≡ false
-unfolding members_from
-none_below x first zero lt = refl
-none_below x first (suc count) lt = or_none (first == x) (list_any (λ y. y == x) (members_from (first + 1) count)) (differ first x lt) (none_below x (first + 1) count (omega arith))
-  where
-    or_none : (a b : Bool) → a ≡ false → b ≡ false → (a || b) ≡ false
-    or_none true b ea eb = absurd (cc)
-    or_none false b ea eb = eb
-
-    is_false : (b : Bool) → (b ≡ true → ⊥) → b ≡ false
-    is_false true h = absurd (h refl)
-    is_false false h = refl
-
-    differ : (first x : ℕ) → x < first → (first == x) ≡ false
-    differ first x lt = is_false (first == x) (λ same. omega (arith, eqb-true first x same))
-
--- members that count up are distinct
-pub distinct-members_from : (first count : ℕ) → Distinct (members_from first count)
-unfolding members_from
-distinct-members_from first zero = tt
-distinct-members_from first (suc count) = (none_below first (first + 1) count (omega arith), distinct-members_from (first + 1) count)
-
--- a view, if there is one, has distinct members
+-- a view, if there is one, keeps the rule of views
 abbrev pub ForView : Option View → Type 0
 ForView None = Unit {0}
-ForView (Some view) = Distinct view.members
+ForView (Some view) = is_view view ≡ true
 
--- so has the view for two numbers
-distinct-view_for : (n f : Option ℕ) → ForView (view_for n f)
-distinct-view_for None f = tt
-distinct-view_for (Some n) None = tt
-distinct-view_for (Some n) (Some f) = either ForView _ (Some (record { number = 0; start = 1; f = f; members = members_from 1 n })) None (distinct-members_from 1 n) tt
+-- so does the view for two numbers
+is_view-view_for : (n f : Option ℕ) → ForView (view_for n f)
+is_view-view_for None f = tt
+is_view-view_for (Some n) None = tt
+is_view-view_for (Some n) (Some f) =
+    either_by ForView (nat_le 1 n && nat_le n 31 && nat_le f 10 && nat_le (3 * f + 1) n) (Some (record { number = 0; start = 1; f = f; members = members_from 1 n })) None
+    (λ is. first_view n f (grind (arith, nat_tests, is)) (grind (arith, nat_tests, is)) (grind (arith, nat_tests, is)) (grind (arith, nat_tests, is))) (λ is. tt)
 
--- so has the view of two words
-distinct-group_words : (rest : List ℕ) (at : Option ℕ) → ForView (group_words rest at)
-distinct-group_words rest None = tt
-distinct-group_words rest (Some i) = distinct-view_for (number_of (take i rest)) (number_of (drop (i + 1) rest))
+-- so does the view of two words
+is_view-group_words : (rest : List ℕ) (at : Option ℕ) → ForView (group_words rest at)
+is_view-group_words rest None = tt
+is_view-group_words rest (Some i) = is_view-view_for (number_of (take i rest)) (number_of (drop (i + 1) rest))
 
--- so has the view of a line
-pub distinct-group_line : (bytes : List ℕ) → ForView (group_line bytes)
+-- so does the view of a line
+pub is_view-group_line : (bytes : List ℕ) → ForView (group_line bytes)
 unfolding group_line
-distinct-group_line bytes =
-    either ForView _ (group_words (drop 6 bytes) (position (λ b. b == 32) (drop 6 bytes))) None (distinct-group_words (drop 6 bytes) (position (λ b. b == 32) (drop 6 bytes))) tt
+is_view-group_line bytes =
+    either ForView _ (group_words (drop 6 bytes) (position (λ b. b == 32) (drop 6 bytes))) None (is_view-group_words (drop 6 bytes) (position (λ b. b == 32) (drop 6 bytes))) tt
 
 -- readings
 
--- a play that was read stands for its lines, goes on, and has a group of distinct members
+-- a play that was read stands for its lines, goes on, and its group keeps the rule of views
 pub record IsSound {S : Type 0} (m : Meaning S) (p : Play S) : Type 0 where
   pub going : p.over ≡ false
   pub stands : p.world ≡ world_after (step_of m) (begun m p.group) p.lines
   pub open_world : p.world.ending ≡ None
-  pub distinct : Distinct p.group.members
+  pub viewed : is_view p.group ≡ true
 
 -- a play is sound, if there is one
 abbrev pub SoundPlay : {S : Type 0} → Meaning S → Option (Play S) → Type 0
 SoundPlay m None = Unit {0}
 SoundPlay m (Some p) = IsSound m p
 
--- a reading whose group has distinct members and whose play is sound
+-- a reading whose group keeps the rule of views and whose play is sound
 pub record SoundReading {S : Type 0} (m : Meaning S) (r : Reading S) : Type 0 where
   pub of_group : ForView r.group
   pub of_play : SoundPlay m r.play
@@ -96,21 +76,16 @@ sound-counted m r sound = record { of_group = sound.of_group; of_play = sound.of
 
 -- the line that begins a group
 sound-group : {S : Type 0} (m : Meaning S) (r : Reading S) (view : Option View) → ForView view → SoundReading m r → SoundReading m (group_taken r view)
-sound-group m r None distinct sound = record { of_group = sound.of_group; of_play = sound.of_play }
-sound-group m r (Some view) distinct sound = record { of_group = distinct; of_play = sound.of_play }
+sound-group m r None viewed sound = record { of_group = sound.of_group; of_play = sound.of_play }
+sound-group m r (Some view) viewed sound = record { of_group = viewed; of_play = sound.of_play }
 
 -- a line of the header
 sound-header : {S : Type 0} (m : Meaning S) (r : Reading S) (l : List ℕ) (group : Option View) → ForView group → SoundReading m r → SoundReading m (header_taken m r l group)
-sound-header m r l None distinct sound = sound-group m r (group_line l) (distinct-group_line l) sound
-sound-header m r l (Some view) distinct sound =
+sound-header m r l None viewed sound = sound-group m r (group_line l) (is_view-group_line l) sound
+sound-header m r l (Some view) viewed sound =
     either (SoundReading m) (is_app_line l) _ _
-    (record { of_group = sound.of_group; of_play = record { going = refl; stands = refl; open_world = refl; distinct = distinct } })
+    (record { of_group = sound.of_group; of_play = record { going = refl; stands = refl; open_world = refl; viewed = viewed } })
     (record { of_group = sound.of_group; of_play = sound.of_play })
-
--- what is not there
-is_none : {A : Type 0} (x : Option A) → is_some x ≡ false → x ≡ None
-is_none None is = refl
-is_none (Some x) is = absurd (cc)
 
 -- the world behind one more line
 stands-more : {S : Type 0} (m : Meaning S) (p : Play S) (line : Line) → IsSound m p
@@ -118,13 +93,16 @@ stands-more : {S : Type 0} (m : Meaning S) (p : Play S) (line : Line) → IsSoun
 stands-more m p line sound =
     ap (λ w. rested (line_played (step_of m) w line)) sound.stands ∙ sym (world_after-append (step_of m) (begun m p.group) p.lines (line ∷ []))
 
+-- a line that was played, by what has ended the world there
+sound-until : {S : Type 0} (m : Meaning S) (r : Reading S) (p : Play S) (line : Line) → IsSound m p → SoundReading m r → (ending : Option Ending) → (line_played (step_of m) p.world line).ending ≡ ending
+    → SoundReading m (played_until r p line (line_played (step_of m) p.world line) ending)
+sound-until m r p line of sound (Some ending) is = record { of_group = sound.of_group; of_play = sound.of_play }
+sound-until m r p line of sound None is = record { of_group = sound.of_group; of_play = record { going = refl; stands = stands-more m p line of; open_world = is; viewed = of.viewed } }
+
 -- a line behind the header
 sound-done : {S : Type 0} (m : Meaning S) (r : Reading S) (p : Play S) (line : Option Line) → IsSound m p → SoundReading m r → SoundReading m (line_done (step_of m) r p line)
 sound-done m r p None of sound = record { of_group = sound.of_group; of_play = sound.of_play }
-sound-done m r p (Some line) of sound =
-    either_by (SoundReading m) (is_some (line_played (step_of m) p.world line).ending) _ _
-    (λ ends. record { of_group = sound.of_group; of_play = sound.of_play })
-    (λ goes. record { of_group = sound.of_group; of_play = record { going = refl; stands = stands-more m p line of; open_world = is_none (line_played (step_of m) p.world line).ending goes; distinct = of.distinct } })
+sound-done m r p (Some line) of sound = sound-until m r p line of sound (line_played (step_of m) p.world line).ending refl
 
 -- a line by where the script stands
 sound-taken_at : {S : Type 0} (m : Meaning S) (r : Reading S) (l : List ℕ) (play : Option (Play S)) → SoundPlay m play → SoundReading m r → SoundReading m (taken_at (step_of m) m r l play)
@@ -154,11 +132,11 @@ pub sound-play : {S : Type 0} (m : Meaning S) (ls : List (List ℕ)) (p : Play S
 sound-play m ls p is = subst (SoundPlay m) is (sound-read m ls).of_play
 
 -- one list holds of a play that is sound, if there is one, by the law of one list
-one_list-of : {S : Type 0} (m : Meaning S) → ((view : View) → Distinct view.members → (lines : List Line) → OneListThroughout m view lines) → (play : Option (Play S)) → SoundPlay m play → OneListHolds m play
+one_list-of : {S : Type 0} (m : Meaning S) → ((view : View) → is_view view ≡ true → (lines : List Line) → OneListThroughout m view lines) → (play : Option (Play S)) → SoundPlay m play → OneListHolds m play
 one_list-of m law None of = tt
-one_list-of m law (Some p) of = record { stands = of.stands; throughout = law p.group of.distinct p.lines }
+one_list-of m law (Some p) of = record { stands = of.stands; throughout = law p.group of.viewed p.lines }
 
 -- one list holds of whatever is read, by the law of one list
-pub one_list_holds : {S : Type 0} (m : Meaning S) → ((view : View) → Distinct view.members → (lines : List Line) → OneListThroughout m view lines) → (ls : List (List ℕ))
+pub one_list_holds : {S : Type 0} (m : Meaning S) → ((view : View) → is_view view ≡ true → (lines : List Line) → OneListThroughout m view lines) → (ls : List (List ℕ))
     → OneListHolds m (reading_after (step_of m) m unread ls).play
 one_list_holds m law ls = one_list-of m law (reading_after (step_of m) m unread ls).play (sound-read m ls).of_play

@@ -2,7 +2,7 @@
 use Rattle.std.proofs.Common.{◌≡◌, ℕ, Bool, true, false, List, [], ◌∷◌, ◌++◌, refl, ap, sym, ◌∙◌, cond, Option, Some, None, is_some}
 use Rattle.std.specs.Prelude.{not}
 use Rattle.std.proofs.lemmas.List.{append_assoc, append-nil}
-use Rattle.smart_base.specs.declared.view.View.{View}
+use Rattle.smart_base.specs.Views.{View}
 use Rattle.smart_messages.specs.declared.entry.NodeEvent.{NodeEvent}
 use Rattle.smart_service.specs.Services.{Meaning}
 use Rattle.node_rules.specs.Nodes.{Node}
@@ -13,7 +13,8 @@ use Rattle.world_rules.specs.Scripts.{is_text, is_nothing, line_of, group_line, 
 use Rattle.world_rules.specs.Texts.{header_line}
 use Rattle.world_rules.specs.declared.line.Line.{Line}
 use Rattle.world_rules.specs.declared.line.OutLine.{OutLine}
-use Rattle.smart_top.specs.Readings.{Reading, unread, group_taken, header_taken, header_told, played_into, told_by, line_done, told_done, taken_at, told_at, is_full, line_taken, line_told, reading_after, told_after}
+use Rattle.world_rules.specs.declared.message.Ending.{Ending}
+use Rattle.smart_top.specs.Readings.{Reading, unread, group_taken, header_taken, header_told, played_until, played_into, told_until, told_by, line_done, told_done, taken_at, told_at, is_full, line_taken, line_told, reading_after, told_after}
 use Rattle.smart_top.specs.Runs.{play_told}
 use Rattle.smart_top.proofs.ReadingPlays.{SoundReading, SoundPlay, sound-taken, sound-read}
 
@@ -50,15 +51,20 @@ tells-header m told r l None none is = tells-group m told r (group_line l) is
 tells-header m told r l (Some view) none is =
     both (Tells m told) (is_app_line l) _ _ _ _ (ap (λ ls. ls ++ header_line view ∷ []) none) (tells-nothing m told r is)
 
+-- a world behind a line, by what has ended it
+tells-until : {S : Type 0} (m : Meaning S) (told : List OutLine) (r : Reading S) (p : Play S) (line : Line) → r.play ≡ Some p → SoundPlay m (Some p) → told ≡ play_told m r.play → (ending : Option Ending)
+    → Tells m told (played_until r p line (line_played (step_of m) p.world line) ending) (told_until (line_played (step_of m) p.world line) ending)
+tells-until m told r p line at sound is (Some ending) = tells-nothing m told r is
+tells-until m told r p line at sound is None =
+    let w = line_played (step_of m) p.world line in
+    ap (λ ls. ls ++ w.told) (is ∙ ap (λ play. play_told m play) at)
+    ∙ ap (λ ls. header_line p.group ∷ ls)
+    (ap (λ v. lines_told (step_of m) (begun m p.group) p.lines ++ (line_played (step_of m) v line).told) sound.stands ∙ sym (lines_told-end (step_of m) (begun m p.group) p.lines line))
+
 -- a world behind a line
 tells-played : {S : Type 0} (m : Meaning S) (told : List OutLine) (r : Reading S) (p : Play S) (line : Line) → r.play ≡ Some p → SoundPlay m (Some p) → told ≡ play_told m r.play
     → Tells m told (played_into r p line (line_played (step_of m) p.world line)) (told_by (line_played (step_of m) p.world line))
-tells-played m told r p line at sound is =
-    let w = line_played (step_of m) p.world line in
-    both (Tells m told) (is_some w.ending) _ _ _ _ (tells-nothing m told r is)
-    (ap (λ ls. ls ++ w.told) (is ∙ ap (λ play. play_told m play) at)
-    ∙ ap (λ ls. header_line p.group ∷ ls)
-    (ap (λ v. lines_told (step_of m) (begun m p.group) p.lines ++ (line_played (step_of m) v line).told) sound.stands ∙ sym (lines_told-end (step_of m) (begun m p.group) p.lines line)))
+tells-played m told r p line at sound is = tells-until m told r p line at sound is (line_played (step_of m) p.world line).ending
 
 -- a line behind the header
 tells-done : {S : Type 0} (m : Meaning S) (told : List OutLine) (r : Reading S) (p : Play S) (line : Option Line) → r.play ≡ Some p → SoundPlay m (Some p) → told ≡ play_told m r.play

@@ -35,7 +35,8 @@ pub record HasTaken {S : Type 0} (step : Node S → NodeEvent → Outcome S) (m 
 abbrev pub Closes : List ℕ → List ℕ → Type 0
 Closes bytes closed = (closed ≡ bytes) ⊎ ((closed ≡ bytes ++ 10 ∷ []) × (65536 < length (rest_of [] bytes)))
 
--- the last line of these bytes was refused, and those before it were told. It has ended, or it is too long whatever follows
+-- a line of these bytes was refused, and those before it were told. Behind them a line feed may stand in thought, where the last line is too
+-- long already
 pub record HasRefused {S : Type 0} (step : Node S → NodeEvent → Outcome S) (m : Meaning S) (bytes : List ℕ) (written written' : Option (List ℕ)) (script : Reading S) : Type 0 where
   pub closed : List ℕ
   pub closes : Closes bytes closed

@@ -1,6 +1,6 @@
 -- How the bytes of a script are read: line by line, each line played as it is read.
 use Rattle.std.specs.Prelude.{ℕ, ◌+◌, ◌^◌, ◌==◌, nat_le, Bool, false, not, List, [], ◌∷◌, ◌++◌, length, if◌then◌else◌, Option, Some, None, is_some}
-use Rattle.smart_base.specs.declared.view.View.{View}
+use Rattle.smart_base.specs.Views.{View}
 use Rattle.smart_messages.specs.declared.entry.NodeEvent.{NodeEvent}
 use Rattle.smart_service.specs.Services.{Meaning}
 use Rattle.node_rules.specs.Nodes.{Node}
@@ -9,6 +9,8 @@ use Rattle.world_rules.specs.Worlds.{World, begun}
 use Rattle.world_rules.specs.Plays.{Play, line_played, rested}
 use Rattle.world_rules.specs.Scripts.{is_text, is_nothing, line_of, group_line, is_app_line}
 use Rattle.world_rules.specs.Texts.{header_line}
+use Rattle.world_rules.specs.declared.message.Ending.{Ending}
+use Rattle.world_rules.specs.declared.message.Ending.TheVariants as endings
 use Rattle.world_rules.specs.declared.line.Line.{Line}
 use Rattle.world_rules.specs.declared.line.OutLine.{OutLine}
 use Rattle.world_rules.specs.declared.line.OutLine.TheVariants as outs
@@ -78,18 +80,29 @@ abbrev pub header_told : List ℕ → Option View → List OutLine
 header_told bytes None = []
 header_told bytes (Some view) = if is_app_line bytes then header_line view ∷ [] else []
 
+-- why a line is refused by which the world has ended
+abbrev pub refusal_of : Ending → Refusal
+refusal_of (endings.Premise which) = refusals.Premise which
+refusal_of endings.Limit = refusals.Limit
+
 -- a line that was played into a world, unless the world has ended there
+abbrev pub played_until : {S : Type 0} → Reading S → Play S → Line → World S → Option Ending → Reading S
+played_until r p line w None = record (counting r) { play = Some (record { group = p.group; lines = p.lines ++ line ∷ []; world = rested w; over = false }) }
+played_until r p line w (Some ending) = refusing r (refusal_of ending)
+
 abbrev pub played_into : {S : Type 0} → Reading S → Play S → Line → World S → Reading S
-played_into r p line w =
-    if is_some w.ending then refusing r refusals.Limit
-    else record (counting r) { play = Some (record { group = p.group; lines = p.lines ++ line ∷ []; world = rested w; over = false }) }
+played_into r p line w = played_until r p line w w.ending
 
 abbrev pub line_done : {S : Type 0} → (Node S → NodeEvent → Outcome S) → Reading S → Play S → Option Line → Reading S
 line_done step r p None = refusing r (refusals.Script Word)
 line_done step r p (Some line) = played_into r p line (line_played step p.world line)
 
+abbrev pub told_until : {S : Type 0} → World S → Option Ending → List OutLine
+told_until w None = w.told
+told_until w (Some ending) = []
+
 abbrev pub told_by : {S : Type 0} → World S → List OutLine
-told_by w = if is_some w.ending then [] else w.told
+told_by w = told_until w w.ending
 
 abbrev pub told_done : {S : Type 0} → (Node S → NodeEvent → Outcome S) → Play S → Option Line → List OutLine
 told_done step p None = []
@@ -144,6 +157,7 @@ script_read step m bytes = reading_after step m unread (script_lines bytes)
 
 abbrev pub refused_end : ℕ → Refusal → Status
 refused_end line (refusals.Script kind) = ends.Script line kind
+refused_end line (refusals.Premise which) = ends.Premise line which
 refused_end line refusals.Limit = ends.Limit line
 
 -- an input ends well where its header is whole

@@ -80,6 +80,7 @@ RunEnd m left left' written written' wants wants' ends.Words = ⊥
 RunEnd m left left' written written' wants wants' (ends.Script line kind) = Ends m left written written' (ends.Script line kind)
 RunEnd m left left' written written' wants wants' ends.ReadFault = WroteAllRead m left left' written written'
 RunEnd m left left' written written' wants wants' ends.WriteFault = WroteFront m left written written'
+RunEnd m left left' written written' wants wants' (ends.Premise line which) = Ends m left written written' (ends.Premise line which)
 RunEnd m left left' written written' wants wants' (ends.Limit line) = Ends m left written written' (ends.Limit line)
 RunEnd m left left' written written' wants wants' ends.NoMemory = WroteLines m left written written' ⊎ (Rose wants wants' × WroteFront m left written written')
 

@@ -10,5 +10,6 @@ code_of ends.Words = 2
 code_of (ends.Script line kind) = 3
 code_of ends.ReadFault = 4
 code_of ends.WriteFault = 5
+code_of (ends.Premise line which) = 7
 code_of (ends.Limit line) = 8
 code_of ends.NoMemory = 11

@@ -81,8 +81,8 @@ impl<S: Service> Script<S> {
             Some(view) => {
                 if is_app_line(bytes) {
                     told.push(OutLine::Group {
-                        members: view.members.len() as u64,
-                        faulty: view.f,
+                        members: view.members().len() as u64,
+                        faulty: view.f(),
                     })?;
                     let world = World::begin(self.alloc, view.duplicate(self.alloc)?)?;
                     self.world = Some(world);
@@ -118,6 +118,10 @@ impl<S: Service> Script<S> {
             }
             Some(line) => match world.play(line) {
                 Err(WorldEnd::NoMemory) => Err(AllocError),
+                Err(WorldEnd::Premise(which)) => {
+                    self.refused = Some(Refusal::Premise(which));
+                    Ok(Sequence::new(self.alloc))
+                }
                 Err(WorldEnd::Limit) => {
                     self.refused = Some(Refusal::Limit);
                     Ok(Sequence::new(self.alloc))

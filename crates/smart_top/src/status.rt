@@ -5,6 +5,7 @@ ghost use Rattle.smart_top.specs.Statuses.{code_of};
 use smart_io::stream::{Sink, write_all};
 use std::alloc::{AllocError, Global};
 use std::fmt::Write;
+use world_rules::message::Premise;
 
 /// What is wrong with a script line.
 #[derive(Clone, Copy, Debug, PartialEq, Eq)]
@@ -17,6 +18,8 @@ pub enum Kind {
 #[derive(Clone, Copy, Debug, PartialEq, Eq)]
 pub enum Refusal {
     Script(Kind),
+    /// In its play something fails that the promises take for granted.
+    Premise(Premise),
     /// It would be a line past the greatest number of lines, or send a message past the greatest
     /// number of messages.
     Limit,
@@ -36,6 +39,8 @@ pub enum Status {
     ReadFault,
     /// The output failed.
     WriteFault,
+    /// In the play of this line something fails that the promises take for granted.
+    Premise { line: u64, which: Premise },
     /// This line passes the number of lines or of messages.
     Limit { line: u64 },
     /// Memory ran out.
@@ -53,6 +58,7 @@ impl Status {
             Status::Script { .. } => 3,
             Status::ReadFault => 4,
             Status::WriteFault => 5,
+            Status::Premise { .. } => 7,
             Status::Limit { .. } => 8,
             Status::NoMemory => 11,
         }
@@ -62,6 +68,12 @@ impl Status {
 fn kind_name(kind: Kind) -> &'static str {
     match kind {
         Kind::Word => "Word",
+    }
+}
+
+fn premise_name(which: Premise) -> &'static str {
+    match which {
+        Premise::Collision => "Collision",
     }
 }
 
@@ -77,6 +89,10 @@ fn text_of(alloc: Global, status: Status) -> Result<String, AllocError> {
         }
         Status::ReadFault => text.push_str("smart: read fault\n")?,
         Status::WriteFault => text.push_str("smart: write fault\n")?,
+        Status::Premise { line, which } => {
+            let which = premise_name(which);
+            write!(&mut text, "smart: line {line}: premise {which}\n")?;
+        }
         Status::Limit { line } => write!(&mut text, "smart: line {line}: limit\n")?,
         Status::NoMemory => text.push_str("smart: no memory\n")?,
     }

@@ -4,6 +4,7 @@ use crate::top::run;
 use smart_io::memory::{MemSink, MemSource};
 use std::alloc::Global;
 use std::test::Fail;
+use world_rules::message::Premise;
 
 /// The transcript of one ask in a group of four.
 const ONE_ASK: &[u8] = b"group 4 1 count 1024\n\
@@ -240,5 +241,23 @@ fn a_want_of_memory_is_said(rt: HostRuntime) -> Result<(), Fail> {
     report(alloc, &mut errors, Status::NoMemory);
     assert_eq!(rt; errors.bytes.as_slice(), b"smart: no memory\n".as_slice());
     assert_eq!(rt; Status::NoMemory.code(), 11);
+    Ok(())
+}
+
+// No two batches are known that clash, so no script ends so here.
+#[test]
+fn a_premise_is_said(rt: HostRuntime) -> Result<(), Fail> {
+    let alloc: Global = rt.alloc();
+    let mut errors = MemSink::new(Vec::new(alloc), Vec::new(alloc));
+    let status = Status::Premise {
+        line: 4,
+        which: Premise::Collision,
+    };
+    report(alloc, &mut errors, status);
+    assert_eq!(rt;
+        errors.bytes.as_slice(),
+        b"smart: line 4: premise Collision\n".as_slice()
+    );
+    assert_eq!(rt; status.code(), 7);
     Ok(())
 }

@@ -13,9 +13,9 @@ use crate::script::Script;
 use crate::status::{Refusal, Status, report};
 use app_count::Count;
 use faults::Fault;
+use smart_base::equality::same_bytes;
 use smart_base::sequence::Sequence;
 use smart_io::stream::{Sink, Source};
-use smart_messages::equality::same_bytes;
 use smart_service::service::Service;
 use std::alloc::Global;
 
@@ -34,6 +34,10 @@ fn script_end<S: Service>(script: &Script<S>) -> Status
         Some(Refusal::Script(kind)) => Status::Script {
             line: script.count() + 1,
             kind,
+        },
+        Some(Refusal::Premise(which)) => Status::Premise {
+            line: script.count() + 1,
+            which,
         },
         Some(Refusal::Limit) => Status::Limit {
             line: script.count() + 1,

@@ -1,0 +1,213 @@
+//! Does one kind of work on bytes so many times, for `bench/bytes.sh` to time from outside.
+#![tactic(auto)]
+
+ghost use Rattle.std.specs.Prelude.{◌<◌, ◌^◌};
+
+use sha2::{Digest, Sha256};
+use smart_base::bytes::Payload;
+use smart_base::decimal::number_of;
+use smart_base::fault::ReadError;
+use smart_base::keys::{Digester, SignRefused};
+use smart_base::name::{ClientId, MemberId};
+use smart_base::number::{Place, Regency, ViewNo};
+use smart_base::party::Party;
+use smart_base::sequence::{Bytes, Sequence};
+use smart_keys::hash::{Sha, hmac};
+use smart_keys::ring::Ring;
+use smart_messages::batch::Batch;
+use smart_messages::codec::{decode, encode};
+use smart_messages::message::{Message, Proposed};
+use smart_messages::signed::Signed;
+use smart_messages::statement::{Proposal, Request, Slot};
+use std::alloc::{AllocError, Global};
+use std::process::ExitCode;
+use std::{env, io};
+
+/// The bytes that are digested at a time.
+const PIECE: usize = 1024;
+
+/// The requests of the proposal that is spelled and read.
+const REQUESTS: u16 = 64;
+
+/// The bytes of each one's operation.
+const OPERATION: usize = 100;
+
+/// Why a bench came to no end.
+#[derive(Debug, Drop)]
+enum Stopped {
+    NoMemory,
+    /// The words are not WHAT and a number.
+    Words,
+}
+
+impl From<AllocError> for Stopped {
+    ghost use Rattle.std.specs.Prelude.{◌≡◌};
+    ghost use Rattle.bench_bytes.specs.declared.Stopped.TheVariants.{NoMemory};
+
+    ghost from_gives = { λ _ e. e ≡ NoMemory };
+
+    fn from(_: AllocError) -> Stopped {
+        Stopped::NoMemory
+    }
+}
+
+impl From<SignRefused> for Stopped {
+    ghost use Rattle.std.specs.Prelude.{◌≡◌};
+    ghost use Rattle.bench_bytes.specs.declared.Stopped.TheVariants.{NoMemory};
+
+    ghost from_gives = { λ _ e. e ≡ NoMemory };
+
+    fn from(_: SignRefused) -> Stopped {
+        Stopped::NoMemory
+    }
+}
+
+impl From<ReadError> for Stopped {
+    ghost use Rattle.std.specs.Prelude.{◌≡◌};
+    ghost use Rattle.bench_bytes.specs.declared.Stopped.TheVariants.{NoMemory};
+
+    ghost from_gives = { λ _ e. e ≡ NoMemory };
+
+    fn from(_: ReadError) -> Stopped {
+        Stopped::NoMemory
+    }
+}
+
+/// What was done: how many bytes were worked on, and a sum that depends on all of it.
+#[derive(Clone, Copy, Debug)]
+struct Done {
+    bytes: u64,
+    sum: u64,
+}
+
+impl Done {
+    fn nothing() -> Done {
+        Done { bytes: 0, sum: 0 }
+    }
+
+    fn with(self, bytes: usize, part: u64) -> Done {
+        Done {
+            bytes: self.bytes.wrapping_add(bytes as u64),
+            sum: self.sum.wrapping_mul(31).wrapping_add(part),
+        }
+    }
+}
+
+/// A signed proposal with a full batch.
+fn proposal(alloc: Global) -> Result<Message, Stopped> {
+    let ring = Ring::from_secret(Bytes::from_slice(alloc, b"bench")?);
+    let mut list = Sequence::new(alloc);
+    for number in 1..REQUESTS + 1 {
+        let client = ClientId::new(number);
+        let request = Request {
+            client,
+            seq: 1,
+            after: 0,
+            op: Payload::from_slice(alloc, &[b'x'; OPERATION])?,
+        };
+        let mut sealer = ring.sealer(Party::Client(client));
+        list.push(Signed::seal(alloc, &mut sealer, number, request)?)?;
+    }
+    let batch = Batch::from_list(list);
+    let head = Proposal {
+        slot: Slot {
+            view: ViewNo::new(0),
+            place: Place::new(1),
+            regency: Regency::new(0),
+        },
+        digest: Sha::digest(batch.text(alloc)?.as_slice()),
+    };
+    let mut sealer = ring.sealer(Party::Member(MemberId::new(1)));
+    let head = Signed::seal(alloc, &mut sealer, 1, head)?;
+    Ok(Message::Propose(Proposed { head, batch }))
+}
+
+/// SHA-256 of the kit's crate over one piece, so many times.
+fn digests(times: u64) -> Done {
+    let mut piece = [0; PIECE];
+    let mut done = Done::nothing();
+    for i in 0..times {
+        piece[0] = (i % 256) as u8;
+        let digest = Sha256::digest(&piece);
+        done = done.with(PIECE, digest[0] as u64);
+    }
+    done
+}
+
+/// HMAC over one piece, so many times.
+fn tags(times: u64) -> Done {
+    let mut piece = [0; PIECE];
+    let mut done = Done::nothing();
+    for i in 0..times {
+        piece[0] = (i % 256) as u8;
+        let tag = hmac(b"bench", &piece).get();
+        done = done.with(PIECE, tag[0] as u64);
+    }
+    done
+}
+
+/// The proposal is spelled so many times.
+fn encodes(alloc: Global, times: u64) -> Result<Done, Stopped> {
+    let message = proposal(alloc)?;
+    let mut done = Done::nothing();
+    for _ in 0..times {
+        let bytes = encode(alloc, &message)?;
+        done = done.with(bytes.len(), 1);
+    }
+    Ok(done)
+}
+
+/// How many requests a message has.
+fn requests_in(message: &Message) -> u64 {
+    match message {
+        Message::Propose(proposed) => proposed.batch.len() as u64,
+        Message::Ask(_) | Message::Vote(_) | Message::Reply(_) => 0,
+    }
+}
+
+/// The proposal is read so many times.
+fn decodes(alloc: Global, times: u64) -> Result<Done, Stopped> {
+    let bytes = encode(alloc, &proposal(alloc)?)?;
+    let mut done = Done::nothing();
+    for _ in 0..times {
+        let message = decode(alloc, bytes.as_slice())?;
+        done = done.with(bytes.len(), requests_in(&message));
+    }
+    Ok(done)
+}
+
+fn work(alloc: Global, what: &str, times: u64) -> Result<Done, Stopped> {
+    match what {
+        "digest" => Ok(digests(times)),
+        "tag" => Ok(tags(times)),
+        "encode" => encodes(alloc, times),
+        "decode" => decodes(alloc, times),
+        _ => Err(Stopped::Words),
+    }
+}
+
+/// The words after the program's name, if there are two: what to do, and how often.
+fn command(rt: &HostRuntime) -> io::Result<Option<(String, String)>> {
+    let mut words = env::args(rt)?.skip(1);
+    match (words.next(), words.next(), words.next()) {
+        (Some(what), Some(times), None) => Ok(Some((what, times))),
+        _ => Ok(None),
+    }
+}
+
+fn main(rt: HostRuntime) -> io::Result<ExitCode> {
+    let Some((what, times)) = command(&rt)? else {
+        return Ok(ExitCode::from(2));
+    };
+    let Some(count) = number_of(times.as_bytes()) else {
+        return Ok(ExitCode::from(2));
+    };
+    match work(rt.alloc(), what.as_str(), count) {
+        Ok(done) => {
+            println!(&rt; "{what} {count} {} {}", done.bytes, done.sum)?;
+            Ok(ExitCode::from(0))
+        }
+        Err(Stopped::Words) => Ok(ExitCode::from(2)),
+        Err(Stopped::NoMemory) => Ok(ExitCode::from(11)),
+    }
+}
