@@ -1,8 +1,22 @@
 -- What a service means.
-use Rattle.std.specs.Prelude.{ℕ, List}
+use Rattle.std.specs.Prelude.{◌≡◌, ℕ, ◌≤◌, List, Result, Ok, Err, Option, Some, None}
+use Rattle.smart_service.specs.declared.fault.RestoreError.{RestoreError}
+use Rattle.smart_service.specs.declared.fault.RestoreError.TheVariants as errors
 
--- the first state, and the state and the reply after an operation
+-- the first state, the state and the reply after an operation, a state in bytes, and the state that bytes are, if they are one
 pub record Meaning (S : Type 0) : Type 0 where
   pub first : S
   pub next : S → List ℕ → S
   pub reply : S → List ℕ → List ℕ
+  pub snapshot : S → List ℕ
+  pub restore : List ℕ → Option S
+
+-- what a function returned is the state that bytes are, or says that they are none, unless memory ran out
+abbrev pub Restores : {S : Type 0} → Result S RestoreError → Option S → Type 0
+Restores (Ok s) state = state ≡ Some s
+Restores (Err errors.NoMemory) state = Unit {0}
+Restores (Err errors.BadSnapshot) state = state ≡ None
+
+-- a character that can be printed
+abbrev pub IsPrintable : ℕ → Type 0
+IsPrintable byte = (32 ≤ byte) × (byte ≤ 126)

@@ -1,15 +1,22 @@
 //! A service that is replicated.
-ghost use Rattle.std.specs.Prelude.{◌≡◌, ◌≤◌, ℕ, List, length, IfOk, OnOk};
-ghost use Rattle.smart_service.specs.Services.{Meaning};
+ghost use Rattle.std.specs.Prelude.{◌≡◌, ◌≤◌, ℕ, List, length, Some, IfOk, OnOk};
+ghost use Rattle.smart_base.specs.Cuts.{IsBytes};
+ghost use Rattle.smart_base.specs.Lists.{Each};
+ghost use Rattle.smart_service.specs.Services.{Meaning, Restores, IsPrintable};
 
+use crate::fault::RestoreError;
 use smart_base::bytes::Payload;
+use smart_base::sequence::Bytes;
 use std::alloc::{AllocError, Global};
 
 /// A sequential service: its replies follow from its state and the operation alone
-/// (state machine replication).
+/// (state machine replication), and its state can be written down and read again.
 pub trait Service: Drop {
-    /// Its first state, and the state and the reply after an operation.
+    /// Its first state, the state and the reply after an operation, and how states are written down.
     ghost meaning: { Meaning Self };
+
+    /// The states that the service comes to.
+    ghost valid: { Self → Type 0 };
 
     /// The service before any operation.
     fn first(alloc: Global) -> Result<Self, AllocError>
@@ -20,6 +27,33 @@ pub trait Service: Drop {
         ensures reply { IfOk result (λ reply. reply ≡ Meaning.reply meaning self.old op.now) }
         ensures state { OnOk result (self.new ≡ Meaning.next meaning self.old op.now) };
 
+    /// The state in bytes.
+    fn snapshot(&self, alloc: Global) -> Result<Bytes, AllocError>
+        ensures { IfOk result (λ bytes. bytes ≡ Meaning.snapshot meaning self.now) };
+
+    /// The service whose state the bytes are, if they are one.
+    fn restore(alloc: Global, bytes: &[u8]) -> Result<Self, RestoreError>
+        ensures { Restores result (Meaning.restore meaning bytes.now) };
+
     // A reply has at most 4,096 bytes.
     ghost brief: { (s : Self) (op : List ℕ) → length (Meaning.reply meaning s op) ≤ 4096 };
+
+    // A reply can be printed.
+    ghost printable: { (s : Self) (op : List ℕ) → Each IsPrintable (Meaning.reply meaning s op) };
+
+    // The first state is valid, and so is each that an operation makes of a valid one.
+    ghost valid_first: { valid (Meaning.first meaning) };
+
+    ghost valid_next: { (s : Self) (op : List ℕ) → valid s → valid (Meaning.next meaning s op) };
+
+    // A snapshot has at most 12,000,000 bytes.
+    ghost small: { (s : Self) → valid s → length (Meaning.snapshot meaning s) ≤ 12000000 };
+
+    // What is restored from a snapshot is the state that it was taken of.
+    ghost restores: { (s : Self) → valid s → Meaning.restore meaning (Meaning.snapshot meaning s) ≡ Some s };
+
+    // What is restored is valid, and the bytes are its snapshot: a state has one spelling.
+    ghost valid_restored: { (s : Self) (bytes : List ℕ) → IsBytes bytes → Meaning.restore meaning bytes ≡ Some s → valid s };
+
+    ghost spelled: { (s : Self) (bytes : List ℕ) → IsBytes bytes → Meaning.restore meaning bytes ≡ Some s → bytes ≡ Meaning.snapshot meaning s };
 }

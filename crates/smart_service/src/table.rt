@@ -1,6 +1,6 @@
 //! What is kept of each client.
-ghost use Rattle.std.specs.Prelude.{◌≡◌, [], OnOk, IfOk};
-ghost use Rattle.smart_service.specs.Tables.{last_seq, with_line};
+ghost use Rattle.std.specs.Prelude.{◌≡◌, ◌≤◌, [], length, option_copied, OnOk, IfOk, IfErr};
+ghost use Rattle.smart_service.specs.Tables.{last_seq, line_for, with_line, Ascends, lines_before, Found, Missing};
 
 use smart_base::bytes::Payload;
 use smart_base::duplicate::Duplicate;
@@ -43,38 +43,61 @@ pub struct ClientTable {
 
 impl Model for ClientTable {
     ghost use Rattle.std.specs.Prelude.{List};
+    ghost use Rattle.smart_service.specs.Tables.{Ascends};
     ghost use Rattle.smart_service.specs.declared.table.TableLine.{TableLine};
 
     ghost Value = { List TableLine };
 
     ghost view = { λ t. t.lines.items };
+
+    ghost invariant = { λ t. Ascends t.lines.items };
 }
 
-fn last_seq(lines: &[TableLine], client: ClientId) -> u64
-    ensures { result ≡ last_seq lines.now client }
+/// How many lines stand before a client's, by binary search.
+fn lines_before(lines: &[TableLine], client: ClientId) -> usize
+    requires { Ascends lines.now }
+    ensures place { result ≡ lines_before lines.now client }
+    ensures within { result ≤ length lines.now }
 {
-    for line in lines {
-        if line.client == client {
-            return line.seq;
-        }
+    lines.partition_point(|line| line.client < client)
+}
+
+/// Where a client's line stands, or else where it belongs.
+fn place_of(lines: &[TableLine], client: ClientId) -> Result<usize, usize>
+    requires { Ascends lines.now }
+    ensures found { IfOk result (Found lines.now client) }
+    ensures missing { IfErr result (Missing lines.now client) }
+{
+    let at = lines_before(lines, client);
+    if at == lines.len() {
+        return Err(at);
     }
-    0
+    if lines[at].client == client {
+        Ok(at)
+    } else {
+        Err(at)
+    }
+}
+
+fn line_of(lines: &[TableLine], client: ClientId) -> Option<&TableLine>
+    requires { Ascends lines.now }
+    ensures { option_copied result ≡ line_for lines.now client }
+{
+    match place_of(lines, client) {
+        Ok(at) => Some(&lines[at]),
+        Err(_) => None,
+    }
 }
 
 fn put_line(lines: &mut Vec<TableLine>, line: TableLine) -> Result<(), AllocError>
-    ensures { OnOk result (lines.new.items ≡ with_line lines.old.items line) }
+    requires { Ascends lines.old.items }
+    ensures line { OnOk result (lines.new.items ≡ with_line lines.old.items line) }
+    ensures order { Ascends lines.new.items }
 {
-    for i in 0..lines.len() {
-        if lines[i].client == line.client {
-            lines[i] = line;
-            return Ok(());
-        }
-        if line.client < lines[i].client {
-            lines.insert(i, line)?;
-            return Ok(());
-        }
+    match place_of(lines.as_slice(), line.client) {
+        Ok(at) => lines[at] = line,
+        Err(at) => lines.insert(at, line)?,
     }
-    lines.push(line)?;
     Ok(())
 }
 
@@ -87,11 +110,21 @@ impl ClientTable {
         }
     }
 
+    /// The line of a client's last executed request, if one was.
+    pub fn line(&self, client: ClientId) -> Option<&TableLine>
+        ensures { option_copied result ≡ line_for self.now client }
+    {
+        line_of(self.lines.as_slice(), client)
+    }
+
     /// The number of a client's last executed request, 0 if none was.
     pub fn last_seq(&self, client: ClientId) -> u64
         ensures { result ≡ last_seq self.now client }
     {
-        last_seq(self.lines.as_slice(), client)
+        match self.line(client) {
+            Some(line) => line.seq,
+            None => 0,
+        }
     }
 
     /// Puts a client's line in place of its last.

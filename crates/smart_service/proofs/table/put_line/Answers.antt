@@ -1,12 +1,27 @@
-use Rattle.std.proofs.Common.{◌==◌, ◌∙◌, ap, arith, length, sym}
-use Rattle.std.proofs.lemmas.Grind.{common_steps}
+use Rattle.std.proofs.Common.{◌∙◌, List, sym, subst, arith}
+use Rattle.smart_service.specs.Tables.{Ascends, Found, Missing}
 use Rattle.smart_service.specs.declared.table.TableLine.{TableLine}
-use Rattle.smart_service.proofs.TableLines.{with_line-at}
+use Rattle.smart_service.proofs.TableLines.{put_found, put_missing, ascends_with}
 use Rattle.smart_service.proofs.table.put_line.Goals as goal
 
-pub returns-then-eq : goal.returns-then-eq
-returns-then-eq c =
-    let e = with_line-at c.loop-i.lines.items c.loop-i.i c.args.line c.index.result.now
-    (grind (arith, common_steps, ap length c.loop-i.invariant.same, c.len-i-end.ensures))
-    (ap (λ (old : TableLine). old.client == c.args.line.client) (sym c.index.ensures) ∙ (sym c.eq.ensures ∙ c.if-eq.true)) in
-    cc
+pub insert-requires : goal.insert-requires
+insert-requires c = omega (arith, c.in-Err.ensures.missing.within, c.as_slice.ensures.len)
+
+pub returns-in-Ok-clause-line : goal.returns-in-Ok-clause-line
+returns-in-Ok-clause-line c =
+    put_found c.args.lines.now.items c.args.line c.in-Ok.at
+    (subst (λ (lines : List TableLine). Found lines c.args.line.client c.in-Ok.at) c.as_slice.ensures.value c.in-Ok.ensures.found)
+
+pub returns-in-Ok-clause-order : goal.returns-in-Ok-clause-order
+returns-in-Ok-clause-order c =
+    subst Ascends (sym (returns-in-Ok-clause-line c)) (ascends_with c.args.lines.now.items c.args.line c.requires)
+
+pub returns-in_ok-insert-in-Err-clause-line : goal.returns-in_ok-insert-in-Err-clause-line
+returns-in_ok-insert-in-Err-clause-line c =
+    c.in_ok-insert-in-Err.ensures.items
+    ∙ put_missing c.args.lines.now.items c.args.line c.in-Err.at
+    (subst (λ (lines : List TableLine). Missing lines c.args.line.client c.in-Err.at) c.as_slice.ensures.value c.in-Err.ensures.missing)
+
+pub returns-in_ok-insert-in-Err-clause-order : goal.returns-in_ok-insert-in-Err-clause-order
+returns-in_ok-insert-in-Err-clause-order c =
+    subst Ascends (sym (returns-in_ok-insert-in-Err-clause-line c)) (ascends_with c.args.lines.now.items c.args.line c.requires)
