@@ -25,8 +25,8 @@ use Rattle.smart_service.specs.declared.replica.Replica.{Replica}
 use Rattle.node_rules.specs.Replicas.{is_next, execute, execute_all, at_next, delivered}
 use Rattle.node_rules.specs.Nodes.{Node, view_of, regency_of, next_place, decided_place, open_slot, is_free, is_open, holding, recording, proposal_of}
 use Rattle.node_rules.specs.Seals.{signed, is_verified, digest_of}
-use Rattle.node_rules.specs.Arrivals.{slot_why, signer_why, is_valid, why_ask, why_propose, why_vote, why_reply, why_dropped, offered, kept}
-use Rattle.node_rules.specs.Rules.{settled, reply_of, replying, lines_to_answer, deliver_batch, delivery, delivers, gathered, proposing, propose_batch, proposes, ballot, writing, write_batch, writes, backed, backers, accepting, accept_batch, accepts, deciding, decide_batch, decides}
+use Rattle.node_rules.specs.Arrivals.{slot_why, signer_why, is_valid, why_ask, why_propose, why_vote, why_reply, why_dropped, noted, offered, kept}
+use Rattle.node_rules.specs.Rules.{settled, reply_of, replying, lines_to_answer, deliver_batch, delivery, delivers, gathered, proposing, propose_batch, proposes, ballot, writing, write_batch, writes, backed, backers, accepting, accept_batch, accepts, deciding, decide_batch, decides, answering, answer_line, answers_again}
 use Rattle.node_rules.specs.declared.node.Why.{Why}
 use Rattle.node_rules.specs.declared.node.Why.TheVariants.{NotLeader, InvalidBatch, Repeated}
 use Rattle.node_rules.specs.declared.node.Target.TheVariants as targets
@@ -143,6 +143,24 @@ decide_same n (Some batch) free = decide_same-some n batch (free refl)
 pub decides_same : {S : Type 0} (n : Node S) → trimmed (decides (trimmed n)) ≡ trimmed (decides n)
 unfolding decides
 decides_same n = ap (λ b. trimmed (decide_batch (trimmed n) b)) (deciding_same n) ∙ decide_same n (deciding n) (decides_free n)
+
+-- ANSWER
+
+pub answering_same : {S : Type 0} (n : Node S) (message : Message) → answering (trimmed n) message ≡ answering n message
+unfolding answering trimmed
+answering_same n (Ask q) = refl
+answering_same n (Propose p) = refl
+answering_same n (Vote b) = refl
+answering_same n (Reply a) = refl
+
+answer_same : {S : Type 0} (n : Node S) (line : Option TableLine) → answer_line (trimmed n) line ≡ trimmed (answer_line n line)
+unfolding answer_line trimmed
+answer_same n None = refl
+answer_same n (Some line) = refl
+
+pub answers_same : {S : Type 0} (n : Node S) (message : Message) → answers_again (trimmed n) message ≡ trimmed (answers_again n message)
+unfolding answers_again
+answers_same n message = ap (λ line. answer_line (trimmed n) line) (answering_same n message) ∙ answer_same n (answering n message)
 
 -- DELIVER
 
@@ -261,6 +279,21 @@ why_same n (Ask q) = why_ask_same n q
 why_same n (Propose p) = why_propose_same n p
 why_same n (Vote b) = why_vote_same n b
 why_same n (Reply a) = why_reply_same n a
+
+-- that a node is behind gives no reason
+pub why_noted : {S : Type 0} (n : Node S) (behind : Bool) (message : Message) → why_dropped (record n { behind = behind }) message ≡ why_dropped n message
+unfolding why_ask why_propose why_vote why_reply signer_why slot_why
+why_noted n behind (Ask q) = refl
+why_noted n behind (Propose p) = refl
+why_noted n behind (Vote b) = refl
+why_noted n behind (Reply a) = refl
+
+pub noted_same : {S : Type 0} (n : Node S) (message : Message) → noted (trimmed n) message ≡ trimmed (noted n message)
+unfolding noted signer_why trimmed
+noted_same n (Ask q) = refl
+noted_same n (Propose p) = refl
+noted_same n (Vote b) = refl
+noted_same n (Reply a) = refl
 
 vote_ahead : {S : Type 0} (n : Node S) (b : SignedBy Ballot) → why_vote n b ≡ None → ahead_of n b.statement.slot ≡ true
 unfolding why_vote

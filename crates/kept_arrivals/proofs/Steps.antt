@@ -1,5 +1,5 @@
 -- A step on what is needed, and a core's steps.
-use Rattle.std.proofs.Common.{◌≡◌, ℕ, ◌++◌, List, [], ◌∷◌, refl, ap, ◌∙◌, Option, Some, None, Result, Ok, Err}
+use Rattle.std.proofs.Common.{◌≡◌, ℕ, ◌++◌, List, [], ◌∷◌, refl, ap, sym, ◌∙◌, Option, Some, None, Result, Ok, Err}
 use Rattle.smart_base.specs.Views.{View}
 use Rattle.smart_messages.specs.Messages.{decoded}
 use Rattle.smart_messages.specs.declared.message.Message.{Message}
@@ -7,15 +7,15 @@ use Rattle.smart_messages.specs.declared.entry.NodeEvent.{NodeEvent}
 use Rattle.smart_messages.specs.declared.entry.NodeEvent.TheVariants.{Arrive, Tick, Deliver, Firm}
 use Rattle.smart_service.specs.Services.{Meaning}
 use Rattle.node_rules.specs.Nodes.{Node, next_place}
-use Rattle.node_rules.specs.Arrivals.{why_dropped, kept}
-use Rattle.node_rules.specs.Rules.{delivers, delivery, proposing, proposes, writing, writes, accepting, accepts, deciding, decides, fired_if}
-use Rattle.node_rules.specs.Steps.{Outcome, votes, fired_votes, passes, fired_pass, outcome_from, arrival_outcome, reading_outcome, step_of, released, opened}
+use Rattle.node_rules.specs.Arrivals.{why_dropped, noted, kept}
+use Rattle.node_rules.specs.Rules.{delivers, delivery, proposing, proposes, writing, writes, accepting, accepts, deciding, decides, answering, answers_again, fired_answer, fired_if}
+use Rattle.node_rules.specs.Steps.{Outcome, votes, fired_votes, passes, fired_pass, outcome_from, answered, arrival_outcome, reading_outcome, step_of, released, opened}
 use Rattle.node_rules.specs.declared.node.Why.{Why}
 use Rattle.node_rules.specs.declared.node.Held.{Held}
 use Rattle.node_rules.specs.declared.node.Fired.{Fired}
 use Rattle.node_rules.specs.declared.node.Fired.TheVariants as fires
 use Rattle.kept_arrivals.specs.Kept.{trimmed, Stands, core_step, StepStands, core_after, node_after}
-use Rattle.kept_arrivals.proofs.Rules.{trimmed_twice, proposing_same, proposes_same, writing_same, writes_same, accepting_same, accepts_same, deciding_same, decides_same, delivers_same, delivery_same, why_same, kept_same}
+use Rattle.kept_arrivals.proofs.Rules.{trimmed_twice, proposing_same, proposes_same, writing_same, writes_same, accepting_same, accepts_same, deciding_same, decides_same, delivers_same, delivery_same, answering_same, answers_same, why_same, why_noted, noted_same, kept_same}
 
 votes_same : {S : Type 0} (n : Node S) → votes (trimmed n) ≡ trimmed (votes n)
 unfolding votes
@@ -59,10 +59,27 @@ alike_from few all f g same told = record {
   dropped = refl;
 }
 
+-- the answer is the same behind passes that leave the same needed
+answering_alike : {S : Type 0} (few all : Node S) (message : Message) → trimmed few ≡ trimmed all → answering few message ≡ answering all message
+answering_alike few all message same = sym (answering_same few message) ∙ (ap (λ x. answering x message) same ∙ answering_same all message)
+
+alike_answered : {S : Type 0} (few all : Outcome S) (message : Message) → Alike few all → Alike (answered few message) (answered all message)
+alike_answered few all message alike = record {
+  node = sym (answers_same few.node message) ∙ (ap (λ x. answers_again x message) alike.node ∙ answers_same all.node message);
+  fired = ap (λ told. told ++ fired_answer (answering few.node message)) alike.fired ∙ ap (λ line. all.fired ++ fired_answer line) (answering_alike few.node all.node message alike.node);
+  dropped = refl;
+}
+
+kept_noted : {S : Type 0} (n : Node S) (message : Message) → why_dropped n message ≡ None → kept (noted (trimmed n) message) message ≡ trimmed (kept (noted n message) message)
+unfolding noted
+kept_noted n message is = ap (λ x. kept x message) (noted_same n message) ∙ kept_same (noted n message) message (why_noted n (noted n message).behind message ∙ is)
+
 alike_arrival : {S : Type 0} (n : Node S) (message : Message) (why : Option Why) → why_dropped n message ≡ why
     → Alike (arrival_outcome (trimmed n) message why) (arrival_outcome n message why)
-alike_arrival n message None is = alike_from (kept (trimmed n) message) (kept n message) [] [] (kept_same n message is) refl
-alike_arrival n message (Some why) is = record { node = trimmed_twice n; fired = refl; dropped = refl }
+alike_arrival n message None is =
+    alike_answered (outcome_from (kept (noted (trimmed n) message) message) []) (outcome_from (kept (noted n message) message) []) message
+    (alike_from (kept (noted (trimmed n) message) message) (kept (noted n message) message) [] [] (kept_noted n message is) refl)
+alike_arrival n message (Some why) is = record { node = ap (λ x. trimmed x) (noted_same n message) ∙ trimmed_twice (noted n message); fired = refl; dropped = refl }
 
 alike_reading : {S : Type 0} (n : Node S) (read : Result Message ℕ) → Alike (reading_outcome (trimmed n) read) (reading_outcome n read)
 alike_reading n (Ok message) = rw (why_same n message) (alike_arrival n message (why_dropped n message) refl)

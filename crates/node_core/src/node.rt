@@ -1,13 +1,13 @@
 //! The node itself.
-ghost use Rattle.std.specs.Prelude.{◌≡◌, ◌+◌, ◌^◌, ◌<◌, ◌≤◌, true, length, IfOk, OnOk, is_some};
+ghost use Rattle.std.specs.Prelude.{◌≡◌, ◌+◌, ◌^◌, ◌<◌, ◌≤◌, true, [], None, length, IfOk, OnOk, is_some};
 ghost use Rattle.std.specs.Option.{option_copied};
 ghost use Rattle.node_rules.specs.Nodes.{view_of, regency_of, next_place, is_wrote, is_accepted, decided_place, open_slot, is_free, is_open, holding, recording};
 ghost use Rattle.std.specs.List.{list_any};
 ghost use Rattle.kept_arrivals.specs.Kept.{trimmed, core_step};
 ghost use Rattle.smart_messages.specs.Messages.{decoded};
 ghost use Rattle.node_core.specs.Books.{entry_place};
-ghost use Rattle.node_rules.specs.Arrivals.{why_dropped};
-ghost use Rattle.node_rules.specs.Steps.{step_of, outcome_from, arrival_outcome, reading_outcome, first_leaving, after_first, leaving, released, opened};
+ghost use Rattle.node_rules.specs.Arrivals.{why_dropped, kept};
+ghost use Rattle.node_rules.specs.Steps.{step_of, outcome_from, answered, arrival_outcome, reading_outcome, first_leaving, after_first, leaving, released, opened};
 
 mod arrivals;
 mod rules;
@@ -48,6 +48,7 @@ pub struct NodeCore<S> {
     firm: u64,
     held: Sequence<Held>,
     proposed: Vec<Slot>,
+    behind: bool,
     /// Whether the book has a write for the slot in which the node takes part.
     wrote: bool,
     /// Whether the book has an accept for that slot.
@@ -73,6 +74,7 @@ impl<S> Model for NodeCore<S> {
       firm = c.firm;
       held = c.held;
       proposed = c.proposed.items;
+      behind = c.behind;
     } };
 
     ghost invariant = { λ c. (IsSome c.waiting → c.replica.place + 1 < 2 ^ 63) × Remembers c.entries (record { view = (present c.replica.views).number; place = c.replica.place + 1; regency = 0 }) c.wrote c.accepted };
@@ -110,6 +112,7 @@ impl<S: Service> NodeCore<S> {
             firm: 0,
             held: Sequence::new(alloc),
             proposed: Vec::new(alloc),
+            behind: false,
             wrote: false,
             accepted: false,
         })
@@ -162,6 +165,13 @@ impl<S: Service> NodeCore<S> {
         ensures { option_copied result ≡ self.now.waiting }
     {
         self.waiting.as_ref()
+    }
+
+    /// Whether the node has heard of a view or a place that it does not reach by votes.
+    pub fn behind(&self) -> bool
+        ensures { result ≡ self.now.behind }
+    {
+        self.behind
     }
 
     /// The node's entries in the order in which they were made.
@@ -257,21 +267,40 @@ impl<S: Service> NodeCore<S> {
         }
     }
 
-    /// Drops an arrival for its first reason, or keeps it and passes the rules.
+    /// Drops an arrival for its first reason, or keeps it, passes the rules and answers it.
+    #[tactic(auto, using(crate::proofs::Again::why_behind))]
     fn arrival_outcome(&mut self, message: Message) -> Result<Outcome, AllocError>
         ensures node { OnOk result (self.new ≡ (arrival_outcome self.old message (why_dropped self.old message)).node) }
         ensures fired { IfOk result (λ o. o.fired ≡ (arrival_outcome self.old message (why_dropped self.old message)).fired) }
         ensures dropped { IfOk result (λ o. o.dropped ≡ (arrival_outcome self.old message (why_dropped self.old message)).dropped) }
     {
         let dropped = self.why_dropped(&message)?;
+        self.note(&message);
         if dropped.is_some() {
             return Ok(Outcome {
                 fired: Sequence::new(self.alloc),
                 dropped,
             });
         }
+        self.kept_outcome(message)
+    }
+
+    /// Keeps an arrival, passes the rules and answers it.
+    fn kept_outcome(&mut self, message: Message) -> Result<Outcome, AllocError>
+        requires { why_dropped self.old message ≡ None }
+        ensures node { OnOk result (self.new ≡ (answered (outcome_from (kept self.old message) []) message).node) }
+        ensures fired { IfOk result (λ o. o.fired ≡ (answered (outcome_from (kept self.old message) []) message).fired) }
+        ensures dropped { IfOk result (λ o. o.dropped ≡ None) }
+    {
+        let line = self.answering(&message)?;
         self.keep(message)?;
-        self.outcome_from(Sequence::new(self.alloc))
+        let mut fired = Sequence::new(self.alloc);
+        self.passes(&mut fired)?;
+        self.answer_line(line, &mut fired)?;
+        Ok(Outcome {
+            fired,
+            dropped: None,
+        })
     }
 
     /// One pass of the rules behind an event.
@@ -289,7 +318,7 @@ impl<S: Service> NodeCore<S> {
     }
 
     /// The regency in force.
-    fn regency(&self) -> Regency
+    pub fn regency(&self) -> Regency
         ensures { result ≡ regency_of self.now }
     {
         Regency::new(0)

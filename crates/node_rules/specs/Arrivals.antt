@@ -1,5 +1,5 @@
 -- Which arrivals a node drops, and what it keeps of the others.
-use Rattle.std.specs.Prelude.{ℕ, ◌+◌, ◌==◌, nat_lt, nat_le, Bool, false, not, ◌&&◌, ◌||◌, List, [], ◌∷◌, ◌++◌, if◌then◌else◌, Option, Some, None}
+use Rattle.std.specs.Prelude.{ℕ, ◌+◌, ◌==◌, nat_lt, nat_le, Bool, false, not, ◌&&◌, ◌||◌, List, [], ◌∷◌, ◌++◌, if◌then◌else◌, Option, Some, None, is_none}
 use Rattle.std.specs.List.{list_any}
 use Rattle.smart_base.specs.Lists.{or_else, same_bytes}
 use Rattle.smart_base.specs.Views.{is_member, leader}
@@ -91,6 +91,21 @@ why_dropped n (Ask q) = why_ask n q
 why_dropped n (Propose p) = why_propose n p
 why_dropped n (Vote b) = why_vote n b
 why_dropped n (Reply a) = why_reply n a
+
+-- a slot that the node does not reach by votes: of a newer view, or more than one place past the last decided one
+abbrev pub is_beyond : {S : Type 0} → Node S → Slot → Bool
+is_beyond n slot =
+    nat_lt (view_of n).number slot.view || ((slot.view == (view_of n).number) && nat_lt (decided_place n + 1) slot.place)
+
+-- a member's message tells the node that it is behind, whether a later reason drops it or not
+abbrev pub tells_behind : {S : Type 0} → Node S → Message → Bool
+tells_behind n (Ask q) = false
+tells_behind n (Propose p) = is_none (signer_why n (is_verified proposals n.secret p.head) p.head.signer) && is_beyond n p.head.statement.slot
+tells_behind n (Vote b) = is_none (signer_why n (is_verified ballots n.secret b) b.signer) && is_beyond n b.statement.slot
+tells_behind n (Reply a) = false
+
+unfoldable pub noted : {S : Type 0} → Node S → Message → Node S
+noted n message = record n { behind = n.behind || tells_behind n message }
 
 -- the pool has one request for each client, which keeps its position
 abbrev pub offered : List (SignedBy Request) → SignedBy Request → List (SignedBy Request)

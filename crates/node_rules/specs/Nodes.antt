@@ -37,6 +37,8 @@ pub record Node (S : Type 0) : Type 0 where
   pub held : List Held
   -- the slots for which this life made a proposal
   pub proposed : List Slot
+  -- it has heard of a view or a place that it does not reach by votes
+  pub behind : Bool
 
 -- where a node stands
 

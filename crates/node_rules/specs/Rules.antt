@@ -10,9 +10,10 @@ use Rattle.smart_messages.specs.declared.statement.Request.{Request}
 use Rattle.smart_messages.specs.declared.statement.VoteKind.{VoteKind}
 use Rattle.smart_messages.specs.declared.statement.VoteKind.TheVariants.{Write, Accept}
 use Rattle.smart_messages.specs.declared.message.Message.{Message}
-use Rattle.smart_messages.specs.declared.message.Message.TheVariants.{Propose, Vote, Reply}
+use Rattle.smart_messages.specs.declared.message.Message.TheVariants.{Ask, Propose, Vote, Reply}
 use Rattle.smart_messages.specs.declared.entry.LogEntry.TheVariants.{Wrote, Accepted, Decided}
 use Rattle.smart_service.specs.Services.{Meaning}
+use Rattle.smart_service.specs.Tables.{last_seq, line_for}
 use Rattle.smart_service.specs.declared.table.TableLine.{TableLine}
 use Rattle.node_rules.specs.Replicas.{is_next, delivered, executed_lines}
 use Rattle.node_rules.specs.Seals.{signed, digest_of}
@@ -130,6 +131,27 @@ decide_batch n (Some batch) = record (recording n (Decided (open_slot n) (backer
 
 unfoldable pub decides : {S : Type 0} → Node S → Node S
 decides n = decide_batch n (deciding n)
+
+-- answer: a client that asks again for its last executed request is sent the kept reply again
+
+unfoldable pub answering : {S : Type 0} → Node S → Message → Option TableLine
+answering n (Ask q) =
+    if q.statement.seq == last_seq n.replica.table q.statement.client then line_for n.replica.table q.statement.client else None
+answering n (Propose p) = None
+answering n (Vote b) = None
+answering n (Reply a) = None
+
+unfoldable pub answer_line : {S : Type 0} → Node S → Option TableLine → Node S
+answer_line n None = n
+answer_line n (Some line) = holding n (targets.Client line.client) (reply_of n.secret n.id line)
+
+unfoldable pub answers_again : {S : Type 0} → Node S → Message → Node S
+answers_again n message = answer_line n (answering n message)
+
+-- what the rule tells
+abbrev pub fired_answer : Option TableLine → List Fired
+fired_answer None = []
+fired_answer (Some line) = fires.Answered ∷ []
 
 -- what a rule tells where something was due
 abbrev pub fired_if : Fired → Option Batch → List Fired

@@ -1,5 +1,5 @@
 -- A step of a node: an event, and then one pass of the rules in their order. And the messages that leave.
-use Rattle.std.specs.Prelude.{ℕ, nat_le, List, [], ◌∷◌, ◌++◌, if◌then◌else◌, Option, Some, None, Result, Ok, Err}
+use Rattle.std.specs.Prelude.{ℕ, nat_le, List, [], ◌∷◌, ◌++◌, if◌then◌else◌, Option, Some, None, Result, Ok, Err, false}
 use Rattle.smart_base.specs.Views.{View}
 use Rattle.smart_messages.specs.Messages.{decoded}
 use Rattle.smart_messages.specs.declared.message.Message.{Message}
@@ -9,8 +9,8 @@ use Rattle.smart_messages.specs.declared.entry.NodeEvent.TheVariants.{Arrive, Ti
 use Rattle.smart_service.specs.Services.{Meaning}
 use Rattle.node_rules.specs.Replicas.{empty}
 use Rattle.node_rules.specs.Nodes.{Node, next_place}
-use Rattle.node_rules.specs.Arrivals.{why_dropped, kept}
-use Rattle.node_rules.specs.Rules.{delivers, delivery, proposing, proposes, writing, writes, accepting, accepts, deciding, decides, fired_if}
+use Rattle.node_rules.specs.Arrivals.{why_dropped, noted, kept}
+use Rattle.node_rules.specs.Rules.{delivers, delivery, proposing, proposes, writing, writes, accepting, accepts, deciding, decides, answering, answers_again, fired_answer, fired_if}
 use Rattle.node_rules.specs.declared.node.Why.{Why}
 use Rattle.node_rules.specs.declared.node.Why.TheVariants.{Unread}
 use Rattle.node_rules.specs.declared.node.Held.{Held}
@@ -44,10 +44,14 @@ fired_pass n = fired_votes n ++ fired_if (fires.Decided (next_place (votes n))) 
 abbrev pub outcome_from : {S : Type 0} → Node S → List Fired → Outcome S
 outcome_from n fired = record { node = passes n; fired = fired ++ fired_pass n; dropped = None }
 
--- a message that is dropped changes nothing and fires no rule
+-- the pass behind a message that was kept ends with the answer to it
+abbrev pub answered : {S : Type 0} → Outcome S → Message → Outcome S
+answered o message = record { node = answers_again o.node message; fired = o.fired ++ fired_answer (answering o.node message); dropped = None }
+
+-- a message that is dropped fires no rule, and changes nothing but that the node may know that it is behind
 abbrev pub arrival_outcome : {S : Type 0} → Node S → Message → Option Why → Outcome S
-arrival_outcome n message None = outcome_from (kept n message) []
-arrival_outcome n message (Some why) = record { node = n; fired = []; dropped = Some why }
+arrival_outcome n message None = answered (outcome_from (kept (noted n message) message) []) message
+arrival_outcome n message (Some why) = record { node = noted n message; fired = []; dropped = Some why }
 
 -- bytes that are no message are dropped
 abbrev pub reading_outcome : {S : Type 0} → Node S → Result Message ℕ → Outcome S
@@ -97,4 +101,5 @@ opened m secret id view =
       firm = 0;
       held = [];
       proposed = [];
+      behind = false;
     }

@@ -56,4 +56,6 @@ pub enum Fired {
     Wrote,
     Accepted,
     Decided(Place),
+    /// A client that asked again was sent its last reply again.
+    Answered,
 }

@@ -1,7 +1,7 @@
 //! Which arrivals a node drops, and what it keeps of the others.
 ghost use Rattle.std.specs.Prelude.{◌≡◌, None, IfOk, OnOk};
 ghost use Rattle.node_rules.specs.Seals.{is_verified};
-ghost use Rattle.node_rules.specs.Arrivals.{slot_why, signer_why, why_ask, why_propose, why_vote, why_reply, why_dropped, kept};
+ghost use Rattle.node_rules.specs.Arrivals.{slot_why, signer_why, why_ask, why_propose, why_vote, why_reply, why_dropped, is_beyond, tells_behind, noted, kept};
 
 use crate::find::{offer, repeats_proposal, repeats_vote};
 use crate::node::NodeCore;
@@ -26,6 +26,37 @@ impl<S: Service> NodeCore<S> {
             Message::Vote(ballot) => Ok(self.why_vote(ballot)),
             Message::Reply(answer) => Ok(self.why_reply(answer)),
         }
+    }
+
+    /// Notes whether a member's message tells the node that it is behind.
+    #[tactic(auto, unfolding(node_rules::specs::Arrivals::noted))]
+    pub(super) fn note(&mut self, message: &Message)
+        ensures { self.new ≡ noted self.old message.now }
+    {
+        self.behind = self.behind || self.tells_behind(message);
+    }
+
+    fn tells_behind(&self, message: &Message) -> bool
+        ensures { result ≡ tells_behind self.now message.now }
+    {
+        match message {
+            Message::Propose(proposed) => {
+                let head = &proposed.head;
+                self.is_beyond(head.statement().slot) && self.signer_why(head).is_none()
+            }
+            Message::Vote(ballot) => {
+                self.is_beyond(ballot.statement().slot) && self.signer_why(ballot).is_none()
+            }
+            Message::Ask(_) | Message::Reply(_) => false,
+        }
+    }
+
+    fn is_beyond(&self, slot: Slot) -> bool
+        ensures { result ≡ is_beyond self.now slot }
+    {
+        let view = self.view().number().get();
+        let last = self.decided_place().get();
+        view < slot.view.get() || slot.view.get() == view && last + 1 < slot.place.get()
     }
 
     /// Keeps what the rules need of an arrival that is not dropped.

@@ -1,5 +1,5 @@
 //! The rules of a node: what is due, what the rule does with it, and both.
-ghost use Rattle.std.specs.Prelude.{◌≡◌, None, ◌<◌, ◌^◌, ◌++◌, true, IfOk, IfSome, OnOk, IsSome, Some, option_map};
+ghost use Rattle.std.specs.Prelude.{◌≡◌, None, ◌==◌, if◌then◌else◌, ◌<◌, ◌^◌, ◌++◌, true, IfOk, IfSome, OnOk, IsSome, Some, option_map};
 ghost use Rattle.std.specs.Option.{option_copied};
 ghost use Rattle.smart_messages.specs.declared.message.Proposed.{Proposed};
 ghost use Rattle.smart_messages.specs.declared.entry.LogEntry.TheVariants as entries;
@@ -9,8 +9,9 @@ ghost use Rattle.smart_messages.specs.Kinds.{proposals};
 ghost use Rattle.node_core.specs.Digests.{ballot_for};
 ghost use Rattle.smart_messages.specs.declared.statement.VoteKind.TheVariants as kinds;
 ghost use Rattle.node_rules.specs.declared.node.Target.TheVariants as targets;
+ghost use Rattle.smart_service.specs.Tables.{last_seq, line_for};
 ghost use Rattle.node_rules.specs.Replicas.{delivered, executed_lines};
-ghost use Rattle.node_rules.specs.Rules.{settled, reply_of, replying, delivers, delivery, proposing, propose_batch, proposes, ballot, writing, write_batch, writes, backed, backers, accepting, accept_batch, accepts, deciding, decide_batch, decides, fired_if};
+ghost use Rattle.node_rules.specs.Rules.{settled, reply_of, replying, delivers, delivery, proposing, propose_batch, proposes, ballot, writing, write_batch, writes, backed, backers, accepting, accept_batch, accepts, deciding, decide_batch, decides, answering, answer_line, fired_answer, fired_if};
 ghost use Rattle.node_rules.specs.declared.node.Fired.TheVariants as fires;
 ghost use Rattle.node_rules.specs.Steps.{votes, fired_votes, passes, fired_pass};
 
@@ -27,7 +28,7 @@ use smart_messages::batch::Batch;
 use smart_messages::entry::LogEntry;
 use smart_messages::message::{Message, Proposed};
 use smart_messages::signed::Signed;
-use smart_messages::statement::{Answer, Ballot, Proposal, VoteKind};
+use smart_messages::statement::{Answer, Ballot, Proposal, Request, VoteKind};
 use smart_service::service::Service;
 use smart_service::table::TableLine;
 use std::alloc::AllocError;
@@ -347,6 +348,52 @@ impl<S: Service> NodeCore<S> {
                 let batch = proposed.batch.duplicate(self.alloc)?;
                 fired.push(Fired::Decided(self.replica.place.next()))?;
                 self.decide_batch(digest, batch)?;
+                Ok(())
+            }
+        }
+    }
+
+    /// A copy of the line of a client that asks for its last executed request again.
+    #[tactic(auto, unfolding(node_rules::specs::Rules::answering))]
+    pub(super) fn answering(&self, message: &Message) -> Result<Option<TableLine>, AllocError>
+        ensures { IfOk result (λ line. line ≡ answering self.now message.now) }
+    {
+        match message {
+            Message::Ask(request) => self.asked_again(request.statement()),
+            Message::Propose(_) | Message::Vote(_) | Message::Reply(_) => Ok(None),
+        }
+    }
+
+    fn asked_again(&self, asked: &Request) -> Result<Option<TableLine>, AllocError>
+        ensures { IfOk result (λ line. line ≡ if asked.now.seq == last_seq self.now.replica.table asked.now.client then line_for self.now.replica.table asked.now.client else None) }
+    {
+        let table = &self.replica.table;
+        if asked.seq != table.last_seq(asked.client) {
+            return Ok(None);
+        }
+        match table.line(asked.client) {
+            None => Ok(None),
+            Some(line) => Ok(Some(line.duplicate(self.alloc)?)),
+        }
+    }
+
+    /// Holds the reply of a line, where there is one. Adds what this tells.
+    #[tactic(auto, unfolding(node_rules::specs::Rules::answer_line))]
+    pub(super) fn answer_line(
+        &mut self,
+        line: Option<TableLine>,
+        fired: &mut Sequence<Fired>,
+    ) -> Result<(), AllocError>
+        ensures node { OnOk result (self.new ≡ answer_line self.old line) }
+        ensures fired { OnOk result (fired.new ≡ fired.old ++ fired_answer line) }
+    {
+        match line {
+            None => Ok(()),
+            Some(line) => {
+                fired.push(Fired::Answered)?;
+                let client = line.client;
+                let reply = self.reply_of(line)?;
+                self.hold(Target::Client(client), reply)?;
                 Ok(())
             }
         }
