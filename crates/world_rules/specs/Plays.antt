@@ -1,20 +1,48 @@
 -- The play of a script's lines.
-use Rattle.std.specs.Prelude.{◌≡◌, Bool, false, List, [], ◌∷◌, ◌++◌, None}
+use Rattle.std.specs.Prelude.{ℕ, ◌≡◌, nat_le, Bool, true, false, ◌&&◌, List, [], ◌∷◌, ◌++◌, length, None, is_some}
+use Rattle.std.specs.List.{list_all}
 use Rattle.smart_base.specs.Views.{View}
 use Rattle.smart_service.specs.Services.{Meaning}
 use Rattle.smart_messages.specs.declared.entry.NodeEvent.{NodeEvent}
 use Rattle.node_rules.specs.Nodes.{Node}
 use Rattle.node_rules.specs.Steps.{Outcome}
-use Rattle.world_rules.specs.Worlds.{World, asks, flows, begun}
+use Rattle.smart_base.specs.declared.party.Party.{Party}
+use Rattle.smart_base.specs.declared.party.Party.TheVariants as parties
+use Rattle.world_rules.specs.Worlds.{World, asks, settle, settle_all, flows, host_index, at_member, give_number, deliver_each, shows, begun}
 use Rattle.world_rules.specs.declared.line.Line.{Line}
 use Rattle.world_rules.specs.declared.line.Line.TheVariants as lines
 use Rattle.world_rules.specs.declared.line.OutLine.{OutLine}
+
+-- a member's host is there
+abbrev pub has_member : {S : Type 0} → World S → ℕ → Bool
+has_member w member = is_some (host_index w.hosts member)
+
+-- all clients are there
+abbrev pub has_party : {S : Type 0} → World S → Party → Bool
+has_party w (parties.Member id) = has_member w id
+has_party w (parties.Client id) = true
+
+-- all that a line names is there
+unfoldable pub is_there : {S : Type 0} → World S → Line → Bool
+is_there w lines.Nothing = true
+is_there w (lines.Ask client op) = true
+is_there w (lines.Flow members) = list_all (has_member w) members
+is_there w (lines.Give number to) = nat_le 1 number && nat_le number (length w.sent) && list_all (has_party w) to
+is_there w (lines.Deliver members) = list_all (has_member w) members
+is_there w (lines.Settle member) = has_member w member
+is_there w lines.SettleAll = true
+is_there w lines.Show = true
 
 -- the world after a line, with what the line told
 unfoldable pub line_played : {S : Type 0} → (Node S → NodeEvent → Outcome S) → World S → Line → World S
 line_played step w lines.Nothing = w
 line_played step w (lines.Ask client op) = asks client op w
-line_played step w lines.Flow = flows step w
+line_played step w (lines.Flow members) = flows step members w
+line_played step w (lines.Give number to) = give_number step number to w
+line_played step w (lines.Deliver members) = deliver_each step members w
+line_played step w (lines.Settle member) = at_member (settle step) member w
+line_played step w lines.SettleAll = settle_all step [] w
+line_played step w lines.Show = shows w
 
 -- the world between two lines
 abbrev pub rested : {S : Type 0} → World S → World S

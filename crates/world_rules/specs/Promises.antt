@@ -74,6 +74,9 @@ IsAnswered m view chosen (outs.Dropped member why) = Unit {0}
 IsAnswered m view chosen (outs.Counted client have need) = Unit {0}
 IsAnswered m view chosen (outs.Ignored client why) = Unit {0}
 IsAnswered m view chosen (outs.Busy client seq) = Unit {0}
+IsAnswered m view chosen (outs.Idle member) = Unit {0}
+IsAnswered m view chosen (outs.Stands member place number regency) = Unit {0}
+IsAnswered m view chosen (outs.Seen client place) = Unit {0}
 IsAnswered m view chosen (outs.End lines messages) = Unit {0}
 
 -- the world after the first lines of a script over a group

@@ -1,42 +1,148 @@
--- What the lines of a script mean.
-use Rattle.std.specs.Prelude.{ℕ, zero, suc, ◌+◌, ◌*◌, ◌==◌, nat_le, Bool, true, not, ◌&&◌, List, [], ◌∷◌, length, take, drop, if◌then◌else◌, Option, Some, None, codes, position}
+-- What the lines of a script mean, or what is wrong with them.
+use Rattle.std.specs.Prelude.{ℕ, zero, suc, ◌+◌, ◌*◌, ◌^◌, ◌==◌, nat_le, Bool, true, not, ◌&&◌, List, [], ◌∷◌, length, take, if◌then◌else◌, Option, Some, None, Result, Ok, Err, codes}
 use Rattle.std.specs.List.{list_all}
 use Rattle.smart_base.specs.Decimals.{number_of}
 use Rattle.smart_base.specs.Lists.{same_bytes}
 use Rattle.smart_base.specs.Views.{View}
+use Rattle.smart_base.specs.declared.party.Party.{Party}
+use Rattle.smart_base.specs.declared.party.Party.TheVariants as parties
 use Rattle.world_rules.specs.declared.line.Line.{Line}
 use Rattle.world_rules.specs.declared.line.Line.TheVariants as lines
+use Rattle.world_rules.specs.declared.line.Kind.{Kind}
+use Rattle.world_rules.specs.declared.line.Kind.TheVariants as kinds
 
--- a line is at most 65,536 bytes that print
-abbrev pub is_text : List ℕ → Bool
-is_text bytes = nat_le (length bytes) 65536 && list_all (λ b. nat_le 32 b && nat_le b 126) bytes
+-- what may stand in any line
+
+-- all bytes print. A line is not looked at past its byte 65,537, which makes it too long
+abbrev pub is_printed : List ℕ → Bool
+is_printed bytes = list_all (λ b. nat_le 32 b && nat_le b 126) (take 65537 bytes)
+
+-- a line has at most 65,536 bytes
+abbrev pub is_short : List ℕ → Bool
+is_short bytes = nat_le (length bytes) 65536
 
 -- empty lines, and comments, which begin with #, do nothing
 abbrev pub is_nothing : List ℕ → Bool
 is_nothing [] = true
 is_nothing (b ∷ bs) = b == 35
 
--- an operation has at most 4,096 bytes
-abbrev pub ask_of : Option ℕ → List ℕ → Option Line
-ask_of None op = None
-ask_of (Some client) op = if nat_le 1 client && nat_le client 1024 && nat_le (length op) 4096 then Some (lines.Ask client op) else None
+-- words
 
--- what stands before and behind the first space
-abbrev pub ask_words : List ℕ → Option ℕ → Option Line
-ask_words rest None = None
-ask_words rest (Some i) = ask_of (number_of (take i rest)) (drop (i + 1) rest)
+-- a word in front of others
+abbrev pub with_byte : ℕ → List (List ℕ) → List (List ℕ)
+with_byte b [] = (b ∷ []) ∷ []
+with_byte b (word ∷ words) = (b ∷ word) ∷ words
 
-unfoldable pub ask_line : List ℕ → Option Line
-ask_line rest = ask_words rest (position (λ b. b == 32) rest)
+-- the words that single spaces part; two spaces have an empty word between them
+abbrev pub words_in : List ℕ → List (List ℕ)
+words_in [] = [] ∷ []
+words_in (b ∷ bs) = if b == 32 then [] ∷ words_in bs else with_byte b (words_in bs)
 
--- a line behind the header, if it has a meaning
-unfoldable pub line_of : List ℕ → Option Line
+-- what stands behind the first two spaces
+abbrev pub behind_space : List ℕ → List ℕ
+behind_space [] = []
+behind_space (b ∷ bs) = if b == 32 then bs else behind_space bs
+
+-- a number from a least to a greatest one
+abbrev pub in_range : ℕ → ℕ → Option ℕ → Option ℕ
+in_range least most None = None
+in_range least most (Some n) = if nat_le least n && nat_le n most then Some n else None
+
+abbrev pub number_in : ℕ → ℕ → List ℕ → Option ℕ
+number_in least most word = in_range least most (number_of word)
+
+abbrev pub member_of : List ℕ → Option ℕ
+member_of word = number_in 1 65535 word
+
+abbrev pub client_of : List ℕ → Option ℕ
+client_of word = number_in 1 1024 word
+
+-- values that each word has to give
+abbrev pub with_value : {A : Type 0} → Option A → Option (List A) → Option (List A)
+with_value None xs = None
+with_value (Some x) None = None
+with_value (Some x) (Some xs) = Some (x ∷ xs)
+
+abbrev pub each_word : {A : Type 0} → (List ℕ → Option A) → List (List ℕ) → Option (List A)
+each_word f [] = Some []
+each_word f (word ∷ words) = with_value (f word) (each_word f words)
+
+-- a member's number, or c and a client's
+abbrev pub as_member : Option ℕ → Option Party
+as_member None = None
+as_member (Some id) = Some (parties.Member id)
+
+abbrev pub as_client : Option ℕ → Option Party
+as_client None = None
+as_client (Some id) = Some (parties.Client id)
+
+abbrev pub party_of_word : List ℕ → Option Party
+party_of_word [] = None
+party_of_word (b ∷ bs) = if b == 99 then as_client (client_of bs) else as_member (member_of (b ∷ bs))
+
+-- what is read where something has to be a number, or is wrong
+abbrev pub or_number : {A : Type 0} → (A → Line) → Option A → Result Line Kind
+or_number make None = Err kinds.Number
+or_number make (Some x) = Ok (make x)
+
+-- lines behind the header, by their words
+
+-- an operation has at most 4,096 bytes. It is the rest of the line
+abbrev pub ask_with : List ℕ → Option ℕ → Result Line Kind
+ask_with op None = Err kinds.Number
+ask_with op (Some client) = if nat_le (length op) 4096 then Ok (lines.Ask client op) else Err kinds.Form
+
+abbrev pub ask_line : List ℕ → List (List ℕ) → Result Line Kind
+ask_line bytes [] = Err kinds.Count
+ask_line bytes (client ∷ []) = Err kinds.Count
+ask_line bytes (client ∷ op ∷ more) = ask_with (behind_space (behind_space bytes)) (client_of client)
+
+abbrev pub flow_line : List (List ℕ) → Result Line Kind
+flow_line members = or_number lines.Flow (each_word member_of members)
+
+abbrev pub give_to : Option ℕ → Option (List Party) → Result Line Kind
+give_to None to = Err kinds.Number
+give_to (Some number) None = Err kinds.Number
+give_to (Some number) (Some to) = Ok (lines.Give number to)
+
+abbrev pub give_line : List (List ℕ) → Result Line Kind
+give_line [] = Err kinds.Count
+give_line (number ∷ []) = Err kinds.Count
+give_line (number ∷ to ∷ more) = give_to (number_in 1 (2 ^ 24) number) (each_word party_of_word (to ∷ more))
+
+abbrev pub deliver_line : List (List ℕ) → Result Line Kind
+deliver_line [] = Err kinds.Count
+deliver_line (member ∷ more) = or_number lines.Deliver (each_word member_of (member ∷ more))
+
+abbrev pub settle_line : List (List ℕ) → Result Line Kind
+settle_line [] = Err kinds.Count
+settle_line (word ∷ []) = if same_bytes word (codes "all") then Ok lines.SettleAll else or_number lines.Settle (member_of word)
+settle_line (word ∷ next ∷ more) = Err kinds.Count
+
+abbrev pub show_line : List (List ℕ) → Result Line Kind
+show_line [] = Ok lines.Show
+show_line (word ∷ words) = Err kinds.Count
+
+abbrev pub line_by : List ℕ → List (List ℕ) → Result Line Kind
+line_by bytes [] = Err kinds.Word
+line_by bytes (word ∷ words) =
+    if same_bytes word (codes "ask") then ask_line bytes words
+    else if same_bytes word (codes "flow") then flow_line words
+    else if same_bytes word (codes "give") then give_line words
+    else if same_bytes word (codes "deliver") then deliver_line words
+    else if same_bytes word (codes "settle") then settle_line words
+    else if same_bytes word (codes "show") then show_line words
+    else Err kinds.Word
+
+-- a line behind the header, or the first kind of what is wrong with it
+unfoldable pub line_of : List ℕ → Result Line Kind
 line_of bytes =
-    if not (is_text bytes) then None
-    else if is_nothing bytes then Some lines.Nothing
-    else if same_bytes bytes (codes "flow") then Some lines.Flow
-    else if same_bytes (take 4 bytes) (codes "ask ") then ask_line (drop 4 bytes)
-    else None
+    if not (is_printed bytes) then Err kinds.Byte
+    else if not (is_short bytes) then Err kinds.Long
+    else if is_nothing bytes then Ok lines.Nothing
+    else line_by bytes (words_in bytes)
+
+-- the header
 
 -- count members from a first one on
 unfoldable pub members_from : ℕ → ℕ → List ℕ
@@ -52,16 +158,19 @@ view_for (Some n) (Some f) =
     then Some (record { number = 0; start = 1; f = f; members = members_from 1 n })
     else None
 
-abbrev pub group_words : List ℕ → Option ℕ → Option View
-group_words rest None = None
-group_words rest (Some i) = view_for (number_of (take i rest)) (number_of (drop (i + 1) rest))
+abbrev pub group_words : List (List ℕ) → Option View
+group_words [] = None
+group_words (n ∷ []) = None
+group_words (n ∷ f ∷ []) = view_for (number_of n) (number_of f)
+group_words (n ∷ f ∷ more ∷ words) = None
+
+abbrev pub group_by : List (List ℕ) → Option View
+group_by [] = None
+group_by (word ∷ words) = if same_bytes word (codes "group") then group_words words else None
 
 -- the line `group N F`, if it is one
 unfoldable pub group_line : List ℕ → Option View
-group_line bytes =
-    if same_bytes (take 6 bytes) (codes "group ")
-    then group_words (drop 6 bytes) (position (λ b. b == 32) (drop 6 bytes))
-    else None
+group_line bytes = group_by (words_in bytes)
 
 -- the line `app count`
 abbrev pub is_app_line : List ℕ → Bool

@@ -71,6 +71,9 @@ words_of (outs.Counted id have need) = codes "counted c" ++ (decimal id ++ (afte
 words_of (outs.Accepted id s k i text) = codes "accepted c" ++ (decimal id ++ (after_space s ++ (after_space k ++ (after_space i ++ (32 ∷ flat_map shown text)))))
 words_of (outs.Ignored id why) = codes "ignored c" ++ (decimal id ++ (32 ∷ ignored_text why))
 words_of (outs.Busy id s) = codes "busy c" ++ (decimal id ++ after_space s)
+words_of (outs.Idle id) = codes "idle n" ++ decimal id
+words_of (outs.Stands id k v r) = codes "place n" ++ (decimal id ++ (after_space k ++ (after_space v ++ after_space r)))
+words_of (outs.Seen id k) = codes "seen c" ++ (decimal id ++ after_space k)
 words_of (outs.End lines messages) = codes "end" ++ (after_space lines ++ after_space messages)
 
 -- each line ends with a line feed

@@ -1,7 +1,7 @@
 -- The world: all hosts and clients, each message that was ever sent, and the list of batches that was chosen. What happens in it is a
 -- function from world to world. The step of a node is an argument.
-use Rattle.std.specs.Prelude.{ℕ, zero, suc, ◌+◌, ◌^◌, ◌==◌, nat_lt, List, [], ◌∷◌, ◌++◌, length, if◌then◌else◌, Option, Some, None, is_some, slice_get, slice_set, Result, Ok, Err, nat_le, ◌&&◌}
-use Rattle.std.specs.List.{flat_map}
+use Rattle.std.specs.Prelude.{ℕ, zero, suc, ◌+◌, ◌^◌, ◌==◌, nat_lt, List, [], ◌∷◌, ◌++◌, length, if◌then◌else◌, Option, Some, None, is_some, slice_get, slice_set, Result, Ok, Err, nat_le, ◌&&◌, ◌-◌, Bool, true, map}
+use Rattle.std.specs.List.{flat_map, list_any, position}
 use Rattle.std.specs.Option.{option_and_then}
 use Rattle.smart_base.specs.Lists.{or_else}
 use Rattle.smart_base.specs.Views.{View}
@@ -17,9 +17,11 @@ use Rattle.smart_messages.specs.declared.message.Message.{Message}
 use Rattle.smart_messages.specs.declared.message.Message.TheVariants.{Ask, Propose, Vote, Reply}
 use Rattle.smart_messages.specs.declared.entry.NodeEvent.{NodeEvent}
 use Rattle.smart_messages.specs.declared.entry.NodeEvent.TheVariants.{Arrive, Deliver, Firm}
+use Rattle.smart_base.specs.declared.party.Party.{Party}
+use Rattle.smart_base.specs.declared.party.Party.TheVariants as parties
 use Rattle.smart_service.specs.Services.{Meaning}
 use Rattle.node_rules.specs.Seals.{signed}
-use Rattle.node_rules.specs.Nodes.{Node, next_place}
+use Rattle.node_rules.specs.Nodes.{Node, next_place, view_of, regency_of}
 use Rattle.node_rules.specs.Steps.{Outcome, leaving, released, opened}
 use Rattle.node_rules.specs.declared.node.Why.{Why}
 use Rattle.node_rules.specs.declared.node.Held.{Held}
@@ -116,6 +118,7 @@ told_fired id fires.Proposed = []
 told_fired id fires.Wrote = []
 told_fired id fires.Accepted = []
 told_fired id (fires.Decided place) = outs.Decided id place ∷ []
+told_fired id fires.Answered = []
 
 abbrev pub delivery_in : Fired → List Delivery
 delivery_in (fires.Delivered d) = d ∷ []
@@ -123,6 +126,7 @@ delivery_in fires.Proposed = []
 delivery_in fires.Wrote = []
 delivery_in fires.Accepted = []
 delivery_in (fires.Decided place) = []
+delivery_in fires.Answered = []
 
 -- the list of chosen batches with the one that waits at a node: the first node that decides a place has chosen its batch
 abbrev pub chosen_with : List Batch → ℕ → Option Batch → List Batch
@@ -170,16 +174,33 @@ settle_once step i w = takes_due step i w (option_and_then due (slice_get w.host
 abbrev pub settle : {S : Type 0} → (Node S → NodeEvent → Outcome S) → ℕ → World S → World S
 settle step i w = until_rest (settle_once step i) w
 
--- each node settles, ascending
-abbrev pub settle_all : {S : Type 0} → (Node S → NodeEvent → Outcome S) → World S → World S
-settle_all step w = each_from (settle step) (length w.hosts) 0 w
+-- the members that a line lists: all where it lists none
+abbrev pub is_listed : List ℕ → ℕ → Bool
+is_listed [] member = true
+is_listed (m ∷ ms) member = list_any (λ x. x == member) (m ∷ ms)
+
+-- what happens at the host at an index, if its member is listed
+abbrev pub where_listed : {S : Type 0} → List ℕ → (ℕ → World S → World S) → ℕ → World S → Option (Host S) → World S
+where_listed members f i w None = w
+where_listed members f i w (Some h) = if is_listed members h.node.id then f i w else w
+
+abbrev pub at_listed : {S : Type 0} → List ℕ → (ℕ → World S → World S) → ℕ → World S → World S
+at_listed members f i w = where_listed members f i w (slice_get w.hosts i)
+
+-- at each host whose member is listed, ascending
+abbrev pub each_listed : {S : Type 0} → List ℕ → (ℕ → World S → World S) → World S → World S
+each_listed members f w = each_from (at_listed members f) (length w.hosts) 0 w
+
+-- each listed node settles, ascending
+abbrev pub settle_all : {S : Type 0} → (Node S → NodeEvent → Outcome S) → List ℕ → World S → World S
+settle_all step members w = each_listed members (settle step) w
 
 -- the node at an index takes the bytes of a message and settles
 unfoldable pub gives : {S : Type 0} → (Node S → NodeEvent → Outcome S) → List ℕ → ℕ → World S → World S
 gives step bytes i w = settle step i (node_takes step i (Arrive bytes) w)
 
-abbrev pub give_all : {S : Type 0} → (Node S → NodeEvent → Outcome S) → List ℕ → World S → World S
-give_all step bytes w = each_from (gives step bytes) (length w.hosts) 0 w
+abbrev pub give_all : {S : Type 0} → (Node S → NodeEvent → Outcome S) → List ℕ → List ℕ → World S → World S
+give_all step members bytes w = each_listed members (gives step bytes) w
 
 -- clients
 
@@ -236,21 +257,85 @@ asks i op w = if is_some w.ending then w else ask_found w i op (slice_get w.clie
 
 -- flow
 
-abbrev pub goes : {S : Type 0} → (Node S → NodeEvent → Outcome S) → World S → List ℕ → Target → World S
-goes step w bytes targets.View = give_all step bytes w
-goes step w bytes (targets.Client id) = client_takes id bytes w
+abbrev pub goes : {S : Type 0} → (Node S → NodeEvent → Outcome S) → List ℕ → World S → List ℕ → Target → World S
+goes step members w bytes targets.View = give_all step members bytes w
+goes step members w bytes (targets.Client id) = client_takes id bytes w
 
-abbrev pub flow_sent : {S : Type 0} → (Node S → NodeEvent → Outcome S) → World S → Option Sent → World S
-flow_sent step w None = w
-flow_sent step w (Some s) = goes step (record w { mark = w.mark + 1 }) (spelling s.message) s.to
+abbrev pub flow_sent : {S : Type 0} → (Node S → NodeEvent → Outcome S) → List ℕ → World S → Option Sent → World S
+flow_sent step members w None = w
+flow_sent step members w (Some s) = goes step members (record w { mark = w.mark + 1 }) (spelling s.message) s.to
 
--- the next message behind the mark is given to whom it is for
-unfoldable pub flow_once : {S : Type 0} → (Node S → NodeEvent → Outcome S) → World S → World S
-flow_once step w = if is_some w.ending then w else flow_sent step w (slice_get w.sent w.mark)
+-- the next message behind the mark is given to those of the listed that it is for, or to its client
+unfoldable pub flow_once : {S : Type 0} → (Node S → NodeEvent → Outcome S) → List ℕ → World S → World S
+flow_once step members w = if is_some w.ending then w else flow_sent step members w (slice_get w.sent w.mark)
 
--- all nodes settle, and then each message behind the mark is given, until none is left
-abbrev pub flows : {S : Type 0} → (Node S → NodeEvent → Outcome S) → World S → World S
-flows step w = until_rest (flow_once step) (settle_all step w)
+-- the listed nodes settle, and then each message behind the mark is given, until none is left
+abbrev pub flows : {S : Type 0} → (Node S → NodeEvent → Outcome S) → List ℕ → World S → World S
+flows step members w = until_rest (flow_once step members) (settle_all step members w)
+
+-- deliveries one by one
+
+-- the index at which a member's host stands
+abbrev pub host_index : {S : Type 0} → List (Host S) → ℕ → Option ℕ
+host_index hosts member = position (λ h. h.node.id == member) hosts
+
+abbrev pub at_index : {S : Type 0} → (ℕ → World S → World S) → World S → Option ℕ → World S
+at_index f w None = w
+at_index f w (Some i) = f i w
+
+-- what happens at a member's host
+abbrev pub at_member : {S : Type 0} → (ℕ → World S → World S) → ℕ → World S → World S
+at_member f member w = at_index f w (host_index w.hosts member)
+
+-- bytes arrive at a member's node or at a client
+abbrev pub arrives : {S : Type 0} → (Node S → NodeEvent → Outcome S) → List ℕ → Party → World S → World S
+arrives step bytes (parties.Member id) w = at_member (λ i v. node_takes step i (Arrive bytes) v) id w
+arrives step bytes (parties.Client id) w = client_takes id bytes w
+
+abbrev pub arrives_at : {S : Type 0} → (Node S → NodeEvent → Outcome S) → List ℕ → List Party → World S → World S
+arrives_at step bytes [] w = w
+arrives_at step bytes (to ∷ tos) w = arrives_at step bytes tos (arrives step bytes to w)
+
+abbrev pub sent_arrives : {S : Type 0} → (Node S → NodeEvent → Outcome S) → List Party → World S → Option Sent → World S
+sent_arrives step to w None = w
+sent_arrives step to w (Some s) = arrives_at step (spelling s.message) to w
+
+-- the message of a number arrives at each of some, in order
+abbrev pub give_number : {S : Type 0} → (Node S → NodeEvent → Outcome S) → ℕ → List Party → World S → World S
+give_number step number to w = sent_arrives step to w (slice_get w.sent (number - 1))
+
+-- a node that is to deliver where no rule fires is idle
+abbrev pub told_idle : ℕ → List Fired → List OutLine
+told_idle id [] = outs.Idle id ∷ []
+told_idle id (rule ∷ rules) = []
+
+abbrev pub telling_all : {S : Type 0} → World S → List OutLine → World S
+telling_all w lines = record w { told = w.told ++ lines }
+
+abbrev pub host_delivers : {S : Type 0} → (Node S → NodeEvent → Outcome S) → ℕ → World S → Option (Host S) → World S
+host_delivers step i w None = w
+host_delivers step i w (Some h) = telling_all (stepped w i h (step h.node Deliver)) (told_idle h.node.id (step h.node Deliver).fired)
+
+-- the node at an index delivers the batch that waits
+unfoldable pub deliver_at : {S : Type 0} → (Node S → NodeEvent → Outcome S) → ℕ → World S → World S
+deliver_at step i w = if is_some w.ending then w else host_delivers step i w (slice_get w.hosts i)
+
+-- each of some members does, in order
+abbrev pub deliver_each : {S : Type 0} → (Node S → NodeEvent → Outcome S) → List ℕ → World S → World S
+deliver_each step [] w = w
+deliver_each step (m ∷ ms) w = deliver_each step ms (at_member (deliver_at step) m w)
+
+-- what is shown
+
+abbrev pub shown_host : {S : Type 0} → Host S → OutLine
+shown_host h = outs.Stands h.node.id h.node.replica.place (view_of h.node).number (regency_of h.node)
+
+-- a client that has asked
+abbrev pub shown_client : Client → List OutLine
+shown_client c = if nat_lt 0 c.last then outs.Seen c.id c.seen ∷ [] else []
+
+abbrev pub shows : {S : Type 0} → World S → World S
+shows w = telling_all w (map shown_host w.hosts ++ flat_map shown_client w.clients)
 
 -- the host of a member, if it is one
 abbrev pub host_of : {S : Type 0} → List (Host S) → ℕ → Option (Host S)

@@ -5,6 +5,8 @@ use node_rules::node::Why;
 use smart_base::bytes::Payload;
 use smart_base::name::{ClientId, MemberId};
 use smart_base::number::{Place, Regency, ViewNo};
+use smart_base::party::Party;
+use smart_base::sequence::Sequence;
 
 /// A script line behind the header.
 #[derive(Drop)]
@@ -13,8 +15,42 @@ pub enum Line {
     Nothing,
     /// `ask C OP`: client C asks for the operation.
     Ask { client: ClientId, op: Payload },
-    /// `flow`: every message that was sent is given to whom it is for, until nothing is due.
-    Flow,
+    /// `flow M..`: every message that was sent is given to those of these members that it is for, or to its client, until nothing
+    /// is due. Where none is listed, all members are.
+    Flow { members: Sequence<MemberId> },
+    /// `give NUM X..`: the message of this number arrives at each of these, in order.
+    Give { number: u64, to: Sequence<Party> },
+    /// `deliver M..`: each of these members delivers the batch that waits, in order.
+    Deliver { members: Sequence<MemberId> },
+    /// `settle M`: the member takes what is due until nothing is.
+    Settle { member: MemberId },
+    /// `settle all`: each member does, ascending.
+    SettleAll,
+    /// `show`: where all members stand, and what all clients that asked have seen.
+    Show,
+}
+
+/// What is wrong with a script line: of several kinds that apply, the first of these.
+#[derive(Clone, Copy, Debug, PartialEq, Eq)]
+pub enum Kind {
+    /// The input ended before the header was whole.
+    Empty,
+    /// A byte outside 32 to 126.
+    Byte,
+    /// More than 65,536 bytes.
+    Long,
+    /// A line of the header that is not what has to stand there.
+    Header,
+    /// An unknown first word.
+    Word,
+    /// Too few words, or too many.
+    Count,
+    /// A word that is not the number that has to stand there.
+    Number,
+    /// Any other wrong word.
+    Form,
+    /// A message, a member or a client that is not there.
+    Refer,
 }
 
 /// What a transcript tells of a message.
@@ -102,6 +138,22 @@ pub enum OutLine {
     Busy {
         client: ClientId,
         seq: u64,
+    },
+    /// A node had nothing to do.
+    Idle {
+        member: MemberId,
+    },
+    /// Where a node stands: its last delivered place, its view and its regency.
+    Stands {
+        member: MemberId,
+        place: Place,
+        view: ViewNo,
+        regency: Regency,
+    },
+    /// The greatest place that a client knows.
+    Seen {
+        client: ClientId,
+        place: Place,
     },
     /// The input ended: lines read, messages sent.
     End {

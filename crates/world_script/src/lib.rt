@@ -2,4 +2,7 @@
 #![tactic(auto)]
 
 pub mod reading;
+#[cfg(test)]
+mod tests;
 pub mod text;
+pub mod words;

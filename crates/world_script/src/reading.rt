@@ -1,16 +1,21 @@
 //! What the lines of a script mean.
-ghost use Rattle.std.specs.Prelude.{◌≡◌, ◌==◌, ◌&&◌, ◌<◌, ◌+◌, nat_le, IfOk, IfSome, length, position};
+ghost use Rattle.std.specs.Prelude.{◌≡◌, ◌&&◌, ◌<◌, ◌≤◌, nat_le, IfOk, IfSome, take};
 ghost use Rattle.std.specs.List.{list_all};
-ghost use Rattle.world_rules.specs.Scripts.{is_text, is_nothing, ask_of, ask_line, line_of, members_from, view_for, group_line, is_app_line};
+ghost use Rattle.world_rules.specs.Scripts.{is_printed, is_short, is_nothing, number_in, member_of, client_of, each_word, party_of_word, ask_line, flow_line, give_line, deliver_line, settle_line, show_line, line_by, line_of, members_from, view_for, group_words, group_line, is_app_line};
 
-use smart_base::bytes::Payload;
+use crate::words::{Words, behind_space, words_in};
+use smart_base::bytes::{PAYLOAD_BYTES, Payload};
 use smart_base::decimal::number_of;
 use smart_base::equality::same_bytes;
 use smart_base::name::{ClientId, MemberId};
+use smart_base::party::Party;
 use smart_base::sequence::Sequence;
 use smart_base::view::View;
 use std::alloc::{AllocError, Global};
-use world_rules::line::Line;
+use world_rules::line::{Kind, Line};
+
+/// The most bytes that a line has.
+const LINE_BYTES: usize = 65_536;
 
 fn all_print(bytes: &[u8]) -> bool
     ensures { result ≡ list_all (λ b. nat_le 32 b && nat_le b 126) bytes.now }
@@ -18,11 +23,29 @@ fn all_print(bytes: &[u8]) -> bool
     bytes.iter().all(|b| 32 <= *b && *b <= 126)
 }
 
-/// Whether a line is at most 65,536 bytes that print.
-pub fn is_text(bytes: &[u8]) -> bool
-    ensures { result ≡ is_text bytes.now }
+/// The bytes up to the one that makes a line too long.
+fn looked_at(bytes: &[u8]) -> &[u8]
+    ensures { result.now ≡ take 65537 bytes.now }
 {
-    bytes.len() <= 65536 && all_print(bytes)
+    if bytes.len() <= LINE_BYTES + 1 {
+        return bytes;
+    }
+    let (front, _) = bytes.split_at(LINE_BYTES + 1);
+    front
+}
+
+/// Whether all bytes of a line print, up to the one that makes it too long.
+pub fn is_printed(bytes: &[u8]) -> bool
+    ensures { result ≡ is_printed bytes.now }
+{
+    all_print(looked_at(bytes))
+}
+
+/// Whether a line has at most 65,536 bytes.
+pub fn is_short(bytes: &[u8]) -> bool
+    ensures { result ≡ is_short bytes.now }
+{
+    bytes.len() <= LINE_BYTES
 }
 
 /// Whether a line is empty or a comment.
@@ -42,69 +65,201 @@ pub fn is_app_line(bytes: &[u8]) -> bool
     same_bytes(bytes, b"app count")
 }
 
-fn space_in(bytes: &[u8]) -> Option<usize>
-    ensures place { result ≡ position (λ b. b == 32) bytes.now }
-    ensures within { IfSome result (λ i. i < length bytes.now) }
+/// A number from a least to a greatest one.
+fn number_in(least: u64, most: u64, word: &[u8]) -> Option<u64>
+    ensures number { result ≡ number_in least most word.now }
+    ensures most { IfSome result (λ n. n ≤ most) }
 {
-    bytes.iter().position(|b| *b == b' ')
-}
-
-fn ask_of(alloc: Global, client: Option<u64>, op: &[u8]) -> Result<Option<Line>, AllocError>
-    ensures { IfOk result (λ line. line ≡ ask_of client op.now) }
-{
-    match client {
-        None => Ok(None),
-        Some(client) => {
-            if 1 <= client && client <= 1024 && op.len() <= 4096 {
-                let op = Payload::from_slice(alloc, op)?;
-                Ok(Some(Line::Ask {
-                    client: ClientId::new(client as u16),
-                    op,
-                }))
-            } else {
-                Ok(None)
-            }
-        }
+    let n = number_of(word)?;
+    if least <= n && n <= most {
+        Some(n)
+    } else {
+        None
     }
 }
 
-#[tactic(auto, unfolding(world_rules::specs::Scripts::ask_line))]
-fn ask_line(alloc: Global, rest: &[u8]) -> Result<Option<Line>, AllocError>
-    ensures { IfOk result (λ line. line ≡ ask_line rest.now) }
+fn member_of(word: &[u8]) -> Option<MemberId>
+    ensures { result ≡ member_of word.now }
 {
-    let Some(i) = space_in(rest) else {
-        return Ok(None);
-    };
-    let (client, _) = rest.split_at(i);
-    let (_, op) = rest.split_at(i + 1);
-    ask_of(alloc, number_of(client), op)
+    let n = number_in(1, 65535, word)?;
+    Some(MemberId::new(n as u16))
 }
 
-/// The meaning of a line behind the header, if it has one.
+fn client_of(word: &[u8]) -> Option<ClientId>
+    ensures { result ≡ client_of word.now }
+{
+    let n = number_in(1, 1024, word)?;
+    Some(ClientId::new(n as u16))
+}
+
+/// A member by its number, or a client by c and its number.
+fn party_of_word(word: &[u8]) -> Option<Party>
+    ensures { result ≡ party_of_word word.now }
+{
+    match word {
+        [b'c', id @ ..] => Some(Party::Client(client_of(id)?)),
+        _ => Some(Party::Member(member_of(word)?)),
+    }
+}
+
+/// The members whose numbers the words are.
+fn members_of(alloc: Global, mut words: Words<'_>) -> Result<Option<Sequence<MemberId>>, AllocError>
+    ensures { IfOk result (λ members. members ≡ each_word member_of words.entry) }
+{
+    let mut members = Sequence::new(alloc);
+    while let Some((word, more)) = words.split_first() {
+        let Some(member) = member_of(word) else {
+            return Ok(None);
+        };
+        members.push(member)?;
+        words = more;
+    }
+    Ok(Some(members))
+}
+
+/// The members and clients that the words tell.
+fn parties_of(alloc: Global, mut words: Words<'_>) -> Result<Option<Sequence<Party>>, AllocError>
+    ensures { IfOk result (λ parties. parties ≡ each_word party_of_word words.entry) }
+{
+    let mut parties = Sequence::new(alloc);
+    while let Some((word, more)) = words.split_first() {
+        let Some(party) = party_of_word(word) else {
+            return Ok(None);
+        };
+        parties.push(party)?;
+        words = more;
+    }
+    Ok(Some(parties))
+}
+
+/// A client's number and an operation, which is the rest of the line.
+fn ask_line(alloc: Global, bytes: &[u8], words: Words<'_>) -> Result<Result<Line, Kind>, AllocError>
+    ensures { IfOk result (λ line. line ≡ ask_line bytes.now words.entry) }
+{
+    let Some((client, more)) = words.split_first() else {
+        return Ok(Err(Kind::Count));
+    };
+    let Some(_) = more.split_first() else {
+        return Ok(Err(Kind::Count));
+    };
+    let Some(client) = client_of(client) else {
+        return Ok(Err(Kind::Number));
+    };
+    let op = behind_space(behind_space(bytes));
+    if op.len() > PAYLOAD_BYTES {
+        return Ok(Err(Kind::Form));
+    }
+    let op = Payload::from_slice(alloc, op)?;
+    Ok(Ok(Line::Ask { client, op }))
+}
+
+fn flow_line(alloc: Global, words: Words<'_>) -> Result<Result<Line, Kind>, AllocError>
+    ensures { IfOk result (λ line. line ≡ flow_line words.entry) }
+{
+    let Some(members) = members_of(alloc, words)? else {
+        return Ok(Err(Kind::Number));
+    };
+    Ok(Ok(Line::Flow { members }))
+}
+
+/// A message's number, and whom it is given to.
+fn give_line(alloc: Global, words: Words<'_>) -> Result<Result<Line, Kind>, AllocError>
+    ensures { IfOk result (λ line. line ≡ give_line words.entry) }
+{
+    let Some((number, more)) = words.split_first() else {
+        return Ok(Err(Kind::Count));
+    };
+    let Some(_) = more.split_first() else {
+        return Ok(Err(Kind::Count));
+    };
+    let Some(number) = number_in(1, 1 << 24, number) else {
+        return Ok(Err(Kind::Number));
+    };
+    let Some(to) = parties_of(alloc, more)? else {
+        return Ok(Err(Kind::Number));
+    };
+    Ok(Ok(Line::Give { number, to }))
+}
+
+fn deliver_line(alloc: Global, words: Words<'_>) -> Result<Result<Line, Kind>, AllocError>
+    ensures { IfOk result (λ line. line ≡ deliver_line words.entry) }
+{
+    let Some(_) = words.split_first() else {
+        return Ok(Err(Kind::Count));
+    };
+    let Some(members) = members_of(alloc, words)? else {
+        return Ok(Err(Kind::Number));
+    };
+    Ok(Ok(Line::Deliver { members }))
+}
+
+/// One member's number, or `all`.
+fn settle_line(words: Words<'_>) -> Result<Line, Kind>
+    ensures { result ≡ settle_line words.entry }
+{
+    let Some((word, more)) = words.split_first() else {
+        return Err(Kind::Count);
+    };
+    let None = more.split_first() else {
+        return Err(Kind::Count);
+    };
+    if same_bytes(word, b"all") {
+        return Ok(Line::SettleAll);
+    }
+    let Some(member) = member_of(word) else {
+        return Err(Kind::Number);
+    };
+    Ok(Line::Settle { member })
+}
+
+fn show_line(words: Words<'_>) -> Result<Line, Kind>
+    ensures { result ≡ show_line words.entry }
+{
+    match words.split_first() {
+        None => Ok(Line::Show),
+        Some(_) => Err(Kind::Count),
+    }
+}
+
+fn line_by(alloc: Global, bytes: &[u8], words: Words<'_>) -> Result<Result<Line, Kind>, AllocError>
+    ensures { IfOk result (λ line. line ≡ line_by bytes.now words.entry) }
+{
+    let Some((word, words)) = words.split_first() else {
+        return Ok(Err(Kind::Word));
+    };
+    if same_bytes(word, b"ask") {
+        ask_line(alloc, bytes, words)
+    } else if same_bytes(word, b"flow") {
+        flow_line(alloc, words)
+    } else if same_bytes(word, b"give") {
+        give_line(alloc, words)
+    } else if same_bytes(word, b"deliver") {
+        deliver_line(alloc, words)
+    } else if same_bytes(word, b"settle") {
+        Ok(settle_line(words))
+    } else if same_bytes(word, b"show") {
+        Ok(show_line(words))
+    } else {
+        Ok(Err(Kind::Word))
+    }
+}
+
+/// The meaning of a line behind the header, or what is wrong with it.
 #[tactic(auto, unfolding(world_rules::specs::Scripts::line_of))]
-pub fn line_of(alloc: Global, bytes: &[u8]) -> Result<Option<Line>, AllocError>
+pub fn line_of(alloc: Global, bytes: &[u8]) -> Result<Result<Line, Kind>, AllocError>
     ensures { IfOk result (λ line. line ≡ line_of bytes.now) }
 {
-    if !is_text(bytes) {
-        return Ok(None);
+    if !is_printed(bytes) {
+        return Ok(Err(Kind::Byte));
+    }
+    if !is_short(bytes) {
+        return Ok(Err(Kind::Long));
     }
     if is_nothing(bytes) {
-        return Ok(Some(Line::Nothing));
+        return Ok(Ok(Line::Nothing));
     }
-    if same_bytes(bytes, b"flow") {
-        return Ok(Some(Line::Flow));
-    }
-    if bytes.len() < 4 {
-        return Ok(None);
-    }
-    let (word, rest) = bytes.split_at(4);
-    if same_bytes(word, b"ask ") {
-        ask_line(alloc, rest)
-    } else {
-        Ok(None)
-    }
+    line_by(alloc, bytes, words_in(bytes))
 }
-
 /// Members 1 to count.
 #[tactic(auto, using(crate::proofs::Members::members_more, crate::proofs::Members::members_none))]
 fn first_members(alloc: Global, count: u16) -> Result<Sequence<MemberId>, AllocError>
@@ -136,22 +291,32 @@ fn view_for(alloc: Global, n: Option<u64>, f: Option<u64>) -> Result<Option<View
     }
 }
 
+fn group_words(alloc: Global, words: Words<'_>) -> Result<Option<View>, AllocError>
+    ensures { IfOk result (λ view. view ≡ group_words words.entry) }
+{
+    let Some((members, more)) = words.split_first() else {
+        return Ok(None);
+    };
+    let Some((faulty, more)) = more.split_first() else {
+        return Ok(None);
+    };
+    let None = more.split_first() else {
+        return Ok(None);
+    };
+    view_for(alloc, number_of(members), number_of(faulty))
+}
+
 /// The view that the line `group N F` begins with, if the line is one.
 #[tactic(auto, unfolding(world_rules::specs::Scripts::group_line))]
 pub fn group_line(alloc: Global, bytes: &[u8]) -> Result<Option<View>, AllocError>
     ensures { IfOk result (λ view. view ≡ group_line bytes.now) }
 {
-    if bytes.len() < 6 {
-        return Ok(None);
-    }
-    let (word, rest) = bytes.split_at(6);
-    if !same_bytes(word, b"group ") {
-        return Ok(None);
-    }
-    let Some(i) = space_in(rest) else {
+    let Some((word, words)) = words_in(bytes).split_first() else {
         return Ok(None);
     };
-    let (members, _) = rest.split_at(i);
-    let (_, faulty) = rest.split_at(i + 1);
-    view_for(alloc, number_of(members), number_of(faulty))
+    if same_bytes(word, b"group") {
+        group_words(alloc, words)
+    } else {
+        Ok(None)
+    }
 }

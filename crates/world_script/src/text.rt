@@ -205,6 +205,24 @@ fn push_words(out: &mut String, line: &OutLine) -> Result<(), AllocError>
             let id = client.get();
             write!(out, "busy c{id} {seq}")
         }
+        OutLine::Idle { member } => {
+            let id = member.get();
+            write!(out, "idle n{id}")
+        }
+        OutLine::Stands {
+            member,
+            place,
+            view,
+            regency,
+        } => {
+            let (id, place) = (member.get(), place.get());
+            let (view, regency) = (view.get(), regency.get());
+            write!(out, "place n{id} {place} {view} {regency}")
+        }
+        OutLine::Seen { client, place } => {
+            let (id, place) = (client.get(), place.get());
+            write!(out, "seen c{id} {place}")
+        }
         OutLine::End { lines, messages } => write!(out, "end {lines} {messages}"),
     }
 }

@@ -1,0 +1,83 @@
+//! The words of a line.
+ghost use Rattle.std.specs.Prelude.{◌≡◌, ◌==◌, ◌∷◌, ◌<◌, [], IfSome, length, position};
+ghost use Rattle.std.specs.Option.{MatchOption};
+ghost use Rattle.world_rules.specs.Scripts.{words_in, behind_space};
+
+use std::marker::Model;
+
+/// The words that are left of a line.
+#[derive(Drop)]
+pub struct Words<'a> {
+    more: bool,
+    left: &'a [u8],
+}
+
+impl<'a> Model for Words<'a> {
+    ghost use Rattle.std.specs.Prelude.{List, ℕ};
+    ghost use Rattle.world_script.specs.Words.{words_left};
+
+    ghost Value = { List (List ℕ) };
+
+    ghost view = { λ w. words_left w.more w.left.now };
+}
+
+fn space_in(bytes: &[u8]) -> Option<usize>
+    ensures place { result ≡ position (λ b. b == 32) bytes.now }
+    ensures within { IfSome result (λ i. i < length bytes.now) }
+{
+    bytes.iter().position(|b| *b == b' ')
+}
+
+/// What stands in front of the first space, and what behind it.
+fn parts(bytes: &[u8]) -> Option<(&[u8], &[u8])>
+    ensures words { MatchOption result (words_in bytes.now ≡ bytes.now ∷ []) (λ parts. words_in bytes.now ≡ parts.0.now ∷ words_in parts.1.now) }
+    ensures behind { MatchOption result (behind_space bytes.now ≡ []) (λ parts. behind_space bytes.now ≡ parts.1.now) }
+{
+    let Some(i) = space_in(bytes) else {
+        return None;
+    };
+    let (front, _) = bytes.split_at(i);
+    let (_, rest) = bytes.split_at(i + 1);
+    Some((front, rest))
+}
+
+/// What stands behind the first space.
+pub fn behind_space(bytes: &[u8]) -> &[u8]
+    ensures { result.now ≡ behind_space bytes.now }
+{
+    match parts(bytes) {
+        None => &[],
+        Some((_, rest)) => rest,
+    }
+}
+
+/// The words that single spaces part.
+pub fn words_in(bytes: &[u8]) -> Words<'_>
+    ensures { result ≡ words_in bytes.now }
+{
+    Words {
+        more: true,
+        left: bytes,
+    }
+}
+
+impl<'a> Words<'a> {
+    /// The first word and those behind it.
+    pub fn split_first(&self) -> Option<(&'a [u8], Words<'a>)>
+        ensures { MatchOption result (self.now ≡ []) (λ parts. self.now ≡ parts.0.now ∷ parts.1) }
+    {
+        if !self.more {
+            return None;
+        }
+        match parts(self.left) {
+            None => Some((
+                self.left,
+                Words {
+                    more: false,
+                    left: self.left,
+                },
+            )),
+            Some((word, left)) => Some((word, Words { more: true, left })),
+        }
+    }
+}
