@@ -1,5 +1,5 @@
 -- Each request at a node was asked, and each batch at a node fits its place: rule by rule, over what counts as asked.
-use Rattle.std.proofs.Common.{◌≡◌, ℕ, ◌++◌, Bool, true, false, not, ◌&&◌, ◌==◌, List, [], ◌∷◌, refl, cond, Option, Some, None, nat_lt, subst, eqb-true, filter, Result, Ok, Err}
+use Rattle.std.proofs.Common.{◌≡◌, ℕ, ◌++◌, Bool, true, false, not, ◌&&◌, ◌==◌, List, [], ◌∷◌, refl, cond, Option, Some, None, nat_lt, subst, eqb-true, filter, Result, Ok, Err, ◌∙◌}
 use Rattle.std.specs.List.{list_any, list_all}
 use Rattle.smart_base.specs.Lists.{Each, or_else, same_bytes}
 use Rattle.smart_base.specs.Views.{leader, is_member}
@@ -22,8 +22,8 @@ use Rattle.smart_service.specs.declared.table.TableLine.{TableLine}
 use Rattle.node_rules.specs.Replicas.{is_next, delivered}
 use Rattle.node_rules.specs.Seals.{signed, is_verified, digest_of, request_fits, is_managers, fits}
 use Rattle.node_rules.specs.Nodes.{Node, view_of, next_place, open_slot, is_free, holding, recording, has_quorum, proposal_in, proposal_of}
-use Rattle.node_rules.specs.Arrivals.{slot_why, signer_why, is_valid, why_propose, why_dropped, offered, kept}
-use Rattle.node_rules.specs.Rules.{settled, reply_of, replying, lines_to_answer, deliver_batch, delivers, gathered, proposing, propose_batch, proposes, ballot, writing, write_batch, writes, backed, backers, accepting, accept_batch, accepts, deciding, decide_batch, decides}
+use Rattle.node_rules.specs.Arrivals.{slot_why, signer_why, is_valid, why_propose, why_dropped, offered, kept, noted}
+use Rattle.node_rules.specs.Rules.{settled, reply_of, replying, lines_to_answer, deliver_batch, delivers, gathered, proposing, propose_batch, proposes, ballot, writing, write_batch, writes, backed, backers, accepting, accept_batch, accepts, deciding, decide_batch, decides, answering, answer_line, answers_again}
 use Rattle.node_rules.specs.Steps.{votes, passes, arrival_outcome, reading_outcome, step_of, staying, leaving, released}
 use Rattle.node_rules.specs.declared.node.Why.{Why}
 use Rattle.node_rules.specs.declared.node.Why.TheVariants.{NotMember, BadTag, NotLeader, InvalidBatch}
@@ -31,6 +31,7 @@ use Rattle.node_rules.specs.declared.node.Held.{Held}
 use Rattle.node_rules.specs.declared.node.Target.{Target}
 use Rattle.node_rules.specs.declared.node.Target.TheVariants as targets
 use Rattle.world_laws.proofs.Lists.{and_true, either, each_end, each_weaker}
+use Rattle.world_laws.proofs.Again.{why-noted}
 
 -- each request of a batch was asked, and the batch may stand at the place
 pub record GoodBatch (A : SignedBy Request → Type 0) (secret : List ℕ) (place : ℕ) (batch : Batch) : Type 0 where
@@ -203,6 +204,21 @@ authentic-kept A n (Vote b) fine asked is =
     record { pool = is.pool; arrivals = each_end (ProposalGood A n.secret) n.arrivals (Vote b) is.arrivals tt; waiting = is.waiting; held = is.held }
 authentic-kept A n (Reply a) fine asked is = is
 
+-- a node is told that it is behind
+authentic-noted : {S : Type 0} (A : SignedBy Request → Type 0) (n : Node S) (message : Message) → NodeAuthentic A n → NodeAuthentic A (noted n message)
+unfolding noted
+authentic-noted A n message is = record { pool = is.pool; arrivals = is.arrivals; waiting = is.waiting; held = is.held }
+
+-- a node answers again
+authentic-answer_line : {S : Type 0} (A : SignedBy Request → Type 0) (n : Node S) (line : Option TableLine) → NodeAuthentic A n → NodeAuthentic A (answer_line n line)
+unfolding answer_line
+authentic-answer_line A n None is = is
+authentic-answer_line A n (Some line) is = authentic-holding A n (targets.Client line.client) (reply_of n.secret n.id line) tt is
+
+authentic-answers_again : {S : Type 0} (A : SignedBy Request → Type 0) (n : Node S) (message : Message) → NodeAuthentic A n → NodeAuthentic A (answers_again n message)
+unfolding answers_again
+authentic-answers_again A n message is = authentic-answer_line A n (answering n message) is
+
 -- deliver
 
 -- what holds of each value, holds of those that pass a test
@@ -330,8 +346,10 @@ authentic-passes A n is =
 
 -- a message that comes does, kept or dropped
 authentic-arrival : {S : Type 0} (A : SignedBy Request → Type 0) (n : Node S) (message : Message) (why : Option Why) → why_dropped n message ≡ why → MessageAsked A message → NodeAuthentic A n → NodeAuthentic A (arrival_outcome n message why).node
-authentic-arrival A n message None fine asked is = authentic-passes A (kept n message) (authentic-kept A n message fine asked is)
-authentic-arrival A n message (Some why) fine asked is = is
+authentic-arrival {S = S} A n message None fine asked is =
+    let k : Node S = kept (noted n message) message in
+    authentic-answers_again A (passes k) message (authentic-passes A k (authentic-kept A (noted n message) message (why-noted n message ∙ fine) asked (authentic-noted A n message is)))
+authentic-arrival A n message (Some why) fine asked is = authentic-noted A n message is
 
 -- bytes that come do
 authentic-reading : {S : Type 0} (A : SignedBy Request → Type 0) (n : Node S) (read : Result Message ℕ) → ReadAsked A read → NodeAuthentic A n → NodeAuthentic A (reading_outcome n read).node

@@ -16,7 +16,7 @@ use Rattle.node_rules.specs.declared.node.Target.{Target}
 use Rattle.node_rules.specs.declared.node.Target.TheVariants as targets
 use Rattle.world_rules.specs.Repeats.{repeated}
 use Rattle.world_rules.specs.Secrets.{group_secret}
-use Rattle.world_rules.specs.Worlds.{Host, World, sends, sends_all, host_after, stepped, host_takes, node_takes, settle_once, settle, settle_all, gives, hearing, flow_once, hosts_from, begun}
+use Rattle.world_rules.specs.Worlds.{Host, World, sends, sends_all, host_after, stepped, host_takes, node_takes, settle_once, settle, settle_all, gives, hearing, flow_once, hosts_from, begun, at_listed}
 use Rattle.world_rules.specs.Plays.{world_after}
 use Rattle.world_rules.specs.declared.line.Line.{Line}
 use Rattle.world_rules.specs.declared.message.Origin.{Origin}
@@ -26,7 +26,7 @@ use Rattle.world_laws.specs.Sending.{IsOwn, rests_on, IsBorne, SentFirm}
 use Rattle.world_laws.specs.Settling.{flow_begins, flow_goes, message_goes, node_goes}
 use Rattle.world_laws.proofs.Lists.{and_true, either, some-equal, each_end, each_weaker, each_set, each_get, repeated_keeps, each_from_keeps}
 use Rattle.world_laws.proofs.Equal.{and_intro}
-use Rattle.world_laws.proofs.Keeps.{MayCome, ask_of, asked_by, by-sends, Keeps, KeepsLive, live, keeps-world_after, live-settle_once, live-settle, live-settle_all, live-flow_once}
+use Rattle.world_laws.proofs.Keeps.{MayCome, ask_of, asked_by, by-sends, Keeps, KeepsLive, live, keeps-world_after, live-settle_once, live-settle, live-settle_all, live-flow_once, at_listed-keeps}
 use Rattle.world_laws.proofs.Says.{or_left, or_right}
 use Rattle.world_laws.proofs.Said.{or_true}
 use Rattle.world_laws.proofs.Leaving.{leaving_rest}
@@ -222,23 +222,25 @@ borne-turns : {S : Type 0} (m : Meaning S) (i k : ℕ) (w : World S) → Borne w
 borne-turns m i k w is = repeated_keeps Borne (settle_once (step_of m) i) (live-settle_once (step_of m) Borne (borne-live m) i) k w is
 
 -- as a flow begins
-pub firm-first : {S : Type 0} (m : Meaning S) (view : View) (ls : List Line) (nodes i k : ℕ) → SentFirm (repeated (settle_once (step_of m) i) k (flow_begins m view ls nodes))
-firm-first m view ls nodes i k =
-    (borne-turns m i k (flow_begins m view ls nodes)
-    (each_from_keeps Borne (settle (step_of m)) (live-settle (step_of m) Borne (borne-live m)) nodes 0 (world_after (step_of m) (begun m view) ls) (borne-after m view ls))).sent
+pub firm-first : {S : Type 0} (m : Meaning S) (view : View) (ls : List Line) (members : List ℕ) (nodes i k : ℕ)
+    → SentFirm (repeated (settle_once (step_of m) i) k (flow_begins m view ls members nodes))
+firm-first m view ls members nodes i k =
+    (borne-turns m i k (flow_begins m view ls members nodes)
+    (each_from_keeps Borne (at_listed members (settle (step_of m))) (at_listed-keeps Borne members (settle (step_of m)) (live-settle (step_of m) Borne (borne-live m))) nodes 0 (world_after (step_of m) (begun m view) ls) (borne-after m view ls))).sent
 
 -- after some turns of it
-borne-flow : {S : Type 0} (m : Meaning S) (view : View) (ls : List Line) (turn : ℕ) → Borne (flow_goes m view ls turn)
-borne-flow {S = S} m view ls turn =
+borne-flow : {S : Type 0} (m : Meaning S) (view : View) (ls : List Line) (members : List ℕ) (turn : ℕ) → Borne (flow_goes m view ls members turn)
+borne-flow {S = S} m view ls members turn =
     let w : World S = world_after (step_of m) (begun m view) ls in
-    repeated_keeps Borne (flow_once (step_of m)) (live-flow_once (step_of m) Borne (borne-live m)) turn (settle_all (step_of m) w) (live-settle_all (step_of m) Borne (borne-live m) w (borne-after m view ls))
+    repeated_keeps Borne (flow_once (step_of m) members) (live-flow_once (step_of m) Borne (borne-live m) members) turn (settle_all (step_of m) members w) (live-settle_all (step_of m) Borne (borne-live m) members w (borne-after m view ls))
 
 -- as bytes are given in it, and a node takes it and goes on
-pub firm-given : {S : Type 0} (m : Meaning S) (view : View) (ls : List Line) (turn : ℕ) (bytes : List ℕ) (nodes i k : ℕ)
-    → SentFirm (node_goes m bytes i k (message_goes m bytes nodes (flow_goes m view ls turn)))
-firm-given {S = S} m view ls turn bytes nodes i k =
-    let w : World S = flow_goes m view ls turn in
-    let is : Borne w = borne-flow m view ls turn in
-    let given : Borne (message_goes m bytes nodes w) = each_from_keeps Borne (gives (step_of m) bytes) (borne-gives m bytes) nodes 0 (record w { mark = w.mark + 1 })
+pub firm-given : {S : Type 0} (m : Meaning S) (view : View) (ls : List Line) (members : List ℕ) (turn : ℕ) (bytes : List ℕ) (nodes i k : ℕ)
+    → SentFirm (node_goes m bytes i k (message_goes m members bytes nodes (flow_goes m view ls members turn)))
+firm-given {S = S} m view ls members turn bytes nodes i k =
+    let w : World S = flow_goes m view ls members turn in
+    let is : Borne w = borne-flow m view ls members turn in
+    let given : Borne (message_goes m members bytes nodes w) =
+    each_from_keeps Borne (at_listed members (gives (step_of m) bytes)) (at_listed-keeps Borne members (gives (step_of m) bytes) (borne-gives m bytes)) nodes 0 (record w { mark = w.mark + 1 })
     (record { hosts = is.hosts; sent = record { own = is.sent.own; borne = is.sent.borne } }) in
-    (borne-turns m i k (node_takes (step_of m) i (Arrive bytes) (message_goes m bytes nodes w)) (borne-node_takes m i bytes (message_goes m bytes nodes w) given)).sent
+    (borne-turns m i k (node_takes (step_of m) i (Arrive bytes) (message_goes m members bytes nodes w)) (borne-node_takes m i bytes (message_goes m members bytes nodes w) given)).sent

@@ -99,31 +99,32 @@ pub bounded-after : {S : Type 0} (m : Meaning S) (step : Node S → NodeEvent �
 bounded-after m step view ls = live-world_after step BoundedWorld (keeps-bounded step) (begun m view) ls (bounded-begun m view)
 
 -- a turn of a flow rests, or raises the mark
-raises_sent : {S : Type 0} (step : Node S → NodeEvent → Outcome S) (w : World S) (found : Option Sent) → slice_get w.sent w.mark ≡ found → BoundedWorld w
-    → (flow_sent step w found ≡ w) ⊎ ((w.mark < 2 ^ 24) × Passed (w.mark + 1) (flow_sent step w found))
-raises_sent step w None at is = inl refl
-raises_sent {S = S} step w (Some s) at is =
+raises_sent : {S : Type 0} (step : Node S → NodeEvent → Outcome S) (members : List ℕ) (w : World S) (found : Option Sent) → slice_get w.sent w.mark ≡ found → BoundedWorld w
+    → (flow_sent step members w found ≡ w) ⊎ ((w.mark < 2 ^ 24) × Passed (w.mark + 1) (flow_sent step members w found))
+raises_sent step members w None at is = inl refl
+raises_sent {S = S} step members w (Some s) at is =
     let within : w.mark < length w.sent = slice_get_within w.sent w.mark s at in
     inr (
       omega (arith, is.sent),
-      live-goes step (Passed (w.mark + 1)) (keeps-passed step (w.mark + 1)) (record w { mark = w.mark + 1 }) s.message s.to (has_at w.sent w.mark s at)
+      live-goes step (Passed (w.mark + 1)) (keeps-passed step (w.mark + 1)) members (record w { mark = w.mark + 1 }) s.message s.to (has_at w.sent w.mark s at)
           (record { past = omega arith; mark = omega arith; sent = is.sent }),
     )
 
 -- a turn of a flow rests, or raises the mark, whether the play has ended or not
-raises : {S : Type 0} (step : Node S → NodeEvent → Outcome S) (w : World S) → BoundedWorld w → (flow_once step w ≡ w) ⊎ ((w.mark < 2 ^ 24) × Passed (w.mark + 1) (flow_once step w))
+raises : {S : Type 0} (step : Node S → NodeEvent → Outcome S) (members : List ℕ) (w : World S) → BoundedWorld w → (flow_once step members w ≡ w) ⊎ ((w.mark < 2 ^ 24) × Passed (w.mark + 1) (flow_once step members w))
 unfolding flow_once
-raises {S = S} step w is =
-    either (λ (v : World S). (v ≡ w) ⊎ ((w.mark < 2 ^ 24) × Passed (w.mark + 1) v)) (is_some w.ending) w (flow_sent step w (slice_get w.sent w.mark)) (inl refl) (raises_sent step w (slice_get w.sent w.mark) refl is)
+raises {S = S} step members w is =
+    either (λ (v : World S). (v ≡ w) ⊎ ((w.mark < 2 ^ 24) × Passed (w.mark + 1) v)) (is_some w.ending) w (flow_sent step members w (slice_get w.sent w.mark)) (inl refl) (raises_sent step members w (slice_get w.sent w.mark) refl is)
 
 -- a flow rests once it has had more turns than there are numbers behind the mark
-rests_after : {S : Type 0} (step : Node S → NodeEvent → Outcome S) (k : ℕ) (w : World S) → 2 ^ 24 ≤ w.mark + k → BoundedWorld w → flow_once step (repeated (flow_once step) k w) ≡ repeated (flow_once step) k w
+rests_after : {S : Type 0} (step : Node S → NodeEvent → Outcome S) (members : List ℕ) (k : ℕ) (w : World S) → 2 ^ 24 ≤ w.mark + k → BoundedWorld w
+    → flow_once step members (repeated (flow_once step members) k w) ≡ repeated (flow_once step members) k w
 unfolding repeated
-rests_after step zero w enough is = elim (raises step w is) [ inl rests ↦ rests | inr more ↦ absurd (omega (arith, more.0)) ]
-rests_after step (suc k) w enough is =
-    elim (raises step w is) [
-      | inl rests ↦ rests_still (flow_once step) (suc k) w rests
-      | inr more ↦ rests_after step k (flow_once step w) (omega (arith, more.1.past)) (record { mark = more.1.mark; sent = more.1.sent })
+rests_after step members zero w enough is = elim (raises step members w is) [ inl rests ↦ rests | inr more ↦ absurd (omega (arith, more.0)) ]
+rests_after step members (suc k) w enough is =
+    elim (raises step members w is) [
+      | inl rests ↦ rests_still (flow_once step members) (suc k) w rests
+      | inr more ↦ rests_after step members k (flow_once step members w) (omega (arith, more.1.past)) (record { mark = more.1.mark; sent = more.1.sent })
     ]
 
 -- there are more turns than numbers of messages
@@ -132,14 +133,15 @@ unfolding turns
 turns_enough = omega arith
 
 -- a flow from a bounded world comes to rest
-pub flow_rests : {S : Type 0} (step : Node S → NodeEvent → Outcome S) (w : World S) → BoundedWorld w → flow_once step (until_rest (flow_once step) w) ≡ until_rest (flow_once step) w
+pub flow_rests : {S : Type 0} (step : Node S → NodeEvent → Outcome S) (members : List ℕ) (w : World S) → BoundedWorld w
+    → flow_once step members (until_rest (flow_once step members) w) ≡ until_rest (flow_once step members) w
 unfolding until_rest
-flow_rests step w is = rests_after step turns w (omega (arith, turns_enough)) is
+flow_rests step members w is = rests_after step members turns w (omega (arith, turns_enough)) is
 
 -- after a flow line, one more turn changes nothing
-pub flow_line_rests : {S : Type 0} (m : Meaning S) (step : Node S → NodeEvent → Outcome S) (view : View) (ls : List Line)
-    → flow_once step (line_played step (world_after step (begun m view) ls) lines.Flow) ≡ line_played step (world_after step (begun m view) ls) lines.Flow
+pub flow_line_rests : {S : Type 0} (m : Meaning S) (step : Node S → NodeEvent → Outcome S) (view : View) (ls : List Line) (members : List ℕ)
+    → flow_once step members (line_played step (world_after step (begun m view) ls) (lines.Flow members)) ≡ line_played step (world_after step (begun m view) ls) (lines.Flow members)
 unfolding line_played
-flow_line_rests m step view ls =
-    flow_rests step (settle_all step (world_after step (begun m view) ls))
-    (live-settle_all step BoundedWorld (keeps-bounded step) (world_after step (begun m view) ls) (bounded-after m step view ls))
+flow_line_rests m step view ls members =
+    flow_rests step members (settle_all step members (world_after step (begun m view) ls))
+    (live-settle_all step BoundedWorld (keeps-bounded step) members (world_after step (begun m view) ls) (bounded-after m step view ls))

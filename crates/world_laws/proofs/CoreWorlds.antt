@@ -1,7 +1,7 @@
 -- The play of cores, which keep no more than they need, is the play of the nodes that keep all.
-use Rattle.std.proofs.Common.{◌≡◌, ℕ, zero, suc, ◌+◌, ◌^◌, ◌++◌, Bool, true, false, List, [], ◌∷◌, length, map, refl, ap, sym, ◌∙◌, cond, Option, Some, None, is_some, nat_lt, nat_le, ◌&&◌, Result, Ok, Err}
+use Rattle.std.proofs.Common.{◌≡◌, ℕ, zero, suc, ◌+◌, ◌^◌, ◌++◌, Bool, true, false, List, [], ◌∷◌, length, map, refl, ap, sym, ◌∙◌, cond, Option, Some, None, is_some, nat_lt, nat_le, ◌&&◌, Result, Ok, Err, ◌==◌, ◌-◌, not}
 use Rattle.std.specs.Prelude.{slice_get, slice_set, option_map}
-use Rattle.std.specs.List.{flat_map}
+use Rattle.std.specs.List.{flat_map, list_all, position_or_len}
 use Rattle.std.specs.Option.{option_and_then}
 use Rattle.smart_base.specs.Views.{View}
 use Rattle.smart_messages.specs.Kinds.{requests}
@@ -10,7 +10,7 @@ use Rattle.smart_messages.specs.declared.statement.Request.{Request}
 use Rattle.smart_messages.specs.declared.message.Message.{Message}
 use Rattle.smart_messages.specs.declared.message.Message.TheVariants.{Ask, Propose, Vote, Reply}
 use Rattle.smart_messages.specs.declared.entry.NodeEvent.{NodeEvent}
-use Rattle.smart_messages.specs.declared.entry.NodeEvent.TheVariants.{Arrive}
+use Rattle.smart_messages.specs.declared.entry.NodeEvent.TheVariants.{Arrive, Deliver}
 use Rattle.smart_service.specs.Services.{Meaning}
 use Rattle.node_rules.specs.Seals.{signed}
 use Rattle.node_rules.specs.Nodes.{Node, next_place}
@@ -24,8 +24,8 @@ use Rattle.world_rules.specs.Repeats.{repeated, turns, until_rest, each_from}
 use Rattle.world_rules.specs.Secrets.{group_secret}
 use Rattle.world_rules.specs.Premises.{collides}
 use Rattle.world_rules.specs.Clients.{request_of, asking}
-use Rattle.world_rules.specs.Worlds.{Host, World, sends, sends_all, told_drop, told_fired, chosen_with, host_after, stepped, host_takes, node_takes, due, takes_due, settle_once, settle, settle_all, gives, give_all, hearing, client_hears, hears_bytes, client_takes, client_asks, ask_found, asks, goes, flow_sent, flow_once, flows, hosts_from, begun}
-use Rattle.world_rules.specs.Plays.{line_played, rested, world_after, lines_told}
+use Rattle.world_rules.specs.Worlds.{Host, World, sends, sends_all, told_drop, told_fired, chosen_with, host_after, stepped, host_takes, node_takes, due, takes_due, settle_once, settle, settle_all, gives, give_all, hearing, client_hears, hears_bytes, client_takes, client_asks, ask_found, asks, goes, flow_sent, flow_once, flows, hosts_from, begun, is_listed, where_listed, at_listed, each_listed, host_index, at_index, at_member, arrives, arrives_at, sent_arrives, give_number, told_idle, telling_all, host_delivers, deliver_at, deliver_each, shown_host, shown_client, shows}
+use Rattle.world_rules.specs.Plays.{has_member, has_party, is_there, line_played, rested, world_after, lines_told}
 use Rattle.world_rules.specs.declared.client.Client.{Client}
 use Rattle.world_rules.specs.declared.message.Origin.{Origin}
 use Rattle.world_rules.specs.declared.message.Origin.TheVariants as origins
@@ -33,6 +33,9 @@ use Rattle.world_rules.specs.declared.message.Sent.{Sent}
 use Rattle.world_rules.specs.declared.line.Line.{Line}
 use Rattle.world_rules.specs.declared.line.Line.TheVariants as lines
 use Rattle.world_laws.specs.Cores.{trimmed_host, trimmed_world}
+use Rattle.smart_base.specs.declared.party.Party.{Party}
+use Rattle.smart_base.specs.declared.party.Party.TheVariants as parties
+use Rattle.world_rules.specs.declared.line.OutLine.{OutLine}
 
 -- lists, choices and repeated steps
 
@@ -166,11 +169,54 @@ hosts_same : {S : Type 0} (w : World S) → length (trimmed_world w).hosts ≡ l
 unfolding trimmed_world
 hosts_same w = map_length trimmed_host w.hosts
 
--- all nodes settle
-settle_all_same : {S : Type 0} (m : Meaning S) (w : World S) → settle_all (core_step m) (trimmed_world w) ≡ trimmed_world (settle_all (step_of m) w)
-settle_all_same m w =
-    ap (λ k. each_from (settle (core_step m)) k 0 (trimmed_world w)) (hosts_same w)
-    ∙ each_from_same trimmed_world (settle (core_step m)) (settle (step_of m)) (settle_same m) (length w.hosts) 0 w
+-- what happens at the host at an index happens alike
+abbrev Alike : {S : Type 0} → (ℕ → World S → World S) → (ℕ → World S → World S) → Type 0
+Alike {S} f g = (i : ℕ) (w : World S) → f i (trimmed_world w) ≡ trimmed_world (g i w)
+
+-- if its member is listed
+where_listed_same : {S : Type 0} (members : List ℕ) (f g : ℕ → World S → World S) → Alike f g → (i : ℕ) (w : World S) (found : Option (Host S))
+    → where_listed members f i (trimmed_world w) (option_map trimmed_host found) ≡ trimmed_world (where_listed members g i w found)
+unfolding trimmed_host trimmed
+where_listed_same members f g same i w None = refl
+where_listed_same members f g same i w (Some h) = choice_same trimmed_world (is_listed members h.node.id) (g i w) w (f i (trimmed_world w)) (trimmed_world w) (same i w) refl
+
+at_listed_same : {S : Type 0} (members : List ℕ) (f g : ℕ → World S → World S) → Alike f g → (i : ℕ) (w : World S) → at_listed members f i (trimmed_world w) ≡ trimmed_world (at_listed members g i w)
+unfolding trimmed_world
+at_listed_same members f g same i w =
+    ap (λ found. where_listed members f i (trimmed_world w) found) (map_get trimmed_host w.hosts i) ∙ where_listed_same members f g same i w (slice_get w.hosts i)
+
+-- at each whose member is
+each_listed_same : {S : Type 0} (members : List ℕ) (f g : ℕ → World S → World S) → Alike f g → (w : World S) → each_listed members f (trimmed_world w) ≡ trimmed_world (each_listed members g w)
+each_listed_same members f g same w =
+    ap (λ k. each_from (at_listed members f) k 0 (trimmed_world w)) (hosts_same w)
+    ∙ each_from_same trimmed_world (at_listed members f) (at_listed members g) (at_listed_same members f g same) (length w.hosts) 0 w
+
+-- at a member's host
+
+-- it stands at the same index
+position_same : {S : Type 0} (hosts : List (Host S)) (member : ℕ) → position_or_len (λ (h : Host S). h.node.id == member) (map trimmed_host hosts) ≡ position_or_len (λ (h : Host S). h.node.id == member) hosts
+unfolding trimmed_host trimmed
+position_same [] member = refl
+position_same (h ∷ hs) member = ap (λ k. cond (not (h.node.id == member)) (1 + k) 0) (position_same hs member)
+
+host_index_same : {S : Type 0} (hosts : List (Host S)) (member : ℕ) → host_index (map trimmed_host hosts) member ≡ host_index hosts member
+host_index_same {S} hosts member =
+    let p : Host S → Bool = λ h. h.node.id == member in
+    ap (λ k. cond (nat_lt k (length (map trimmed_host hosts))) (Some k) None) (position_same hosts member)
+    ∙ ap (λ l. cond (nat_lt (position_or_len p hosts) l) (Some (position_or_len p hosts)) None) (map_length trimmed_host hosts)
+
+at_index_same : {S : Type 0} (f g : ℕ → World S → World S) → Alike f g → (w : World S) (found : Option ℕ) → at_index f (trimmed_world w) found ≡ trimmed_world (at_index g w found)
+at_index_same f g same w None = refl
+at_index_same f g same w (Some i) = same i w
+
+at_member_same : {S : Type 0} (f g : ℕ → World S → World S) → Alike f g → (member : ℕ) (w : World S) → at_member f member (trimmed_world w) ≡ trimmed_world (at_member g member w)
+unfolding trimmed_world
+at_member_same f g same member w =
+    ap (λ found. at_index f (trimmed_world w) found) (host_index_same w.hosts member) ∙ at_index_same f g same w (host_index w.hosts member)
+
+-- all listed nodes settle
+settle_all_same : {S : Type 0} (m : Meaning S) (members : List ℕ) (w : World S) → settle_all (core_step m) members (trimmed_world w) ≡ trimmed_world (settle_all (step_of m) members w)
+settle_all_same m members w = each_listed_same members (settle (core_step m)) (settle (step_of m)) (settle_same m) w
 
 -- a node takes bytes and settles
 gives_same : {S : Type 0} (m : Meaning S) (bytes : List ℕ) (i : ℕ) (w : World S) → gives (core_step m) bytes i (trimmed_world w) ≡ trimmed_world (gives (step_of m) bytes i w)
@@ -178,11 +224,9 @@ unfolding gives
 gives_same m bytes i w =
     ap (λ v. settle (core_step m) i v) (node_takes_same m i (Arrive bytes) w) ∙ settle_same m i (node_takes (step_of m) i (Arrive bytes) w)
 
--- all nodes take bytes
-give_all_same : {S : Type 0} (m : Meaning S) (bytes : List ℕ) (w : World S) → give_all (core_step m) bytes (trimmed_world w) ≡ trimmed_world (give_all (step_of m) bytes w)
-give_all_same m bytes w =
-    ap (λ k. each_from (gives (core_step m) bytes) k 0 (trimmed_world w)) (hosts_same w)
-    ∙ each_from_same trimmed_world (gives (core_step m) bytes) (gives (step_of m) bytes) (gives_same m bytes) (length w.hosts) 0 w
+-- all listed nodes take bytes
+give_all_same : {S : Type 0} (m : Meaning S) (members : List ℕ) (bytes : List ℕ) (w : World S) → give_all (core_step m) members bytes (trimmed_world w) ≡ trimmed_world (give_all (step_of m) members bytes w)
+give_all_same m members bytes w = each_listed_same members (gives (core_step m) bytes) (gives (step_of m) bytes) (gives_same m bytes) w
 
 -- clients
 
@@ -227,26 +271,86 @@ asks_same i op w = choice_same trimmed_world (is_some w.ending) _ _ _ _ refl (as
 -- flow
 
 -- bytes go to whom they are for
-goes_same : {S : Type 0} (m : Meaning S) (w : World S) (bytes : List ℕ) (to : Target) → goes (core_step m) (trimmed_world w) bytes to ≡ trimmed_world (goes (step_of m) w bytes to)
-goes_same m w bytes targets.View = give_all_same m bytes w
-goes_same m w bytes (targets.Client id) = client_takes_same id bytes w
+goes_same : {S : Type 0} (m : Meaning S) (members : List ℕ) (w : World S) (bytes : List ℕ) (to : Target) → goes (core_step m) members (trimmed_world w) bytes to ≡ trimmed_world (goes (step_of m) members w bytes to)
+goes_same m members w bytes targets.View = give_all_same m members bytes w
+goes_same m members w bytes (targets.Client id) = client_takes_same id bytes w
 
 -- the message behind the mark goes, if there is one
-flow_sent_same : {S : Type 0} (m : Meaning S) (w : World S) (found : Option Sent) → flow_sent (core_step m) (trimmed_world w) found ≡ trimmed_world (flow_sent (step_of m) w found)
+flow_sent_same : {S : Type 0} (m : Meaning S) (members : List ℕ) (w : World S) (found : Option Sent) → flow_sent (core_step m) members (trimmed_world w) found ≡ trimmed_world (flow_sent (step_of m) members w found)
 unfolding trimmed_world
-flow_sent_same m w None = refl
-flow_sent_same m w (Some s) = goes_same m (record w { mark = w.mark + 1 }) (spelling s.message) s.to
+flow_sent_same m members w None = refl
+flow_sent_same m members w (Some s) = goes_same m members (record w { mark = w.mark + 1 }) (spelling s.message) s.to
 
 -- one turn of a flow
-flow_once_same : {S : Type 0} (m : Meaning S) (w : World S) → flow_once (core_step m) (trimmed_world w) ≡ trimmed_world (flow_once (step_of m) w)
+flow_once_same : {S : Type 0} (m : Meaning S) (members : List ℕ) (w : World S) → flow_once (core_step m) members (trimmed_world w) ≡ trimmed_world (flow_once (step_of m) members w)
 unfolding flow_once trimmed_world
-flow_once_same m w = choice_same trimmed_world (is_some w.ending) _ _ _ _ refl (flow_sent_same m w (slice_get w.sent w.mark))
+flow_once_same m members w = choice_same trimmed_world (is_some w.ending) _ _ _ _ refl (flow_sent_same m members w (slice_get w.sent w.mark))
 
 -- a flow
-flows_same : {S : Type 0} (m : Meaning S) (w : World S) → flows (core_step m) (trimmed_world w) ≡ trimmed_world (flows (step_of m) w)
-flows_same m w =
-    ap (λ v. until_rest (flow_once (core_step m)) v) (settle_all_same m w)
-    ∙ until_rest_same trimmed_world (flow_once (core_step m)) (flow_once (step_of m)) (flow_once_same m) (settle_all (step_of m) w)
+flows_same : {S : Type 0} (m : Meaning S) (members : List ℕ) (w : World S) → flows (core_step m) members (trimmed_world w) ≡ trimmed_world (flows (step_of m) members w)
+flows_same m members w =
+    ap (λ v. until_rest (flow_once (core_step m) members) v) (settle_all_same m members w)
+    ∙ until_rest_same trimmed_world (flow_once (core_step m) members) (flow_once (step_of m) members) (flow_once_same m members) (settle_all (step_of m) members w)
+
+-- deliveries one by one
+
+-- bytes arrive at a member's node or at a client
+arrives_same : {S : Type 0} (m : Meaning S) (bytes : List ℕ) (to : Party) (w : World S) → arrives (core_step m) bytes to (trimmed_world w) ≡ trimmed_world (arrives (step_of m) bytes to w)
+arrives_same m bytes (parties.Member id) w =
+    at_member_same (λ i v. node_takes (core_step m) i (Arrive bytes) v) (λ i v. node_takes (step_of m) i (Arrive bytes) v) (λ i v. node_takes_same m i (Arrive bytes) v) id w
+arrives_same m bytes (parties.Client id) w = client_takes_same id bytes w
+
+arrives_at_same : {S : Type 0} (m : Meaning S) (bytes : List ℕ) (tos : List Party) (w : World S) → arrives_at (core_step m) bytes tos (trimmed_world w) ≡ trimmed_world (arrives_at (step_of m) bytes tos w)
+arrives_at_same m bytes [] w = refl
+arrives_at_same m bytes (to ∷ tos) w = ap (λ v. arrives_at (core_step m) bytes tos v) (arrives_same m bytes to w) ∙ arrives_at_same m bytes tos (arrives (step_of m) bytes to w)
+
+sent_arrives_same : {S : Type 0} (m : Meaning S) (tos : List Party) (w : World S) (found : Option Sent) → sent_arrives (core_step m) tos (trimmed_world w) found ≡ trimmed_world (sent_arrives (step_of m) tos w found)
+sent_arrives_same m tos w None = refl
+sent_arrives_same m tos w (Some s) = arrives_at_same m (spelling s.message) tos w
+
+-- the message of a number does
+give_number_same : {S : Type 0} (m : Meaning S) (number : ℕ) (tos : List Party) (w : World S) → give_number (core_step m) number tos (trimmed_world w) ≡ trimmed_world (give_number (step_of m) number tos w)
+unfolding trimmed_world
+give_number_same m number tos w = sent_arrives_same m tos w (slice_get w.sent (number - 1))
+
+-- lines are told
+telling_all_same : {S : Type 0} (w : World S) (lines : List OutLine) → telling_all (trimmed_world w) lines ≡ trimmed_world (telling_all w lines)
+unfolding trimmed_world
+telling_all_same w lines = refl
+
+-- a host that is found delivers
+host_delivers_same : {S : Type 0} (m : Meaning S) (i : ℕ) (w : World S) (found : Option (Host S)) → host_delivers (core_step m) i (trimmed_world w) (option_map trimmed_host found) ≡ trimmed_world (host_delivers (step_of m) i w found)
+unfolding trimmed_host trimmed
+host_delivers_same m i w None = refl
+host_delivers_same {S} m i w (Some h) =
+    let o : Outcome S = step_of m h.node Deliver in
+    ap (λ (x : Outcome S). telling_all (stepped (trimmed_world w) i (trimmed_host h) x) (told_idle h.node.id x.fired)) (core_step_same m h.node Deliver)
+    ∙ (ap (λ (v : World S). telling_all v (told_idle h.node.id o.fired)) (stepped_same w i h o) ∙ telling_all_same (stepped w i h o) (told_idle h.node.id o.fired))
+
+deliver_at_same : {S : Type 0} (m : Meaning S) (i : ℕ) (w : World S) → deliver_at (core_step m) i (trimmed_world w) ≡ trimmed_world (deliver_at (step_of m) i w)
+unfolding deliver_at trimmed_world
+deliver_at_same m i w =
+    choice_same trimmed_world (is_some w.ending) _ _ _ _ refl
+    (ap (λ found. host_delivers (core_step m) i (trimmed_world w) found) (map_get trimmed_host w.hosts i) ∙ host_delivers_same m i w (slice_get w.hosts i))
+
+-- each of some members does
+deliver_each_same : {S : Type 0} (m : Meaning S) (members : List ℕ) (w : World S) → deliver_each (core_step m) members (trimmed_world w) ≡ trimmed_world (deliver_each (step_of m) members w)
+deliver_each_same m [] w = refl
+deliver_each_same m (id ∷ ids) w =
+    ap (λ v. deliver_each (core_step m) ids v) (at_member_same (deliver_at (core_step m)) (deliver_at (step_of m)) (deliver_at_same m) id w)
+    ∙ deliver_each_same m ids (at_member (deliver_at (step_of m)) id w)
+
+-- where hosts stand
+shown_same : {S : Type 0} (hosts : List (Host S)) → map shown_host (map trimmed_host hosts) ≡ map shown_host hosts
+unfolding trimmed_host trimmed
+shown_same [] = refl
+shown_same (h ∷ hs) = ap (λ ls. shown_host h ∷ ls) (shown_same hs)
+
+-- what is shown
+shows_same : {S : Type 0} (w : World S) → shows (trimmed_world w) ≡ trimmed_world (shows w)
+unfolding trimmed_world
+shows_same w =
+    ap (λ ls. telling_all (trimmed_world w) (ls ++ flat_map shown_client w.clients)) (shown_same w.hosts) ∙ telling_all_same w (map shown_host w.hosts ++ flat_map shown_client w.clients)
 
 -- lines
 
@@ -255,7 +359,38 @@ pub core_line : {S : Type 0} (m : Meaning S) (w : World S) (line : Line) → lin
 unfolding line_played
 core_line m w lines.Nothing = refl
 core_line m w (lines.Ask client op) = asks_same client op w
-core_line m w lines.Flow = flows_same m w
+core_line m w (lines.Flow members) = flows_same m members w
+core_line m w (lines.Give number to) = give_number_same m number to w
+core_line m w (lines.Deliver members) = deliver_each_same m members w
+core_line m w (lines.Settle member) = at_member_same (settle (core_step m)) (settle (step_of m)) (settle_same m) member w
+core_line m w lines.SettleAll = settle_all_same m [] w
+core_line m w lines.Show = shows_same w
+
+-- all that a line names is there for cores where it is for the nodes
+
+has_member_same : {S : Type 0} (w : World S) (member : ℕ) → has_member (trimmed_world w) member ≡ has_member w member
+unfolding trimmed_world
+has_member_same w member = ap (λ found. is_some found) (host_index_same w.hosts member)
+
+has_party_same : {S : Type 0} (w : World S) (to : Party) → has_party (trimmed_world w) to ≡ has_party w to
+has_party_same w (parties.Member id) = has_member_same w id
+has_party_same w (parties.Client id) = refl
+
+has_each_same : {A : Type 0} (p q : A → Bool) → ((x : A) → p x ≡ q x) → (xs : List A) → list_all p xs ≡ list_all q xs
+has_each_same p q same [] = refl
+has_each_same p q same (x ∷ xs) = ap (λ t. t && list_all p xs) (same x) ∙ ap (λ t. q x && t) (has_each_same p q same xs)
+
+pub there_same : {S : Type 0} (w : World S) (line : Line) → is_there (trimmed_world w) line ≡ is_there w line
+unfolding is_there trimmed_world
+there_same w lines.Nothing = refl
+there_same w (lines.Ask client op) = refl
+there_same w (lines.Flow members) = has_each_same (has_member (trimmed_world w)) (has_member w) (has_member_same w) members
+there_same w (lines.Give number to) =
+    ap (λ t. nat_le 1 number && nat_le number (length w.sent) && t) (has_each_same (has_party (trimmed_world w)) (has_party w) (has_party_same w) to)
+there_same w (lines.Deliver members) = has_each_same (has_member (trimmed_world w)) (has_member w) (has_member_same w) members
+there_same w (lines.Settle member) = has_member_same w member
+there_same w lines.SettleAll = refl
+there_same w lines.Show = refl
 
 -- between two lines
 rested_same : {S : Type 0} (w : World S) → rested (trimmed_world w) ≡ trimmed_world (rested w)

@@ -12,9 +12,9 @@ use Rattle.smart_service.specs.Services.{Meaning}
 use Rattle.smart_service.specs.declared.replica.Replica.{Replica}
 use Rattle.node_rules.specs.Replicas.{is_next}
 use Rattle.node_rules.specs.Nodes.{Node, next_place}
-use Rattle.node_rules.specs.Arrivals.{why_dropped, offered, kept}
-use Rattle.node_rules.specs.Rules.{deliver_batch, delivers, delivery}
-use Rattle.node_rules.specs.Steps.{Outcome, fired_pass, outcome_from, arrival_outcome, reading_outcome, step_of}
+use Rattle.node_rules.specs.Arrivals.{why_dropped, offered, kept, noted}
+use Rattle.node_rules.specs.Rules.{deliver_batch, delivers, delivery, answering, fired_answer}
+use Rattle.node_rules.specs.Steps.{Outcome, fired_pass, outcome_from, arrival_outcome, reading_outcome, step_of, answered}
 use Rattle.node_rules.specs.declared.node.Why.{Why}
 use Rattle.node_rules.specs.declared.node.Fired.{Fired}
 use Rattle.node_rules.specs.declared.node.Delivery.{Delivery}
@@ -23,6 +23,8 @@ use Rattle.world_rules.specs.Promises.{AtPlaces}
 use Rattle.world_laws.proofs.Lists.{either}
 use Rattle.world_laws.proofs.Follows.{WasDue, due-pass}
 use Rattle.world_laws.proofs.Steady.{replica-passes, place-deliver_batch}
+use Rattle.world_laws.proofs.Again.{replica-noted, replica-answers_again, delivers-answer}
+use Rattle.smart_service.specs.declared.table.TableLine.{TableLine}
 
 -- where no batch waits, none is due
 none_due : {S : Type 0} (n : Node S) (ds : List Delivery) → n.waiting ≡ None → Each (WasDue n) ds → ds ≡ []
@@ -46,17 +48,35 @@ advances-pass {S = S} n x same =
     record { count = omega (arith, place, none); places = subst (λ (ds : List Delivery). AtPlaces (next_place n) ds) (sym (pass-delivers x)) tt }
 
 -- an arrival leaves the replica
-replica-kept : {S : Type 0} (n : Node S) (message : Message) → (kept n message).replica ≡ n.replica
+pub replica-kept : {S : Type 0} (n : Node S) (message : Message) → (kept n message).replica ≡ n.replica
 unfolding kept
 replica-kept {S = S} n (Ask q) = either (λ (x : Node S). x.replica ≡ n.replica) (is_next n.replica.table q.statement) (record n { pool = offered n.pool q }) n refl refl
 replica-kept n (Propose p) = refl
 replica-kept n (Vote b) = refl
 replica-kept n (Reply a) = refl
 
+-- nor does an answer again
+advances-answered : {S : Type 0} (n : Node S) (o : Outcome S) (message : Message) → Advances n o → Advances n (answered o message)
+advances-answered {S = S} n o message is =
+    let line : Option TableLine = answering o.node message in
+    let same : flat_map delivery_in (o.fired ++ fired_answer line) ≡ flat_map delivery_in o.fired =
+    flat_map-append delivery_in o.fired (fired_answer line) ∙ (ap (λ (ds : List Delivery). flat_map delivery_in o.fired ++ ds) (delivers-answer line) ∙ append-nil (flat_map delivery_in o.fired)) in
+    record {
+      count = ap (λ (r : Replica S). r.place) (replica-answers_again o.node message) ∙ (is.count ∙ ap (λ (ds : List Delivery). n.replica.place + length ds) (sym same));
+      places = subst (λ (ds : List Delivery). AtPlaces (next_place n) ds) (sym same) is.places;
+    }
+
+-- nor does a message that is dropped
+advances-noted : {S : Type 0} (n : Node S) (message : Message) (why : Option Why) → Advances n (record { node = noted n message; fired = []; dropped = why })
+unfolding noted
+advances-noted n message why = record { count = omega arith; places = tt }
+
 -- an arrival takes no place
 advances-arrival : {S : Type 0} (n : Node S) (message : Message) (why : Option Why) → Advances n (arrival_outcome n message why)
-advances-arrival n message None = advances-pass n (kept n message) (replica-kept n message)
-advances-arrival n message (Some why) = record { count = omega arith; places = tt }
+advances-arrival {S = S} n message None =
+    let k : Node S = kept (noted n message) message in
+    advances-answered n (outcome_from k []) message (advances-pass n k (replica-kept (noted n message) message ∙ replica-noted n message))
+advances-arrival n message (Some why) = advances-noted n message (Some why)
 
 -- nor do bytes that come
 advances-reading : {S : Type 0} (n : Node S) (read : Result Message ℕ) → Advances n (reading_outcome n read)

@@ -1,5 +1,5 @@
 -- In a group of one member, a request is chosen and its reply accepted.
-use Rattle.std.proofs.Common.{◌≡◌, ℕ, ◌+◌, ◌++◌, ◌≤◌, Bool, true, false, not, ◌&&◌, ◌||◌, nat_le, List, [], ◌∷◌, length, refl, ap, ◌∙◌, sym, arith, cond, Option, Some, None, is_some, Ok}
+use Rattle.std.proofs.Common.{◌≡◌, ℕ, ◌+◌, ◌++◌, ◌≤◌, Bool, true, false, not, ◌&&◌, ◌||◌, nat_le, List, [], ◌∷◌, length, refl, ap, ◌∙◌, sym, arith, cond, Option, Some, None, is_some, Ok, append-nil}
 use Rattle.std.proofs.lemmas.Bool.{le-leb}
 use Rattle.std.specs.Prelude.{⊤, slice_get}
 use Rattle.std.specs.Option.{option_and_then}
@@ -23,9 +23,10 @@ use Rattle.smart_service.specs.Services.{Meaning}
 use Rattle.node_rules.specs.Seals.{signed, is_verified, digest_of, fits}
 use Rattle.node_rules.specs.Nodes.{Node, next_place}
 use Rattle.node_rules.specs.Steps.{Outcome, step_of, votes, fired_votes, passes, fired_pass, outcome_from, arrival_outcome, reading_outcome, opened}
-use Rattle.node_rules.specs.Arrivals.{slot_why, signer_why, why_ask, why_propose, why_vote, why_dropped, kept}
+use Rattle.node_rules.specs.Steps as steps
+use Rattle.node_rules.specs.Arrivals.{slot_why, signer_why, why_ask, why_propose, why_vote, why_dropped, kept, noted}
 use Rattle.node_rules.specs.Replicas.{execute, delivered, executed_lines}
-use Rattle.node_rules.specs.Rules.{deliver_batch, delivery, delivers, proposing, propose_batch, proposes, writing, write_batch, writes, accepting, accept_batch, accepts, deciding, decide_batch, decides, fired_if}
+use Rattle.node_rules.specs.Rules.{deliver_batch, delivery, delivers, proposing, propose_batch, proposes, writing, write_batch, writes, accepting, accept_batch, accepts, deciding, decide_batch, decides, fired_if, answering, answer_line, answers_again, fired_answer}
 use Rattle.node_rules.specs.declared.node.Why.TheVariants.{BadTag, InvalidBatch}
 use Rattle.node_rules.specs.declared.node.Target.TheVariants as targets
 use Rattle.node_rules.specs.declared.node.Fired.TheVariants as fires
@@ -33,7 +34,7 @@ use Rattle.world_rules.specs.Secrets.{group_secret}
 use Rattle.world_rules.specs.Premises.{collides}
 use Rattle.world_rules.specs.Clients.{why_ignored, heard_unless, heard}
 use Rattle.world_rules.specs.Repeats.{repeated, turns, until_rest, each_from}
-use Rattle.world_rules.specs.Worlds.{Host, World, begun, clients_from, asks, sends, stepped, host_takes, node_takes, due, takes_due, settle_once, settle, settle_all, gives, hearing, client_hears, hears_bytes, client_takes, flow_sent, flow_once}
+use Rattle.world_rules.specs.Worlds.{Host, World, begun, clients_from, asks, sends, stepped, host_takes, node_takes, due, takes_due, settle_once, settle, settle_all, gives, hearing, client_hears, hears_bytes, client_takes, flow_sent, flow_once, where_listed, at_listed}
 use Rattle.world_rules.specs.Plays.{line_played, rested}
 use Rattle.world_rules.specs.Promises.{world_at}
 use Rattle.world_rules.specs.declared.client.Client.{Client}
@@ -47,6 +48,8 @@ use Rattle.world_laws.proofs.Equal.{bytes-itself}
 use Rattle.world_laws.proofs.FitNodes.{IsBrief}
 use Rattle.world_laws.proofs.Genuine.{IsGood, good-genuine, signed-verified, digest_of-length, ask-good, vote-good, reply-good, propose-good, single-fits, single-verified}
 use Rattle.world_laws.proofs.Rests.{rest_is_reached}
+use Rattle.node_rules.specs.declared.node.Fired.{Fired}
+use Rattle.smart_service.specs.declared.table.TableLine.{TableLine}
 
 -- the messages of the play
 
@@ -147,6 +150,14 @@ passed n accepted decided =
       dropped = None;
     }
 
+-- an answer to a message for which none is due
+answered_none : {S : Type 0} (n : Node S) (fired : List Fired) (x : Message) → answering n x ≡ None
+    → steps.answered (record { node = n; fired = fired; dropped = None }) x ≡ record { node = n; fired = fired; dropped = None }
+unfolding answers_again answer_line
+answered_none {S = S} n fired x none =
+    let made : Option TableLine → Outcome S = λ line. record { node = answer_line n line; fired = fired ++ fired_answer line; dropped = None } in
+    ap made none ∙ ap (λ (fs : List Fired). record { node = n; fired = fs; dropped = None }) (append-nil fired)
+
 -- so they do
 passed_is : {S : Type 0} (n : Node S) (accepted decided : Option Batch) → accepting (writes (proposes n)) ≡ accepted → deciding (accept_batch (writes (proposes n)) accepted) ≡ decided
     → outcome_from n [] ≡ passed n accepted decided
@@ -158,12 +169,22 @@ passed_is n accepted decided ea ed =
 record Takes {S : Type 0} (n : Node S) (x : Message) (accepted decided : Option Batch) : Type 0 where
   read : decoded (spelling x) ≡ Ok x
   fine : why_dropped n x ≡ None
-  accepts : accepting (writes (proposes (kept n x))) ≡ accepted
-  decides : deciding (accept_batch (writes (proposes (kept n x))) accepted) ≡ decided
+  accepts : accepting (writes (proposes (kept (noted n x) x))) ≡ accepted
+  decides : deciding (accept_batch (writes (proposes (kept (noted n x) x))) accepted) ≡ decided
+  quiet : answering (passed (kept (noted n x) x) accepted decided).node x ≡ None
 
-step_is : {S : Type 0} (m : Meaning S) (n : Node S) (x : Message) (accepted decided : Option Batch) → Takes n x accepted decided → step_of m n (Arrive (spelling x)) ≡ passed (kept n x) accepted decided
+-- the pass tells no answer
+quiet_is : {S : Type 0} (n : Node S) (x : Message) (accepted decided : Option Batch) → answering (passed n accepted decided).node x ≡ None → steps.answered (passed n accepted decided) x ≡ passed n accepted decided
+unfolding passed
+quiet_is n x accepted decided none = answered_none (passed n accepted decided).node (passed n accepted decided).fired x none
+
+step_is : {S : Type 0} (m : Meaning S) (n : Node S) (x : Message) (accepted decided : Option Batch) → Takes n x accepted decided → step_of m n (Arrive (spelling x)) ≡ passed (kept (noted n x) x) accepted decided
 unfolding step_of
-step_is m n x accepted decided is = ap (reading_outcome n) is.read ∙ (ap (arrival_outcome n x) is.fine ∙ passed_is (kept n x) accepted decided is.accepts is.decides)
+step_is {S = S} m n x accepted decided is =
+    let k : Node S = kept (noted n x) x in
+    ap (reading_outcome n) is.read
+    ∙ (ap (arrival_outcome n x) is.fine
+    ∙ (ap (λ (o : Outcome S). steps.answered o x) (passed_is k accepted decided is.accepts is.decides) ∙ quiet_is k x accepted decided is.quiet))
 
 -- turns of a world with one host
 
@@ -182,7 +203,7 @@ host_is m (h ∷ hs) one = refl
 unfoldable turn : {S : Type 0} → Meaning S → ℕ → Message → Option Batch → Option Batch → World S → World S
 turn m k x accepted decided w =
     repeated (settle_once (step_of m) 0) k
-    (stepped (record w { mark = w.mark + 1 }) 0 (host_in m w.hosts) (passed (kept (host_in m w.hosts).node x) accepted decided))
+    (stepped (record w { mark = w.mark + 1 }) 0 (host_in m w.hosts) (passed (kept (noted (host_in m w.hosts).node x) x) accepted decided))
 
 -- a few turns are no more than there are
 few : (k : ℕ) → k ≤ 9 → k ≤ turns
@@ -198,36 +219,37 @@ settled step k w le none = rest_is_reached (settle_once step 0) k w (few k le) (
 -- a message that is for the view is given to the one node
 given : {S : Type 0} (m : Meaning S) (k : ℕ) (x : Message) (accepted decided : Option Batch) (origin : Origin) (w : World S) → k ≤ 9 → is_some w.ending ≡ false
     → slice_get w.sent w.mark ≡ Some (record { origin = origin; to = targets.View; message = x }) → length w.hosts ≡ 1
-    → Takes (host_in m w.hosts).node x accepted decided → option_and_then due (slice_get (turn m k x accepted decided w).hosts 0) ≡ None → flow_once (step_of m) w ≡ turn m k x accepted decided w
+    → Takes (host_in m w.hosts).node x accepted decided → option_and_then due (slice_get (turn m k x accepted decided w).hosts 0) ≡ None → flow_once (step_of m) [] w ≡ turn m k x accepted decided w
 unfolding flow_once turn gives each_from node_takes
 given {S = S} m k x accepted decided origin w le on at one takes none =
     let next : World S = record w { mark = w.mark + 1 } in
-    ap (λ over. cond over w (flow_sent (step_of m) w (slice_get w.sent w.mark))) on
-    ∙ (ap (flow_sent (step_of m) w) at
-    ∙ (ap (λ hosts. each_from (gives (step_of m) (spelling x)) hosts 0 next) one
+    ap (λ over. cond over w (flow_sent (step_of m) [] w (slice_get w.sent w.mark))) on
+    ∙ (ap (flow_sent (step_of m) [] w) at
+    ∙ (ap (λ hosts. each_from (at_listed [] (gives (step_of m) (spelling x))) hosts 0 next) one
+    ∙ (ap (λ found. where_listed [] (gives (step_of m) (spelling x)) 0 next found) (host_is m w.hosts one)
     ∙ (ap (λ over. settle (step_of m) 0 (cond over next (host_takes (step_of m) 0 (Arrive (spelling x)) next (slice_get w.hosts 0)))) on
     ∙ (ap (λ found. settle (step_of m) 0 (host_takes (step_of m) 0 (Arrive (spelling x)) next found)) (host_is m w.hosts one)
     ∙ (ap (λ o. settle (step_of m) 0 (stepped next 0 (host_in m w.hosts) o)) (step_is m (host_in m w.hosts).node x accepted decided takes)
-    ∙ settled (step_of m) k (stepped next 0 (host_in m w.hosts) (passed (kept (host_in m w.hosts).node x) accepted decided)) le none)))))
+    ∙ settled (step_of m) k (stepped next 0 (host_in m w.hosts) (passed (kept (noted (host_in m w.hosts).node x) x) accepted decided)) le none))))))
 
 -- a reply that is for a client is given to it
 given_back : {S : Type 0} (m : Meaning S) (a : SignedBy Answer) (origin : Origin) (client : ℕ) (c : Client) (h : Heard) (w : World S) → is_some w.ending ≡ false
     → slice_get w.sent w.mark ≡ Some (record { origin = origin; to = targets.Client client; message = Reply a }) → slice_get w.clients client ≡ Some c
-    → decoded (spelling (Reply a)) ≡ Ok (Reply a) → heard w.view c a ≡ h → flow_once (step_of m) w ≡ hearing (record w { mark = w.mark + 1 }) client c a h
+    → decoded (spelling (Reply a)) ≡ Ok (Reply a) → heard w.view c a ≡ h → flow_once (step_of m) [] w ≡ hearing (record w { mark = w.mark + 1 }) client c a h
 unfolding flow_once client_takes
 given_back {S = S} m a origin client c h w on at here read hear =
     let next : World S = record w { mark = w.mark + 1 } in
-    ap (λ over. cond over w (flow_sent (step_of m) w (slice_get w.sent w.mark))) on
-    ∙ (ap (flow_sent (step_of m) w) at
+    ap (λ over. cond over w (flow_sent (step_of m) [] w (slice_get w.sent w.mark))) on
+    ∙ (ap (flow_sent (step_of m) [] w) at
     ∙ (ap (λ over. cond over next (hears_bytes next client (spelling (Reply a)) (slice_get w.clients client))) on
     ∙ (ap (hears_bytes next client (spelling (Reply a))) here
     ∙ (ap (client_hears next client c) read
     ∙ ap (hearing next client c a) hear))))
 
 -- nothing to give is left
-idle : {S : Type 0} (step : Node S → NodeEvent → Outcome S) (w : World S) → is_some w.ending ≡ false → slice_get w.sent w.mark ≡ None → flow_once step w ≡ w
+idle : {S : Type 0} (step : Node S → NodeEvent → Outcome S) (w : World S) → is_some w.ending ≡ false → slice_get w.sent w.mark ≡ None → flow_once step [] w ≡ w
 unfolding flow_once
-idle step w on at = ap (λ over. cond over w (flow_sent step w (slice_get w.sent w.mark))) on ∙ ap (flow_sent step w) at
+idle step w on at = ap (λ over. cond over w (flow_sent step [] w (slice_get w.sent w.mark))) on ∙ ap (flow_sent step [] w) at
 
 -- the worlds of the play
 
@@ -265,18 +287,18 @@ answered m = hearing (record (replied m) { mark = (replied m).mark + 1 }) 1 wait
 
 -- what the facts on these worlds unfold to compute them
 unfoldable computed : ⊤
-unfolding asks sends collides clients_from repeated settle_once node_takes stepped step_of votes fired_votes passes fired_pass passed host_in slot_why signer_why why_ask why_propose why_vote kept execute delivered executed_lines deliver_batch delivery delivers proposing propose_batch proposes writing write_batch writes accepting accept_batch accepts deciding decide_batch decides turn asked begins proposed wrote accepted replied hearing answered
+unfolding asks sends collides clients_from repeated settle_once node_takes stepped step_of votes fired_votes passes fired_pass passed host_in slot_why signer_why why_ask why_propose why_vote noted kept answering execute delivered executed_lines deliver_batch delivery delivers proposing propose_batch proposes writing write_batch writes accepting accept_batch accepts deciding decide_batch decides turn asked begins proposed wrote accepted replied hearing answered
 computed = tt
 
 -- the turns of the play
 
 -- the node settles before any message is given
-turn_begins : {S : Type 0} (m : Meaning S) → settle_all (step_of m) (asked m) ≡ begins m
+turn_begins : {S : Type 0} (m : Meaning S) → settle_all (step_of m) [] (asked m) ≡ begins m
 unfolding computed each_from
 turn_begins m = settled (step_of m) 1 (asked m) (omega arith) refl
 
 -- the request is given
-turn_proposed : {S : Type 0} (m : Meaning S) → flow_once (step_of m) (begins m) ≡ proposed m
+turn_proposed : {S : Type 0} (m : Meaning S) → flow_once (step_of m) [] (begins m) ≡ proposed m
 unfolding computed
 turn_proposed m =
     given m 0 (Ask first_signed) None None (origins.Client 1) (begins m) (omega arith) refl refl refl
@@ -285,10 +307,11 @@ turn_proposed m =
       fine = right_tag (is_verified requests group_secret first_signed) good_ask.tagged;
       accepts = refl;
       decides = refl;
+      quiet = refl;
     }) refl
 
 -- the proposal is given
-turn_wrote : {S : Type 0} (m : Meaning S) → flow_once (step_of m) (proposed m) ≡ wrote m
+turn_wrote : {S : Type 0} (m : Meaning S) → flow_once (step_of m) [] (proposed m) ≡ wrote m
 unfolding computed
 turn_wrote m =
     given m 1 first_proposal None None (origins.Node 1) (proposed m) (omega arith) refl refl refl
@@ -298,10 +321,11 @@ turn_wrote m =
           (same_bytes (digest_of first_batch) (digest_of first_batch)) (signed-verified proposals group_secret 1 first_head) first_fits (bytes-itself (digest_of first_batch));
       accepts = refl;
       decides = refl;
+      quiet = refl;
     }) refl
 
 -- the vote to write is given
-turn_accepted : {S : Type 0} (m : Meaning S) → flow_once (step_of m) (wrote m) ≡ accepted m
+turn_accepted : {S : Type 0} (m : Meaning S) → flow_once (step_of m) [] (wrote m) ≡ accepted m
 unfolding computed
 turn_accepted m =
     given m 1 (first_vote Write) (Some first_batch) None (origins.Node 1) (wrote m) (omega arith) refl refl refl
@@ -310,10 +334,11 @@ turn_accepted m =
       fine = right_vote (is_verified ballots group_secret (signed ballots group_secret 1 (first_ballot Write))) (good_vote Write).tagged;
       accepts = one_is_enough (Some first_batch) None (same_bytes (digest_of first_batch) (digest_of first_batch)) (bytes-itself (digest_of first_batch));
       decides = refl;
+      quiet = refl;
     }) refl
 
 -- the vote to accept is given
-turn_replied : {S : Type 0} (m : Meaning S) → flow_once (step_of m) (accepted m) ≡ replied m
+turn_replied : {S : Type 0} (m : Meaning S) → flow_once (step_of m) [] (accepted m) ≡ replied m
 unfolding computed
 turn_replied m =
     given m 2 (first_vote Accept) None (Some first_batch) (origins.Node 1) (accepted m) (omega arith) refl refl refl
@@ -322,6 +347,7 @@ turn_replied m =
       fine = right_vote (is_verified ballots group_secret (signed ballots group_secret 1 (first_ballot Accept))) (good_vote Accept).tagged;
       accepts = refl;
       decides = one_is_enough (Some first_batch) None (same_bytes (digest_of first_batch) (digest_of first_batch)) (bytes-itself (digest_of first_batch));
+      quiet = refl;
     }) refl
 
 -- what the client hears
@@ -339,23 +365,23 @@ accepts_first m brief =
     ∙ one_is_enough (hears.Accepted (first_acceptance m)) _ (same_bytes (m.reply m.first (7 ∷ [])) (m.reply m.first (7 ∷ []))) (bytes-itself (m.reply m.first (7 ∷ [])))
 
 -- the reply is given
-turn_answered : {S : Type 0} (m : Meaning S) → IsBrief m → flow_once (step_of m) (replied m) ≡ answered m
+turn_answered : {S : Type 0} (m : Meaning S) → IsBrief m → flow_once (step_of m) [] (replied m) ≡ answered m
 unfolding computed
 turn_answered m brief =
     given_back m (first_reply m) (origins.Node 1) 1 waiting_client (hears.Accepted (first_acceptance m)) (replied m) refl refl refl (good-genuine (Reply (first_reply m)) (good_reply m brief)).read (accepts_first m brief)
 
 -- no message is left
-turn_over : {S : Type 0} (m : Meaning S) → flow_once (step_of m) (answered m) ≡ answered m
+turn_over : {S : Type 0} (m : Meaning S) → flow_once (step_of m) [] (answered m) ≡ answered m
 unfolding computed
 turn_over m = idle (step_of m) (answered m) refl refl
 
 -- the play
 
 -- the flow ends where the client has heard the reply
-flow_is : {S : Type 0} (m : Meaning S) → IsBrief m → until_rest (flow_once (step_of m)) (begins m) ≡ answered m
+flow_is : {S : Type 0} (m : Meaning S) → IsBrief m → until_rest (flow_once (step_of m) []) (begins m) ≡ answered m
 unfolding repeated
 flow_is {S = S} m brief =
-    let f : World S → World S = flow_once (step_of m) in
+    let f : World S → World S = flow_once (step_of m) [] in
     let all : repeated f 5 (begins m) ≡ answered m =
     ap (repeated f 4) (turn_proposed m) ∙ (ap (repeated f 3) (turn_wrote m) ∙ (ap (repeated f 2) (turn_accepted m) ∙ (ap (repeated f 1) (turn_replied m) ∙ turn_answered m brief))) in
     rest_is_reached f 5 (begins m) (few 5 (omega arith)) (ap f all ∙ (turn_over m ∙ sym all)) ∙ all
@@ -363,7 +389,7 @@ flow_is {S = S} m brief =
 -- so does the play
 play_is : {S : Type 0} (m : Meaning S) → IsBrief m → world_at m lone ask_and_flow 2 ≡ rested (answered m)
 unfolding line_played asked
-play_is m brief = ap rested (ap (until_rest (flow_once (step_of m))) (turn_begins m) ∙ flow_is m brief)
+play_is m brief = ap rested (ap (until_rest (flow_once (step_of m) [])) (turn_begins m) ∙ flow_is m brief)
 
 -- one member is a group
 pub lone_is : is_view lone ≡ true

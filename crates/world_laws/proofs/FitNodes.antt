@@ -26,8 +26,8 @@ use Rattle.smart_service.specs.declared.replica.Replica.{Replica}
 use Rattle.node_rules.specs.Seals.{is_verified, digest_of}
 use Rattle.node_rules.specs.Replicas.{is_next, line_of, execute, line_made, lines_of, at_next, delivered, executed_lines}
 use Rattle.node_rules.specs.Nodes.{Node, view_of, regency_of, next_place, open_slot, is_free, is_open, holding, recording, has_quorum, proposal_in, proposal_of, is_wrote, is_accepted}
-use Rattle.node_rules.specs.Arrivals.{why_dropped, offered, kept}
-use Rattle.node_rules.specs.Rules.{settled, reply_of, replying, lines_to_answer, deliver_batch, delivers, gathered, proposing, propose_batch, proposes, ballot, writing, write_batch, writes, backed, backers, accepting, accept_batch, accepts, deciding, decide_batch, decides}
+use Rattle.node_rules.specs.Arrivals.{why_dropped, offered, kept, noted}
+use Rattle.node_rules.specs.Rules.{settled, reply_of, replying, lines_to_answer, deliver_batch, delivers, gathered, proposing, propose_batch, proposes, ballot, writing, write_batch, writes, backed, backers, accepting, accept_batch, accepts, deciding, decide_batch, decides, answering, answer_line, answers_again}
 use Rattle.node_rules.specs.Steps.{votes, passes, arrival_outcome, reading_outcome, step_of, released, opened}
 use Rattle.node_rules.specs.declared.node.Why.{Why}
 use Rattle.node_rules.specs.declared.node.Held.{Held}
@@ -39,6 +39,7 @@ use Rattle.world_laws.proofs.Executions.{views-execute, views-delivered}
 use Rattle.world_laws.proofs.OnePlace.{place-execute}
 use Rattle.world_laws.proofs.Authentic.{ForBatch, for_batch-weaker, for_batch-or, each_offered, each_filter, each-staying}
 use Rattle.world_laws.proofs.Genuine.{IsGood, AreVerified, digest_of-length, vote-good, reply-good, propose-good, single-fits, single-verified}
+use Rattle.world_laws.proofs.Again.{ForLine, answering-each, each-delivered}
 
 -- a proposal's batch has a spelling
 abbrev pub FitsArrival : Message → Type 0
@@ -60,16 +61,6 @@ pub record FitsPool (q : SignedBy Request) : Type 0 where
 abbrev pub FitsProposed : ℕ → Batch → Type 0
 FitsProposed place batch = FitsAt place batch × AreVerified batch
 
--- all that a node holds has a spelling, and what it sends
-pub record FitNode {S : Type 0} (n : Node S) : Type 0 where
-  pub named : IsSigner 1 n.id
-  pub shared : n.secret ≡ group_secret
-  pub view : (view_of n).number < 2 ^ 32
-  pub pool : Each FitsPool n.pool
-  pub arrivals : Each FitsArrival n.arrivals
-  pub waiting : ForBatch n.waiting (FitsAt (next_place n))
-  pub held : Each (λ h. IsGood h.message) n.held
-
 -- a line of the table that a reply can state
 pub record FitsLine (line : TableLine) : Type 0 where
   pub view : line.view < 2 ^ 32
@@ -78,6 +69,17 @@ pub record FitsLine (line : TableLine) : Type 0 where
   pub client : line.client < 2 ^ 16
   pub seq : IsCount line.seq
   pub reply : IsPayload line.reply
+
+-- all that a node holds has a spelling, and what it sends
+pub record FitNode {S : Type 0} (n : Node S) : Type 0 where
+  pub named : IsSigner 1 n.id
+  pub shared : n.secret ≡ group_secret
+  pub view : (view_of n).number < 2 ^ 32
+  pub lines : Each FitsLine n.replica.table
+  pub pool : Each FitsPool n.pool
+  pub arrivals : Each FitsArrival n.arrivals
+  pub waiting : ForBatch n.waiting (FitsAt (next_place n))
+  pub held : Each (λ h. IsGood h.message) n.held
 
 -- messages that wait to leave
 
@@ -88,6 +90,7 @@ fit-holding n to message good is =
       named = is.named;
       shared = is.shared;
       view = is.view;
+      lines = is.lines;
       pool = is.pool;
       arrivals = is.arrivals;
       waiting = is.waiting;
@@ -119,6 +122,7 @@ fit-kept {S = S} n (Ask q) good is =
       named = is.named;
       shared = is.shared;
       view = is.view;
+      lines = is.lines;
       pool = each_offered FitsPool n.pool q is.pool (record { fits = good.fits.content_fits; tagged = good.tagged });
       arrivals = is.arrivals;
       waiting = is.waiting;
@@ -129,6 +133,7 @@ fit-kept n (Propose p) good is =
       named = is.named;
       shared = is.shared;
       view = is.view;
+      lines = is.lines;
       pool = is.pool;
       arrivals = each_end FitsArrival n.arrivals (Propose p) is.arrivals good.fits.content_fits.1;
       waiting = is.waiting;
@@ -139,12 +144,29 @@ fit-kept n (Vote b) good is =
       named = is.named;
       shared = is.shared;
       view = is.view;
+      lines = is.lines;
       pool = is.pool;
       arrivals = each_end FitsArrival n.arrivals (Vote b) is.arrivals tt;
       waiting = is.waiting;
       held = is.held;
     }
 fit-kept n (Reply a) good is = is
+
+-- a node is told that it is behind
+fit-noted : {S : Type 0} (n : Node S) (message : Message) → FitNode n → FitNode (noted n message)
+unfolding noted
+fit-noted n message is =
+    record { named = is.named; shared = is.shared; view = is.view; lines = is.lines; pool = is.pool; arrivals = is.arrivals; waiting = is.waiting; held = is.held }
+
+-- a node answers again
+fit-answer_line : {S : Type 0} (n : Node S) (line : Option TableLine) → ForLine line FitsLine → FitNode n → FitNode (answer_line n line)
+unfolding answer_line
+fit-answer_line n None fit is = is
+fit-answer_line n (Some line) fit is = fit-holding n (targets.Client line.client) (reply_of n.secret n.id line) (line-good n.secret n.id line is.shared is.named fit) is
+
+fit-answers_again : {S : Type 0} (n : Node S) (message : Message) → FitNode n → FitNode (answers_again n message)
+unfolding answers_again
+fit-answers_again n message is = fit-answer_line n (answering n message) (answering-each FitsLine n message is.lines) is
 
 -- deliver
 
@@ -178,12 +200,16 @@ lines_of-fit m brief r index (q ∷ qs) view place few all =
     (lines_of-fit m brief (execute m r index q.statement) (index + 1) qs
     (rw (views-execute m r index q.statement) view) (rw (place-execute m r index q.statement) place) (omega (arith, few)) all.1)
 
+-- the lines of a batch
+executed_lines-fit : {S : Type 0} (m : Meaning S) → IsBrief m → (n : Node S) (batch : Batch) → (view_of n).number < 2 ^ 32 → FitsAt (next_place n) batch → Each FitsLine (executed_lines m n.replica batch)
+unfolding executed_lines
+executed_lines-fit m brief n batch view fit =
+    lines_of-fit m brief (at_next n.replica) 0 batch view (omega arith, fit.1) (omega (arith, fit.0.count_fits.1)) fit.0.each_fits
+
 -- the lines that a node answers with
 lines_to_answer-fit : {S : Type 0} (m : Meaning S) → IsBrief m → (n : Node S) (batch : Batch) → (view_of n).number < 2 ^ 32 → FitsAt (next_place n) batch → Each FitsLine (lines_to_answer m n batch)
-unfolding executed_lines
 lines_to_answer-fit m brief n batch view fit =
-    either (λ (lines : List TableLine). Each FitsLine lines) (is_member (view_of n) n.id) (executed_lines m n.replica batch) []
-    (lines_of-fit m brief (at_next n.replica) 0 batch view (omega arith, fit.1) (omega (arith, fit.0.count_fits.1)) fit.0.each_fits) tt
+    either (λ (lines : List TableLine). Each FitsLine lines) (is_member (view_of n) n.id) (executed_lines m n.replica batch) [] (executed_lines-fit m brief n batch view fit) tt
 
 -- a batch is delivered
 fit-deliver_batch : {S : Type 0} (m : Meaning S) → IsBrief m → (n : Node S) (batch : Option Batch) → ForBatch batch (FitsAt (next_place n)) → FitNode n → FitNode (deliver_batch m n batch)
@@ -198,6 +224,7 @@ fit-deliver_batch m brief n (Some batch) fit is =
       named = is.named;
       shared = is.shared;
       view = rw (views-delivered m n.replica batch) is.view;
+      lines = each-delivered FitsLine m n.replica batch is.lines (executed_lines-fit m brief n batch is.view fit);
       pool = each_filter FitsPool (λ q. is_next (delivered m n.replica batch).table q.statement) n.pool is.pool;
       arrivals = is.arrivals;
       waiting = tt;
@@ -249,7 +276,7 @@ fit-propose_batch n (Some batch) fit is =
     fit-holding (record n { proposed = n.proposed ++ open_slot n ∷ [] }) targets.View _
     (rw is.shared (propose-good n.id (record { slot = open_slot n; digest = digest_of batch }) batch is.named
     (record { slot_fits = open-fits n is fit.0.1; digest_fits = digest_of-length batch }) fit.0.0 fit.1))
-    (record { named = is.named; shared = is.shared; view = is.view; pool = is.pool; arrivals = is.arrivals; waiting = is.waiting; held = is.held })
+    (record { named = is.named; shared = is.shared; view = is.view; lines = is.lines; pool = is.pool; arrivals = is.arrivals; waiting = is.waiting; held = is.held })
 
 -- a vote has a spelling
 ballot-good : {S : Type 0} (n : Node S) (kind : VoteKind) (batch : Batch) → next_place n < 2 ^ 63 → FitNode n → IsGood (ballot n kind batch)
@@ -268,7 +295,7 @@ unfolding write_batch
 fit-write_batch n None low is = is
 fit-write_batch n (Some batch) low is =
     fit-holding (recording n (Wrote (open_slot n) (digest_of batch))) targets.View (ballot n Write batch) (ballot-good n Write batch low is)
-    (record { named = is.named; shared = is.shared; view = is.view; pool = is.pool; arrivals = is.arrivals; waiting = is.waiting; held = is.held })
+    (record { named = is.named; shared = is.shared; view = is.view; lines = is.lines; pool = is.pool; arrivals = is.arrivals; waiting = is.waiting; held = is.held })
 
 accepting-low : {S : Type 0} (n : Node S) → ForBatch (accepting n) (λ batch. next_place n < 2 ^ 63)
 unfolding accepting
@@ -281,7 +308,7 @@ unfolding accept_batch
 fit-accept_batch n None low is = is
 fit-accept_batch n (Some batch) low is =
     fit-holding (recording n (Accepted (open_slot n) (backers n Write batch) batch)) targets.View (ballot n Accept batch) (ballot-good n Accept batch low is)
-    (record { named = is.named; shared = is.shared; view = is.view; pool = is.pool; arrivals = is.arrivals; waiting = is.waiting; held = is.held })
+    (record { named = is.named; shared = is.shared; view = is.view; lines = is.lines; pool = is.pool; arrivals = is.arrivals; waiting = is.waiting; held = is.held })
 
 -- decide
 
@@ -313,7 +340,7 @@ fit-decide_batch : {S : Type 0} (n : Node S) (batch : Option Batch) → ForBatch
 unfolding decide_batch
 fit-decide_batch n None fit is = is
 fit-decide_batch n (Some batch) fit is =
-    record { named = is.named; shared = is.shared; view = is.view; pool = is.pool; arrivals = is.arrivals; waiting = fit; held = is.held }
+    record { named = is.named; shared = is.shared; view = is.view; lines = is.lines; pool = is.pool; arrivals = is.arrivals; waiting = fit; held = is.held }
 
 -- a step
 
@@ -329,8 +356,10 @@ unfolding passes decides
 fit-passes n is = fit-decide_batch (votes n) (deciding (votes n)) (deciding-fits (votes n) (fit-votes n is)) (fit-votes n is)
 
 fit-arrival : {S : Type 0} (n : Node S) (message : Message) (why : Option Why) → IsGood message → FitNode n → FitNode (arrival_outcome n message why).node
-fit-arrival n message None good is = fit-passes (kept n message) (fit-kept n message good is)
-fit-arrival n message (Some why) good is = is
+fit-arrival {S = S} n message None good is =
+    let k : Node S = kept (noted n message) message in
+    fit-answers_again (passes k) message (fit-passes k (fit-kept (noted n message) message good (fit-noted n message is)))
+fit-arrival n message (Some why) good is = fit-noted n message is
 
 fit-reading : {S : Type 0} (n : Node S) (read : Result Message ℕ) → ((x : Message) → read ≡ Ok x → IsGood x) → FitNode n → FitNode (reading_outcome n read).node
 fit-reading n (Ok x) fit is = fit-arrival n x (why_dropped n x) (fit x refl) is
@@ -351,7 +380,7 @@ fit-step m brief n Tick fit is = fit-passes n is
 fit-step m brief n Deliver fit is = fit-passes (deliver_batch m n n.waiting) (fit-deliver_batch m brief n n.waiting is.waiting is)
 fit-step m brief n (Firm count) fit is =
     fit-passes (record n { firm = count })
-    (record { named = is.named; shared = is.shared; view = is.view; pool = is.pool; arrivals = is.arrivals; waiting = is.waiting; held = is.held })
+    (record { named = is.named; shared = is.shared; view = is.view; lines = is.lines; pool = is.pool; arrivals = is.arrivals; waiting = is.waiting; held = is.held })
 
 -- what is firm has left
 pub fit-released : {S : Type 0} (n : Node S) → FitNode n → FitNode (released n)
@@ -360,6 +389,7 @@ fit-released n is =
       named = is.named;
       shared = is.shared;
       view = is.view;
+      lines = is.lines;
       pool = is.pool;
       arrivals = is.arrivals;
       waiting = is.waiting;
@@ -368,4 +398,4 @@ fit-released n is =
 
 -- a node begins so
 pub fit-opened : {S : Type 0} (m : Meaning S) (id : ℕ) (view : View) → IsSigner 1 id → view.number < 2 ^ 32 → FitNode (opened m group_secret id view)
-fit-opened m id view named low = record { named = named; shared = refl; view = low; pool = tt; arrivals = tt; waiting = tt; held = tt }
+fit-opened m id view named low = record { named = named; shared = refl; view = low; lines = tt; pool = tt; arrivals = tt; waiting = tt; held = tt }

@@ -17,8 +17,8 @@ use Rattle.smart_service.specs.declared.table.TableLine.{TableLine}
 use Rattle.node_rules.specs.Replicas.{delivered}
 use Rattle.node_rules.specs.Seals.{digest_of}
 use Rattle.node_rules.specs.Nodes.{Node, next_place, open_slot, holding, recording}
-use Rattle.node_rules.specs.Arrivals.{why_dropped, kept}
-use Rattle.node_rules.specs.Rules.{settled, reply_of, replying, lines_to_answer, deliver_batch, delivers, delivery, proposing, propose_batch, proposes, writing, write_batch, writes, backers, accepting, accept_batch, accepts, deciding, decide_batch, decides, fired_if}
+use Rattle.node_rules.specs.Arrivals.{why_dropped, kept, noted}
+use Rattle.node_rules.specs.Rules.{settled, reply_of, replying, lines_to_answer, deliver_batch, delivers, delivery, proposing, propose_batch, proposes, writing, write_batch, writes, backers, accepting, accept_batch, accepts, deciding, decide_batch, decides, fired_if, answering, answer_line, answers_again, fired_answer}
 use Rattle.node_rules.specs.Steps.{votes, fired_votes, passes, fired_pass, arrival_outcome, reading_outcome, step_of}
 use Rattle.node_rules.specs.declared.node.Why.{Why}
 use Rattle.node_rules.specs.declared.node.Target.TheVariants as targets
@@ -28,9 +28,10 @@ use Rattle.node_rules.specs.declared.node.Fired.TheVariants as fires
 use Rattle.world_rules.specs.Worlds.{delivery_in}
 use Rattle.world_laws.specs.Books.{decided_of}
 use Rattle.world_laws.proofs.Lists.{each_append}
-use Rattle.world_laws.proofs.Once.{entries-kept, entries-delivers, entries-propose_batch}
+use Rattle.world_laws.proofs.Once.{entries-arrives, entries-delivers, entries-propose_batch}
 use Rattle.world_laws.proofs.InOrder.{decided-append, decided-none}
 use Rattle.world_laws.proofs.Said.{HasAccepted, accepted_grows}
+use Rattle.world_laws.proofs.Again.{entries-noted}
 
 -- the same member's node, with a book that has grown
 pub record Follows {S : Type 0} (n n' : Node S) : Type 0 where
@@ -68,6 +69,21 @@ follows-kept n (Ask q) = follows-if _ n _ n (record { id = refl; grows = λ slot
 follows-kept n (Propose p) = record { id = refl; grows = λ slot digest has. has }
 follows-kept n (Vote b) = record { id = refl; grows = λ slot digest has. has }
 follows-kept n (Reply a) = follows-same n
+
+-- nor does what tells that a node is behind
+follows-noted : {S : Type 0} (n : Node S) (message : Message) → Follows n (noted n message)
+unfolding noted
+follows-noted n message = record { id = refl; grows = λ slot digest has. has }
+
+-- nor does an answer again
+follows-answer_line : {S : Type 0} (n : Node S) (line : Option TableLine) → Follows n (answer_line n line)
+unfolding answer_line
+follows-answer_line n None = follows-same n
+follows-answer_line n (Some line) = record { id = refl; grows = λ slot digest has. has }
+
+follows-answers_again : {S : Type 0} (n : Node S) (message : Message) → Follows n (answers_again n message)
+unfolding answers_again
+follows-answers_again n message = follows-answer_line n (answering n message)
 
 -- nor does a delivery
 follows-deliver_batch : {S : Type 0} (m : Meaning S) (n : Node S) (batch : Option Batch) → Follows n (deliver_batch m n batch)
@@ -124,8 +140,11 @@ follows-passes n = follows-then n (votes n) _ (follows-votes n) (follows-decide_
 
 -- an arrival and its pass
 follows-arrival : {S : Type 0} (n : Node S) (message : Message) (why : Option Why) → Follows n (arrival_outcome n message why).node
-follows-arrival n message None = follows-then n (kept n message) _ (follows-kept n message) (follows-passes (kept n message))
-follows-arrival n message (Some why) = follows-same n
+follows-arrival {S = S} n message None =
+    let k : Node S = kept (noted n message) message in
+    follows-then n k (answers_again (passes k) message) (follows-then n (noted n message) k (follows-noted n message) (follows-kept (noted n message) message))
+    (follows-then k (passes k) (answers_again (passes k) message) (follows-passes k) (follows-answers_again (passes k) message))
+follows-arrival n message (Some why) = follows-noted n message
 
 -- bytes that come, and their pass
 follows-reading : {S : Type 0} (n : Node S) (read : Result Message ℕ) → Follows n (reading_outcome n read).node
@@ -188,10 +207,22 @@ next-passes : {S : Type 0} (n : Node S) → DecidesNext n (passes n)
 unfolding passes decides
 next-passes n = next-after n (votes n) (passes n) (decided-votes n) (next-decide_batch (votes n) (deciding (votes n)))
 
+-- an answer again decides nothing
+next-answer_line : {S : Type 0} (n x : Node S) (line : Option TableLine) → DecidesNext n x → DecidesNext n (answer_line x line)
+unfolding answer_line
+next-answer_line n x None next = next
+next-answer_line n x (Some line) next = record { most = next.most; rest = next.rest }
+
+next-answers_again : {S : Type 0} (n x : Node S) (message : Message) → DecidesNext n x → DecidesNext n (answers_again x message)
+unfolding answers_again
+next-answers_again n x message next = next-answer_line n x (answering x message) next
+
 -- so does an arrival
 next-arrival : {S : Type 0} (n : Node S) (message : Message) (why : Option Why) → DecidesNext n (arrival_outcome n message why).node
-next-arrival n message None = next-after n (kept n message) (passes (kept n message)) (ap decided_of (entries-kept n message)) (next-passes (kept n message))
-next-arrival n message (Some why) = next-same n n refl
+next-arrival {S = S} n message None =
+    let k : Node S = kept (noted n message) message in
+    next-answers_again n (passes k) message (next-after n k (passes k) (ap decided_of (entries-arrives n message)) (next-passes k))
+next-arrival n message (Some why) = next-same n (noted n message) (ap decided_of (entries-noted n message))
 
 -- so do bytes that come
 next-reading : {S : Type 0} (n : Node S) (read : Result Message ℕ) → DecidesNext n (reading_outcome n read).node
@@ -248,9 +279,16 @@ due-pass n x = due-append n (fired_votes x) _ (due-votes n x) (decided (next_pla
     decided place None = tt
     decided place (Some batch) = tt
 
+-- nor does an answer again
+due-answer : {S : Type 0} (n : Node S) (line : Option TableLine) → AllDue n (fired_answer line)
+due-answer n None = tt
+due-answer n (Some line) = tt
+
 -- an arrival delivers nothing
 due-arrival : {S : Type 0} (n : Node S) (message : Message) (why : Option Why) → AllDue n (arrival_outcome n message why).fired
-due-arrival n message None = due-pass n (kept n message)
+due-arrival {S = S} n message None =
+    let k : Node S = kept (noted n message) message in
+    due-append n (fired_pass k) (fired_answer (answering (passes k) message)) (due-pass n k) (due-answer n (answering (passes k) message))
 due-arrival n message (Some why) = tt
 
 -- nor do bytes that come

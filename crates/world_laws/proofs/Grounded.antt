@@ -18,8 +18,8 @@ use Rattle.smart_service.specs.declared.table.TableLine.{TableLine}
 use Rattle.node_rules.specs.Replicas.{is_next, delivered}
 use Rattle.node_rules.specs.Seals.{digest_of}
 use Rattle.node_rules.specs.Nodes.{Node, next_place, open_slot, is_free, holding, proposal_in, proposal_of}
-use Rattle.node_rules.specs.Arrivals.{why_dropped, offered, kept}
-use Rattle.node_rules.specs.Rules.{settled, reply_of, replying, lines_to_answer, deliver_batch, delivers, proposing, propose_batch, proposes, writing, write_batch, writes, backed, backers, accepting, accept_batch, accepts, deciding, decide_batch, decides}
+use Rattle.node_rules.specs.Arrivals.{why_dropped, offered, kept, noted}
+use Rattle.node_rules.specs.Rules.{settled, reply_of, replying, lines_to_answer, deliver_batch, delivers, proposing, propose_batch, proposes, writing, write_batch, writes, backed, backers, accepting, accept_batch, accepts, deciding, decide_batch, decides, answering, answer_line, answers_again}
 use Rattle.node_rules.specs.Steps.{Outcome, votes, passes, arrival_outcome, reading_outcome, step_of, leaving}
 use Rattle.node_rules.specs.declared.node.Why.{Why}
 use Rattle.node_rules.specs.declared.node.Held.{Held}
@@ -81,6 +81,21 @@ met-kept {S = S} M n (Ask q) met is =
 met-kept M n (Propose p) met is = record { arrivals = each_end (ProposalMet M) n.arrivals (Propose p) is.arrivals met; waiting = is.waiting; decided = is.decided }
 met-kept M n (Vote b) met is = record { arrivals = each_end (ProposalMet M) n.arrivals (Vote b) is.arrivals tt; waiting = is.waiting; decided = is.decided }
 met-kept M n (Reply a) met is = is
+
+-- a node is told that it is behind
+met-noted : {S : Type 0} (M : Batch → Type 0) (n : Node S) (message : Message) → NodeMet M n → NodeMet M (noted n message)
+unfolding noted
+met-noted M n message is = record { arrivals = is.arrivals; waiting = is.waiting; decided = is.decided }
+
+-- a node answers again
+met-answer_line : {S : Type 0} (M : Batch → Type 0) (n : Node S) (line : Option TableLine) → NodeMet M n → NodeMet M (answer_line n line)
+unfolding answer_line
+met-answer_line M n None is = is
+met-answer_line M n (Some line) is = record { arrivals = is.arrivals; waiting = is.waiting; decided = is.decided }
+
+met-answers_again : {S : Type 0} (M : Batch → Type 0) (n : Node S) (message : Message) → NodeMet M n → NodeMet M (answers_again n message)
+unfolding answers_again
+met-answers_again M n message is = met-answer_line M n (answering n message) is
 
 -- a batch is delivered
 met-deliver_batch : {S : Type 0} (M : Batch → Type 0) (m : Meaning S) (n : Node S) (batch : Option Batch) → NodeMet M n → NodeMet M (deliver_batch m n batch)
@@ -153,8 +168,10 @@ unfolding passes decides
 met-passes M n is = met-decide_batch M (votes n) (deciding (votes n)) (deciding-met M (votes n) (met-votes M n is)) (met-votes M n is)
 
 met-arrival : {S : Type 0} (M : Batch → Type 0) (n : Node S) (message : Message) (why : Option Why) → ProposalMet M message → NodeMet M n → NodeMet M (arrival_outcome n message why).node
-met-arrival M n message None met is = met-passes M (kept n message) (met-kept M n message met is)
-met-arrival M n message (Some why) met is = is
+met-arrival {S = S} M n message None met is =
+    let k : Node S = kept (noted n message) message in
+    met-answers_again M (passes k) message (met-passes M k (met-kept M (noted n message) message met (met-noted M n message is)))
+met-arrival M n message (Some why) met is = met-noted M n message is
 
 met-reading : {S : Type 0} (M : Batch → Type 0) (n : Node S) (read : Result Message ℕ) → ReadMet M read → NodeMet M n → NodeMet M (reading_outcome n read).node
 met-reading M n (Ok x) met is = met-arrival M n x (why_dropped n x) met is

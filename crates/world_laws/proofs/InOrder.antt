@@ -16,8 +16,8 @@ use Rattle.smart_service.specs.declared.table.TableLine.{TableLine}
 use Rattle.smart_service.specs.declared.replica.Replica.{Replica}
 use Rattle.node_rules.specs.Replicas.{is_next, execute, execute_all, at_next, delivered, empty, after_batches, state}
 use Rattle.node_rules.specs.Nodes.{Node, view_of, next_place, open_slot, is_free, holding, recording}
-use Rattle.node_rules.specs.Arrivals.{why_dropped, offered, kept}
-use Rattle.node_rules.specs.Rules.{settled, reply_of, replying, lines_to_answer, deliver_batch, delivers, proposing, propose_batch, proposes, writing, write_batch, writes, backers, accepting, accept_batch, accepts, deciding, decide_batch, decides}
+use Rattle.node_rules.specs.Arrivals.{why_dropped, offered, kept, noted}
+use Rattle.node_rules.specs.Rules.{settled, reply_of, replying, lines_to_answer, deliver_batch, delivers, proposing, propose_batch, proposes, writing, write_batch, writes, backers, accepting, accept_batch, accepts, deciding, decide_batch, decides, answering, answer_line, answers_again}
 use Rattle.node_rules.specs.Steps.{votes, passes, arrival_outcome, reading_outcome, step_of, opened, released}
 use Rattle.node_rules.specs.declared.node.Why.{Why}
 use Rattle.node_rules.specs.declared.node.Target.TheVariants as targets
@@ -187,6 +187,25 @@ in_order-kept m view n (Propose p) d = record { replica = d.replica; waiting = d
 in_order-kept m view n (Vote b) d = record { replica = d.replica; waiting = d.waiting; count = d.count }
 in_order-kept m view n (Reply a) d = d
 
+-- a node that is told that it is behind
+pub in_order-noted : {S : Type 0} (m : Meaning S) (view : View) (n : Node S) (message : Message) → DeliversInOrder m view n → DeliversInOrder m view (noted n message)
+unfolding noted
+in_order-noted m view n message d = record { replica = d.replica; waiting = d.waiting; count = d.count }
+
+-- and that keeps the arrival
+pub in_order-arrives : {S : Type 0} (m : Meaning S) (view : View) (n : Node S) (message : Message) → DeliversInOrder m view n → DeliversInOrder m view (kept (noted n message) message)
+in_order-arrives m view n message d = in_order-kept m view (noted n message) message (in_order-noted m view n message d)
+
+-- an answer again
+in_order-answer_line : {S : Type 0} (m : Meaning S) (view : View) (n : Node S) (line : Option TableLine) → DeliversInOrder m view n → DeliversInOrder m view (answer_line n line)
+unfolding answer_line
+in_order-answer_line m view n None d = d
+in_order-answer_line m view n (Some line) d = record { replica = d.replica; waiting = d.waiting; count = d.count }
+
+in_order-answers_again : {S : Type 0} (m : Meaning S) (view : View) (n : Node S) (message : Message) → DeliversInOrder m view n → DeliversInOrder m view (answers_again n message)
+unfolding answers_again
+in_order-answers_again m view n message d = in_order-answer_line m view n (answering n message) d
+
 -- a proposal
 in_order-propose_batch : {S : Type 0} (m : Meaning S) (view : View) (n : Node S) (batch : Option Batch) → DeliversInOrder m view n → DeliversInOrder m view (propose_batch n batch)
 unfolding propose_batch
@@ -237,8 +256,8 @@ in_order-passes m view n d = in_order-decide_batch m view (votes n) (deciding (v
 
 -- an arrival and its pass
 in_order-arrival : {S : Type 0} (m : Meaning S) (view : View) (n : Node S) (message : Message) (why : Option Why) → DeliversInOrder m view n → DeliversInOrder m view (arrival_outcome n message why).node
-in_order-arrival m view n message None d = in_order-passes m view (kept n message) (in_order-kept m view n message d)
-in_order-arrival m view n message (Some why) d = d
+in_order-arrival m view n message None d = in_order-answers_again m view (passes (kept (noted n message) message)) message (in_order-passes m view (kept (noted n message) message) (in_order-arrives m view n message d))
+in_order-arrival m view n message (Some why) d = in_order-noted m view n message d
 
 -- bytes that come, and their pass
 in_order-reading : {S : Type 0} (m : Meaning S) (view : View) (n : Node S) (read : Result Message ℕ) → DeliversInOrder m view n → DeliversInOrder m view (reading_outcome n read).node

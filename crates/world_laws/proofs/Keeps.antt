@@ -1,9 +1,9 @@
 -- What each event of a world keeps, the lines of a script keep.
-use Rattle.std.proofs.Common.{◌≡◌, ℕ, zero, suc, ◌+◌, ◌^◌, ◌<◌, ◌≤◌, ◌++◌, ◌∙◌, ◌&&◌, Bool, true, false, List, [], ◌∷◌, length, refl, ap, cond, Option, Some, None, is_some, nat_lt, nat_le, inl, inr, ◌⊎◌, subst, Result, Ok, Err}
+use Rattle.std.proofs.Common.{◌≡◌, ℕ, zero, suc, ◌+◌, ◌^◌, ◌<◌, ◌≤◌, ◌++◌, ◌∙◌, ◌&&◌, Bool, true, false, List, [], ◌∷◌, length, refl, ap, cond, Option, Some, None, is_some, nat_lt, nat_le, inl, inr, ◌⊎◌, subst, Result, Ok, Err, ◌-◌, sym, append-nil, append_assoc}
 use Rattle.std.proofs.lemmas.Bool.{ltb-true, leb-true}
-use Rattle.std.specs.Prelude.{slice_get, slice_set}
+use Rattle.std.specs.Prelude.{slice_get, slice_set, map}
 use Rattle.std.specs.Option.{option_and_then}
-use Rattle.smart_base.specs.Lists.{or_else}
+use Rattle.smart_base.specs.Lists.{or_else, Each}
 use Rattle.smart_messages.specs.Forms.{SignedBy}
 use Rattle.smart_messages.specs.Kinds.{requests}
 use Rattle.smart_messages.specs.Messages.{spelling, decoded}
@@ -22,7 +22,7 @@ use Rattle.node_rules.specs.declared.node.Target.TheVariants as targets
 use Rattle.world_rules.specs.Secrets.{group_secret}
 use Rattle.world_rules.specs.Premises.{collides}
 use Rattle.world_rules.specs.Clients.{request_of, asking, heard}
-use Rattle.world_rules.specs.Worlds.{Host, World, summary_of, telling, sends, sends_all, stepped, host_takes, node_takes, due, takes_due, settle_once, settle, settle_all, gives, give_all, hearing, client_hears, hears_bytes, client_takes, client_asks, ask_found, asks, goes, flow_sent, flow_once}
+use Rattle.world_rules.specs.Worlds.{Host, World, summary_of, telling, sends, sends_all, stepped, host_takes, node_takes, due, takes_due, settle_once, settle, settle_all, gives, give_all, hearing, client_hears, hears_bytes, client_takes, client_asks, ask_found, asks, goes, flow_sent, flow_once, is_listed, where_listed, at_listed, each_listed, host_index, at_index, at_member, arrives, arrives_at, sent_arrives, give_number, told_idle, telling_all, host_delivers, deliver_at, deliver_each, shown_host, shown_client, shows}
 use Rattle.world_rules.specs.Plays.{line_played, rested, world_after}
 use Rattle.world_rules.specs.declared.client.Client.{Client}
 use Rattle.world_rules.specs.declared.client.Heard.{Heard}
@@ -36,7 +36,11 @@ use Rattle.world_rules.specs.declared.message.Sent.{Sent}
 use Rattle.world_rules.specs.declared.message.Ending.{Ending}
 use Rattle.world_rules.specs.declared.message.Ending.TheVariants.{Limit, Premise}
 use Rattle.world_rules.specs.declared.message.Premise.TheVariants.{Collision}
-use Rattle.world_laws.proofs.Lists.{and_true, either_by, until_rest_keeps, each_from_keeps, some-equal}
+use Rattle.world_laws.proofs.Lists.{and_true, either_by, until_rest_keeps, each_from_keeps, some-equal, either, each_append}
+use Rattle.std.specs.List.{flat_map}
+use Rattle.smart_base.specs.declared.party.Party.{Party}
+use Rattle.smart_base.specs.declared.party.Party.TheVariants as parties
+use Rattle.node_rules.specs.declared.node.Fired.{Fired}
 
 -- a message was sent
 abbrev pub HasMessage : List Sent → Message → Type 0
@@ -75,6 +79,9 @@ IsBeside (outs.Counted client have need) = Unit {0}
 IsBeside (outs.Accepted client seq place index reply) = ⊥
 IsBeside (outs.Ignored client why) = Unit {0}
 IsBeside (outs.Busy client seq) = Unit {0}
+IsBeside (outs.Idle member) = Unit {0}
+IsBeside (outs.Stands member place number regency) = Unit {0}
+IsBeside (outs.Seen client place) = Unit {0}
 IsBeside (outs.End lines messages) = Unit {0}
 
 -- a fact on worlds that each event keeps
@@ -263,9 +270,32 @@ live-settle_once step P k i w p = live-takes_due step P k i w (option_and_then d
 pub live-settle : {S : Type 0} (step : Node S → NodeEvent → Outcome S) (P : World S → Type 0) → KeepsLive step P → (i : ℕ) (w : World S) → P w → P (settle step i w)
 live-settle step P k i w p = until_rest_keeps P (settle_once step i) (live-settle_once step P k i) w p
 
--- all nodes settle
-pub live-settle_all : {S : Type 0} (step : Node S → NodeEvent → Outcome S) (P : World S → Type 0) → KeepsLive step P → (w : World S) → P w → P (settle_all step w)
-live-settle_all step P k w p = each_from_keeps P (settle step) (live-settle step P k) (length w.hosts) 0 w p
+-- members that a line lists
+
+-- what happens at each index keeps, it keeps where the member is listed
+where_listed-keeps : {S : Type 0} (P : World S → Type 0) (members : List ℕ) (f : ℕ → World S → World S) → ((i : ℕ) (w : World S) → P w → P (f i w)) → (i : ℕ) (w : World S) (found : Option (Host S))
+    → P w → P (where_listed members f i w found)
+where_listed-keeps P members f keeps i w None p = p
+where_listed-keeps P members f keeps i w (Some h) p = either P (is_listed members h.node.id) (f i w) w (keeps i w p) p
+
+pub at_listed-keeps : {S : Type 0} (P : World S → Type 0) (members : List ℕ) (f : ℕ → World S → World S) → ((i : ℕ) (w : World S) → P w → P (f i w)) → (i : ℕ) (w : World S) → P w → P (at_listed members f i w)
+at_listed-keeps P members f keeps i w p = where_listed-keeps P members f keeps i w (slice_get w.hosts i) p
+
+-- and at all that are
+pub each_listed-keeps : {S : Type 0} (P : World S → Type 0) (members : List ℕ) (f : ℕ → World S → World S) → ((i : ℕ) (w : World S) → P w → P (f i w)) → (w : World S) → P w → P (each_listed members f w)
+each_listed-keeps P members f keeps w p = each_from_keeps P (at_listed members f) (at_listed-keeps P members f keeps) (length w.hosts) 0 w p
+
+-- and at a member's host
+at_index-keeps : {S : Type 0} (P : World S → Type 0) (f : ℕ → World S → World S) → ((i : ℕ) (w : World S) → P w → P (f i w)) → (w : World S) (found : Option ℕ) → P w → P (at_index f w found)
+at_index-keeps P f keeps w None p = p
+at_index-keeps P f keeps w (Some i) p = keeps i w p
+
+pub at_member-keeps : {S : Type 0} (P : World S → Type 0) (f : ℕ → World S → World S) → ((i : ℕ) (w : World S) → P w → P (f i w)) → (member : ℕ) (w : World S) → P w → P (at_member f member w)
+at_member-keeps P f keeps member w p = at_index-keeps P f keeps w (host_index w.hosts member) p
+
+-- all listed nodes settle
+pub live-settle_all : {S : Type 0} (step : Node S → NodeEvent → Outcome S) (P : World S → Type 0) → KeepsLive step P → (members : List ℕ) (w : World S) → P w → P (settle_all step members w)
+live-settle_all step P k members w p = each_listed-keeps P members (settle step) (live-settle step P k) w p
 
 -- the bytes of a message that was sent are given
 
@@ -279,10 +309,10 @@ live-gives {S = S} step P k x i w p =
     live-settle step Q kq i (node_takes step i (Arrive (spelling x)) w)
     (live-node_takes step Q kq i (Arrive (spelling x)) w (λ h at. record { message = x; spelled = refl; has = p.1 }) p)
 
--- all nodes take the bytes of a message that was sent
-live-give_all : {S : Type 0} (step : Node S → NodeEvent → Outcome S) (P : World S → Type 0) → KeepsLive step P → (x : Message) (w : World S) → HasMessage w.sent x → P w → P (give_all step (spelling x) w)
-live-give_all {S = S} step P k x w has p =
-    (each_from_keeps (λ (v : World S). P v × HasMessage v.sent x) (gives step (spelling x)) (live-gives step P k x) (length w.hosts) 0 w (p, has)).0
+-- all listed nodes take the bytes of a message that was sent
+live-give_all : {S : Type 0} (step : Node S → NodeEvent → Outcome S) (P : World S → Type 0) → KeepsLive step P → (members : List ℕ) (x : Message) (w : World S) → HasMessage w.sent x → P w → P (give_all step members (spelling x) w)
+live-give_all {S = S} step P k members x w has p =
+    (each_listed-keeps (λ (v : World S). P v × HasMessage v.sent x) members (gives step (spelling x)) (live-gives step P k x) w (p, has)).0
 
 -- clients
 
@@ -336,20 +366,90 @@ has_at (t ∷ sent) zero s at = inl (ap (λ (x : Sent). x.message) (some-equal t
 has_at (t ∷ sent) (suc i) s at = inr (has_at sent i s at)
 
 -- a message goes to whom it is for
-pub live-goes : {S : Type 0} (step : Node S → NodeEvent → Outcome S) (P : World S → Type 0) → KeepsLive step P → (w : World S) (x : Message) (to : Target) → HasMessage w.sent x → P w → P (goes step w (spelling x) to)
-live-goes step P k w x targets.View has p = live-give_all step P k x w has p
-live-goes step P k w x (targets.Client id) has p = live-client_takes step P k id x w has p
+pub live-goes : {S : Type 0} (step : Node S → NodeEvent → Outcome S) (P : World S → Type 0) → KeepsLive step P → (members : List ℕ) (w : World S) (x : Message) (to : Target) → HasMessage w.sent x → P w → P (goes step members w (spelling x) to)
+live-goes step P k members w x targets.View has p = live-give_all step P k members x w has p
+live-goes step P k members w x (targets.Client id) has p = live-client_takes step P k id x w has p
 
 -- the message behind the mark goes, if there is one
-live-flow_sent : {S : Type 0} (step : Node S → NodeEvent → Outcome S) (P : World S → Type 0) → KeepsLive step P → (w : World S) (found : Option Sent) → w.ending ≡ None → slice_get w.sent w.mark ≡ found → P w → P (flow_sent step w found)
-live-flow_sent step P k w None on at p = p
-live-flow_sent step P k w (Some s) on at p =
-    live-goes step P k (record w { mark = w.mark + 1 }) s.message s.to (has_at w.sent w.mark s at) (k.mark w s on at p)
+live-flow_sent : {S : Type 0} (step : Node S → NodeEvent → Outcome S) (P : World S → Type 0) → KeepsLive step P → (members : List ℕ) (w : World S) (found : Option Sent) → w.ending ≡ None → slice_get w.sent w.mark ≡ found → P w
+    → P (flow_sent step members w found)
+live-flow_sent step P k members w None on at p = p
+live-flow_sent step P k members w (Some s) on at p =
+    live-goes step P k members (record w { mark = w.mark + 1 }) s.message s.to (has_at w.sent w.mark s at) (k.mark w s on at p)
 
 -- one turn of a flow
-pub live-flow_once : {S : Type 0} (step : Node S → NodeEvent → Outcome S) (P : World S → Type 0) → KeepsLive step P → (w : World S) → P w → P (flow_once step w)
+pub live-flow_once : {S : Type 0} (step : Node S → NodeEvent → Outcome S) (P : World S → Type 0) → KeepsLive step P → (members : List ℕ) (w : World S) → P w → P (flow_once step members w)
 unfolding flow_once
-live-flow_once step P k w p = either_by P (is_some w.ending) w _ (λ over. p) (λ on. live-flow_sent step P k w (slice_get w.sent w.mark) (none_is w.ending on) refl p)
+live-flow_once step P k members w p = either_by P (is_some w.ending) w _ (λ over. p) (λ on. live-flow_sent step P k members w (slice_get w.sent w.mark) (none_is w.ending on) refl p)
+
+-- lines that are told
+
+pub live-tells : {S : Type 0} (step : Node S → NodeEvent → Outcome S) (P : World S → Type 0) → KeepsLive step P → (w : World S) (lines : List OutLine) → Each IsBeside lines → P w → P (telling_all w lines)
+live-tells step P k w [] beside p = subst (λ (told : List OutLine). P (record w { told = told })) (sym (append-nil w.told)) p
+live-tells step P k w (l ∷ ls) beside p =
+    subst (λ (told : List OutLine). P (record w { told = told })) (append_assoc w.told (l ∷ []) ls) (live-tells step P k (telling w l) ls beside.1 (k.tell w l beside.0 p))
+
+-- deliveries one by one
+
+-- the bytes of a message that was sent arrive at a member or a client
+live-arrives : {S : Type 0} (step : Node S → NodeEvent → Outcome S) (P : World S → Type 0) → KeepsLive step P → (x : Message) (to : Party) (w : World S) → P w × HasMessage w.sent x
+    → P (arrives step (spelling x) to w) × HasMessage (arrives step (spelling x) to w).sent x
+live-arrives {S = S} step P k x (parties.Member id) w p =
+    let Q : World S → Type 0 = λ v. P v × HasMessage v.sent x in
+    at_member-keeps Q (λ i v. node_takes step i (Arrive (spelling x)) v)
+    (λ i v q. live-node_takes step Q (live-carries step P x k) i (Arrive (spelling x)) v (λ h at. record { message = x; spelled = refl; has = q.1 }) q) id w p
+live-arrives {S = S} step P k x (parties.Client id) w p = live-client_takes step (λ (v : World S). P v × HasMessage v.sent x) (live-carries step P x k) id x w p.1 p
+
+-- and at each of some
+live-arrives_at : {S : Type 0} (step : Node S → NodeEvent → Outcome S) (P : World S → Type 0) → KeepsLive step P → (x : Message) (tos : List Party) (w : World S) → P w × HasMessage w.sent x
+    → P (arrives_at step (spelling x) tos w)
+live-arrives_at step P k x [] w p = p.0
+live-arrives_at step P k x (to ∷ tos) w p = live-arrives_at step P k x tos (arrives step (spelling x) to w) (live-arrives step P k x to w p)
+
+live-sent_arrives : {S : Type 0} (step : Node S → NodeEvent → Outcome S) (P : World S → Type 0) → KeepsLive step P → (i : ℕ) (tos : List Party) (w : World S) (found : Option Sent) → slice_get w.sent i ≡ found → P w
+    → P (sent_arrives step tos w found)
+live-sent_arrives step P k i tos w None at p = p
+live-sent_arrives step P k i tos w (Some s) at p = live-arrives_at step P k s.message tos w (p, has_at w.sent i s at)
+
+-- the message of a number does
+live-give_number : {S : Type 0} (step : Node S → NodeEvent → Outcome S) (P : World S → Type 0) → KeepsLive step P → (number : ℕ) (tos : List Party) (w : World S) → P w → P (give_number step number tos w)
+live-give_number step P k number tos w p = live-sent_arrives step P k (number - 1) tos w (slice_get w.sent (number - 1)) refl p
+
+-- who is idle accepts nothing
+pub idle-beside : (id : ℕ) (fired : List Fired) → Each IsBeside (told_idle id fired)
+idle-beside id [] = (tt, tt)
+idle-beside id (rule ∷ rules) = tt
+
+-- a node delivers, or tells that it is idle
+live-host_delivers : {S : Type 0} (step : Node S → NodeEvent → Outcome S) (P : World S → Type 0) → KeepsLive step P → (i : ℕ) (w : World S) (found : Option (Host S)) → w.ending ≡ None → slice_get w.hosts i ≡ found → P w
+    → P (host_delivers step i w found)
+live-host_delivers step P k i w None on at p = p
+live-host_delivers step P k i w (Some h) on at p =
+    live-tells step P k (stepped w i h (step h.node Deliver)) (told_idle h.node.id (step h.node Deliver).fired) (idle-beside h.node.id (step h.node Deliver).fired) (k.event w i h Deliver on at tt p)
+
+live-deliver_at : {S : Type 0} (step : Node S → NodeEvent → Outcome S) (P : World S → Type 0) → KeepsLive step P → (i : ℕ) (w : World S) → P w → P (deliver_at step i w)
+unfolding deliver_at
+live-deliver_at step P k i w p = either_by P (is_some w.ending) w _ (λ over. p) (λ on. live-host_delivers step P k i w (slice_get w.hosts i) (none_is w.ending on) refl p)
+
+live-deliver_each : {S : Type 0} (step : Node S → NodeEvent → Outcome S) (P : World S → Type 0) → KeepsLive step P → (members : List ℕ) (w : World S) → P w → P (deliver_each step members w)
+live-deliver_each step P k [] w p = p
+live-deliver_each step P k (m ∷ ms) w p = live-deliver_each step P k ms (at_member (deliver_at step) m w) (at_member-keeps P (deliver_at step) (live-deliver_at step P k) m w p)
+
+-- what is shown
+
+pub hosts-beside : {S : Type 0} (hosts : List (Host S)) → Each IsBeside (map shown_host hosts)
+hosts-beside [] = tt
+hosts-beside (h ∷ hs) = (tt, hosts-beside hs)
+
+pub clients-beside : (clients : List Client) → Each IsBeside (flat_map shown_client clients)
+clients-beside [] = tt
+clients-beside (c ∷ cs) =
+    each_append IsBeside (shown_client c) (flat_map shown_client cs) (either (λ (lines : List OutLine). Each IsBeside lines) (nat_lt 0 c.last) (outs.Seen c.id c.seen ∷ []) [] (tt, tt) tt) (clients-beside cs)
+
+live-shows : {S : Type 0} (step : Node S → NodeEvent → Outcome S) (P : World S → Type 0) → KeepsLive step P → (w : World S) → P w → P (shows w)
+live-shows step P k w p =
+    live-tells step P k w (map shown_host w.hosts ++ flat_map shown_client w.clients)
+    (each_append IsBeside (map shown_host w.hosts) (flat_map shown_client w.clients) (hosts-beside w.hosts) (clients-beside w.clients)) p
 
 -- lines
 
@@ -358,7 +458,12 @@ pub live-line_played : {S : Type 0} (step : Node S → NodeEvent → Outcome S) 
 unfolding line_played
 live-line_played step P k w lines.Nothing p = p
 live-line_played step P k w (lines.Ask client op) p = live-asks step P k client op w p
-live-line_played step P k w lines.Flow p = until_rest_keeps P (flow_once step) (live-flow_once step P k) (settle_all step w) (live-settle_all step P k w p)
+live-line_played step P k w (lines.Flow members) p = until_rest_keeps P (flow_once step members) (live-flow_once step P k members) (settle_all step members w) (live-settle_all step P k members w p)
+live-line_played step P k w (lines.Give number to) p = live-give_number step P k number to w p
+live-line_played step P k w (lines.Deliver members) p = live-deliver_each step P k members w p
+live-line_played step P k w (lines.Settle member) p = at_member-keeps P (settle step) (live-settle step P k) member w p
+live-line_played step P k w lines.SettleAll p = live-settle_all step P k [] w p
+live-line_played step P k w lines.Show p = live-shows step P k w p
 
 -- all lines of a script
 pub live-world_after : {S : Type 0} (step : Node S → NodeEvent → Outcome S) (P : World S → Type 0) → KeepsLive step P → (w : World S) (ls : List Line) → P w → P (world_after step w ls)

@@ -1,6 +1,7 @@
 pub mod Lists
 pub mod Ascending
 pub mod Keeps
+pub mod Again
 pub mod Aligned
 pub mod OnePlace
 pub mod Executions

@@ -1,5 +1,5 @@
 -- A node accepts once for each slot.
-use Rattle.std.proofs.Common.{◌≡◌, ℕ, ◌+◌, ◌≤◌, ◌++◌, Bool, true, false, not, List, [], ◌∷◌, refl, ap, arith, cond, Option, Some, None, is_some, Result, Ok, Err}
+use Rattle.std.proofs.Common.{◌≡◌, ℕ, ◌+◌, ◌≤◌, ◌++◌, Bool, true, false, not, List, [], ◌∷◌, refl, ap, arith, cond, Option, Some, None, is_some, Result, Ok, Err, ◌∙◌}
 use Rattle.std.specs.List.{list_any}
 use Rattle.smart_messages.specs.Messages.{Batch, decoded}
 use Rattle.smart_messages.specs.Equality.{same_slot}
@@ -14,8 +14,8 @@ use Rattle.smart_service.specs.Services.{Meaning}
 use Rattle.smart_service.specs.declared.table.TableLine.{TableLine}
 use Rattle.node_rules.specs.Replicas.{delivered}
 use Rattle.node_rules.specs.Nodes.{Node, holding, is_open, open_slot, is_accepted}
-use Rattle.node_rules.specs.Arrivals.{why_dropped, kept}
-use Rattle.node_rules.specs.Rules.{settled, reply_of, replying, lines_to_answer, deliver_batch, delivers, proposing, propose_batch, proposes, writing, write_batch, writes, accepting, accept_batch, accepts, deciding, decide_batch, decides}
+use Rattle.node_rules.specs.Arrivals.{why_dropped, kept, noted}
+use Rattle.node_rules.specs.Rules.{settled, reply_of, replying, lines_to_answer, deliver_batch, delivers, proposing, propose_batch, proposes, writing, write_batch, writes, accepting, accept_batch, accepts, deciding, decide_batch, decides, answers_again}
 use Rattle.node_rules.specs.Steps.{votes, passes, arrival_outcome, reading_outcome, step_of}
 use Rattle.node_rules.specs.declared.node.Why.{Why}
 use Rattle.node_rules.specs.declared.node.Target.TheVariants as targets
@@ -24,6 +24,7 @@ use Rattle.kept_arrivals.specs.Kept.{node_after}
 use Rattle.world_laws.specs.Books.{passing, AcceptsOnce}
 use Rattle.world_laws.proofs.Lists.{and_true, or_false, not_true}
 use Rattle.world_laws.proofs.Equal.{same_slot-equal}
+use Rattle.world_laws.proofs.Again.{entries-noted, entries-answers_again}
 
 -- rules that record nothing
 
@@ -44,6 +45,10 @@ entries-kept n (Ask q) = entries-if _ _ n refl
 entries-kept n (Propose p) = refl
 entries-kept n (Vote b) = refl
 entries-kept n (Reply a) = refl
+
+-- with what it tells
+pub entries-arrives : {S : Type 0} (n : Node S) (message : Message) → (kept (noted n message) message).entries ≡ n.entries
+entries-arrives n message = entries-kept (noted n message) message ∙ entries-noted n message
 
 -- a delivery
 pub entries-deliver_batch : {S : Type 0} (m : Meaning S) (n : Node S) (batch : Option Batch) → (deliver_batch m n batch).entries ≡ n.entries
@@ -147,8 +152,10 @@ once-passes n once = once-decide_batch (votes n) (deciding (votes n)) (once-vote
 
 -- an arrival and its pass
 once-arrival : {S : Type 0} (n : Node S) (message : Message) (why : Option Why) → Once n → Once (arrival_outcome n message why).node
-once-arrival n message None once = once-passes (kept n message) (once_as n (kept n message) (entries-kept n message) once)
-once-arrival n message (Some why) once = once
+once-arrival {S = S} n message None once =
+    let k : Node S = kept (noted n message) message in
+    once_as (passes k) (answers_again (passes k) message) (entries-answers_again (passes k) message) (once-passes k (once_as n k (entries-arrives n message) once))
+once-arrival n message (Some why) once = once_as n (noted n message) (entries-noted n message) once
 
 -- bytes that come, and their pass
 once-reading : {S : Type 0} (n : Node S) (read : Result Message ℕ) → Once n → Once (reading_outcome n read).node

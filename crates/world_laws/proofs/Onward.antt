@@ -23,8 +23,8 @@ use Rattle.smart_service.specs.declared.table.TableLine.{TableLine}
 use Rattle.node_rules.specs.Replicas.{is_next, delivered, executed_lines, at_next}
 use Rattle.node_rules.specs.Seals.{signed, digest_of}
 use Rattle.node_rules.specs.Nodes.{Node, view_of, next_place, open_slot, holding, recording}
-use Rattle.node_rules.specs.Arrivals.{why_dropped, offered, kept}
-use Rattle.node_rules.specs.Rules.{settled, reply_of, replying, lines_to_answer, deliver_batch, delivers, proposing, propose_batch, proposes, ballot, writing, write_batch, writes, backers, accepting, accept_batch, accepts, deciding, decide_batch, decides}
+use Rattle.node_rules.specs.Arrivals.{why_dropped, offered, kept, noted}
+use Rattle.node_rules.specs.Rules.{settled, reply_of, replying, lines_to_answer, deliver_batch, delivers, proposing, propose_batch, proposes, ballot, writing, write_batch, writes, backers, accepting, accept_batch, accepts, deciding, decide_batch, decides, answering, answer_line, answers_again}
 use Rattle.node_rules.specs.Steps.{votes, passes, arrival_outcome, reading_outcome, step_of, released, opened}
 use Rattle.node_rules.specs.declared.node.Why.{Why}
 use Rattle.node_rules.specs.declared.node.Held.{Held}
@@ -36,6 +36,7 @@ use Rattle.world_laws.proofs.Lists.{either, each_end, each_weaker}
 use Rattle.world_laws.proofs.Equal.{and_intro, slot-itself, bytes-itself}
 use Rattle.world_laws.proofs.Executions.{OfRequest, of_delivered}
 use Rattle.world_laws.proofs.Authentic.{each-staying}
+use Rattle.world_laws.proofs.Again.{ForLine, answering-each, each-delivered}
 
 -- tests on books
 
@@ -98,10 +99,15 @@ abbrev pub IsDecided : ℕ → List LogEntry → Option Batch → Type 0
 IsDecided place entries None = Unit {0}
 IsDecided place entries (Some batch) = (p : LogEntry → Bool) → ((slot : Slot) (voters : List ℕ) → slot.place ≡ place → p (Decided slot voters batch) ≡ true) → list_any p entries ≡ true
 
--- all held messages are right, and the batch that waits is decided
+-- a reply made of a table line rests on a book
+abbrev pub LineRests : List LogEntry → List ℕ → ℕ → TableLine → Type 0
+LineRests entries secret id line = rests_on entries (reply_of secret id line) ≡ true
+
+-- all held messages are right, the batch that waits is decided, and so is the request of each line of the table
 pub record NodeRests {S : Type 0} (n : Node S) : Type 0 where
   pub held : Each (HoldsRight n.id n.entries) n.held
   pub waits : IsDecided (next_place n) n.entries n.waiting
+  pub lines : Each (LineRests n.entries n.secret n.id) n.replica.table
 
 -- a node whose book has grown, and is right
 pub record Onward {S : Type 0} (n n' : Node S) : Type 0 where
@@ -142,11 +148,22 @@ rests-holding n to message own rests is =
       held = each_end (HoldsRight n.id n.entries) n.held _ is.held
           (record { own = own; rests = subst (λ (es : List LogEntry). rests_on es message ≡ true) (sym (take_all (length n.entries) n.entries (omega arith))) rests });
       waits = is.waits;
+      lines = is.lines;
     }
+
+-- lines of a table, of a longer book
+lines-more : (secret : List ℕ) (id : ℕ) (entries more : List LogEntry) (lines : List TableLine) → Each (LineRests entries secret id) lines → Each (LineRests (entries ++ more) secret id) lines
+lines-more secret id entries more lines each =
+    each_weaker (LineRests entries secret id) (LineRests (entries ++ more) secret id) (λ l rests. rests-more entries (entries ++ more) (includes-append entries more) (reply_of secret id l) rests) lines each
 
 -- an entry is recorded
 rests-recording : {S : Type 0} (n : Node S) (e : LogEntry) → NodeRests n → NodeRests (recording n e)
-rests-recording n e is = record { held = holds-more n.id n.entries (e ∷ []) n.held is.held; waits = decided-more (next_place n) n.entries (e ∷ []) n.waiting is.waits }
+rests-recording n e is =
+    record {
+      held = holds-more n.id n.entries (e ∷ []) n.held is.held;
+      waits = decided-more (next_place n) n.entries (e ∷ []) n.waiting is.waits;
+      lines = lines-more n.secret n.id n.entries (e ∷ []) n.replica.table is.lines;
+    }
 
 -- a reply rests on the decision of its place
 rests-reply : (entries : List LogEntry) (secret : List ℕ) (id place : ℕ) (batch : Batch) (l : TableLine) → IsDecided place entries (Some batch)
@@ -164,15 +181,16 @@ onward-replying n (l ∷ ls) each is =
     record { id = f.id; firm = f.firm; more = f.more; book = f.book; rests = f.rests }
 
 -- the replies to a batch that is decided rest on its decision
-replies_rest : {S : Type 0} (m : Meaning S) (n : Node S) (batch : Batch) → IsDecided (next_place n) n.entries (Some batch)
-    → Each (λ l. rests_on n.entries (reply_of n.secret n.id l) ≡ true) (lines_to_answer m n batch)
-replies_rest m n batch decided =
-    either (λ (ls : List TableLine). Each (λ l. rests_on n.entries (reply_of n.secret n.id l) ≡ true) ls) (is_member (view_of n) n.id) (executed_lines m n.replica batch) []
-    (each_weaker (OfRequest (at_next n.replica) 0 batch) (λ l. rests_on n.entries (reply_of n.secret n.id l) ≡ true)
+lines_rest : {S : Type 0} (m : Meaning S) (n : Node S) (batch : Batch) → IsDecided (next_place n) n.entries (Some batch) → Each (LineRests n.entries n.secret n.id) (executed_lines m n.replica batch)
+lines_rest m n batch decided =
+    each_weaker (OfRequest (at_next n.replica) 0 batch) (LineRests n.entries n.secret n.id)
     (λ l of. rests-reply n.entries n.secret n.id (next_place n) batch l decided of.at_place of.request
     (subst (λ (i : ℕ). slice_get batch i ≡ Some of.request) (sym (of.at_index ∙ omega arith)) of.there) of.own_client of.own_seq)
-    (executed_lines m n.replica batch) (of_delivered m n.replica batch))
-    tt
+    (executed_lines m n.replica batch) (of_delivered m n.replica batch)
+
+replies_rest : {S : Type 0} (m : Meaning S) (n : Node S) (batch : Batch) → IsDecided (next_place n) n.entries (Some batch) → Each (LineRests n.entries n.secret n.id) (lines_to_answer m n batch)
+replies_rest m n batch decided =
+    either (λ (ls : List TableLine). Each (LineRests n.entries n.secret n.id) ls) (is_member (view_of n) n.id) (executed_lines m n.replica batch) [] (lines_rest m n batch decided) tt
 
 -- the batch that waits is delivered
 onward-deliver_batch : {S : Type 0} (m : Meaning S) (n : Node S) (batch : Option Batch) → n.waiting ≡ batch → NodeRests n → Onward n (deliver_batch m n batch)
@@ -182,7 +200,8 @@ onward-deliver_batch m n (Some batch) at is =
     let decided : IsDecided (next_place n) n.entries (Some batch) = subst (IsDecided (next_place n) n.entries) at is.waits in
     let f = onward-replying
     (record n { replica = delivered m n.replica batch; waiting = None; pool = settled (delivered m n.replica batch).table n.pool })
-    (lines_to_answer m n batch) (replies_rest m n batch decided) (record { held = is.held; waits = tt }) in
+    (lines_to_answer m n batch) (replies_rest m n batch decided)
+    (record { held = is.held; waits = tt; lines = each-delivered (LineRests n.entries n.secret n.id) m n.replica batch is.lines (lines_rest m n batch decided) }) in
     record { id = f.id; firm = f.firm; more = f.more; book = f.book; rests = f.rests }
 
 onward-delivers : {S : Type 0} (m : Meaning S) (n : Node S) → NodeRests n → Onward n (delivers m n)
@@ -194,11 +213,33 @@ onward-kept : {S : Type 0} (n : Node S) (message : Message) → NodeRests n → 
 unfolding kept
 onward-kept {S = S} n (Ask q) is =
     either (λ (x : Node S). Onward n x) (is_next n.replica.table q.statement) (record n { pool = offered n.pool q }) n
-    (record { id = refl; firm = refl; more = []; book = sym (append-nil n.entries); rests = record { held = is.held; waits = is.waits } })
+    (record { id = refl; firm = refl; more = []; book = sym (append-nil n.entries); rests = record { held = is.held; waits = is.waits; lines = is.lines } })
     (onward-same n is)
-onward-kept n (Propose p) is = record { id = refl; firm = refl; more = []; book = sym (append-nil n.entries); rests = record { held = is.held; waits = is.waits } }
-onward-kept n (Vote b) is = record { id = refl; firm = refl; more = []; book = sym (append-nil n.entries); rests = record { held = is.held; waits = is.waits } }
+onward-kept n (Propose p) is = record { id = refl; firm = refl; more = []; book = sym (append-nil n.entries); rests = record { held = is.held; waits = is.waits; lines = is.lines } }
+onward-kept n (Vote b) is = record { id = refl; firm = refl; more = []; book = sym (append-nil n.entries); rests = record { held = is.held; waits = is.waits; lines = is.lines } }
 onward-kept n (Reply a) is = onward-same n is
+
+-- a node is told that it is behind
+onward-noted : {S : Type 0} (n : Node S) (message : Message) → NodeRests n → Onward n (noted n message)
+unfolding noted
+onward-noted n message is = record { id = refl; firm = refl; more = []; book = sym (append-nil n.entries); rests = record { held = is.held; waits = is.waits; lines = is.lines } }
+
+-- a node answers again
+onward-answer_line : {S : Type 0} (n : Node S) (line : Option TableLine) → ForLine line (LineRests n.entries n.secret n.id) → NodeRests n → Onward n (answer_line n line)
+unfolding answer_line
+onward-answer_line n None rests is = onward-same n is
+onward-answer_line n (Some line) rests is =
+    record {
+      id = refl;
+      firm = refl;
+      more = [];
+      book = sym (append-nil n.entries);
+      rests = rests-holding n (targets.Client line.client) (reply_of n.secret n.id line) (refl, refl) rests is;
+    }
+
+onward-answers_again : {S : Type 0} (n : Node S) (message : Message) → NodeRests n → Onward n (answers_again n message)
+unfolding answers_again
+onward-answers_again n message is = onward-answer_line n (answering n message) (answering-each (LineRests n.entries n.secret n.id) n message is.lines) is
 
 -- a batch is proposed
 onward-propose_batch : {S : Type 0} (n : Node S) (batch : Option Batch) → NodeRests n → Onward n (propose_batch n batch)
@@ -206,8 +247,8 @@ unfolding propose_batch
 onward-propose_batch n None is = onward-same n is
 onward-propose_batch n (Some batch) is =
     let r = rests-holding (record n { proposed = n.proposed ++ open_slot n ∷ [] }) targets.View (Propose (record { head = signed proposals n.secret n.id (record { slot = open_slot n; digest = digest_of batch }); batch = batch })) refl refl
-    (record { held = is.held; waits = is.waits }) in
-    record { id = refl; firm = refl; more = []; book = sym (append-nil n.entries); rests = record { held = r.held; waits = r.waits } }
+    (record { held = is.held; waits = is.waits; lines = is.lines }) in
+    record { id = refl; firm = refl; more = []; book = sym (append-nil n.entries); rests = record { held = r.held; waits = r.waits; lines = r.lines } }
 
 -- a batch is written, and the vote rests on the entry
 onward-write_batch : {S : Type 0} (n : Node S) (batch : Option Batch) → NodeRests n → Onward n (write_batch n batch)
@@ -218,7 +259,7 @@ onward-write_batch n (Some batch) is =
     let r = rests-holding (recording n entry) targets.View (ballot n Write batch) refl
     (end_passes _ n.entries entry (and_intro (same_slot (open_slot n) (open_slot n)) (same_bytes (digest_of batch) (digest_of batch)) (slot-itself (open_slot n)) (bytes-itself (digest_of batch))))
     (rests-recording n entry is) in
-    record { id = refl; firm = refl; more = entry ∷ []; book = refl; rests = record { held = r.held; waits = r.waits } }
+    record { id = refl; firm = refl; more = entry ∷ []; book = refl; rests = record { held = r.held; waits = r.waits; lines = r.lines } }
 
 -- so is one that is accepted
 onward-accept_batch : {S : Type 0} (n : Node S) (batch : Option Batch) → NodeRests n → Onward n (accept_batch n batch)
@@ -229,7 +270,7 @@ onward-accept_batch n (Some batch) is =
     let r = rests-holding (recording n entry) targets.View (ballot n Accept batch) refl
     (end_passes _ n.entries entry (and_intro (same_slot (open_slot n) (open_slot n)) (same_bytes (digest_of batch) (digest_of batch)) (slot-itself (open_slot n)) (bytes-itself (digest_of batch))))
     (rests-recording n entry is) in
-    record { id = refl; firm = refl; more = entry ∷ []; book = refl; rests = record { held = r.held; waits = r.waits } }
+    record { id = refl; firm = refl; more = entry ∷ []; book = refl; rests = record { held = r.held; waits = r.waits; lines = r.lines } }
 
 -- a batch is decided, and waits
 onward-decide_batch : {S : Type 0} (n : Node S) (batch : Option Batch) → NodeRests n → Onward n (decide_batch n batch)
@@ -243,7 +284,7 @@ onward-decide_batch n (Some batch) is =
       firm = refl;
       more = entry ∷ [];
       book = refl;
-      rests = record { held = r.held; waits = λ p all. end_passes p n.entries entry (all (open_slot n) (backers n Accept batch) refl) };
+      rests = record { held = r.held; waits = λ p all. end_passes p n.entries entry (all (open_slot n) (backers n Accept batch) refl); lines = r.lines };
     }
 
 -- the voting rules
@@ -264,10 +305,14 @@ onward-passes n is =
 
 -- an arrival and its pass
 onward-arrival : {S : Type 0} (n : Node S) (message : Message) (why : Option Why) → NodeRests n → Onward n (arrival_outcome n message why).node
-onward-arrival n message None is =
-    let f : Onward n (kept n message) = onward-kept n message is in
-    onward-then n (kept n message) (passes (kept n message)) f (onward-passes (kept n message) f.rests)
-onward-arrival n message (Some why) is = onward-same n is
+onward-arrival {S = S} n message None is =
+    let k : Node S = kept (noted n message) message in
+    let told : Onward n (noted n message) = onward-noted n message is in
+    let f : Onward (noted n message) k = onward-kept (noted n message) message told.rests in
+    let g : Onward k (passes k) = onward-passes k f.rests in
+    onward-then n k (answers_again (passes k) message) (onward-then n (noted n message) k told f)
+    (onward-then k (passes k) (answers_again (passes k) message) g (onward-answers_again (passes k) message g.rests))
+onward-arrival n message (Some why) is = onward-noted n message is
 
 -- bytes that come, and their pass
 onward-reading : {S : Type 0} (n : Node S) (read : Result Message ℕ) → NodeRests n → Onward n (reading_outcome n read).node
@@ -289,12 +334,12 @@ onward-step m n Tick is = onward-passes n is
 onward-step m n Deliver is =
     let f : Onward n (delivers m n) = onward-delivers m n is in
     onward-then n (delivers m n) (passes (delivers m n)) f (onward-passes (delivers m n) f.rests)
-onward-step m n (Firm count) is = onward-passes (record n { firm = count }) (record { held = is.held; waits = is.waits })
+onward-step m n (Firm count) is = onward-passes (record n { firm = count }) (record { held = is.held; waits = is.waits; lines = is.lines })
 
 -- what is firm has left
 pub rests-released : {S : Type 0} (n : Node S) → NodeRests n → NodeRests (released n)
-rests-released n is = record { held = each-staying (HoldsRight n.id n.entries) n.firm n.held is.held; waits = is.waits }
+rests-released n is = record { held = each-staying (HoldsRight n.id n.entries) n.firm n.held is.held; waits = is.waits; lines = is.lines }
 
 -- a node that has opened holds nothing
 pub rests-opened : {S : Type 0} (m : Meaning S) (secret : List ℕ) (id : ℕ) (view : View) → NodeRests (opened m secret id view)
-rests-opened m secret id view = record { held = tt; waits = tt }
+rests-opened m secret id view = record { held = tt; waits = tt; lines = tt }

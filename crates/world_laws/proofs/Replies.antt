@@ -1,5 +1,5 @@
 -- Each reply that a node holds or that was sent tells an execution of the chosen list.
-use Rattle.std.proofs.Common.{◌≡◌, ℕ, ◌+◌, ◌==◌, ◌++◌, List, [], ◌∷◌, length, refl, Option, Some, None, inl, inr, subst, Result, Ok, Err}
+use Rattle.std.proofs.Common.{◌≡◌, ℕ, ◌+◌, ◌==◌, ◌++◌, List, [], ◌∷◌, length, refl, Option, Some, None, inl, inr, subst, Result, Ok, Err, sym, ◌∙◌, take, drop}
 use Rattle.smart_base.specs.Lists.{Each}
 use Rattle.smart_base.specs.Views.{View, is_member}
 use Rattle.smart_messages.specs.Forms.{SignedBy}
@@ -12,10 +12,10 @@ use Rattle.smart_messages.specs.declared.entry.NodeEvent.TheVariants.{Arrive, Ti
 use Rattle.smart_service.specs.Services.{Meaning}
 use Rattle.smart_service.specs.declared.table.TableLine.{TableLine}
 use Rattle.smart_service.specs.declared.replica.Replica.{Replica}
-use Rattle.node_rules.specs.Replicas.{is_next, delivered, executed_lines, executions}
+use Rattle.node_rules.specs.Replicas.{is_next, delivered, executed_lines, executions, empty}
 use Rattle.node_rules.specs.Nodes.{Node, view_of, next_place, holding}
-use Rattle.node_rules.specs.Arrivals.{why_dropped, offered, kept}
-use Rattle.node_rules.specs.Rules.{settled, reply_of, replying, lines_to_answer, deliver_batch, delivers, proposing, propose_batch, proposes, writing, write_batch, writes, accepting, accept_batch, accepts, deciding, decide_batch, decides}
+use Rattle.node_rules.specs.Arrivals.{why_dropped, offered, kept, noted}
+use Rattle.node_rules.specs.Rules.{settled, reply_of, replying, lines_to_answer, deliver_batch, delivers, proposing, propose_batch, proposes, writing, write_batch, writes, accepting, accept_batch, accepts, deciding, decide_batch, decides, answering, answer_line, answers_again}
 use Rattle.node_rules.specs.Steps.{Outcome, votes, passes, arrival_outcome, reading_outcome, step_of, leaving}
 use Rattle.node_rules.specs.declared.node.Why.{Why}
 use Rattle.node_rules.specs.declared.node.Held.{Held}
@@ -34,6 +34,10 @@ use Rattle.world_laws.proofs.Keeps.{HasMessage, ask_of, asked_by, by-sends, Keep
 use Rattle.world_laws.proofs.Authentic.{each-leaving, each-staying}
 use Rattle.world_laws.proofs.Aligned.{Aligned, AllAligned, line_told, IsExecuted}
 use Rattle.world_laws.proofs.Executions.{executions-more, executed-at}
+use Rattle.world_laws.proofs.Again.{replica-noted, ForLine, answering-each, each-after_batches}
+use Rattle.world_laws.proofs.Steady.{replica-passes}
+use Rattle.world_laws.proofs.Counted.{replica-kept}
+use Rattle.std.proofs.lemmas.List.{take-append-drop}
 
 -- a message that is a reply tells an execution of a list
 abbrev pub ReplyRight : {S : Type 0} → Meaning S → View → List Batch → Message → Type 0
@@ -109,6 +113,33 @@ held-kept m v chosen n (Propose p) held = held
 held-kept m v chosen n (Vote b) held = held
 held-kept m v chosen n (Reply a) held = held
 
+-- nor does a node that is told that it is behind
+held-noted : {S : Type 0} (m : Meaning S) (v : View) (chosen : List Batch) (n : Node S) (x : Message) → HeldRight m v chosen n → HeldRight m v chosen (noted n x)
+unfolding noted
+held-noted m v chosen n x held = held
+
+-- the lines of a host's table are executions of the list along which it stands
+table_lines : {S : Type 0} (m : Meaning S) (v : View) (chosen : List Batch) (h : Host S) → Aligned m v chosen h → Each (HasLine (executions m v chosen)) h.node.replica.table
+table_lines {S = S} m v chosen h aligned =
+    let k : ℕ = h.node.replica.place in
+    subst (λ (r : Replica S). Each (HasLine (executions m v chosen)) r.table) (sym aligned.replica)
+    (each-after_batches (HasLine (executions m v chosen)) m (empty m v) (take k chosen) tt
+    (each_inside (HasLine (executions m v chosen)) (executions m v (take k chosen))
+    (λ l has. subst (λ (list : List Batch). HasLine (executions m v list) l) (take-append-drop k chosen) (executions-more m v (take k chosen) (drop k chosen) l has))))
+
+-- an answer again is right where the lines of the table are executions
+held-answer_line : {S : Type 0} (m : Meaning S) (v : View) (chosen : List Batch) (n : Node S) (line : Option TableLine) → ForLine line (HasLine (executions m v chosen)) → HeldRight m v chosen n
+    → HeldRight m v chosen (answer_line n line)
+unfolding answer_line
+held-answer_line m v chosen n None right held = held
+held-answer_line m v chosen n (Some line) right held =
+    each_end (λ (h : Held). ReplyRight m v chosen h.message) n.held (record { to = targets.Client line.client; message = reply_of n.secret n.id line; needs = length n.entries }) held right
+
+held-answers_again : {S : Type 0} (m : Meaning S) (v : View) (chosen : List Batch) (n : Node S) (x : Message) → Each (HasLine (executions m v chosen)) n.replica.table → HeldRight m v chosen n
+    → HeldRight m v chosen (answers_again n x)
+unfolding answers_again
+held-answers_again m v chosen n x lines held = held-answer_line m v chosen n (answering n x) (answering-each (HasLine (executions m v chosen)) n x lines) held
+
 -- a proposal is no reply
 held-propose_batch : {S : Type 0} (m : Meaning S) (v : View) (chosen : List Batch) (n : Node S) (batch : Option Batch) → HeldRight m v chosen n → HeldRight m v chosen (propose_batch n batch)
 unfolding propose_batch
@@ -144,20 +175,25 @@ held-passes m v chosen n held =
 
 -- an arrival, kept or dropped, leaves held replies right
 held-arrival : {S : Type 0} (m : Meaning S) (v : View) (chosen : List Batch) (n : Node S) (x : Message) (why : Option Why) → HeldRight m v chosen n
-    → HeldRight m v chosen (arrival_outcome n x why).node
-held-arrival m v chosen n x None held = held-passes m v chosen (kept n x) (held-kept m v chosen n x held)
-held-arrival m v chosen n x (Some why) held = held
+    → Each (HasLine (executions m v chosen)) n.replica.table → HeldRight m v chosen (arrival_outcome n x why).node
+held-arrival {S = S} m v chosen n x None held lines =
+    let k : Node S = kept (noted n x) x in
+    let same : (passes k).replica ≡ n.replica = replica-passes k ∙ (replica-kept (noted n x) x ∙ replica-noted n x) in
+    held-answers_again m v chosen (passes k) x (subst (λ (r : Replica S). Each (HasLine (executions m v chosen)) r.table) (sym same) lines)
+    (held-passes m v chosen k (held-kept m v chosen (noted n x) x (held-noted m v chosen n x held)))
+held-arrival m v chosen n x (Some why) held lines = held-noted m v chosen n x held
 
 -- so do bytes
-held-reading : {S : Type 0} (m : Meaning S) (v : View) (chosen : List Batch) (n : Node S) (read : Result Message ℕ) → HeldRight m v chosen n → HeldRight m v chosen (reading_outcome n read).node
-held-reading m v chosen n (Ok x) held = held-arrival m v chosen n x (why_dropped n x) held
-held-reading m v chosen n (Err at) held = held
+held-reading : {S : Type 0} (m : Meaning S) (v : View) (chosen : List Batch) (n : Node S) (read : Result Message ℕ) → HeldRight m v chosen n
+    → Each (HasLine (executions m v chosen)) n.replica.table → HeldRight m v chosen (reading_outcome n read).node
+held-reading m v chosen n (Ok x) held lines = held-arrival m v chosen n x (why_dropped n x) held lines
+held-reading m v chosen n (Err at) held lines = held
 
 -- a step of a host's node leaves held replies right
 held-step : {S : Type 0} (m : Meaning S) (v : View) (chosen : List Batch) (h : Host S) (event : NodeEvent) → Aligned m v chosen h → HeldRight m v chosen h.node
     → HeldRight m v chosen (step_of m h.node event).node
 unfolding step_of delivers
-held-step m v chosen h (Arrive bytes) aligned held = held-reading m v chosen h.node (decoded bytes) held
+held-step m v chosen h (Arrive bytes) aligned held = held-reading m v chosen h.node (decoded bytes) held (table_lines m v chosen h aligned)
 held-step m v chosen h Tick aligned held = held-passes m v chosen h.node held
 held-step m v chosen h Deliver aligned held = held-passes m v chosen (deliver_batch m h.node h.node.waiting) (held-deliver_batch m v chosen h h.node.waiting aligned refl held)
 held-step m v chosen h (Firm count) aligned held = held-passes m v chosen (record h.node { firm = count }) held

@@ -15,14 +15,14 @@ use Rattle.node_rules.specs.declared.node.Target.{Target}
 use Rattle.node_rules.specs.declared.node.Target.TheVariants as targets
 use Rattle.world_rules.specs.Repeats.{repeated, turns, until_rest}
 use Rattle.world_rules.specs.Secrets.{group_secret}
-use Rattle.world_rules.specs.Worlds.{Host, World, sends, sends_all, host_after, stepped, host_takes, node_takes, due, takes_due, settle_once, settle, settle_all, gives, hearing, flow_once, hosts_from, begun}
+use Rattle.world_rules.specs.Worlds.{Host, World, sends, sends_all, host_after, stepped, host_takes, node_takes, due, takes_due, settle_once, settle, settle_all, gives, hearing, flow_once, hosts_from, begun, at_listed}
 use Rattle.world_rules.specs.Plays.{world_after}
 use Rattle.world_rules.specs.declared.line.Line.{Line}
 use Rattle.world_rules.specs.declared.message.Origin.{Origin}
 use Rattle.world_rules.specs.declared.message.Origin.TheVariants as origins
 use Rattle.world_laws.specs.Settling.{HasSettled, flow_begins, flow_goes, message_goes}
 use Rattle.world_laws.proofs.Lists.{either, each_set, each_get, repeated_keeps, until_rest_keeps, each_from_keeps}
-use Rattle.world_laws.proofs.Keeps.{ask_of, asked_by, by-sends, Keeps, KeepsLive, live, live-settle_all, live-flow_once, keeps-world_after}
+use Rattle.world_laws.proofs.Keeps.{ask_of, asked_by, by-sends, Keeps, KeepsLive, live, live-settle_all, live-flow_once, keeps-world_after, at_listed-keeps}
 use Rattle.world_laws.proofs.Rests.{rests_still}
 use Rattle.world_laws.proofs.Steady.{Steady, steady-step, steady-released, steady-opened, firm-step, place-firm, place-deliver}
 
@@ -218,27 +218,32 @@ settles {S = S} m i w is = settles-in m i turns w (enough_turns (slice_get w.hos
 
 -- in a play
 
+-- in a line of its own, a node settles
+pub settles-line : {S : Type 0} (m : Meaning S) (view : View) (ls : List Line) (i : ℕ) → HasSettled m i (settle (step_of m) i (world_after (step_of m) (begun m view) ls))
+settles-line m view ls i = settles m i (world_after (step_of m) (begun m view) ls) (steady-after m view ls)
+
 -- as a flow begins, each node settles
-pub settles-first : {S : Type 0} (m : Meaning S) (view : View) (ls : List Line) (nodes i : ℕ) → HasSettled m i (settle (step_of m) i (flow_begins m view ls nodes))
-settles-first m view ls nodes i =
-    settles m i (flow_begins m view ls nodes) (each_from_keeps AllSteady (settle (step_of m)) (steady-settle m) nodes 0 (world_after (step_of m) (begun m view) ls) (steady-after m view ls))
+pub settles-first : {S : Type 0} (m : Meaning S) (view : View) (ls : List Line) (members : List ℕ) (nodes i : ℕ) → HasSettled m i (settle (step_of m) i (flow_begins m view ls members nodes))
+settles-first m view ls members nodes i =
+    settles m i (flow_begins m view ls members nodes)
+    (each_from_keeps AllSteady (at_listed members (settle (step_of m))) (at_listed-keeps AllSteady members (settle (step_of m)) (steady-settle m)) nodes 0 (world_after (step_of m) (begun m view) ls) (steady-after m view ls))
 
 -- all nodes are steady in each turn of a flow
-steady-flow : {S : Type 0} (m : Meaning S) (view : View) (ls : List Line) (k : ℕ) → AllSteady (flow_goes m view ls k)
-steady-flow {S = S} m view ls k =
+steady-flow : {S : Type 0} (m : Meaning S) (view : View) (ls : List Line) (members : List ℕ) (k : ℕ) → AllSteady (flow_goes m view ls members k)
+steady-flow {S = S} m view ls members k =
     let kept : KeepsLive (step_of m) AllSteady = live (step_of m) AllSteady (keeps-steady m) in
     let w : World S = world_after (step_of m) (begun m view) ls in
-    repeated_keeps AllSteady (flow_once (step_of m)) (live-flow_once (step_of m) AllSteady kept) k (settle_all (step_of m) w) (live-settle_all (step_of m) AllSteady kept w (steady-after m view ls))
+    repeated_keeps AllSteady (flow_once (step_of m) members) (live-flow_once (step_of m) AllSteady kept members) k (settle_all (step_of m) members w) (live-settle_all (step_of m) AllSteady kept members w (steady-after m view ls))
 
--- as bytes are given to all nodes, each settles
-settles-bytes : {S : Type 0} (m : Meaning S) (w : World S) (bytes : List ℕ) (nodes i : ℕ) → AllSteady w → HasSettled m i (gives (step_of m) bytes i (message_goes m bytes nodes w))
+-- as bytes are given to listed nodes, each settles
+settles-bytes : {S : Type 0} (m : Meaning S) (w : World S) (members : List ℕ) (bytes : List ℕ) (nodes i : ℕ) → AllSteady w → HasSettled m i (gives (step_of m) bytes i (message_goes m members bytes nodes w))
 unfolding gives
-settles-bytes {S = S} m w bytes nodes i is =
-    let v : World S = message_goes m bytes nodes w in
+settles-bytes {S = S} m w members bytes nodes i is =
+    let v : World S = message_goes m members bytes nodes w in
     settles m i (node_takes (step_of m) i (Arrive bytes) v)
-    (steady-node_takes m i (Arrive bytes) v (each_from_keeps AllSteady (gives (step_of m) bytes) (steady-gives m bytes) nodes 0 (record w { mark = w.mark + 1 }) (record { all = is.all })))
+    (steady-node_takes m i (Arrive bytes) v (each_from_keeps AllSteady (at_listed members (gives (step_of m) bytes)) (at_listed-keeps AllSteady members (gives (step_of m) bytes) (steady-gives m bytes)) nodes 0 (record w { mark = w.mark + 1 }) (record { all = is.all })))
 
 -- so in each turn of a flow
-pub settles-given : {S : Type 0} (m : Meaning S) (view : View) (ls : List Line) (k : ℕ) (bytes : List ℕ) (nodes i : ℕ)
-    → HasSettled m i (gives (step_of m) bytes i (message_goes m bytes nodes (flow_goes m view ls k)))
-settles-given m view ls k bytes nodes i = settles-bytes m (flow_goes m view ls k) bytes nodes i (steady-flow m view ls k)
+pub settles-given : {S : Type 0} (m : Meaning S) (view : View) (ls : List Line) (members : List ℕ) (k : ℕ) (bytes : List ℕ) (nodes i : ℕ)
+    → HasSettled m i (gives (step_of m) bytes i (message_goes m members bytes nodes (flow_goes m view ls members k)))
+settles-given m view ls members k bytes nodes i = settles-bytes m (flow_goes m view ls members k) members bytes nodes i (steady-flow m view ls members k)

@@ -20,8 +20,8 @@ use Rattle.smart_service.specs.declared.table.TableLine.{TableLine}
 use Rattle.node_rules.specs.Replicas.{is_next, delivered}
 use Rattle.node_rules.specs.Seals.{signed, digest_of}
 use Rattle.node_rules.specs.Nodes.{Node, view_of, next_place, open_slot, is_free, holding, recording, has_vote, has_quorum, proposal_of, is_accepted}
-use Rattle.node_rules.specs.Arrivals.{why_dropped, offered, kept}
-use Rattle.node_rules.specs.Rules.{settled, reply_of, replying, lines_to_answer, deliver_batch, delivers, ballot, proposing, propose_batch, proposes, writing, write_batch, writes, backed, backers, accepting, accept_batch, accepts, deciding, decide_batch, decides}
+use Rattle.node_rules.specs.Arrivals.{why_dropped, offered, kept, noted}
+use Rattle.node_rules.specs.Rules.{settled, reply_of, replying, lines_to_answer, deliver_batch, delivers, ballot, proposing, propose_batch, proposes, writing, write_batch, writes, backed, backers, accepting, accept_batch, accepts, deciding, decide_batch, decides, answering, answer_line, answers_again}
 use Rattle.node_rules.specs.Steps.{votes, passes, arrival_outcome, reading_outcome, step_of, opened}
 use Rattle.node_rules.specs.declared.node.Why.{Why}
 use Rattle.node_rules.specs.declared.node.Target.{Target}
@@ -29,7 +29,7 @@ use Rattle.node_rules.specs.declared.node.Target.TheVariants as targets
 use Rattle.world_laws.specs.Books.{AcceptsOnce, decided_of, DeliversInOrder}
 use Rattle.world_laws.proofs.Lists.{each_end, each_weaker}
 use Rattle.world_laws.proofs.Once.{once_more, once_accepted, accepts_where_none}
-use Rattle.world_laws.proofs.InOrder.{decided-append, decided-none, view-in_order, free-waits, in_order-kept, in_order-delivers, in_order-votes}
+use Rattle.world_laws.proofs.InOrder.{decided-append, decided-none, view-in_order, free-waits, in_order-arrives, in_order-delivers, in_order-votes}
 use Rattle.world_laws.proofs.Certified.{slot_at, Certified, AllCertified, all_certified_weaker, certified-end}
 use Rattle.world_laws.proofs.Said.{Said, ReadSaid, EventSaid, OwnSaid, said_weaker, accepted_grows, accepted_end, any_said}
 
@@ -91,6 +91,21 @@ sound-kept T view n (Ask q) said s = sound-if T view (is_next n.replica.table q.
 sound-kept T view n (Propose p) said s = record { heard = each_end (Said T) n.arrivals (Propose p) s.heard tt; held = s.held; once = s.once; decided = s.decided }
 sound-kept T view n (Vote b) said s = record { heard = each_end (Said T) n.arrivals (Vote b) s.heard said; held = s.held; once = s.once; decided = s.decided }
 sound-kept T view n (Reply a) said s = s
+
+-- a node that is told that it is behind
+sound-noted : {S : Type 0} (T : ℕ → Slot → List ℕ → Type 0) (view : View) (n : Node S) (message : Message) → Sound T view n → Sound T view (noted n message)
+unfolding noted
+sound-noted T view n message s = record { heard = s.heard; held = s.held; once = s.once; decided = s.decided }
+
+-- an answer again
+sound-answer_line : {S : Type 0} (T : ℕ → Slot → List ℕ → Type 0) (view : View) (n : Node S) (line : Option TableLine) → Sound T view n → Sound T view (answer_line n line)
+unfolding answer_line
+sound-answer_line T view n None s = s
+sound-answer_line T view n (Some line) s = sound-holding T view n (targets.Client line.client) (reply_of n.secret n.id line) tt s
+
+sound-answers_again : {S : Type 0} (T : ℕ → Slot → List ℕ → Type 0) (view : View) (n : Node S) (message : Message) → Sound T view n → Sound T view (answers_again n message)
+unfolding answers_again
+sound-answers_again T view n message s = sound-answer_line T view n (answering n message) s
 
 -- a delivery
 sound-deliver_batch : {S : Type 0} (T : ℕ → Slot → List ℕ → Type 0) (view : View) (m : Meaning S) (n : Node S) (batch : Option Batch) → Sound T view n → Sound T view (deliver_batch m n batch)
@@ -206,8 +221,10 @@ sound-passes T m view n d s =
 
 -- an arrival and its pass
 sound-arrival : {S : Type 0} (T : ℕ → Slot → List ℕ → Type 0) (m : Meaning S) (view : View) (n : Node S) (message : Message) (why : Option Why) → Said T message → DeliversInOrder m view n → Sound T view n → Sound T view (arrival_outcome n message why).node
-sound-arrival T m view n message None said d s = sound-passes T m view (kept n message) (in_order-kept m view n message d) (sound-kept T view n message said s)
-sound-arrival T m view n message (Some why) said d s = s
+sound-arrival T m view n message None said d s =
+    sound-answers_again T view (passes (kept (noted n message) message)) message
+    (sound-passes T m view (kept (noted n message) message) (in_order-arrives m view n message d) (sound-kept T view (noted n message) message said (sound-noted T view n message s)))
+sound-arrival T m view n message (Some why) said d s = sound-noted T view n message s
 
 -- bytes that come, and their pass
 sound-reading : {S : Type 0} (T : ℕ → Slot → List ℕ → Type 0) (m : Meaning S) (view : View) (n : Node S) (read : Result Message ℕ) → ReadSaid T read → DeliversInOrder m view n → Sound T view n → Sound T view (reading_outcome n read).node

@@ -17,8 +17,8 @@ use Rattle.smart_service.specs.declared.replica.Replica.{Replica}
 use Rattle.node_rules.specs.Replicas.{is_next, delivered}
 use Rattle.node_rules.specs.Seals.{digest_of}
 use Rattle.node_rules.specs.Nodes.{Node, view_of, next_place, decided_place, open_slot, is_free, is_open, holding, recording, proposal_of, is_wrote, is_accepted}
-use Rattle.node_rules.specs.Arrivals.{why_dropped, offered, kept}
-use Rattle.node_rules.specs.Rules.{settled, reply_of, replying, lines_to_answer, deliver_batch, delivers, proposing, propose_batch, proposes, writing, write_batch, writes, backers, backed, accepting, accept_batch, accepts, deciding, decide_batch, decides}
+use Rattle.node_rules.specs.Arrivals.{why_dropped, offered, kept, noted}
+use Rattle.node_rules.specs.Rules.{settled, reply_of, replying, lines_to_answer, deliver_batch, delivers, proposing, propose_batch, proposes, writing, write_batch, writes, backers, backed, accepting, accept_batch, accepts, deciding, decide_batch, decides, answering, answer_line, answers_again}
 use Rattle.node_rules.specs.Steps.{votes, passes, arrival_outcome, reading_outcome, step_of, released, opened}
 use Rattle.node_rules.specs.declared.node.Why.{Why}
 use Rattle.node_rules.specs.declared.node.Target.TheVariants as targets
@@ -187,10 +187,27 @@ decided_place-deliver_batch {S = S} m n (Some batch) at =
     decided_place-replying (record n { replica = r; waiting = None; pool = settled r.table n.pool }) (lines_to_answer m n batch)
     ∙ (place-delivered m n.replica batch ∙ sym (ap (λ (waiting : Option Batch). cond (is_some waiting) (n.replica.place + 1) n.replica.place) at))
 
+-- so does what tells that a node is behind
+steady-noted : {S : Type 0} (n : Node S) (message : Message) → Steady n → Steady (noted n message)
+unfolding noted writing accepting deciding
+steady-noted n message is = record { done = record { wrote = is.done.wrote; accepted = is.done.accepted; decided = is.done.decided }; below = is.below }
+
+-- and an answer again
+steady-answer_line : {S : Type 0} (n : Node S) (line : Option TableLine) → Steady n → Steady (answer_line n line)
+unfolding answer_line writing accepting deciding
+steady-answer_line n None is = is
+steady-answer_line n (Some line) is = record { done = record { wrote = is.done.wrote; accepted = is.done.accepted; decided = is.done.decided }; below = is.below }
+
+steady-answers_again : {S : Type 0} (n : Node S) (message : Message) → Steady n → Steady (answers_again n message)
+unfolding answers_again
+steady-answers_again n message is = steady-answer_line n (answering n message) is
+
 -- an arrival leaves a steady node
 steady-arrival : {S : Type 0} (n : Node S) (message : Message) (why : Option Why) → Steady n → Steady (arrival_outcome n message why).node
-steady-arrival n message None is = steady-passes (kept n message) (omega (arith, decided_place-kept n message, is.below))
-steady-arrival n message (Some why) is = is
+steady-arrival {S = S} n message None is =
+    let k : Node S = kept (noted n message) message in
+    steady-answers_again (passes k) message (steady-passes k (omega (arith, decided_place-kept (noted n message) message, (steady-noted n message is).below)))
+steady-arrival n message (Some why) is = steady-noted n message is
 
 -- so do bytes that come
 steady-reading : {S : Type 0} (n : Node S) (read : Result Message ℕ) → Steady n → Steady (reading_outcome n read).node

@@ -100,6 +100,7 @@ stems-fired accepted id fires.Proposed = tt
 stems-fired accepted id fires.Wrote = tt
 stems-fired accepted id fires.Accepted = tt
 stems-fired accepted id (fires.Decided place) = (inl tt, tt)
+stems-fired accepted id fires.Answered = tt
 
 -- nor do all that fired
 stems-all_fired : (accepted : List Acceptance) (id : ℕ) (fired : List Fired) → Each (Stems accepted) (flat_map (told_fired id) fired)
@@ -220,6 +221,9 @@ beside-answered m view chosen (outs.Counted client have need) beside = tt
 beside-answered m view chosen (outs.Accepted client seq place index reply) beside = absurd beside
 beside-answered m view chosen (outs.Ignored client why) beside = tt
 beside-answered m view chosen (outs.Busy client seq) beside = tt
+beside-answered m view chosen (outs.Idle member) beside = tt
+beside-answered m view chosen (outs.Stands member place number regency) beside = tt
+beside-answered m view chosen (outs.Seen client place) beside = tt
 beside-answered m view chosen (outs.End lines messages) beside = tt
 
 -- a line that tells of an accepted reply that is right

@@ -25,8 +25,8 @@ use Rattle.smart_service.specs.declared.table.TableLine.{TableLine}
 use Rattle.node_rules.specs.Replicas.{is_next, delivered}
 use Rattle.node_rules.specs.Seals.{signed, is_verified, digest_of}
 use Rattle.node_rules.specs.Nodes.{Node, view_of, open_slot, is_free, is_open, holding, is_vote, has_vote, has_quorum, certificate, proposal_of, is_accepted}
-use Rattle.node_rules.specs.Arrivals.{signer_why, why_vote, why_dropped, offered, kept}
-use Rattle.node_rules.specs.Rules.{settled, reply_of, replying, lines_to_answer, deliver_batch, delivers, proposing, propose_batch, proposes, writing, write_batch, writes, backed, backers, accepting, accept_batch, accepts, deciding, decide_batch, decides}
+use Rattle.node_rules.specs.Arrivals.{signer_why, why_vote, why_dropped, offered, kept, noted}
+use Rattle.node_rules.specs.Rules.{settled, reply_of, replying, lines_to_answer, deliver_batch, delivers, proposing, propose_batch, proposes, writing, write_batch, writes, backed, backers, accepting, accept_batch, accepts, deciding, decide_batch, decides, answering, answer_line, answers_again}
 use Rattle.node_rules.specs.Steps.{votes, passes, arrival_outcome, reading_outcome, step_of, opened}
 use Rattle.node_rules.specs.declared.node.Why.{Why}
 use Rattle.node_rules.specs.declared.node.Target.TheVariants as targets
@@ -38,6 +38,7 @@ use Rattle.world_laws.proofs.Said.{or_true}
 use Rattle.world_laws.proofs.InOrder.{views-delivered}
 use Rattle.world_laws.proofs.Authentic.{ForBatch, or_else-first, verified_where_signed}
 use Rattle.world_laws.proofs.Ascending.{rising-filter, rising-take, rising-distinct, view-rising}
+use Rattle.world_laws.proofs.Again.{why-noted}
 
 -- certificates
 
@@ -197,6 +198,21 @@ voted-kept view n (Propose p) fine is = voted-arrived view n (Propose p) tt is
 voted-kept view n (Vote b) fine is = voted-arrived view n (Vote b) (vote_sealed n b fine) is
 voted-kept view n (Reply a) fine is = is
 
+-- a node is told that it is behind
+voted-noted : {S : Type 0} (view : View) (n : Node S) (x : Message) → Voted view n → Voted view (noted n x)
+unfolding noted
+voted-noted view n x is = record { in_force = is.in_force; sealed = is.sealed; each = is.each }
+
+-- a node answers again
+voted-answer_line : {S : Type 0} (view : View) (n : Node S) (line : Option TableLine) → Voted view n → Voted view (answer_line n line)
+unfolding answer_line
+voted-answer_line view n None is = is
+voted-answer_line view n (Some line) is = record { in_force = is.in_force; sealed = is.sealed; each = is.each }
+
+voted-answers_again : {S : Type 0} (view : View) (n : Node S) (x : Message) → Voted view n → Voted view (answers_again n x)
+unfolding answers_again
+voted-answers_again view n x is = voted-answer_line view n (answering n x) is
+
 -- a proposal
 voted-propose_batch : {S : Type 0} (view : View) (n : Node S) (batch : Option Batch) → Voted view n → Voted view (propose_batch n batch)
 unfolding propose_batch
@@ -268,8 +284,10 @@ voted-passes view n viewed is = voted-decide_batch view (votes n) (deciding (vot
 
 -- an arrival and its pass
 voted-arrival : {S : Type 0} (view : View) (n : Node S) (x : Message) (why : Option Why) → is_view view ≡ true → why_dropped n x ≡ why → Voted view n → Voted view (arrival_outcome n x why).node
-voted-arrival view n x None viewed fine is = voted-passes view (kept n x) viewed (voted-kept view n x fine is)
-voted-arrival view n x (Some why) viewed fine is = is
+voted-arrival {S = S} view n x None viewed fine is =
+    let k : Node S = kept (noted n x) x in
+    voted-answers_again view (passes k) x (voted-passes view k viewed (voted-kept view (noted n x) x (why-noted n x ∙ fine) (voted-noted view n x is)))
+voted-arrival view n x (Some why) viewed fine is = voted-noted view n x is
 
 -- bytes that come, and their pass
 voted-reading : {S : Type 0} (view : View) (n : Node S) (read : Result Message ℕ) → is_view view ≡ true → Voted view n → Voted view (reading_outcome n read).node

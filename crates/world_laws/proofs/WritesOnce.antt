@@ -12,8 +12,8 @@ use Rattle.smart_messages.specs.declared.entry.NodeEvent.{NodeEvent}
 use Rattle.smart_messages.specs.declared.entry.NodeEvent.TheVariants.{Arrive, Tick, Deliver, Firm}
 use Rattle.smart_service.specs.Services.{Meaning}
 use Rattle.node_rules.specs.Nodes.{Node, is_open, open_slot, is_wrote}
-use Rattle.node_rules.specs.Arrivals.{why_dropped, kept}
-use Rattle.node_rules.specs.Rules.{delivers, proposing, proposes, writing, write_batch, writes, accepting, accept_batch, accepts, deciding, decide_batch, decides}
+use Rattle.node_rules.specs.Arrivals.{why_dropped, kept, noted}
+use Rattle.node_rules.specs.Rules.{delivers, proposing, proposes, writing, write_batch, writes, accepting, accept_batch, accepts, deciding, decide_batch, decides, answers_again}
 use Rattle.node_rules.specs.Steps.{votes, passes, arrival_outcome, reading_outcome, step_of, opened}
 use Rattle.node_rules.specs.declared.node.Why.{Why}
 use Rattle.kept_arrivals.specs.Kept.{node_after}
@@ -21,7 +21,8 @@ use Rattle.world_laws.specs.Books.{passing}
 use Rattle.world_laws.specs.Voters.{WritesOnce}
 use Rattle.world_laws.proofs.Lists.{and_true, not_true}
 use Rattle.world_laws.proofs.Equal.{same_slot-equal}
-use Rattle.world_laws.proofs.Once.{entries-kept, entries-delivers, entries-propose_batch, passing-end, passed, none_passes, guard_passed}
+use Rattle.world_laws.proofs.Once.{entries-arrives, entries-delivers, entries-propose_batch, passing-end, passed, none_passes, guard_passed}
+use Rattle.world_laws.proofs.Again.{entries-noted, entries-answers_again}
 
 -- an entry that writes nothing
 one_more : (entries : List LogEntry) (entry : LogEntry) → ((slot : Slot) → is_wrote slot entry ≡ false) → WritesOnce entries → WritesOnce (entries ++ entry ∷ [])
@@ -72,8 +73,10 @@ written-passes n once =
 
 -- an arrival and its pass
 written-arrival : {S : Type 0} (n : Node S) (message : Message) (why : Option Why) → WritesOnce n.entries → WritesOnce (arrival_outcome n message why).node.entries
-written-arrival n message None once = written-passes (kept n message) (written_as n (kept n message) (entries-kept n message) once)
-written-arrival n message (Some why) once = once
+written-arrival {S = S} n message None once =
+    let k : Node S = kept (noted n message) message in
+    written_as (passes k) (answers_again (passes k) message) (entries-answers_again (passes k) message) (written-passes k (written_as n k (entries-arrives n message) once))
+written-arrival n message (Some why) once = written_as n (noted n message) (entries-noted n message) once
 
 -- bytes that come, and their pass
 written-reading : {S : Type 0} (n : Node S) (read : Result Message ℕ) → WritesOnce n.entries → WritesOnce (reading_outcome n read).node.entries

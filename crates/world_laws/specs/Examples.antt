@@ -17,7 +17,7 @@ lone = record { number = 0; start = 1; f = 0; members = 1 ∷ [] }
 
 -- client 1 asks for an operation, and then messages flow
 abbrev pub ask_and_flow : List Line
-ask_and_flow = lines.Ask 1 (7 ∷ []) ∷ lines.Flow ∷ []
+ask_and_flow = lines.Ask 1 (7 ∷ []) ∷ lines.Flow [] ∷ []
 
 -- what the client asks
 abbrev pub first_request : Request

@@ -5,7 +5,7 @@ use Rattle.smart_messages.specs.declared.entry.NodeEvent.TheVariants.{Arrive}
 use Rattle.smart_service.specs.Services.{Meaning}
 use Rattle.node_rules.specs.Steps.{step_of}
 use Rattle.world_rules.specs.Repeats.{repeated, each_from}
-use Rattle.world_rules.specs.Worlds.{World, node_takes, settle_once, settle, settle_all, gives, flow_once, begun}
+use Rattle.world_rules.specs.Worlds.{World, node_takes, settle_once, settle, at_listed, settle_all, gives, flow_once, begun}
 use Rattle.world_rules.specs.Plays.{world_after}
 use Rattle.world_rules.specs.declared.line.Line.{Line}
 
@@ -13,17 +13,17 @@ use Rattle.world_rules.specs.declared.line.Line.{Line}
 abbrev pub HasSettled : {S : Type 0} → Meaning S → ℕ → World S → Type 0
 HasSettled m i w = settle_once (step_of m) i w ≡ w
 
--- a flow begins, and the first nodes have settled
-abbrev pub flow_begins : {S : Type 0} → Meaning S → View → List Line → ℕ → World S
-flow_begins m view ls nodes = each_from (settle (step_of m)) nodes 0 (world_after (step_of m) (begun m view) ls)
+-- a flow over listed members begins, and the first of these nodes have settled
+abbrev pub flow_begins : {S : Type 0} → Meaning S → View → List Line → List ℕ → ℕ → World S
+flow_begins m view ls members nodes = each_from (at_listed members (settle (step_of m))) nodes 0 (world_after (step_of m) (begun m view) ls)
 
--- a flow has had so many turns
-abbrev pub flow_goes : {S : Type 0} → Meaning S → View → List Line → ℕ → World S
-flow_goes m view ls k = repeated (flow_once (step_of m)) k (settle_all (step_of m) (world_after (step_of m) (begun m view) ls))
+-- a flow over listed members has had so many turns
+abbrev pub flow_goes : {S : Type 0} → Meaning S → View → List Line → List ℕ → ℕ → World S
+flow_goes m view ls members k = repeated (flow_once (step_of m) members) k (settle_all (step_of m) members (world_after (step_of m) (begun m view) ls))
 
--- bytes are given, and the first nodes have taken them and settled
-abbrev pub message_goes : {S : Type 0} → Meaning S → List ℕ → ℕ → World S → World S
-message_goes m bytes nodes w = each_from (gives (step_of m) bytes) nodes 0 (record w { mark = w.mark + 1 })
+-- bytes are given to listed members, and the first of these nodes have taken them and settled
+abbrev pub message_goes : {S : Type 0} → Meaning S → List ℕ → List ℕ → ℕ → World S → World S
+message_goes m members bytes nodes w = each_from (at_listed members (gives (step_of m) bytes)) nodes 0 (record w { mark = w.mark + 1 })
 
 -- a node has taken bytes, and for so many turns what was due
 abbrev pub node_goes : {S : Type 0} → Meaning S → List ℕ → ℕ → ℕ → World S → World S

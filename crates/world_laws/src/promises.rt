@@ -38,9 +38,9 @@ pub fn a_quorum_replied<S: Service>()
 /// firm at that member's node.
 pub fn votes_leave_when_firm<S: Service>()
     ensures node { (secret : List ℕ) (id : ℕ) (view : View) (events : List NodeEvent) → LeavesFirm (node_after S.meaning (opened S.meaning secret id view) events) }
-    ensures first { (view : View) (ls : List Line) (nodes i k : ℕ) → SentFirm (repeated (settle_once (step_of S.meaning) i) k (flow_begins S.meaning view ls nodes)) }
-    ensures given { (view : View) (ls : List Line) (turn : ℕ) (bytes : List ℕ) (nodes i k : ℕ) →
-        SentFirm (node_goes S.meaning bytes i k (message_goes S.meaning bytes nodes (flow_goes S.meaning view ls turn))) }
+    ensures first { (view : View) (ls : List Line) (members : List ℕ) (nodes i k : ℕ) → SentFirm (repeated (settle_once (step_of S.meaning) i) k (flow_begins S.meaning view ls members nodes)) }
+    ensures given { (view : View) (ls : List Line) (members : List ℕ) (turn : ℕ) (bytes : List ℕ) (nodes i k : ℕ) →
+        SentFirm (node_goes S.meaning bytes i k (message_goes S.meaning members bytes nodes (flow_goes S.meaning view ls members turn))) }
 {}
 
 /// In every play each message that was sent is read from its bytes as itself, by whoever is given

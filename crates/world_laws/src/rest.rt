@@ -14,18 +14,19 @@ use smart_service::service::Service;
 /// A flow comes to rest: after a flow line of any script over any group, one more turn changes
 /// nothing.
 pub fn flow_rests<S: Service>()
-    ensures { (view : View) (ls : List Line) →
-        flow_once (step_of S.meaning) (line_played (step_of S.meaning) (world_after (step_of S.meaning) (begun S.meaning view) ls) lines.Flow)
-        ≡ line_played (step_of S.meaning) (world_after (step_of S.meaning) (begun S.meaning view) ls) lines.Flow }
+    ensures { (view : View) (ls : List Line) (members : List ℕ) →
+        flow_once (step_of S.meaning) members (line_played (step_of S.meaning) (world_after (step_of S.meaning) (begun S.meaning view) ls) (lines.Flow members))
+        ≡ line_played (step_of S.meaning) (world_after (step_of S.meaning) (begun S.meaning view) ls) (lines.Flow members) }
 {}
 
-/// A node that settles comes to rest, whenever a play has it settle: as a flow begins, behind the
+/// A node that settles comes to rest, whenever a play has it settle: in a line of its own, as a flow begins, behind the
 /// nodes that settle before it, and in each turn of a flow, whatever bytes the nodes are given.
 /// One more turn changes nothing.
 pub fn settling_rests<S: Service>()
-    ensures first { (view : View) (ls : List Line) (nodes i : ℕ) → HasSettled S.meaning i (settle (step_of S.meaning) i (flow_begins S.meaning view ls nodes)) }
-    ensures given { (view : View) (ls : List Line) (k : ℕ) (bytes : List ℕ) (nodes i : ℕ) →
-        HasSettled S.meaning i (gives (step_of S.meaning) bytes i (message_goes S.meaning bytes nodes (flow_goes S.meaning view ls k))) }
+    ensures line { (view : View) (ls : List Line) (i : ℕ) → HasSettled S.meaning i (settle (step_of S.meaning) i (world_after (step_of S.meaning) (begun S.meaning view) ls)) }
+    ensures first { (view : View) (ls : List Line) (members : List ℕ) (nodes i : ℕ) → HasSettled S.meaning i (settle (step_of S.meaning) i (flow_begins S.meaning view ls members nodes)) }
+    ensures given { (view : View) (ls : List Line) (members : List ℕ) (k : ℕ) (bytes : List ℕ) (nodes i : ℕ) →
+        HasSettled S.meaning i (gives (step_of S.meaning) bytes i (message_goes S.meaning members bytes nodes (flow_goes S.meaning view ls members k))) }
 {}
 
 /// What changes nothing in a world is the end of its repetition there.
