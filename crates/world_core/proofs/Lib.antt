@@ -3,3 +3,4 @@ pub mod LedgerLaws
 pub mod Turns
 pub mod Played
 pub mod Hearing
+pub mod Idling

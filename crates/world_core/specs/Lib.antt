@@ -1,2 +1,3 @@
 pub mod Ledgers
 pub mod Replies
+pub mod Idling

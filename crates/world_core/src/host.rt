@@ -1,11 +1,12 @@
 //! A member's host, and what it tells of its node's steps.
-ghost use Rattle.std.specs.Prelude.{◌≡◌, ◌+◌, ◌++◌, ◌==◌, [], IfOk, OnOk, length};
+ghost use Rattle.std.specs.Prelude.{◌≡◌, ◌+◌, ◌++◌, ◌==◌, [], IfOk, OnOk, length, map};
 ghost use Rattle.std.specs.List.{flat_map};
 ghost use Rattle.std.specs.Option.{option_copied};
 ghost use Rattle.node_rules.specs.Nodes.{next_place};
 ghost use Rattle.kept_arrivals.specs.Kept.{core_step};
 ghost use Rattle.node_rules.specs.Steps.{leaving, released, opened};
-ghost use Rattle.world_rules.specs.Worlds.{due, told_drop, told_fired, delivery_in, chosen_with, host_after};
+ghost use Rattle.world_rules.specs.Worlds.{due, told_drop, told_fired, delivery_in, chosen_with, host_after, host_index, shown_host};
+ghost use Rattle.world_core.specs.Idling.{is_idle};
 
 use node_core::node::NodeCore;
 use node_rules::node::{Delivery, Fired, Held, Why};
@@ -69,7 +70,7 @@ fn tell_rule(told: &mut Vec<OutLine>, id: MemberId, rule: &Fired) -> Result<(), 
             member: id,
             place: *place,
         })?,
-        Fired::Proposed | Fired::Wrote | Fired::Accepted => {}
+        Fired::Proposed | Fired::Wrote | Fired::Accepted | Fired::Answered => {}
     }
     Ok(())
 }
@@ -110,6 +111,16 @@ fn choose(
         }
     }
     Ok(())
+}
+
+/// Whether no rule fired.
+fn is_idle(fired: &[Fired]) -> bool
+    ensures { result ≡ is_idle fired.now }
+{
+    match fired {
+        [] => true,
+        [_, ..] => false,
+    }
 }
 
 impl<S: Service> Host<S> {
@@ -157,6 +168,44 @@ impl<S: Service> Host<S> {
             None
         }
     }
+
+    /// Where the node stands.
+    pub fn shown(&self) -> OutLine
+        ensures { result ≡ shown_host self.now }
+    {
+        OutLine::Stands {
+            member: self.node.id(),
+            place: self.node.place(),
+            view: self.node.view().number(),
+            regency: self.node.regency(),
+        }
+    }
+}
+
+/// The index at which a member's host stands.
+pub fn host_index<S: Service>(hosts: &[Host<S>], member: MemberId) -> Option<usize>
+    ensures { result ≡ host_index hosts.now member }
+{
+    hosts.iter().position(|host| host.id() == member)
+}
+
+/// Tells where all nodes stand.
+pub fn show_hosts<S: Service>(told: &mut Vec<OutLine>, hosts: &[Host<S>]) -> Result<(), AllocError>
+    ensures { OnOk result (told.new.items ≡ told.old.items ++ map shown_host hosts.now) }
+{
+    for host in hosts {
+        told.push(host.shown())?;
+    }
+    Ok(())
+}
+
+/// What a step leaves.
+#[derive(Drop)]
+pub struct Left {
+    /// The messages that leave.
+    pub messages: Sequence<Held>,
+    /// Whether no rule fired.
+    pub idle: bool,
 }
 
 /// A host's node takes an event. The messages that leave are given, what the step tells and the
@@ -167,11 +216,12 @@ pub fn step_host<S: Service>(
     chosen: &mut Vec<Batch>,
     told: &mut Vec<OutLine>,
     event: &NodeEvent,
-) -> Result<Sequence<Held>, AllocError>
+) -> Result<Left, AllocError>
     ensures host { OnOk result (host.new ≡ host_after host.old (core_step S.meaning host.old.node event.now)) }
     ensures chosen { OnOk result (let after = (core_step S.meaning host.old.node event.now).node in chosen.new.items ≡ chosen_with chosen.old.items (next_place after) after.waiting) }
     ensures told { OnOk result (let o = core_step S.meaning host.old.node event.now in told.new.items ≡ told.old.items ++ (told_drop host.old.node.id o.dropped ++ flat_map (told_fired host.old.node.id) o.fired)) }
-    ensures left { IfOk result (λ left. let after = (core_step S.meaning host.old.node event.now).node in left ≡ leaving after.firm after.held) }
+    ensures left { IfOk result (λ left. let after = (core_step S.meaning host.old.node event.now).node in left.messages ≡ leaving after.firm after.held) }
+    ensures idle { IfOk result (λ left. left.idle ≡ is_idle (core_step S.meaning host.old.node event.now).fired) }
 {
     let id = host.node.id();
     let outcome = host.node.step(event)?;
@@ -182,7 +232,8 @@ pub fn step_host<S: Service>(
         host.node.place().get() + 1,
         host.node.waiting(),
     )?;
+    let idle = is_idle(outcome.fired.as_slice());
     keep_deliveries(&mut host.delivered, outcome.fired)?;
-    let left = host.node.release_all()?;
-    Ok(left)
+    let messages = host.node.release_all()?;
+    Ok(Left { messages, idle })
 }

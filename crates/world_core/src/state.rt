@@ -1,18 +1,21 @@
 //! What happens in a world.
-ghost use Rattle.std.specs.Prelude.{◌≡◌, ◌+◌, ◌-◌, ◌^◌, ◌<◌, ◌++◌, [], ◌∷◌, IfOk, OnOk, None, Some, length, slice_get, slice_set, false};
+ghost use Rattle.std.specs.Prelude.{◌≡◌, ◌+◌, ◌-◌, ◌^◌, ◌<◌, ◌++◌, ◌==◌, [], ◌∷◌, IfOk, OnOk, None, Some, length, slice_get, slice_set, false};
+ghost use Rattle.std.specs.List.{flat_map, list_all, list_any};
 ghost use Rattle.smart_base.specs.Lists.{or_else};
 ghost use Rattle.smart_messages.specs.Messages.{spelling, decoded};
+ghost use Rattle.smart_messages.specs.declared.entry.NodeEvent.TheVariants.{Arrive};
 ghost use Rattle.node_rules.specs.Steps.{opened};
 ghost use Rattle.kept_arrivals.specs.Kept.{core_step};
 ghost use Rattle.world_rules.specs.Repeats.{repeated, turns, until_rest, each_from};
 ghost use Rattle.world_rules.specs.Secrets.{group_secret};
 ghost use Rattle.world_rules.specs.Clients.{heard, after_heard};
-ghost use Rattle.world_rules.specs.Worlds.{telling, sends, sends_all, summary_of, stepped, node_takes, settle_once, settle, settle_all, gives, give_all, acceptance_in, told_heard, hearing, client_takes, client_asks, asks, goes, flow_once, flows, hosts_from, clients_from, begun};
-ghost use Rattle.world_rules.specs.Plays.{line_played, rested};
+ghost use Rattle.world_rules.specs.Worlds.{telling, sends, sends_all, summary_of, stepped, node_takes, settle_once, settle, settle_all, gives, give_all, acceptance_in, told_heard, hearing, client_takes, client_asks, asks, goes, flow_once, flows, hosts_from, clients_from, begun, is_listed, at_listed, host_takes, host_index, at_index, at_member, arrives, arrives_at, give_number, telling_all, deliver_at, deliver_each, shown_client, shows};
+ghost use Rattle.world_rules.specs.Plays.{has_member, has_party, is_there, line_played, rested};
 ghost use Rattle.world_core.specs.Replies.{reply_in, takes_reply};
+ghost use Rattle.world_core.specs.Idling.{is_idle_at, idle_lines};
 
 use crate::client::{ask, fresh, hear};
-use crate::host::{Host, step_host};
+use crate::host::{Host, host_index, show_hosts, step_host};
 use crate::ledger::Ledger;
 use crate::message::{sent_line, told_heard};
 use crate::secret::GroupRing;
@@ -21,6 +24,7 @@ use smart_base::bytes::Payload;
 use smart_base::duplicate::Duplicate;
 use smart_base::fault::ReadError;
 use smart_base::name::{ClientId, MemberId};
+use smart_base::party::Party;
 use smart_base::sequence::{Bytes, Sequence};
 use smart_base::view::View;
 use smart_keys::ring::Ring;
@@ -141,6 +145,41 @@ fn letter(alloc: Global, sent: &Sent) -> Result<(Target, Bytes), AllocError>
     Ok((sent.to, Bytes::from_vec(bytes)))
 }
 
+/// Whether a list has a member: all where it is empty.
+fn is_listed(members: &[MemberId], member: MemberId) -> bool
+    ensures { result ≡ is_listed members.now member }
+{
+    members.is_empty() || is_among(members, member)
+}
+
+fn is_among(members: &[MemberId], member: MemberId) -> bool
+    ensures { result ≡ list_any (λ x. x == member) members.now }
+{
+    members.iter().any(|x| *x == member)
+}
+
+/// Tells the greatest place that a client knows, if it has asked.
+fn show_client(told: &mut Vec<OutLine>, client: &Client) -> Result<(), AllocError>
+    ensures { OnOk result (told.new.items ≡ told.old.items ++ shown_client client.now) }
+{
+    if client.last > 0 {
+        told.push(OutLine::Seen {
+            client: client.id,
+            place: client.seen,
+        })?;
+    }
+    Ok(())
+}
+
+fn show_clients(told: &mut Vec<OutLine>, clients: &[Client]) -> Result<(), AllocError>
+    ensures { OnOk result (told.new.items ≡ told.old.items ++ flat_map shown_client clients.now) }
+{
+    for client in clients {
+        show_client(told, client)?;
+    }
+    Ok(())
+}
+
 fn first_host<S: Service>(
     alloc: Global,
     view: &View,
@@ -245,13 +284,13 @@ impl<S: Service> WorldState<S> {
 
     // Events of a node.
 
-    #[tactic(auto, unfolding(world_rules::specs::Worlds::node_takes, world_rules::specs::Worlds::stepped))]
-    fn node_takes(&mut self, i: usize, event: &NodeEvent) -> Result<(), AllocError>
-        ensures { OnOk result (self.new ≡ node_takes (core_step S.meaning) i event.now self.old) }
+    /// The node at an index takes an event. Whether no rule fired is given.
+    #[tactic(auto, unfolding(world_rules::specs::Worlds::stepped))]
+    fn host_takes(&mut self, i: usize, event: &NodeEvent) -> Result<bool, AllocError>
+        requires { i < length self.old.hosts }
+        ensures world { OnOk result (self.new ≡ host_takes (core_step S.meaning) i event.now self.old (slice_get self.old.hosts i)) }
+        ensures idle { IfOk result (λ idle. idle ≡ is_idle_at (core_step S.meaning) event.now (slice_get self.old.hosts i)) }
     {
-        if self.ending.is_some() || i >= self.hosts.len() {
-            return Ok(());
-        }
         let id = self.hosts[i].id();
         let left = step_host(
             self.alloc,
@@ -260,7 +299,18 @@ impl<S: Service> WorldState<S> {
             &mut self.told,
             event,
         )?;
-        self.send_all(id, left)?;
+        self.send_all(id, left.messages)?;
+        Ok(left.idle)
+    }
+
+    #[tactic(auto, unfolding(world_rules::specs::Worlds::node_takes))]
+    fn node_takes(&mut self, i: usize, event: &NodeEvent) -> Result<(), AllocError>
+        ensures { OnOk result (self.new ≡ node_takes (core_step S.meaning) i event.now self.old) }
+    {
+        if self.ending.is_some() || i >= self.hosts.len() {
+            return Ok(());
+        }
+        let _ = self.host_takes(i, event)?;
         Ok(())
     }
 
@@ -295,14 +345,24 @@ impl<S: Service> WorldState<S> {
         Ok(())
     }
 
-    /// Each node settles, ascending.
+    /// The node at an index settles, if its member is listed.
+    fn settle_listed(&mut self, members: &[MemberId], i: usize) -> Result<(), AllocError>
+        ensures { OnOk result (self.new ≡ at_listed members.now (settle (core_step S.meaning)) i self.old) }
+    {
+        if i < self.hosts.len() && is_listed(members, self.hosts[i].id()) {
+            self.settle(i)?;
+        }
+        Ok(())
+    }
+
+    /// Each listed node settles, ascending.
     #[tactic(auto, using(crate::proofs::Turns::each_more, crate::proofs::Turns::each_done))]
-    fn settle_all(&mut self) -> Result<(), AllocError>
-        ensures { OnOk result (self.new ≡ settle_all (core_step S.meaning) self.old) }
+    fn settle_all(&mut self, members: &[MemberId]) -> Result<(), AllocError>
+        ensures { OnOk result (self.new ≡ settle_all (core_step S.meaning) members.now self.old) }
     {
         let count = self.hosts.len();
         for i in 0..count {
-            self.settle(i)?;
+            self.settle_listed(members, i)?;
         }
         Ok(())
     }
@@ -316,15 +376,30 @@ impl<S: Service> WorldState<S> {
         Ok(())
     }
 
-    /// Each node takes the bytes of a message and settles, ascending.
+    /// The node at an index takes an event and settles, if its member is listed.
+    fn give_listed(
+        &mut self,
+        members: &[MemberId],
+        i: usize,
+        event: &NodeEvent,
+    ) -> Result<(), AllocError>
+        ensures { OnOk result (self.new ≡ at_listed members.now (λ i w. settle (core_step S.meaning) i (node_takes (core_step S.meaning) i event.now w)) i self.old) }
+    {
+        if i < self.hosts.len() && is_listed(members, self.hosts[i].id()) {
+            self.give(i, event)?;
+        }
+        Ok(())
+    }
+
+    /// Each listed node takes the bytes of a message and settles, ascending.
     #[tactic(auto, using(crate::proofs::Turns::each_more, crate::proofs::Turns::each_done), unfolding(world_rules::specs::Worlds::gives))]
-    fn give_all(&mut self, bytes: Bytes) -> Result<(), AllocError>
-        ensures { OnOk result (self.new ≡ give_all (core_step S.meaning) bytes self.old) }
+    fn give_all(&mut self, members: &[MemberId], bytes: Bytes) -> Result<(), AllocError>
+        ensures { OnOk result (self.new ≡ give_all (core_step S.meaning) members.now bytes self.old) }
     {
         let count = self.hosts.len();
         let arrival = NodeEvent::Arrive(bytes);
         for i in 0..count {
-            self.give(i, &arrival)?;
+            self.give_listed(members, i, &arrival)?;
         }
         Ok(())
     }
@@ -398,12 +473,12 @@ impl<S: Service> WorldState<S> {
 
     // Flow.
 
-    fn go(&mut self, bytes: Bytes, to: Target) -> Result<(), AllocError>
-        ensures { OnOk result (self.new ≡ goes (core_step S.meaning) self.old bytes to) }
+    fn go(&mut self, members: &[MemberId], bytes: Bytes, to: Target) -> Result<(), AllocError>
+        ensures { OnOk result (self.new ≡ goes (core_step S.meaning) members.now self.old bytes to) }
     {
         match to {
             Target::View => {
-                self.give_all(bytes)?;
+                self.give_all(members, bytes)?;
                 Ok(())
             }
             Target::Client(id) => {
@@ -413,10 +488,11 @@ impl<S: Service> WorldState<S> {
         }
     }
 
-    /// The next message behind the mark, if there is one, is given to whom it is for, in bytes.
+    /// The next message behind the mark, if there is one, is given to those of the listed that it
+    /// is for, or to its client, in bytes.
     #[tactic(auto, unfolding(world_rules::specs::Worlds::flow_once))]
-    fn flow_once(&mut self) -> Result<bool, AllocError>
-        ensures world { OnOk result (self.new ≡ flow_once (core_step S.meaning) self.old) }
+    fn flow_once(&mut self, members: &[MemberId]) -> Result<bool, AllocError>
+        ensures world { OnOk result (self.new ≡ flow_once (core_step S.meaning) members.now self.old) }
         ensures idle { IfOk result (λ more. more ≡ false → self.new ≡ self.old) }
     {
         let next = self.mark as usize;
@@ -425,32 +501,190 @@ impl<S: Service> WorldState<S> {
         }
         let (to, bytes) = letter(self.alloc, &self.sent.as_slice()[next])?;
         self.mark += 1;
-        self.go(bytes, to)?;
+        self.go(members, bytes, to)?;
         Ok(true)
     }
 
     /// Each message behind the mark is given, until none is left.
     #[tactic(auto, using(crate::proofs::Turns::rest_begins, crate::proofs::Turns::rest_more, crate::proofs::Turns::rest_done, crate::proofs::Turns::rest_idle))]
-    fn flow_rest(&mut self) -> Result<(), AllocError>
-        ensures { OnOk result (self.new ≡ until_rest (flow_once (core_step S.meaning)) self.old) }
+    fn flow_rest(&mut self, members: &[MemberId]) -> Result<(), AllocError>
+        ensures { OnOk result (self.new ≡ until_rest (flow_once (core_step S.meaning) members.now) self.old) }
     {
         for turn in 0..u64::MAX {
-            if !self.flow_once()? {
+            if !self.flow_once(members)? {
                 return Ok(());
             }
         }
         Ok(())
     }
 
-    fn flow(&mut self) -> Result<(), AllocError>
-        ensures { OnOk result (self.new ≡ flows (core_step S.meaning) self.old) }
+    fn flow(&mut self, members: &[MemberId]) -> Result<(), AllocError>
+        ensures { OnOk result (self.new ≡ flows (core_step S.meaning) members.now self.old) }
     {
-        self.settle_all()?;
-        self.flow_rest()?;
+        self.settle_all(members)?;
+        self.flow_rest(members)?;
+        Ok(())
+    }
+
+    // Deliveries one by one.
+
+    /// A member's node settles.
+    fn settle_member(&mut self, member: MemberId) -> Result<(), AllocError>
+        ensures { OnOk result (self.new ≡ at_member (settle (core_step S.meaning)) member self.old) }
+    {
+        if let Some(i) = host_index(self.hosts.as_slice(), member) {
+            self.settle(i)?;
+        }
+        Ok(())
+    }
+
+    /// A member's node takes bytes.
+    fn member_takes(&mut self, member: MemberId, bytes: &Bytes) -> Result<(), AllocError>
+        ensures { OnOk result (self.new ≡ at_member (λ i w. node_takes (core_step S.meaning) i (Arrive bytes.now) w) member self.old) }
+    {
+        if let Some(i) = host_index(self.hosts.as_slice(), member) {
+            let arrival = NodeEvent::Arrive(bytes.duplicate(self.alloc)?);
+            self.node_takes(i, &arrival)?;
+        }
+        Ok(())
+    }
+
+    /// Bytes arrive at a member's node or at a client.
+    fn arrive(&mut self, bytes: &Bytes, to: &Party) -> Result<(), AllocError>
+        ensures { OnOk result (self.new ≡ arrives (core_step S.meaning) bytes.now to.now self.old) }
+    {
+        match to {
+            Party::Member(id) => {
+                self.member_takes(*id, bytes)?;
+                Ok(())
+            }
+            Party::Client(id) => {
+                self.client_takes(id.get() as usize, bytes.as_slice())?;
+                Ok(())
+            }
+        }
+    }
+
+    fn arrive_at(&mut self, bytes: &Bytes, to: &[Party]) -> Result<(), AllocError>
+        ensures { OnOk result (self.new ≡ arrives_at (core_step S.meaning) bytes.now to.now self.old) }
+    {
+        for party in to {
+            self.arrive(bytes, party)?;
+        }
+        Ok(())
+    }
+
+    /// The message of a number arrives at each of some, in order.
+    fn give_number(&mut self, number: u64, to: &[Party]) -> Result<(), AllocError>
+        ensures { OnOk result (self.new ≡ give_number (core_step S.meaning) number to.now self.old) }
+    {
+        let index = number.saturating_sub(1) as usize;
+        if index >= self.sent.as_slice().len() {
+            return Ok(());
+        }
+        let (_, bytes) = letter(self.alloc, &self.sent.as_slice()[index])?;
+        self.arrive_at(&bytes, to)?;
+        Ok(())
+    }
+
+    fn tell_idle(&mut self, id: MemberId, idle: bool) -> Result<(), AllocError>
+        ensures { OnOk result (self.new ≡ telling_all self.old (idle_lines id idle)) }
+    {
+        if idle {
+            self.told.push(OutLine::Idle { member: id })?;
+        }
+        Ok(())
+    }
+
+    /// The node at an index delivers the batch that waits.
+    #[tactic(auto, using(crate::proofs::Idling::told_idle_is), unfolding(world_rules::specs::Worlds::deliver_at))]
+    fn deliver_at(&mut self, i: usize) -> Result<(), AllocError>
+        ensures { OnOk result (self.new ≡ deliver_at (core_step S.meaning) i self.old) }
+    {
+        if self.ending.is_some() || i >= self.hosts.len() {
+            return Ok(());
+        }
+        let id = self.hosts[i].id();
+        let idle = self.host_takes(i, &NodeEvent::Deliver)?;
+        self.tell_idle(id, idle)?;
+        Ok(())
+    }
+
+    fn deliver_member(&mut self, member: MemberId) -> Result<(), AllocError>
+        ensures { OnOk result (self.new ≡ at_member (deliver_at (core_step S.meaning)) member self.old) }
+    {
+        if let Some(i) = host_index(self.hosts.as_slice(), member) {
+            self.deliver_at(i)?;
+        }
+        Ok(())
+    }
+
+    /// Each of some members delivers the batch that waits, in order.
+    fn deliver(&mut self, members: &[MemberId]) -> Result<(), AllocError>
+        ensures { OnOk result (self.new ≡ deliver_each (core_step S.meaning) members.now self.old) }
+    {
+        for member in members {
+            self.deliver_member(*member)?;
+        }
+        Ok(())
+    }
+
+    /// Tells where all members stand, and what all clients that asked have seen.
+    fn show(&mut self) -> Result<(), AllocError>
+        ensures { OnOk result (self.new ≡ shows self.old) }
+    {
+        show_hosts(&mut self.told, self.hosts.as_slice())?;
+        show_clients(&mut self.told, self.clients.as_slice())?;
         Ok(())
     }
 
     // Lines.
+
+    fn has_member(&self, member: MemberId) -> bool
+        ensures { result ≡ has_member self.now member }
+    {
+        host_index(self.hosts.as_slice(), member).is_some()
+    }
+
+    fn has_members(&self, members: &[MemberId]) -> bool
+        ensures { result ≡ list_all (has_member self.now) members.now }
+    {
+        members.iter().all(|member| self.has_member(*member))
+    }
+
+    fn has_party(&self, party: &Party) -> bool
+        ensures { result ≡ has_party self.now party.now }
+    {
+        match party {
+            Party::Member(id) => self.has_member(*id),
+            Party::Client(_) => true,
+        }
+    }
+
+    fn has_parties(&self, parties: &[Party]) -> bool
+        ensures { result ≡ list_all (has_party self.now) parties.now }
+    {
+        parties.iter().all(|party| self.has_party(party))
+    }
+
+    /// Whether all that a line names is there.
+    #[tactic(auto, unfolding(world_rules::specs::Plays::is_there))]
+    pub fn is_there(&self, line: &Line) -> bool
+        ensures { result ≡ is_there self.now line.now }
+    {
+        match line {
+            Line::Nothing | Line::Ask { .. } | Line::SettleAll | Line::Show => true,
+            Line::Flow { members } | Line::Deliver { members } => self.has_members(
+                members.as_slice(),
+            ),
+            Line::Give { number, to } => {
+                1 <= *number
+                    && *number <= self.sent.as_slice().len() as u64
+                    && self.has_parties(to.as_slice())
+            }
+            Line::Settle { member } => self.has_member(*member),
+        }
+    }
 
     /// Plays a line of a script.
     #[tactic(auto, unfolding(world_rules::specs::Plays::line_played))]
@@ -463,8 +697,28 @@ impl<S: Service> WorldState<S> {
                 self.ask(client.get() as usize, op)?;
                 Ok(())
             }
-            Line::Flow => {
-                self.flow()?;
+            Line::Flow { members } => {
+                self.flow(members.as_slice())?;
+                Ok(())
+            }
+            Line::Give { number, to } => {
+                self.give_number(*number, to.as_slice())?;
+                Ok(())
+            }
+            Line::Deliver { members } => {
+                self.deliver(members.as_slice())?;
+                Ok(())
+            }
+            Line::Settle { member } => {
+                self.settle_member(*member)?;
+                Ok(())
+            }
+            Line::SettleAll => {
+                self.settle_all(&[])?;
+                Ok(())
+            }
+            Line::Show => {
+                self.show()?;
                 Ok(())
             }
         }

@@ -1,9 +1,9 @@
 //! The play of a script.
-ghost use Rattle.std.specs.Prelude.{◌≡◌, ◌++◌, [], ◌∷◌, true, false, None, Some, IfOk, OnOk, OnErr, IsErrOf, option_map};
+ghost use Rattle.std.specs.Prelude.{◌≡◌, ◌++◌, [], ◌∷◌, true, false, None, Some, IfOk, IfErr, OnOk, IsErrOf, option_map};
 ghost use Rattle.std.specs.Option.{option_copied};
 ghost use Rattle.kept_arrivals.specs.Kept.{core_step};
 ghost use Rattle.world_rules.specs.Worlds.{begun, host_of};
-ghost use Rattle.world_rules.specs.Plays.{line_played, rested, IsPlay};
+ghost use Rattle.world_rules.specs.Plays.{is_there, line_played, rested, IsPlay};
 ghost use Rattle.world_rules.specs.declared.message.Ending.TheVariants as endings;
 ghost use Rattle.world_rules.specs.declared.message.Premise.{Premise};
 
@@ -23,9 +23,11 @@ use world_rules::client::Acceptance;
 use world_rules::line::{Line, OutLine};
 use world_rules::message::{Ending, Premise, Sent};
 
-/// Why a line was not played to its end. The play is over then.
+/// Why a line was not played to its end. The play is over then, unless the line was not begun.
 #[derive(Clone, Copy, Debug, PartialEq, Eq)]
 pub enum WorldEnd {
+    /// The line names what is not there. It is not begun.
+    Refer,
     /// What the play takes for granted does not hold.
     Premise(Premise),
     /// More messages would be sent than have numbers.
@@ -84,11 +86,20 @@ impl<S: Service> World<S> {
         requires { self.old.over ≡ false }
         ensures told { IfOk result (λ told. told ≡ (line_played (core_step S.meaning) self.old.world line).told) }
         ensures world { OnOk result (self.new ≡ record { group = self.old.group; lines = self.old.lines ++ line ∷ []; world = rested (line_played (core_step S.meaning) self.old.world line); over = false }) }
+        ensures there { OnOk result (is_there self.old.world line ≡ true) }
         ensures going { OnOk result ((line_played (core_step S.meaning) self.old.world line).ending ≡ None) }
+        ensures refer { IsErrOf result WorldEnd.Refer → is_there self.old.world line ≡ false }
+        ensures unchanged { IsErrOf result WorldEnd.Refer → self.new ≡ self.old }
+        ensures within { IsErrOf result WorldEnd.Limit → is_there self.old.world line ≡ true }
+        ensures supposed { (which : Premise) → IsErrOf result (WorldEnd.Premise which) → is_there self.old.world line ≡ true }
+        ensures memory { IsErrOf result WorldEnd.NoMemory → is_there self.old.world line ≡ true }
         ensures limit { IsErrOf result WorldEnd.Limit → (line_played (core_step S.meaning) self.old.world line).ending ≡ Some endings.Limit }
         ensures premise { (which : Premise) → IsErrOf result (WorldEnd.Premise which) → (line_played (core_step S.meaning) self.old.world line).ending ≡ Some (endings.Premise which) }
-        ensures over { OnErr result (self.new.over ≡ true) }
+        ensures over { IfErr result (λ end. (end ≡ WorldEnd.Refer → ⊥) → self.new.over ≡ true) }
     {
+        if !self.state.is_there(&line) {
+            return Err(WorldEnd::Refer);
+        }
         self.over = true;
         self.state.play(&line)?;
         match self.state.ending() {

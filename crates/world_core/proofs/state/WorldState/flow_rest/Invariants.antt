@@ -7,4 +7,4 @@ use Rattle.world_core.proofs.state.WorldState.flow_rest.Given as goal
 -- the turns so far and those left are all
 abbrev pub invariant-loop-turn : goal.invariant-loop-turn
 invariant-loop-turn g l =
-    repeated (flow_once (core_step g.S.Service.meaning)) (turns - l.turn) l.self ≡ until_rest (flow_once (core_step g.S.Service.meaning)) l.fn.self
+    repeated (flow_once (core_step g.S.Service.meaning) l.members) (turns - l.turn) l.self ≡ until_rest (flow_once (core_step g.S.Service.meaning) l.members) l.fn.self
