@@ -18,7 +18,7 @@ use Rattle.smart_top.specs.Readings.{Reading, unread, whole_lines, rest_of, scri
 use Rattle.smart_top.specs.Feeds.{text_after, script_after, Closes, HasRefused, HasBroken, HasTold, Within, Halted, GoesOn, halt_end}
 use Rattle.smart_top.specs.Runs.{IsLeft, ArePlayed, Ends, WroteAllRead, WroteLines, WroteFront, RunEnd}
 use Rattle.smart_top.proofs.ReadingLaws.{after-append, told-append, after-refused, told_after-refused, text-append, whole-feed, lines-front, front_of}
-use Rattle.smart_top.proofs.LongLines.{IsLong, long-read, long-untold, long-more, lines-behind}
+use Rattle.smart_top.proofs.LongLines.{IsLong, long-read, long-untold, long-more, long-front, lines-behind}
 use Rattle.smart_top.proofs.ReadingCores.{core-told-unread, core-refused, core-count}
 use Rattle.smart_top.proofs.ReadingPlays.{one_list_holds}
 use Rattle.smart_top.proofs.ReadingTells.{tells-read}
@@ -127,7 +127,7 @@ reads-long m bytes input s long =
     let closed = whole-feed [] bytes 10 refl in
     record {
       read = ap (λ ls. reading_after (step_of m) m unread ls) all
-          ∙ (long-read (step_of m) m whole on.1 line (line ++ on.0) long (long-more line on.0 long) ∙ ap (λ ls. reading_after (step_of m) m unread ls) (sym closed));
+          ∙ (long-read (step_of m) m whole on.1 line (line ++ on.0) long (long-more line on.0 long) (long-front line on.0 long) ∙ ap (λ ls. reading_after (step_of m) m unread ls) (sym closed));
       told = ap (λ ls. told_after (step_of m) m unread ls) all
           ∙ (long-untold (step_of m) m whole on.1 (line ++ on.0) (long-more line on.0 long)
           ∙ (sym (long-untold (step_of m) m whole [] line long) ∙ ap (λ ls. told_after (step_of m) m unread ls) (sym closed)));

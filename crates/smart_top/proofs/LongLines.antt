@@ -1,6 +1,6 @@
--- A line that is too long has no meaning, whatever follows.
-use Rattle.std.proofs.Common.{◌≡◌, ◌<◌, ◌==◌, ◌∙◌, ℕ, Bool, true, false, ◌&&◌, nat_le, List, [], ◌∷◌, ◌++◌, length, refl, ap, sym, cond, arith, subst, Option, Some, None, is_some}
-use Rattle.std.specs.Prelude.{not, if◌then◌else◌}
+-- A line that is too long has no meaning: whatever follows, the same is wrong with it.
+use Rattle.std.proofs.Common.{◌≡◌, ◌<◌, ◌≤◌, zero, suc, take, ◌==◌, ◌∙◌, ℕ, Bool, true, false, ◌&&◌, nat_le, List, [], ◌∷◌, ◌++◌, length, refl, ap, sym, cond, arith, subst, Option, Some, None, is_some}
+use Rattle.std.specs.Prelude.{not, if◌then◌else◌, Err}
 use Rattle.std.specs.List.{list_all}
 use Rattle.std.proofs.lemmas.Bool.{lt-leb}
 use Rattle.std.proofs.lemmas.List.{append_assoc, append-nil, length-append}
@@ -9,9 +9,10 @@ use Rattle.smart_service.specs.Services.{Meaning}
 use Rattle.node_rules.specs.Nodes.{Node}
 use Rattle.node_rules.specs.Steps.{Outcome}
 use Rattle.world_rules.specs.Plays.{Play}
-use Rattle.world_rules.specs.Scripts.{is_text, line_of}
+use Rattle.world_rules.specs.Scripts.{is_printed, is_short, line_of}
+use Rattle.world_rules.specs.declared.line.Kind.{Kind}
+use Rattle.world_rules.specs.declared.line.Kind.TheVariants as kinds
 use Rattle.world_laws.proofs.Lists.{either, either_by}
-use Rattle.smart_top.specs.declared.status.Kind.TheVariants.{Word}
 use Rattle.smart_top.specs.declared.status.Refusal.TheVariants as refusals
 use Rattle.smart_top.specs.Readings.{Reading, unread, refusing, whole_lines, rest_of, last_line, script_lines, line_done, told_done, taken_at, told_at, is_full, line_taken, line_told, reading_after, told_after}
 use Rattle.smart_top.proofs.ReadingLaws.{chosen_true, after-append, told-append, after-refused, told_after-refused, whole-append, rest-append}
@@ -20,28 +21,38 @@ use Rattle.smart_top.proofs.ReadingLaws.{chosen_true, after-append, told-append,
 abbrev pub IsLong : List ℕ → Type 0
 IsLong l = 65536 < length l
 
--- it is no text
-no-text : (l : List ℕ) → IsLong l → not (is_text l) ≡ true
-no-text l long = ap (λ t. not (t && list_all (λ b. nat_le 32 b && nat_le b 126) l)) (lt-leb (length l) 65536 long)
+-- it is not short
+not-short : (l : List ℕ) → IsLong l → not (is_short l) ≡ true
+not-short l long = ap not (lt-leb (length l) 65536 long)
+
+-- what is wrong with it first
+abbrev pub long_kind : List ℕ → Kind
+long_kind l = if not (is_printed l) then kinds.Byte else kinds.Long
+
+-- a choice by what is wrong
+by_kind : {A : Type 0} (f : Kind → A) (t s : Bool) (rest : A) → s ≡ true → cond t (f kinds.Byte) (cond s (f kinds.Long) rest) ≡ f (cond t kinds.Byte kinds.Long)
+by_kind f true s rest is = refl
+by_kind f false s rest is = chosen_true s _ _ is
 
 -- so it has no meaning
-no-meaning : (l : List ℕ) → IsLong l → line_of l ≡ None
+no-meaning : (l : List ℕ) → IsLong l → line_of l ≡ Err (long_kind l)
 unfolding line_of
-no-meaning l long = chosen_true (not (is_text l)) _ _ (no-text l long)
+no-meaning l long = by_kind (λ kind. Err kind) (not (is_printed l)) (not (is_short l)) _ (not-short l long)
 
 -- it is refused where it stands
-refused-at : {S : Type 0} (step : Node S → NodeEvent → Outcome S) (m : Meaning S) (r : Reading S) (l : List ℕ) (play : Option (Play S)) → IsLong l → taken_at step m r l play ≡ refusing r (refusals.Script Word)
-refused-at step m r l None long = chosen_true (not (is_text l)) _ _ (no-text l long)
+refused-at : {S : Type 0} (step : Node S → NodeEvent → Outcome S) (m : Meaning S) (r : Reading S) (l : List ℕ) (play : Option (Play S)) → IsLong l
+    → taken_at step m r l play ≡ refusing r (refusals.Script (long_kind l))
+refused-at step m r l None long = by_kind (λ kind. refusing r (refusals.Script kind)) (not (is_printed l)) (not (is_short l)) _ (not-short l long)
 refused-at step m r l (Some p) long = ap (λ line. line_done step r p line) (no-meaning l long)
 
 -- there it tells nothing
 untold-at : {S : Type 0} (step : Node S → NodeEvent → Outcome S) (r : Reading S) (l : List ℕ) (play : Option (Play S)) → IsLong l → told_at step r l play ≡ []
-untold-at step r l None long = chosen_true (not (is_text l)) _ _ (no-text l long)
+untold-at step r l None long = either (λ told. told ≡ []) (not (is_printed l)) _ _ refl (chosen_true (not (is_short l)) _ _ (not-short l long))
 untold-at step r l (Some p) long = ap (λ line. told_done step p line) (no-meaning l long)
 
 -- a script behind it
 pub long-taken : {S : Type 0} (step : Node S → NodeEvent → Outcome S) (m : Meaning S) (r : Reading S) (l : List ℕ) → IsLong l
-    → line_taken step m r l ≡ (if is_some r.refused then r else if is_full r then refusing r refusals.Limit else refusing r (refusals.Script Word))
+    → line_taken step m r l ≡ (if is_some r.refused then r else if is_full r then refusing r refusals.Limit else refusing r (refusals.Script (long_kind l)))
 unfolding line_taken
 long-taken step m r l long = ap (λ q. cond (is_some r.refused) r (cond (is_full r) (refusing r refusals.Limit) q)) (refused-at step m r l r.play long)
 
@@ -57,18 +68,25 @@ long-refused {S = S} step m r l long =
     (either_by (λ (q : Reading S). is_some q.refused ≡ true) (is_some r.refused) _ _ (λ is. is)
     (λ going. either (λ (q : Reading S). is_some q.refused ≡ true) (is_full r) _ _ refl refl))
 
--- all such lines leave a script alike
-pub long-alike : {S : Type 0} (step : Node S → NodeEvent → Outcome S) (m : Meaning S) (r : Reading S) (k l : List ℕ) → IsLong k → IsLong l → line_taken step m r k ≡ line_taken step m r l
-long-alike step m r k l long_k long_l = long-taken step m r k long_k ∙ sym (long-taken step m r l long_l)
+-- what is wrong with it rests on its first 65,537 bytes
+kind-alike : (k l : List ℕ) → take 65537 k ≡ take 65537 l → long_kind k ≡ long_kind l
+kind-alike k l same = ap (λ xs. cond (not (list_all (λ b. nat_le 32 b && nat_le b 126) xs)) kinds.Byte kinds.Long) same
 
--- lines whose last one is too long read as those with another such line in its place, and more behind it
-pub long-read : {S : Type 0} (step : Node S → NodeEvent → Outcome S) (m : Meaning S) (ls more : List (List ℕ)) (k l : List ℕ) → IsLong k → IsLong l
+-- all such lines that begin alike leave a script alike
+pub long-alike : {S : Type 0} (step : Node S → NodeEvent → Outcome S) (m : Meaning S) (r : Reading S) (k l : List ℕ) → IsLong k → IsLong l → take 65537 k ≡ take 65537 l
+    → line_taken step m r k ≡ line_taken step m r l
+long-alike step m r k l long_k long_l same =
+    long-taken step m r k long_k
+    ∙ (ap (λ kind. cond (is_some r.refused) r (cond (is_full r) (refusing r refusals.Limit) (refusing r (refusals.Script kind)))) (kind-alike k l same) ∙ sym (long-taken step m r l long_l))
+
+-- lines whose last one is too long read as those with another such line in its place that begins alike, and more behind it
+pub long-read : {S : Type 0} (step : Node S → NodeEvent → Outcome S) (m : Meaning S) (ls more : List (List ℕ)) (k l : List ℕ) → IsLong k → IsLong l → take 65537 l ≡ take 65537 k
     → reading_after step m unread (ls ++ l ∷ more) ≡ reading_after step m unread (ls ++ k ∷ [])
-long-read step m ls more k l long_k long_l =
+long-read step m ls more k l long_k long_l same =
     let r = reading_after step m unread ls in
     after-append step m unread ls (l ∷ more)
     ∙ (after-refused step m (line_taken step m r l) more (long-refused step m r l long_l)
-    ∙ (long-alike step m r l k long_l long_k ∙ sym (after-append step m unread ls (k ∷ []))))
+    ∙ (long-alike step m r l k long_l long_k same ∙ sym (after-append step m unread ls (k ∷ []))))
 
 -- of such lines nothing is told
 pub long-untold : {S : Type 0} (step : Node S → NodeEvent → Outcome S) (m : Meaning S) (ls more : List (List ℕ)) (l : List ℕ) → IsLong l
@@ -108,3 +126,13 @@ lines-behind xs ys some =
 -- a line that is too long stays so
 pub long-more : (l x : List ℕ) → IsLong l → IsLong (l ++ x)
 long-more l x long = omega (arith, long, length-append l x)
+
+-- a front of a list is one of the list with more behind it
+take-front : (n : ℕ) (xs ys : List ℕ) → n ≤ length xs → take n (xs ++ ys) ≡ take n xs
+take-front zero xs ys le = refl
+take-front (suc n) [] ys le = absurd (omega (arith, le))
+take-front (suc n) (x ∷ xs) ys le = ap (λ zs. x ∷ zs) (take-front n xs ys (omega (arith, le)))
+
+-- and it begins as it did
+pub long-front : (l x : List ℕ) → IsLong l → take 65537 (l ++ x) ≡ take 65537 l
+long-front l x long = take-front 65537 l x (omega (arith, long))

@@ -1,19 +1,22 @@
 -- A script that is read by cores is read as by the nodes that keep all.
 use Rattle.std.proofs.Common.{◌≡◌, ℕ, ◌+◌, ◌++◌, Bool, true, false, List, [], ◌∷◌, refl, ap, sym, ◌∙◌, cond, Option, Some, None, is_some}
-use Rattle.std.specs.Prelude.{not, option_map}
+use Rattle.std.specs.Prelude.{not, option_map, Result, Ok, Err}
 use Rattle.smart_base.specs.Views.{View}
 use Rattle.smart_service.specs.Services.{Meaning}
 use Rattle.node_rules.specs.Steps.{step_of}
 use Rattle.kept_arrivals.specs.Kept.{core_step}
 use Rattle.world_rules.specs.Worlds.{World}
-use Rattle.world_rules.specs.Plays.{Play, line_played}
-use Rattle.world_rules.specs.Scripts.{is_text, is_nothing, line_of, group_line, is_app_line}
+use Rattle.world_rules.specs.Plays.{Play, is_there, line_played}
+use Rattle.world_rules.specs.Scripts.{is_printed, is_short, is_nothing, line_of, group_line, is_app_line}
 use Rattle.world_rules.specs.declared.line.Line.{Line}
+use Rattle.world_rules.specs.declared.line.Kind.{Kind}
+use Rattle.world_rules.specs.declared.line.Kind.TheVariants as kinds
 use Rattle.world_laws.specs.Cores.{trimmed_world}
-use Rattle.world_laws.proofs.CoreWorlds.{core_line, begun_same}
+use Rattle.world_laws.proofs.CoreWorlds.{core_line, there_same, begun_same}
 use Rattle.world_rules.specs.declared.message.Ending.{Ending}
-use Rattle.smart_top.specs.Readings.{Reading, unread, group_taken, play_begun, header_taken, played_until, played_into, line_done, told_until, told_by, told_done, taken_at, told_at, is_full, line_taken, line_told, script_lines, reading_after, told_after, script_read, end_by, end_of, last_told, transcript}
+use Rattle.smart_top.specs.Readings.{Reading, unread, refusing, group_taken, play_begun, header_taken, played_until, played_into, line_done, told_until, told_by, told_done, taken_at, told_at, is_full, line_taken, line_told, script_lines, reading_after, told_after, script_read, end_by, end_of, last_told, transcript}
 use Rattle.smart_top.specs.declared.status.Refusal.{Refusal}
+use Rattle.smart_top.specs.declared.status.Refusal.TheVariants as refusals
 
 -- a play of which each node keeps no more than it needs
 abbrev pub trimmed_play : {S : Type 0} → Play S → Play S
@@ -60,10 +63,12 @@ unfolding trimmed_world
 played_same r p line w = played_until_same r p line w w.ending
 
 -- a line behind the header
-done_same : {S : Type 0} (m : Meaning S) (r : Reading S) (p : Play S) (line : Option Line) → line_done (core_step m) (trimmed_reading r) (trimmed_play p) line ≡ trimmed_reading (line_done (step_of m) r p line)
-done_same m r p None = refl
-done_same m r p (Some line) =
-    ap (λ w. played_into (trimmed_reading r) (trimmed_play p) line w) (core_line m p.world line) ∙ played_same r p line (line_played (step_of m) p.world line)
+done_same : {S : Type 0} (m : Meaning S) (r : Reading S) (p : Play S) (read : Result Line Kind) → line_done (core_step m) (trimmed_reading r) (trimmed_play p) read ≡ trimmed_reading (line_done (step_of m) r p read)
+done_same m r p (Err kind) = refl
+done_same m r p (Ok line) =
+    ap (λ t. cond t (played_into (trimmed_reading r) (trimmed_play p) line (line_played (core_step m) (trimmed_world p.world) line)) (refusing (trimmed_reading r) (refusals.Script kinds.Refer))) (there_same p.world line)
+    ∙ choice_same trimmed_reading (is_there p.world line) (played_into r p line (line_played (step_of m) p.world line)) (refusing r (refusals.Script kinds.Refer)) _ _
+    (ap (λ w. played_into (trimmed_reading r) (trimmed_play p) line w) (core_line m p.world line) ∙ played_same r p line (line_played (step_of m) p.world line)) refl
 
 -- what a world tells
 told_until_same : {S : Type 0} (w : World S) (ending : Option Ending) → told_until (trimmed_world w) ending ≡ told_until w ending
@@ -76,16 +81,18 @@ unfolding trimmed_world
 told_by_same w = told_until_same w w.ending
 
 -- what a line behind the header tells
-told_done_same : {S : Type 0} (m : Meaning S) (p : Play S) (line : Option Line) → told_done (core_step m) (trimmed_play p) line ≡ told_done (step_of m) p line
-told_done_same m p None = refl
-told_done_same m p (Some line) = ap told_by (core_line m p.world line) ∙ told_by_same (line_played (step_of m) p.world line)
+told_done_same : {S : Type 0} (m : Meaning S) (p : Play S) (read : Result Line Kind) → told_done (core_step m) (trimmed_play p) read ≡ told_done (step_of m) p read
+told_done_same m p (Err kind) = refl
+told_done_same m p (Ok line) =
+    ap (λ t. cond t (told_by (line_played (core_step m) (trimmed_world p.world) line)) []) (there_same p.world line)
+    ∙ choice_told (is_there p.world line) (told_by (line_played (step_of m) p.world line)) [] _ _ (ap told_by (core_line m p.world line) ∙ told_by_same (line_played (step_of m) p.world line)) refl
 
 -- a line by where the script stands
 taken_at_same : {S : Type 0} (m : Meaning S) (r : Reading S) (l : List ℕ) (play : Option (Play S))
     → taken_at (core_step m) m (trimmed_reading r) l (option_map trimmed_play play) ≡ trimmed_reading (taken_at (step_of m) m r l play)
 taken_at_same m r l None =
-    choice_same trimmed_reading (not (is_text l)) _ _ _ _ refl
-    (choice_same trimmed_reading (is_nothing l) _ _ _ _ refl (header_same m r l r.group))
+    choice_same trimmed_reading (not (is_printed l)) _ _ _ _ refl
+    (choice_same trimmed_reading (not (is_short l)) _ _ _ _ refl (choice_same trimmed_reading (is_nothing l) _ _ _ _ refl (header_same m r l r.group)))
 taken_at_same m r l (Some p) = done_same m r p (line_of l)
 
 -- what it tells

@@ -1,15 +1,16 @@
 -- A line that is not refused is counted.
 use Rattle.std.proofs.Common.{◌≡◌, ◌<◌, ◌+◌, ◌^◌, ◌∙◌, ℕ, true, false, List, refl, ap, sym, Option, Some, None, is_some}
-use Rattle.std.specs.Prelude.{not}
+use Rattle.std.specs.Prelude.{not, Result, Ok, Err}
 use Rattle.std.proofs.lemmas.Bool.{leb-false}
 use Rattle.smart_base.specs.Views.{View}
 use Rattle.smart_messages.specs.declared.entry.NodeEvent.{NodeEvent}
 use Rattle.smart_service.specs.Services.{Meaning}
 use Rattle.node_rules.specs.Nodes.{Node}
 use Rattle.node_rules.specs.Steps.{Outcome}
-use Rattle.world_rules.specs.Plays.{Play, line_played}
-use Rattle.world_rules.specs.Scripts.{is_text, is_nothing, line_of, group_line, is_app_line}
+use Rattle.world_rules.specs.Plays.{Play, is_there, line_played}
+use Rattle.world_rules.specs.Scripts.{is_printed, is_short, is_nothing, line_of, group_line, is_app_line}
 use Rattle.world_rules.specs.declared.line.Line.{Line}
+use Rattle.world_rules.specs.declared.line.Kind.{Kind}
 use Rattle.world_laws.proofs.Lists.{either, either_by}
 use Rattle.world_rules.specs.Worlds.{World}
 use Rattle.world_rules.specs.declared.message.Ending.{Ending}
@@ -35,14 +36,16 @@ played-counts r p line w None = λ none. refl
 played-counts r p line w (Some ending) = λ none. absurd (cc)
 
 -- a line behind the header
-done-counts : {S : Type 0} (step : Node S → NodeEvent → Outcome S) (r : Reading S) (p : Play S) (line : Option Line) → Counts r (line_done step r p line)
-done-counts step r p None = λ none. absurd (cc)
-done-counts step r p (Some line) = played-counts r p line (line_played step p.world line) (line_played step p.world line).ending
+done-counts : {S : Type 0} (step : Node S → NodeEvent → Outcome S) (r : Reading S) (p : Play S) (read : Result Line Kind) → Counts r (line_done step r p read)
+done-counts step r p (Err kind) = λ none. absurd (cc)
+done-counts step r p (Ok line) =
+    either (Counts r) (is_there p.world line) _ _ (played-counts r p line (line_played step p.world line) (line_played step p.world line).ending) (λ none. absurd (cc))
 
 -- a line by where the script stands
 at-counts : {S : Type 0} (step : Node S → NodeEvent → Outcome S) (m : Meaning S) (r : Reading S) (l : List ℕ) (play : Option (Play S)) → Counts r (taken_at step m r l play)
 at-counts step m r l None =
-    either (Counts r) (not (is_text l)) _ _ (λ none. absurd (cc)) (either (Counts r) (is_nothing l) _ _ (λ none. refl) (header-counts m r l r.group))
+    either (Counts r) (not (is_printed l)) _ _ (λ none. absurd (cc))
+    (either (Counts r) (not (is_short l)) _ _ (λ none. absurd (cc)) (either (Counts r) (is_nothing l) _ _ (λ none. refl) (header-counts m r l r.group)))
 at-counts step m r l (Some p) = done-counts step r p (line_of l)
 
 -- a script has counted one more line than another, which was not full, unless it refuses one

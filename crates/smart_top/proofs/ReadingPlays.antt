@@ -1,23 +1,24 @@
 -- What is read keeps one list.
-use Rattle.std.proofs.Common.{◌≡◌, ℕ, ◌+◌, true, false, ◌==◌, List, [], ◌∷◌, ◌++◌, take, drop, refl, ap, sym, ◌∙◌, arith, Option, Some, None, is_some, subst}
-use Rattle.std.specs.Prelude.{not, position, nat_le, ◌&&◌, ◌*◌}
+use Rattle.std.proofs.Common.{◌≡◌, ℕ, ◌+◌, true, false, List, [], ◌∷◌, ◌++◌, refl, ap, sym, ◌∙◌, arith, Option, Some, None, is_some, subst}
+use Rattle.std.specs.Prelude.{not, nat_le, ◌&&◌, ◌*◌, Result, Ok, Err}
 use Rattle.std.proofs.lemmas.Bool.Decides.{nat_tests}
 use Rattle.smart_base.specs.Decimals.{number_of}
 use Rattle.smart_base.specs.Views.{View, is_view}
 use Rattle.smart_service.specs.Services.{Meaning}
 use Rattle.node_rules.specs.Steps.{step_of}
 use Rattle.world_rules.specs.Worlds.{begun}
-use Rattle.world_rules.specs.Plays.{Play, line_played, rested, world_after}
+use Rattle.world_rules.specs.Plays.{Play, is_there, line_played, rested, world_after}
 use Rattle.world_rules.specs.Promises.{OneListThroughout}
-use Rattle.world_rules.specs.Scripts.{is_text, is_nothing, line_of, members_from, view_for, group_words, group_line, is_app_line}
+use Rattle.world_rules.specs.Scripts.{is_printed, is_short, is_nothing, words_in, line_of, members_from, view_for, group_words, group_by, group_line, is_app_line}
 use Rattle.world_rules.specs.declared.line.Line.{Line}
+use Rattle.world_rules.specs.declared.line.Kind.{Kind}
+use Rattle.world_rules.specs.declared.line.Kind.TheVariants as kinds
 use Rattle.world_rules.specs.declared.message.Ending.{Ending}
 use Rattle.world_script.proofs.Members.{first_view}
 use Rattle.world_laws.proofs.Lists.{either, either_by}
 use Rattle.world_laws.proofs.Grows.{world_after-append}
 use Rattle.smart_top.specs.Readings.{Reading, unread, counting, refusing, group_taken, header_taken, played_until, line_done, taken_at, is_full, line_taken, reading_after}
 use Rattle.smart_top.specs.Runs.{OneListHolds}
-use Rattle.smart_top.specs.declared.status.Kind.TheVariants.{Word}
 use Rattle.smart_top.specs.declared.status.Refusal.{Refusal}
 use Rattle.smart_top.specs.declared.status.Refusal.TheVariants as refusals
 
@@ -37,15 +38,21 @@ is_view-view_for (Some n) (Some f) =
     (λ is. first_view n f (grind (arith, nat_tests, is)) (grind (arith, nat_tests, is)) (grind (arith, nat_tests, is)) (grind (arith, nat_tests, is))) (λ is. tt)
 
 -- so does the view of two words
-is_view-group_words : (rest : List ℕ) (at : Option ℕ) → ForView (group_words rest at)
-is_view-group_words rest None = tt
-is_view-group_words rest (Some i) = is_view-view_for (number_of (take i rest)) (number_of (drop (i + 1) rest))
+is_view-group_words : (words : List (List ℕ)) → ForView (group_words words)
+is_view-group_words [] = tt
+is_view-group_words (n ∷ []) = tt
+is_view-group_words (n ∷ f ∷ []) = is_view-view_for (number_of n) (number_of f)
+is_view-group_words (n ∷ f ∷ more ∷ words) = tt
+
+-- so does the view of words
+is_view-group_by : (words : List (List ℕ)) → ForView (group_by words)
+is_view-group_by [] = tt
+is_view-group_by (word ∷ words) = either ForView _ (group_words words) None (is_view-group_words words) tt
 
 -- so does the view of a line
 pub is_view-group_line : (bytes : List ℕ) → ForView (group_line bytes)
 unfolding group_line
-is_view-group_line bytes =
-    either ForView _ (group_words (drop 6 bytes) (position (λ b. b == 32) (drop 6 bytes))) None (is_view-group_words (drop 6 bytes) (position (λ b. b == 32) (drop 6 bytes))) tt
+is_view-group_line bytes = is_view-group_by (words_in bytes)
 
 -- readings
 
@@ -100,15 +107,17 @@ sound-until m r p line of sound (Some ending) is = record { of_group = sound.of_
 sound-until m r p line of sound None is = record { of_group = sound.of_group; of_play = record { going = refl; stands = stands-more m p line of; open_world = is; viewed = of.viewed } }
 
 -- a line behind the header
-sound-done : {S : Type 0} (m : Meaning S) (r : Reading S) (p : Play S) (line : Option Line) → IsSound m p → SoundReading m r → SoundReading m (line_done (step_of m) r p line)
-sound-done m r p None of sound = record { of_group = sound.of_group; of_play = sound.of_play }
-sound-done m r p (Some line) of sound = sound-until m r p line of sound (line_played (step_of m) p.world line).ending refl
+sound-done : {S : Type 0} (m : Meaning S) (r : Reading S) (p : Play S) (read : Result Line Kind) → IsSound m p → SoundReading m r → SoundReading m (line_done (step_of m) r p read)
+sound-done m r p (Err kind) of sound = sound-refused m r (refusals.Script kind) sound
+sound-done m r p (Ok line) of sound =
+    either (SoundReading m) (is_there p.world line) _ _ (sound-until m r p line of sound (line_played (step_of m) p.world line).ending refl) (sound-refused m r (refusals.Script kinds.Refer) sound)
 
 -- a line by where the script stands
 sound-taken_at : {S : Type 0} (m : Meaning S) (r : Reading S) (l : List ℕ) (play : Option (Play S)) → SoundPlay m play → SoundReading m r → SoundReading m (taken_at (step_of m) m r l play)
 sound-taken_at m r l None of sound =
-    either (SoundReading m) (not (is_text l)) _ _ (sound-refused m r (refusals.Script Word) sound)
-    (either (SoundReading m) (is_nothing l) _ _ (sound-counted m r sound) (sound-header m r l r.group sound.of_group sound))
+    either (SoundReading m) (not (is_printed l)) _ _ (sound-refused m r (refusals.Script kinds.Byte) sound)
+    (either (SoundReading m) (not (is_short l)) _ _ (sound-refused m r (refusals.Script kinds.Long) sound)
+    (either (SoundReading m) (is_nothing l) _ _ (sound-counted m r sound) (sound-header m r l r.group sound.of_group sound)))
 sound-taken_at m r l (Some p) of sound = sound-done m r p (line_of l) of sound
 
 -- one more line keeps a reading sound

@@ -1,6 +1,6 @@
 -- What is read tells what its play tells.
 use Rattle.std.proofs.Common.{◌≡◌, ℕ, Bool, true, false, List, [], ◌∷◌, ◌++◌, refl, ap, sym, ◌∙◌, cond, Option, Some, None, is_some}
-use Rattle.std.specs.Prelude.{not}
+use Rattle.std.specs.Prelude.{not, Result, Ok, Err}
 use Rattle.std.proofs.lemmas.List.{append_assoc, append-nil}
 use Rattle.smart_base.specs.Views.{View}
 use Rattle.smart_messages.specs.declared.entry.NodeEvent.{NodeEvent}
@@ -8,10 +8,11 @@ use Rattle.smart_service.specs.Services.{Meaning}
 use Rattle.node_rules.specs.Nodes.{Node}
 use Rattle.node_rules.specs.Steps.{Outcome, step_of}
 use Rattle.world_rules.specs.Worlds.{World, begun}
-use Rattle.world_rules.specs.Plays.{Play, line_played, rested, world_after, lines_told}
-use Rattle.world_rules.specs.Scripts.{is_text, is_nothing, line_of, group_line, is_app_line}
+use Rattle.world_rules.specs.Plays.{Play, is_there, line_played, rested, world_after, lines_told}
+use Rattle.world_rules.specs.Scripts.{is_printed, is_short, is_nothing, line_of, group_line, is_app_line}
 use Rattle.world_rules.specs.Texts.{header_line}
 use Rattle.world_rules.specs.declared.line.Line.{Line}
+use Rattle.world_rules.specs.declared.line.Kind.{Kind}
 use Rattle.world_rules.specs.declared.line.OutLine.{OutLine}
 use Rattle.world_rules.specs.declared.message.Ending.{Ending}
 use Rattle.smart_top.specs.Readings.{Reading, unread, group_taken, header_taken, header_told, played_until, played_into, told_until, told_by, line_done, told_done, taken_at, told_at, is_full, line_taken, line_told, reading_after, told_after}
@@ -67,17 +68,18 @@ tells-played : {S : Type 0} (m : Meaning S) (told : List OutLine) (r : Reading S
 tells-played m told r p line at sound is = tells-until m told r p line at sound is (line_played (step_of m) p.world line).ending
 
 -- a line behind the header
-tells-done : {S : Type 0} (m : Meaning S) (told : List OutLine) (r : Reading S) (p : Play S) (line : Option Line) → r.play ≡ Some p → SoundPlay m (Some p) → told ≡ play_told m r.play
-    → Tells m told (line_done (step_of m) r p line) (told_done (step_of m) p line)
-tells-done m told r p None at sound is = tells-nothing m told r is
-tells-done m told r p (Some line) at sound is = tells-played m told r p line at sound is
+tells-done : {S : Type 0} (m : Meaning S) (told : List OutLine) (r : Reading S) (p : Play S) (read : Result Line Kind) → r.play ≡ Some p → SoundPlay m (Some p) → told ≡ play_told m r.play
+    → Tells m told (line_done (step_of m) r p read) (told_done (step_of m) p read)
+tells-done m told r p (Err kind) at sound is = tells-nothing m told r is
+tells-done m told r p (Ok line) at sound is = both (Tells m told) (is_there p.world line) _ _ _ _ (tells-played m told r p line at sound is) (tells-nothing m told r is)
 
 -- a line by where the script stands
 tells-at : {S : Type 0} (m : Meaning S) (told : List OutLine) (r : Reading S) (l : List ℕ) (play : Option (Play S)) → r.play ≡ play → SoundPlay m play → told ≡ play_told m r.play
     → Tells m told (taken_at (step_of m) m r l play) (told_at (step_of m) r l play)
 tells-at m told r l None at sound is =
-    both (Tells m told) (not (is_text l)) _ _ _ _ (tells-nothing m told r is)
-    (both (Tells m told) (is_nothing l) _ _ _ _ (tells-nothing m told r is) (tells-header m told r l r.group (is ∙ ap (λ play. play_told m play) at) is))
+    both (Tells m told) (not (is_printed l)) _ _ _ _ (tells-nothing m told r is)
+    (both (Tells m told) (not (is_short l)) _ _ _ _ (tells-nothing m told r is)
+    (both (Tells m told) (is_nothing l) _ _ _ _ (tells-nothing m told r is) (tells-header m told r l r.group (is ∙ ap (λ play. play_told m play) at) is)))
 tells-at m told r l (Some p) at sound is = tells-done m told r p (line_of l) at sound is
 
 -- one more line

@@ -1,20 +1,21 @@
 -- How the bytes of a script are read: line by line, each line played as it is read.
-use Rattle.std.specs.Prelude.{ℕ, ◌+◌, ◌^◌, ◌==◌, nat_le, Bool, false, not, List, [], ◌∷◌, ◌++◌, length, if◌then◌else◌, Option, Some, None, is_some}
+use Rattle.std.specs.Prelude.{ℕ, ◌+◌, ◌^◌, ◌==◌, nat_le, Bool, false, not, List, [], ◌∷◌, ◌++◌, length, if◌then◌else◌, Option, Some, None, is_some, Result, Ok, Err}
 use Rattle.smart_base.specs.Views.{View}
 use Rattle.smart_messages.specs.declared.entry.NodeEvent.{NodeEvent}
 use Rattle.smart_service.specs.Services.{Meaning}
 use Rattle.node_rules.specs.Nodes.{Node}
 use Rattle.node_rules.specs.Steps.{Outcome}
 use Rattle.world_rules.specs.Worlds.{World, begun}
-use Rattle.world_rules.specs.Plays.{Play, line_played, rested}
-use Rattle.world_rules.specs.Scripts.{is_text, is_nothing, line_of, group_line, is_app_line}
+use Rattle.world_rules.specs.Plays.{Play, is_there, line_played, rested}
+use Rattle.world_rules.specs.Scripts.{is_printed, is_short, is_nothing, line_of, group_line, is_app_line}
 use Rattle.world_rules.specs.Texts.{header_line}
 use Rattle.world_rules.specs.declared.message.Ending.{Ending}
 use Rattle.world_rules.specs.declared.message.Ending.TheVariants as endings
 use Rattle.world_rules.specs.declared.line.Line.{Line}
 use Rattle.world_rules.specs.declared.line.OutLine.{OutLine}
 use Rattle.world_rules.specs.declared.line.OutLine.TheVariants as outs
-use Rattle.smart_top.specs.declared.status.Kind.TheVariants.{Word}
+use Rattle.world_rules.specs.declared.line.Kind.{Kind}
+use Rattle.world_rules.specs.declared.line.Kind.TheVariants as kinds
 use Rattle.smart_top.specs.declared.status.Refusal.{Refusal}
 use Rattle.smart_top.specs.declared.status.Refusal.TheVariants as refusals
 use Rattle.smart_top.specs.declared.status.Status.{Status}
@@ -64,7 +65,7 @@ counting r = record r { count = r.count + 1 }
 
 -- the line `group N F`
 abbrev pub group_taken : {S : Type 0} → Reading S → Option View → Reading S
-group_taken r None = refusing r (refusals.Script Word)
+group_taken r None = refusing r (refusals.Script kinds.Header)
 group_taken r (Some view) = record (counting r) { group = Some view }
 
 -- the play at the end of the header
@@ -74,7 +75,7 @@ play_begun m view = record { group = view; lines = []; world = begun m view; ove
 abbrev pub header_taken : {S : Type 0} → Meaning S → Reading S → List ℕ → Option View → Reading S
 header_taken m r bytes None = group_taken r (group_line bytes)
 header_taken m r bytes (Some view) =
-    if is_app_line bytes then record (counting r) { play = Some (play_begun m view) } else refusing r (refusals.Script Word)
+    if is_app_line bytes then record (counting r) { play = Some (play_begun m view) } else refusing r (refusals.Script kinds.Header)
 
 abbrev pub header_told : List ℕ → Option View → List OutLine
 header_told bytes None = []
@@ -93,9 +94,11 @@ played_until r p line w (Some ending) = refusing r (refusal_of ending)
 abbrev pub played_into : {S : Type 0} → Reading S → Play S → Line → World S → Reading S
 played_into r p line w = played_until r p line w w.ending
 
-abbrev pub line_done : {S : Type 0} → (Node S → NodeEvent → Outcome S) → Reading S → Play S → Option Line → Reading S
-line_done step r p None = refusing r (refusals.Script Word)
-line_done step r p (Some line) = played_into r p line (line_played step p.world line)
+-- a line is played where all that it names is there
+abbrev pub line_done : {S : Type 0} → (Node S → NodeEvent → Outcome S) → Reading S → Play S → Result Line Kind → Reading S
+line_done step r p (Err kind) = refusing r (refusals.Script kind)
+line_done step r p (Ok line) =
+    if is_there p.world line then played_into r p line (line_played step p.world line) else refusing r (refusals.Script kinds.Refer)
 
 abbrev pub told_until : {S : Type 0} → World S → Option Ending → List OutLine
 told_until w None = w.told
@@ -104,21 +107,23 @@ told_until w (Some ending) = []
 abbrev pub told_by : {S : Type 0} → World S → List OutLine
 told_by w = told_until w w.ending
 
-abbrev pub told_done : {S : Type 0} → (Node S → NodeEvent → Outcome S) → Play S → Option Line → List OutLine
-told_done step p None = []
-told_done step p (Some line) = told_by (line_played step p.world line)
+abbrev pub told_done : {S : Type 0} → (Node S → NodeEvent → Outcome S) → Play S → Result Line Kind → List OutLine
+told_done step p (Err kind) = []
+told_done step p (Ok line) = if is_there p.world line then told_by (line_played step p.world line) else []
 
 -- a line by where the script stands
 abbrev pub taken_at : {S : Type 0} → (Node S → NodeEvent → Outcome S) → Meaning S → Reading S → List ℕ → Option (Play S) → Reading S
 taken_at step m r bytes None =
-    if not (is_text bytes) then refusing r (refusals.Script Word)
+    if not (is_printed bytes) then refusing r (refusals.Script kinds.Byte)
+    else if not (is_short bytes) then refusing r (refusals.Script kinds.Long)
     else if is_nothing bytes then counting r
     else header_taken m r bytes r.group
 taken_at step m r bytes (Some p) = line_done step r p (line_of bytes)
 
 abbrev pub told_at : {S : Type 0} → (Node S → NodeEvent → Outcome S) → Reading S → List ℕ → Option (Play S) → List OutLine
 told_at step r bytes None =
-    if not (is_text bytes) then []
+    if not (is_printed bytes) then []
+    else if not (is_short bytes) then []
     else if is_nothing bytes then []
     else header_told bytes r.group
 told_at step r bytes (Some p) = told_done step p (line_of bytes)
@@ -162,7 +167,7 @@ refused_end line refusals.Limit = ends.Limit line
 
 -- an input ends well where its header is whole
 abbrev pub end_at : {S : Type 0} → ℕ → Option (Play S) → Status
-end_at count None = ends.Script (count + 1) Word
+end_at count None = ends.Script (count + 1) kinds.Empty
 end_at count (Some p) = ends.Ok
 
 abbrev pub end_by : {S : Type 0} → Reading S → Option Refusal → Status

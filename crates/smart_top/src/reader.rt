@@ -107,7 +107,7 @@ pub fn end_line<S: Service, O: Sink>(reader: &mut Reader<S>, output: &mut O) -> 
 }
 
 /// Takes a byte: a line feed ends the line, any other comes to it. A line that gets too long is
-/// refused at once, since it has no meaning whatever follows.
+/// refused at once, since what follows changes nothing.
 pub fn take_byte<S: Service, O: Sink>(
     reader: &mut Reader<S>,
     output: &mut O,

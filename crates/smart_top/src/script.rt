@@ -1,9 +1,9 @@
 //! A script that is read line by line, each line played as it is read.
-ghost use Rattle.std.specs.Prelude.{◌≡◌, ◌+◌, ◌<◌, ◌≤◌, ◌^◌, false, None, Some, IfOk, OnOk};
+ghost use Rattle.std.specs.Prelude.{◌≡◌, ◌+◌, ◌<◌, ◌≤◌, ◌^◌, false, None, Some, Ok, IfOk, OnOk};
 ghost use Rattle.kept_arrivals.specs.Kept.{core_step};
-ghost use Rattle.smart_top.specs.Readings.{unread, line_taken, line_told, taken_at, told_at, end_at, end_told};
+ghost use Rattle.smart_top.specs.Readings.{unread, line_done, told_done, line_taken, line_told, taken_at, told_at, end_at, end_told};
 
-use crate::status::{Kind, Refusal, Status};
+use crate::status::{Refusal, Status};
 use smart_base::duplicate::Duplicate;
 use smart_base::sequence::Sequence;
 use smart_base::view::View;
@@ -11,8 +11,8 @@ use smart_service::service::Service;
 use std::alloc::{AllocError, Global};
 use std::marker::Model;
 use world_core::world::{World, WorldEnd};
-use world_rules::line::OutLine;
-use world_script::reading::{group_line, is_app_line, is_nothing, is_text, line_of};
+use world_rules::line::{Kind, Line, OutLine};
+use world_script::reading::{group_line, is_app_line, is_nothing, is_printed, is_short, line_of};
 
 /// The greatest number of lines.
 const LINES: u64 = 1 << 20;
@@ -62,8 +62,12 @@ impl<S: Service> Script<S> {
         ensures taken { OnOk result (self.new ≡ taken_at (core_step S.meaning) S.meaning self.old bytes.now None) }
     {
         let mut told = Sequence::new(self.alloc);
-        if !is_text(bytes) {
-            self.refused = Some(Refusal::Script(Kind::Word));
+        if !is_printed(bytes) {
+            self.refused = Some(Refusal::Script(Kind::Byte));
+            return Ok(told);
+        }
+        if !is_short(bytes) {
+            self.refused = Some(Refusal::Script(Kind::Long));
             return Ok(told);
         }
         if is_nothing(bytes) {
@@ -72,7 +76,7 @@ impl<S: Service> Script<S> {
         }
         match self.group.take() {
             None => match group_line(self.alloc, bytes)? {
-                None => self.refused = Some(Refusal::Script(Kind::Word)),
+                None => self.refused = Some(Refusal::Script(Kind::Header)),
                 Some(view) => {
                     self.group = Some(view);
                     self.count += 1;
@@ -88,7 +92,7 @@ impl<S: Service> Script<S> {
                     self.world = Some(world);
                     self.count += 1;
                 } else {
-                    self.refused = Some(Refusal::Script(Kind::Word));
+                    self.refused = Some(Refusal::Script(Kind::Header));
                 }
                 self.group = Some(view);
             }
@@ -96,10 +100,47 @@ impl<S: Service> Script<S> {
         Ok(told)
     }
 
+    /// A line that has a meaning. The world is put back unless it is over.
+    fn take_meant(
+        &mut self,
+        mut world: World<S>,
+        line: Line,
+    ) -> Result<Sequence<OutLine>, AllocError>
+        requires open { self.old.refused ≡ None }
+        requires room { self.old.count < 2 ^ 20 }
+        requires going { world.over ≡ false }
+        ensures told { IfOk result (λ told. told ≡ told_done (core_step S.meaning) world (Ok line)) }
+        ensures refused { OnOk result (self.new.refused ≡ (line_done (core_step S.meaning) (record self.old { play = Some world }) world (Ok line)).refused) }
+        ensures count { OnOk result (self.new.count ≡ (line_done (core_step S.meaning) (record self.old { play = Some world }) world (Ok line)).count) }
+        ensures whole { OnOk result ((line_done (core_step S.meaning) self.old world (Ok line)).refused ≡ None → self.new ≡ line_done (core_step S.meaning) (record self.old { play = Some world }) world (Ok line)) }
+    {
+        match world.play(line) {
+            Err(WorldEnd::NoMemory) => Err(AllocError),
+            Err(WorldEnd::Refer) => {
+                self.world = Some(world);
+                self.refused = Some(Refusal::Script(Kind::Refer));
+                Ok(Sequence::new(self.alloc))
+            }
+            Err(WorldEnd::Premise(which)) => {
+                self.refused = Some(Refusal::Premise(which));
+                Ok(Sequence::new(self.alloc))
+            }
+            Err(WorldEnd::Limit) => {
+                self.refused = Some(Refusal::Limit);
+                Ok(Sequence::new(self.alloc))
+            }
+            Ok(told) => {
+                self.world = Some(world);
+                self.count += 1;
+                Ok(told)
+            }
+        }
+    }
+
     /// A line behind the header. The world is put back unless it is over.
     fn take_play_line(
         &mut self,
-        mut world: World<S>,
+        world: World<S>,
         bytes: &[u8],
     ) -> Result<Sequence<OutLine>, AllocError>
         requires open { self.old.refused ≡ None }
@@ -111,27 +152,15 @@ impl<S: Service> Script<S> {
         ensures whole { OnOk result ((taken_at (core_step S.meaning) S.meaning self.old bytes.now (Some world)).refused ≡ None → self.new ≡ taken_at (core_step S.meaning) S.meaning (record self.old { play = Some world }) bytes.now (Some world)) }
     {
         match line_of(self.alloc, bytes)? {
-            None => {
+            Err(kind) => {
                 self.world = Some(world);
-                self.refused = Some(Refusal::Script(Kind::Word));
+                self.refused = Some(Refusal::Script(kind));
                 Ok(Sequence::new(self.alloc))
             }
-            Some(line) => match world.play(line) {
-                Err(WorldEnd::NoMemory) => Err(AllocError),
-                Err(WorldEnd::Premise(which)) => {
-                    self.refused = Some(Refusal::Premise(which));
-                    Ok(Sequence::new(self.alloc))
-                }
-                Err(WorldEnd::Limit) => {
-                    self.refused = Some(Refusal::Limit);
-                    Ok(Sequence::new(self.alloc))
-                }
-                Ok(told) => {
-                    self.world = Some(world);
-                    self.count += 1;
-                    Ok(told)
-                }
-            },
+            Ok(line) => {
+                let told = self.take_meant(world, line)?;
+                Ok(told)
+            }
         }
     }
 
@@ -198,7 +227,7 @@ impl<S: Service> Script<S> {
         } else {
             Status::Script {
                 line: self.count + 1,
-                kind: Kind::Word,
+                kind: Kind::Empty,
             }
         }
     }

@@ -5,14 +5,8 @@ ghost use Rattle.smart_top.specs.Statuses.{code_of};
 use smart_io::stream::{Sink, write_all};
 use std::alloc::{AllocError, Global};
 use std::fmt::Write;
+use world_rules::line::Kind;
 use world_rules::message::Premise;
-
-/// What is wrong with a script line.
-#[derive(Clone, Copy, Debug, PartialEq, Eq)]
-pub enum Kind {
-    /// It has no meaning.
-    Word,
-}
 
 /// Why a script line is refused.
 #[derive(Clone, Copy, Debug, PartialEq, Eq)]
@@ -67,7 +61,15 @@ impl Status {
 
 fn kind_name(kind: Kind) -> &'static str {
     match kind {
+        Kind::Empty => "Empty",
+        Kind::Byte => "Byte",
+        Kind::Long => "Long",
+        Kind::Header => "Header",
         Kind::Word => "Word",
+        Kind::Count => "Count",
+        Kind::Number => "Number",
+        Kind::Form => "Form",
+        Kind::Refer => "Refer",
     }
 }
 

@@ -1,9 +1,10 @@
 //! Runs over inputs and outputs in memory.
-use crate::status::{Kind, Status, report};
+use crate::status::{Status, report};
 use crate::top::run;
 use smart_io::memory::{MemSink, MemSource};
 use std::alloc::Global;
 use std::test::Fail;
+use world_rules::line::Kind;
 use world_rules::message::Premise;
 
 /// The transcript of one ask in a group of four.
@@ -157,7 +158,7 @@ fn ends_have_their_causes(rt: HostRuntime) -> Result<(), Fail> {
         header.status,
         Status::Script {
             line: 2,
-            kind: Kind::Word
+            kind: Kind::Empty
         }
     );
     assert_eq!(rt; header.written.len(), 0);
@@ -179,7 +180,7 @@ fn lines_have_a_limit(rt: HostRuntime) -> Result<(), Fail> {
         full.status,
         Status::Script {
             line: 1048577,
-            kind: Kind::Word
+            kind: Kind::Empty
         }
     );
     script.push(b'\n')?;
@@ -207,14 +208,14 @@ fn a_long_line_is_refused_before_it_ends(rt: HostRuntime) -> Result<(), Fail> {
         long.status,
         Status::Script {
             line: 3,
-            kind: Kind::Word
+            kind: Kind::Long
         }
     );
     assert_eq!(rt;
         long.written.as_slice(),
         b"group 4 1 count 1024\n".as_slice()
     );
-    assert_eq!(rt; long.said.as_slice(), b"smart: line 3: Word\n".as_slice());
+    assert_eq!(rt; long.said.as_slice(), b"smart: line 3: Long\n".as_slice());
     // A comment of 65,536 bytes counts, and one of a byte more has no meaning.
     let mut comments = Vec::new(rt.alloc());
     for length in 65536..65538 {
@@ -228,7 +229,7 @@ fn a_long_line_is_refused_before_it_ends(rt: HostRuntime) -> Result<(), Fail> {
         second.status,
         Status::Script {
             line: 2,
-            kind: Kind::Word
+            kind: Kind::Long
         }
     );
     Ok(())
