@@ -159,6 +159,14 @@ impl<S: Statement> Signed<S> {
         )
     }
 
+    /// How many bytes `put` adds. It takes no memory.
+    pub fn text_len(&self) -> usize
+        ensures value { result ≡ length (signed S.form self.now) }
+        ensures small { result < 2 ^ 33 }
+    {
+        9 + self.kept.len() + self.tag.as_slice().len()
+    }
+
     /// Adds the bytes of all.
     pub fn put(&self, out: &mut Vec<u8>) -> Result<(), AllocError>
         ensures { OnOk result (out.new.items ≡ out.old.items ++ signed S.form self.now) }

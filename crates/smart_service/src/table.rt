@@ -1,5 +1,5 @@
 //! What is kept of each client.
-ghost use Rattle.std.specs.Prelude.{◌≡◌, ◌≤◌, [], length, option_copied, OnOk, IfOk, IfErr};
+ghost use Rattle.std.specs.Prelude.{◌≡◌, ◌≤◌, ◌==◌, ◌+◌, [], length, option_copied, OnOk, OnErr, IfOk, IfErr};
 ghost use Rattle.smart_service.specs.Tables.{last_seq, line_for, with_line, Ascends, lines_before, Found, Missing};
 
 use smart_base::bytes::Payload;
@@ -92,6 +92,7 @@ fn line_of(lines: &[TableLine], client: ClientId) -> Option<&TableLine>
 fn put_line(lines: &mut Vec<TableLine>, line: TableLine) -> Result<(), AllocError>
     requires { Ascends lines.old.items }
     ensures line { OnOk result (lines.new.items ≡ with_line lines.old.items line) }
+    ensures err { OnErr result (lines.new.items ≡ lines.old.items) }
     ensures order { Ascends lines.new.items }
 {
     match place_of(lines.as_slice(), line.client) {
@@ -127,9 +128,18 @@ impl ClientTable {
         }
     }
 
-    /// Puts a client's line in place of its last.
+    /// Whether a number is the one behind a client's last executed request.
+    pub fn is_next(&self, client: ClientId, seq: u64) -> bool
+        ensures { result ≡ (seq == last_seq self.now client + 1) }
+    {
+        let last = self.last_seq(client);
+        seq.checked_sub(last) == Some(1)
+    }
+
+    /// Puts a client's line in place of its last. Without memory nothing has changed.
     pub fn put(&mut self, line: TableLine) -> Result<(), AllocError>
-        ensures { OnOk result (self.new ≡ with_line self.old line) }
+        ensures line { OnOk result (self.new ≡ with_line self.old line) }
+        ensures err { OnErr result (self.new ≡ self.old) }
     {
         put_line(&mut self.lines, line)
     }
