@@ -17,6 +17,7 @@ use Rattle.smart_service.specs.Tables.{last_seq}
 use Rattle.node_rules.specs.Replicas.{is_next}
 use Rattle.node_rules.specs.Seals.{is_verified, digest_of, is_managers, fits}
 use Rattle.node_rules.specs.Nodes.{Node, view_of, regency_of, decided_place}
+use Rattle.node_rules.specs.Pools.{offered}
 use Rattle.node_rules.specs.declared.node.Why.{Why}
 use Rattle.node_rules.specs.declared.node.Why.TheVariants.{NotMember, BadTag, Stranger, OldView, NewView, OldPlace, FarPlace, NewRegency, OldSeq, FarSeq, NotLeader, InvalidBatch, Unasked, Repeated}
 
@@ -106,11 +107,6 @@ tells_behind n (Reply a) = false
 
 unfoldable pub noted : {S : Type 0} → Node S → Message → Node S
 noted n message = record n { behind = n.behind || tells_behind n message }
-
--- the pool has one request for each client, which keeps its position
-abbrev pub offered : List (SignedBy Request) → SignedBy Request → List (SignedBy Request)
-offered [] q = q ∷ []
-offered (old ∷ olds) q = if old.statement.client == q.statement.client then q ∷ olds else old ∷ offered olds q
 
 -- the node with an arrival that is not dropped
 unfoldable pub kept : {S : Type 0} → Node S → Message → Node S

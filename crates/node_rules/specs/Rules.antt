@@ -1,12 +1,10 @@
 -- The rules of a node. Each is three definitions: what is due, what the rule does with that, and both.
-use Rattle.std.specs.Prelude.{ℕ, ◌==◌, nat_lt, not, ◌&&◌, List, [], ◌∷◌, ◌++◌, length, filter, if◌then◌else◌, Option, Some, None}
+use Rattle.std.specs.Prelude.{ℕ, ◌==◌, not, ◌&&◌, List, [], ◌∷◌, ◌++◌, length, if◌then◌else◌, Option, Some, None}
 use Rattle.std.specs.List.{list_any}
 use Rattle.smart_base.specs.Views.{is_member, leader}
 use Rattle.smart_messages.specs.Equality.{same_slot}
-use Rattle.smart_messages.specs.Forms.{SignedBy}
 use Rattle.smart_messages.specs.Kinds.{proposals, ballots, answers}
 use Rattle.smart_messages.specs.Messages.{Batch}
-use Rattle.smart_messages.specs.declared.statement.Request.{Request}
 use Rattle.smart_messages.specs.declared.statement.VoteKind.{VoteKind}
 use Rattle.smart_messages.specs.declared.statement.VoteKind.TheVariants.{Write, Accept}
 use Rattle.smart_messages.specs.declared.message.Message.{Message}
@@ -15,18 +13,15 @@ use Rattle.smart_messages.specs.declared.entry.LogEntry.TheVariants.{Wrote, Acce
 use Rattle.smart_service.specs.Services.{Meaning}
 use Rattle.smart_service.specs.Tables.{last_seq, line_for}
 use Rattle.smart_service.specs.declared.table.TableLine.{TableLine}
-use Rattle.node_rules.specs.Replicas.{is_next, delivered, executed_lines}
+use Rattle.node_rules.specs.Replicas.{delivered, executed_lines}
 use Rattle.node_rules.specs.Seals.{signed, digest_of}
+use Rattle.node_rules.specs.Pools.{settled, gathered}
 use Rattle.node_rules.specs.Nodes.{Node, view_of, regency_of, next_place, open_slot, is_free, is_open, holding, recording, has_quorum, certificate, proposal_of, is_wrote, is_accepted}
 use Rattle.node_rules.specs.declared.node.Target.TheVariants as targets
 use Rattle.node_rules.specs.declared.node.Fired.{Fired}
 use Rattle.node_rules.specs.declared.node.Fired.TheVariants as fires
 
 -- deliver: the batch that waits is executed, and each client whose request was is answered
-
--- the requests that are still their client's next
-abbrev pub settled : List TableLine → List (SignedBy Request) → List (SignedBy Request)
-settled table pool = filter (λ q. is_next table q.statement) pool
 
 abbrev pub reply_of : List ℕ → ℕ → TableLine → Message
 reply_of secret id line =
@@ -56,11 +51,6 @@ unfoldable pub delivers : {S : Type 0} → Meaning S → Node S → Node S
 delivers m n = deliver_batch m n n.waiting
 
 -- propose: the leader proposes a batch for the slot that is open, once
-
--- the first request of the pool that its client asked after earlier places alone
-abbrev pub gathered : List (SignedBy Request) → ℕ → Option Batch
-gathered [] place = None
-gathered (q ∷ pool) place = if nat_lt q.statement.after place then Some (q ∷ []) else gathered pool place
 
 unfoldable pub proposing : {S : Type 0} → Node S → Option Batch
 proposing n =

@@ -1,0 +1,44 @@
+-- What becomes of a request that is offered to a pool.
+use Rattle.std.specs.Prelude.{◌≡◌, ℕ, ◌+◌, ◌≤◌, ◌==◌, nat_le, nat_lt, Bool, true, not, List, [], ◌∷◌, length, map, if◌then◌else◌}
+use Rattle.std.specs.List.{list_any}
+use Rattle.smart_messages.specs.Forms.{SignedBy}
+use Rattle.smart_messages.specs.Kinds.{requests}
+use Rattle.smart_messages.specs.Messages.{batch_text}
+use Rattle.smart_messages.specs.declared.statement.Request.{Request}
+use Rattle.node_rules.specs.Seals.{is_verified}
+use Rattle.node_rules.specs.Pools.{offered}
+use Rattle.request_pool.specs.declared.pool.Offer.{Offer}
+use Rattle.request_pool.specs.declared.pool.Offer.TheVariants.{Kept, Replaced, Old, Ahead, BadTag, Stranger}
+
+-- the clients of requests, in their order
+abbrev pub clients_of : List (SignedBy Request) → List ℕ
+clients_of pool = map (λ q. q.statement.client) pool
+
+-- whether a pool has a request of a client
+abbrev pub has_client : List (SignedBy Request) → ℕ → Bool
+has_client pool client = list_any (λ old. old.statement.client == client) pool
+
+-- the answer to a request, where its client's last executed request has a number: the first reason not to keep it, or where it goes
+abbrev pub offer_of : List ℕ → List (SignedBy Request) → SignedBy Request → ℕ → Offer
+offer_of secret pool q last =
+    if not (is_verified requests secret q) then BadTag
+    else if nat_lt 1024 q.statement.client then Stranger
+    else if nat_le q.statement.seq last then Old
+    else if nat_lt (last + 1) q.statement.seq then Ahead
+    else if has_client pool q.statement.client then Replaced
+    else Kept
+
+-- the pool behind an answer
+abbrev pub pool_after : Offer → List (SignedBy Request) → SignedBy Request → List (SignedBy Request)
+pool_after Kept pool q = offered pool q
+pool_after Replaced pool q = offered pool q
+pool_after Old pool q = pool
+pool_after Ahead pool q = pool
+pool_after BadTag pool q = pool
+pool_after Stranger pool q = pool
+
+-- A request that may stand in a batch: its client is known and signed it, and alone it has no more bytes than a batch may have.
+pub record IsSound (secret : List ℕ) (q : SignedBy Request) : Type 0 where
+  pub verified : is_verified requests secret q ≡ true
+  pub known : q.statement.client ≤ 1024
+  pub small : length (batch_text (q ∷ [])) ≤ 262144

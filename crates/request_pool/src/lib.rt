@@ -1,0 +1,9 @@
+//! The requests that wait to be proposed: one for each client, in the order in which their clients
+//! came.
+#![tactic(auto)]
+
+mod gather;
+pub mod laws;
+pub mod pool;
+#[cfg(test)]
+mod tests;

@@ -1,0 +1,164 @@
+//! The pool, and what becomes of a request that is offered to it.
+ghost use Rattle.std.specs.Prelude.{◌≡◌, ◌==◌, [], length, slice_get, option_copied, IfOk, OnOk, OnErr};
+ghost use Rattle.smart_base.specs.Lists.{Distinct};
+ghost use Rattle.node_rules.specs.Pools.{offered, settled, gathered};
+ghost use Rattle.node_rules.specs.Replicas.{is_next};
+ghost use Rattle.request_pool.specs.Offers.{clients_of, has_client, offer_of, pool_after};
+
+use crate::gather::gathered;
+use indexmap::IndexMap;
+use smart_base::number::Place;
+use smart_keys::ring::Ring;
+use smart_messages::batch::Batch;
+use smart_messages::signed::Signed;
+use smart_messages::statement::Request;
+use smart_service::table::ClientTable;
+use std::alloc::{AllocError, Global};
+use std::marker::Model;
+
+/// The greatest number of a client.
+const CLIENTS: u16 = 1024;
+
+/// What becomes of a request that is offered: it is kept, or the first reason not to.
+#[derive(Clone, Copy, Debug, PartialEq, Eq)]
+pub enum Offer {
+    /// It waits behind all others.
+    Kept,
+    /// It waits in the position of the request that its client had there.
+    Replaced,
+    /// Its number is at most that of its client's last executed request.
+    Old,
+    /// Its number is not yet its client's next.
+    Ahead,
+    /// Its tag is not its signer's.
+    BadTag,
+    /// There is no such client.
+    Stranger,
+}
+
+/// The requests that wait, in the order in which their clients came. No two are of one client.
+#[derive(Drop)]
+pub struct RequestPool {
+    /// The requests by the numbers of their clients.
+    requests: IndexMap<u16, Signed<Request>>,
+}
+
+impl Model for RequestPool {
+    ghost use Rattle.std.specs.Prelude.{◌≡◌, List};
+    ghost use Rattle.smart_base.specs.Lists.{Distinct};
+    ghost use Rattle.smart_messages.specs.Forms.{SignedBy};
+    ghost use Rattle.smart_messages.specs.declared.statement.Request.{Request};
+    ghost use Rattle.indexmap.specs.IndexMap.{keys, values};
+    ghost use Rattle.request_pool.specs.Offers.{clients_of};
+
+    ghost Value = { List (SignedBy Request) };
+
+    ghost view = { λ p. values p.requests };
+
+    ghost invariant = { λ p. (keys p.requests ≡ clients_of (values p.requests)) × Distinct (clients_of (values p.requests)) };
+}
+
+impl RequestPool {
+    pub fn new(alloc: Global) -> Self
+        ensures { result ≡ [] }
+    {
+        RequestPool {
+            requests: IndexMap::new(alloc),
+        }
+    }
+
+    /// Offers a request, where its client's last executed request has the number `last`, 0 if none
+    /// was executed. It is kept where it is its client's next.
+    pub fn offer(
+        &mut self,
+        ring: &Ring,
+        request: Signed<Request>,
+        last: u64,
+    ) -> Result<Offer, AllocError>
+        ensures answer { IfOk result (λ answer. answer ≡ offer_of ring.now self.old request last) }
+        ensures pool { IfOk result (λ answer. self.new ≡ pool_after answer self.old request) }
+        ensures err { OnErr result (self.new ≡ self.old) }
+    {
+        let asked = request.statement();
+        let (client, seq) = (asked.client.get(), asked.seq);
+        if !request.verifies(ring) {
+            return Ok(Offer::BadTag);
+        }
+        if CLIENTS < client {
+            return Ok(Offer::Stranger);
+        }
+        if seq <= last {
+            return Ok(Offer::Old);
+        }
+        if 1 < seq - last {
+            return Ok(Offer::Ahead);
+        }
+        if self.put(request)? {
+            Ok(Offer::Replaced)
+        } else {
+            Ok(Offer::Kept)
+        }
+    }
+
+    /// Puts a request in the position of its client's, which it replaces, or at the end. Answers
+    /// whether there was one.
+    fn put(&mut self, request: Signed<Request>) -> Result<bool, AllocError>
+        ensures replaced { IfOk result (λ replaced. replaced ≡ has_client self.old request.statement.client) }
+        ensures pool { OnOk result (self.new ≡ offered self.old request) }
+        ensures err { OnErr result (self.new ≡ self.old) }
+    {
+        let client = request.statement().client.get();
+        let old = self.requests.insert(client, request)?;
+        Ok(old.is_some())
+    }
+
+    /// A batch for a place, of the requests that their clients asked after earlier places alone: as
+    /// many from the first on as it may hold. A request of the view manager stands alone, and is
+    /// passed over where another comes first.
+    pub fn gather(&self, place: Place) -> Result<Option<Batch>, AllocError>
+        ensures { IfOk result (λ batch. batch ≡ gathered self.now place) }
+    {
+        gathered(*self.requests.allocator(), self.as_slice(), place)
+    }
+
+    /// Keeps the requests that are still their client's next.
+    pub fn settle(&mut self, table: &ClientTable)
+        ensures { self.new ≡ settled table.now self.old }
+    {
+        self.requests.retain(
+            |_client: &u16, request: &mut Signed<Request>| -> bool
+                ensures { (result ≡ is_next table.entry.now request.old.statement) × (request.new ≡ request.old) }
+            {
+                let asked = request.statement();
+                table.is_next(asked.client, asked.seq)
+            },
+        );
+    }
+
+    /// The request that has waited longest.
+    pub fn oldest(&self) -> Option<&Signed<Request>>
+        ensures { option_copied result ≡ slice_get self.now 0 }
+    {
+        self.as_slice().first()
+    }
+
+    /// The requests in their order.
+    pub fn as_slice(&self) -> &[Signed<Request>]
+        ensures value { result.now ≡ self.now }
+        ensures one_each { Distinct (clients_of result.now) }
+    {
+        self.requests.values().as_slice()
+    }
+
+    pub fn len(&self) -> usize
+        ensures { result ≡ length self.now }
+    {
+        self.requests.len()
+    }
+
+    pub fn is_empty(&self) -> bool
+        ensures { result ≡ (length self.now == 0) }
+    {
+        self.requests.is_empty()
+    }
+}
