@@ -1,0 +1,62 @@
+//! Requests executed on a replica.
+ghost use Rattle.std.specs.Prelude.{◌≡◌, IfOk, OnOk};
+ghost use Rattle.node_rules.specs.Replicas.{line_made, execute, execute_all, lines_of};
+
+use smart_base::duplicate::Duplicate;
+use smart_base::sequence::Sequence;
+use smart_messages::batch::Batch;
+use smart_messages::statement::Request;
+use smart_service::replica::Replica;
+use smart_service::service::Service;
+use smart_service::table::TableLine;
+use std::alloc::{AllocError, Global};
+
+/// Executes a request where it is its client's next, and gives the line that it made. Any other is
+/// passed over.
+#[tactic(auto, unfolding(node_rules::specs::Replicas::execute))]
+fn execute<S: Service>(
+    alloc: Global,
+    replica: &mut Replica<S>,
+    index: u16,
+    request: &Request,
+) -> Result<Option<TableLine>, AllocError>
+    ensures state { OnOk result (replica.new ≡ execute S.meaning replica.old index request.now) }
+    ensures place { replica.new.place ≡ replica.old.place }
+    ensures line { IfOk result (λ line. line ≡ line_made S.meaning replica.old index request.now) }
+{
+    if !replica.table.is_next(request.client, request.seq) {
+        return Ok(None);
+    }
+    let reply = replica.service.run(alloc, request.op.as_slice())?;
+    let line = TableLine {
+        client: request.client,
+        seq: request.seq,
+        place: replica.place,
+        index,
+        view: replica.views.present().number(),
+        reply,
+    };
+    let copy = line.duplicate(alloc)?;
+    replica.table.put(copy)?;
+    Ok(Some(line))
+}
+
+/// Executes a batch's requests in order, and gives the lines that they made. After want of memory
+/// some of them may have been executed, and the service's state may be any.
+pub fn execute_all<S: Service>(
+    alloc: Global,
+    replica: &mut Replica<S>,
+    batch: &Batch,
+) -> Result<Sequence<TableLine>, AllocError>
+    ensures state { OnOk result (replica.new ≡ execute_all S.meaning replica.old 0 batch.now) }
+    ensures place { replica.new.place ≡ replica.old.place }
+    ensures lines { IfOk result (λ lines. lines ≡ lines_of S.meaning replica.old 0 batch.now) }
+{
+    let mut lines = Sequence::new(alloc);
+    for (i, request) in batch.as_slice().iter().enumerate() {
+        if let Some(line) = execute(alloc, replica, i as u16, request.statement())? {
+            lines.push(line)?;
+        }
+    }
+    Ok(lines)
+}

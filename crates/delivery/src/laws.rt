@@ -1,0 +1,31 @@
+//! The laws of delivery: batch after batch, the state of the list, its executions and its answers.
+ghost use Rattle.std.specs.Prelude.{◌≡◌, ◌++◌, ℕ, List, [], ◌∷◌, length, Some};
+ghost use Rattle.smart_base.specs.Lists.{Each};
+ghost use Rattle.smart_base.specs.Views.{View};
+ghost use Rattle.smart_messages.specs.Messages.{Batch};
+ghost use Rattle.node_rules.specs.Replicas.{empty, state, delivered, executed_lines, executions, answer};
+
+use smart_service::service::Service;
+
+/// Batches delivered one after another to the replica before any batch make the state of the list
+/// of them, which is at the place of the last.
+pub fn deliveries_make_the_state<S: Service>()
+    ensures first { (view : View) → state S.meaning view [] ≡ empty S.meaning view }
+    ensures next { (view : View) (list : List Batch) (batch : Batch) → delivered S.meaning (state S.meaning view list) batch ≡ state S.meaning view (list ++ batch ∷ []) }
+    ensures place { (view : View) (list : List Batch) → (state S.meaning view list).place ≡ length list }
+{}
+
+/// The lines that a delivery gives are those by which the executions of the list grow.
+pub fn lines_are_the_executions<S: Service>()
+    ensures first { (view : View) → executions S.meaning view [] ≡ [] }
+    ensures next { (view : View) (list : List Batch) (batch : Batch) → executions S.meaning view list ++ executed_lines S.meaning (state S.meaning view list) batch ≡ executions S.meaning view (list ++ batch ∷ []) }
+{}
+
+/// The reply in each line that a delivery gives is the answer of the list at the line's place and
+/// index, and so it is of each longer list.
+pub fn replies_are_the_answers<S: Service>()
+    ensures delivered { (view : View) (list : List Batch) (batch : Batch) →
+        Each (λ line. answer S.meaning view (list ++ batch ∷ []) line.place line.index ≡ Some line.reply) (executed_lines S.meaning (state S.meaning view list) batch) }
+    ensures later { (view : View) (list more : List Batch) (place index : ℕ) (reply : List ℕ) →
+        answer S.meaning view list place index ≡ Some reply → answer S.meaning view (list ++ more) place index ≡ Some reply }
+{}

@@ -1,0 +1,96 @@
+//! A member's replica, to which batches are delivered.
+ghost use Rattle.std.specs.Prelude.{◌≡◌, ◌+◌, ◌^◌, ◌<◌, false, IfOk, OnOk};
+ghost use Rattle.std.specs.Result.{is_err};
+ghost use Rattle.node_rules.specs.Replicas.{delivered, executed_lines, empty};
+
+use crate::execute::execute_all;
+use smart_base::number::Place;
+use smart_base::sequence::Sequence;
+use smart_base::view::{View, Views};
+use smart_messages::batch::Batch;
+use smart_service::replica::Replica;
+use smart_service::service::Service;
+use smart_service::table::{ClientTable, TableLine};
+use std::alloc::{AllocError, Global};
+
+/// A replica, and whether want of memory stopped a delivery half-way. Then the replica is spent:
+/// some requests of the batch may have been executed, so no batch is delivered to it again, and no
+/// call makes it whole.
+#[derive(Drop)]
+pub struct KeptReplica<S> {
+    replica: Replica<S>,
+    spent: bool,
+}
+
+impl<S> KeptReplica<S> {
+    pub fn new(replica: Replica<S>) -> Self
+        ensures { result ≡ record { replica = replica; spent = false } }
+    {
+        KeptReplica {
+            replica,
+            spent: false,
+        }
+    }
+
+    /// Whether a delivery began and did not end.
+    pub fn spent(&self) -> bool
+        ensures { result ≡ self.now.spent }
+    {
+        self.spent
+    }
+
+    /// The replica. Where it is spent, it is at the place of the batch of which some requests may
+    /// have been executed.
+    pub fn replica(&self) -> &Replica<S>
+        ensures { result.now ≡ self.now.replica }
+    {
+        &self.replica
+    }
+
+    pub fn into_replica(self) -> Replica<S>
+        requires { self.spent ≡ false }
+        ensures { result ≡ self.replica }
+    {
+        let KeptReplica { replica, spent: _ } = self;
+        replica
+    }
+}
+
+impl<S: Service> KeptReplica<S> {
+    /// The replica before any batch, in a first view.
+    pub fn empty(alloc: Global, view: View) -> Result<Self, AllocError>
+        ensures { IfOk result (λ kept. kept ≡ record { replica = empty S.meaning view; spent = false }) }
+    {
+        let service = S::first(alloc)?;
+        let views = Views::new(alloc, view)?;
+        Ok(KeptReplica::new(Replica {
+            service,
+            table: ClientTable::new(alloc),
+            views,
+            place: Place::zero(),
+        }))
+    }
+}
+
+/// Executes a batch at the next place, and gives the lines of the requests that were executed, in
+/// order: those whose number is their client's next; any other is passed over. Each line has the
+/// reply that goes to its client. After want of memory the replica is spent.
+#[tactic(auto, unfolding(node_rules::specs::Replicas::delivered, node_rules::specs::Replicas::executed_lines))]
+pub fn deliver<S: Service>(
+    alloc: Global,
+    replica: &mut KeptReplica<S>,
+    batch: &Batch,
+) -> Result<Sequence<TableLine>, AllocError>
+    requires ready { replica.old.spent ≡ false }
+    requires room { replica.old.replica.place + 1 < 2 ^ 63 }
+    ensures state { OnOk result (replica.new.replica ≡ delivered S.meaning replica.old.replica batch.now) }
+    ensures spent { replica.new.spent ≡ is_err result }
+    ensures place { replica.new.replica.place ≡ replica.old.replica.place + 1 }
+    ensures lines { IfOk result (λ lines. lines ≡ executed_lines S.meaning replica.old.replica batch.now) }
+{
+    replica.spent = true;
+    replica.replica.place = replica.replica.place.next();
+    let lines = execute_all(alloc, &mut replica.replica, batch)?;
+    replica.spent = false;
+    Ok(lines)
+}
