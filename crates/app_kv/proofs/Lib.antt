@@ -1,0 +1,4 @@
+pub mod Orders
+pub mod Places
+pub mod Spelled
+pub mod Turns
