@@ -25,8 +25,9 @@ use Rattle.smart_service.specs.declared.replica.Replica.{Replica}
 use Rattle.node_rules.specs.Replicas.{is_next, execute, execute_all, at_next, delivered}
 use Rattle.node_rules.specs.Nodes.{Node, view_of, regency_of, next_place, decided_place, open_slot, is_free, is_open, holding, recording, proposal_of}
 use Rattle.node_rules.specs.Seals.{signed, is_verified, digest_of}
-use Rattle.node_rules.specs.Arrivals.{slot_why, signer_why, is_valid, why_ask, why_propose, why_vote, why_reply, why_dropped, noted, offered, kept}
-use Rattle.node_rules.specs.Rules.{settled, reply_of, replying, lines_to_answer, deliver_batch, delivery, delivers, gathered, proposing, propose_batch, proposes, ballot, writing, write_batch, writes, backed, backers, accepting, accept_batch, accepts, deciding, decide_batch, decides, answering, answer_line, answers_again}
+use Rattle.node_rules.specs.Arrivals.{slot_why, signer_why, is_valid, why_ask, why_propose, why_vote, why_reply, why_dropped, noted, kept}
+use Rattle.node_rules.specs.Pools.{offered, settled, gathered}
+use Rattle.node_rules.specs.Rules.{reply_of, replying, lines_to_answer, deliver_batch, delivery, delivers, proposing, propose_batch, proposes, ballot, writing, write_batch, writes, backed, backers, accepting, accept_batch, accepts, deciding, decide_batch, decides, answering, answer_line, answers_again}
 use Rattle.node_rules.specs.declared.node.Why.{Why}
 use Rattle.node_rules.specs.declared.node.Why.TheVariants.{NotLeader, InvalidBatch, Repeated}
 use Rattle.node_rules.specs.declared.node.Target.TheVariants as targets

@@ -1,0 +1,54 @@
+-- Which instance a node takes part in.
+use Rattle.std.specs.Prelude.{ℕ, ◌≡◌, ◌+◌, ◌≤◌, List, Option, is_some}
+use Rattle.std.specs.List.{list_any}
+use Rattle.smart_base.specs.Lists.{Each}
+use Rattle.smart_messages.specs.Messages.{Batch}
+use Rattle.smart_messages.specs.declared.statement.Slot.{Slot}
+use Rattle.smart_messages.specs.declared.message.Message.{Message}
+use Rattle.smart_messages.specs.declared.message.Message.TheVariants.{Ask, Propose, Vote, Reply}
+use Rattle.smart_messages.specs.declared.entry.LogEntry.{LogEntry}
+use Rattle.smart_messages.specs.declared.entry.LogEntry.TheVariants.{Opened, Wrote, Accepted, Decided}
+use Rattle.node_rules.specs.Seals.{digest_of}
+use Rattle.node_rules.specs.Nodes.{Node, view_of, is_wrote}
+use Rattle.node_rules.specs.Rules.{writing, accepting, deciding}
+use Rattle.consensus_instance.specs.declared.rule.Rule.{Rule}
+use Rattle.consensus_instance.specs.declared.rule.Rule.TheVariants.{Write, Accept, Decide}
+use Rattle.consensus_instance.specs.Instances.{Instance, regency_of}
+use Rattle.consensus_instance.specs.Locks.{lock_of}
+
+-- a message states the digest of the batch in it
+abbrev pub Bears : Message → Type 0
+Bears (Ask q) = Unit {0}
+Bears (Propose p) = p.head.statement.digest ≡ digest_of p.batch
+Bears (Vote b) = Unit {0}
+Bears (Reply a) = Unit {0}
+
+-- an entry speaks of no later place than a slot's, and of no later regency
+abbrev pub UpTo : Slot → LogEntry → Type 0
+UpTo slot Opened = Unit {0}
+UpTo slot (Wrote s digest) = (s.place ≤ slot.place) × (s.regency ≤ slot.regency)
+UpTo slot (Accepted s voters batch) = (s.place ≤ slot.place) × (s.regency ≤ slot.regency)
+UpTo slot (Decided s voters batch) = (s.place ≤ slot.place) × (s.regency ≤ slot.regency)
+
+-- An instance is that of a member whose last delivered place, batch that waits, kept messages and book these are, in the view of a number.
+pub record IsInstance (id view place : ℕ) (waiting : Option Batch) (arrivals : List Message) (entries : List LogEntry) (i : Instance) : Type 0 where
+  pub id_same : i.id ≡ id
+  pub place_same : i.place ≡ place
+  pub decided_same : i.decided ≡ is_some waiting
+  pub arrivals_same : i.arrivals ≡ arrivals
+  -- the book has a write for the open slot
+  pub wrote_same : i.wrote ≡ list_any (is_wrote (record { view = view; place = place + 1; regency = regency_of i })) entries
+  -- the lock is the accept of the greatest regency in the book, in this view and at the next place
+  pub lock_same : i.lock ≡ lock_of (record { view = view; place = place + 1; regency = regency_of i }) entries
+  -- the book has nothing of later places or regencies
+  pub none_later : Each (UpTo (record { view = view; place = place + 1; regency = regency_of i })) entries
+
+-- A node has an instance.
+abbrev pub HasInstance : {S : Type 0} → Node S → Instance → Type 0
+HasInstance n i = IsInstance n.id (view_of n).number n.replica.place n.waiting n.arrivals n.entries i
+
+-- the batch for which a rule is due at a node
+abbrev pub due_at : {S : Type 0} → Rule → Node S → Option Batch
+due_at Write n = writing n
+due_at Accept n = accepting n
+due_at Decide n = deciding n

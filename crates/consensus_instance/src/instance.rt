@@ -1,0 +1,297 @@
+//! The instance itself.
+ghost use Rattle.std.specs.Prelude.{◌≡◌, ◌+◌, ◌++◌, ◌∷◌, [], true, false, Some, None, IfOk, IfSome, IsSome, OnOk, OnErr, option_map};
+ghost use Rattle.std.specs.List.{list_any};
+ghost use Rattle.std.specs.Option.{option_copied};
+ghost use Rattle.smart_messages.specs.declared.message.Message.TheVariants as messages;
+ghost use Rattle.smart_messages.specs.declared.message.Proposed.{Proposed};
+ghost use Rattle.node_rules.specs.Nodes.{certificate, proposal_of};
+ghost use Rattle.node_rules.specs.Seals.{digest_of};
+ghost use Rattle.node_rules.specs.Arrivals.{is_same_proposal, is_same_vote};
+ghost use Rattle.consensus_instance.specs.Instances.{Instance, regency_of, decided_place, is_free, is_open, open_slot, backed, due_by, trimmed, moved_on};
+ghost use Rattle.consensus_instance.specs.Locks.{is_locked_in};
+
+use crate::find::{certificate, has_quorum, proposal_of, repeats_proposal, repeats_vote};
+use crate::lock::Lock;
+use crate::needed::keep_needed;
+use crate::rule::Rule;
+use smart_base::bytes::Digest32;
+use smart_base::name::MemberId;
+use smart_base::number::{Place, Regency, ViewNo};
+use smart_base::sequence::Sequence;
+use smart_base::view::View;
+use smart_messages::batch::Batch;
+use smart_messages::message::{Message, Proposed};
+use smart_messages::signed::Signed;
+use smart_messages::statement::{Ballot, Proposal, Slot, VoteKind};
+use std::alloc::{AllocError, Global};
+use std::marker::Model;
+
+/// The instance of consensus in which a member takes part, that of its next place (Mod-SMaRt, EDCC
+/// 2012). The view in force is lent to each call that needs it: it changes only as a place is
+/// delivered. Each proposal that is kept states the digest of its batch, so that no batch is
+/// digested again.
+#[derive(Drop)]
+pub struct Instance {
+    id: MemberId,
+    /// The last place that was delivered.
+    place: Place,
+    /// Whether the batch of the next place is decided.
+    decided: bool,
+    /// Proposals and votes in the order in which they came.
+    arrivals: Vec<Message>,
+    /// Whether the member has written in the open slot.
+    wrote: bool,
+    lock: Option<Lock>,
+}
+
+impl Model for Instance {
+    ghost use Rattle.std.specs.Prelude.{◌≡◌, ◌+◌, ◌<◌, ◌^◌, true};
+    ghost use Rattle.smart_base.specs.Lists.{Each};
+    ghost use Rattle.consensus_instance.specs.Instances.{Instance};
+    ghost use Rattle.consensus_instance.specs.Nodes.{Bears};
+
+    ghost Value = { Instance };
+
+    ghost view = { λ i. record {
+      id = i.id;
+      place = i.place;
+      decided = i.decided;
+      arrivals = i.arrivals.items;
+      wrote = i.wrote;
+      lock = i.lock;
+    } };
+
+    ghost invariant = { λ i. (i.decided ≡ true → i.place + 1 < 2 ^ 63) × Each Bears i.arrivals.items };
+}
+
+impl Instance {
+    /// The instance of the first place. It takes no memory.
+    pub fn begin(alloc: Global, id: MemberId) -> Self
+        ensures { result ≡ record { id = id; place = 0; decided = false; arrivals = []; wrote = false; lock = None } }
+    {
+        Instance {
+            id,
+            place: Place::zero(),
+            decided: false,
+            arrivals: Vec::new(alloc),
+            wrote: false,
+            lock: None,
+        }
+    }
+
+    /// The last place that was delivered.
+    pub fn place(&self) -> Place
+        ensures { result ≡ self.now.place }
+    {
+        self.place
+    }
+
+    /// The regency in force.
+    pub fn regency(&self) -> Regency
+        ensures { result ≡ regency_of self.now }
+    {
+        Regency::new(0)
+    }
+
+    /// The last place that is delivered or decided.
+    pub fn decided_place(&self) -> Place
+        ensures { result ≡ decided_place self.now }
+    {
+        if self.decided {
+            self.place.next()
+        } else {
+            self.place
+        }
+    }
+
+    /// Whether no decided batch waits for its delivery, and there is a next place.
+    pub fn is_free(&self) -> bool
+        ensures { result ≡ is_free self.now }
+    {
+        !self.decided && self.place.get() + 1 < 1 << 63
+    }
+
+    /// Whether a vote of the member is open at the next place.
+    pub fn is_open(&self, view: &View) -> bool
+        ensures { result ≡ is_open view.now self.now }
+    {
+        view.is_member(self.id) && self.is_free()
+    }
+
+    /// The slot in which the member takes part.
+    pub fn open_slot(&self, view: &View) -> Slot
+        requires { is_free self.now ≡ true }
+        ensures { result ≡ open_slot view.now self.now }
+    {
+        Slot {
+            view: view.number(),
+            place: self.place.next(),
+            regency: self.regency(),
+        }
+    }
+
+    /// The batch that the member accepted at the next place in the greatest regency, if it
+    /// accepted one.
+    pub fn lock(&self) -> Option<Lock>
+        ensures { result ≡ self.now.lock }
+    {
+        self.lock
+    }
+
+    /// Keeps a proposal that states its batch's digest. Without memory nothing is kept.
+    #[tactic(auto, using(crate::proofs::Lists::each_more))]
+    pub fn on_propose(&mut self, propose: Signed<Proposal>, batch: Batch) -> Result<(), AllocError>
+        requires { propose.statement.digest ≡ digest_of batch }
+        ensures ok { OnOk result (self.new ≡ record self.old { arrivals = self.old.arrivals ++ messages.Propose (record { head = propose; batch = batch }) ∷ [] }) }
+        ensures err { OnErr result (self.new ≡ self.old) }
+    {
+        let proposed = Proposed {
+            head: propose,
+            batch,
+        };
+        self.arrivals.push(Message::Propose(proposed))?;
+        Ok(())
+    }
+
+    /// Keeps a vote. Without memory nothing is kept.
+    #[tactic(auto, using(crate::proofs::Lists::each_more))]
+    pub fn on_vote(&mut self, vote: Signed<Ballot>) -> Result<(), AllocError>
+        ensures ok { OnOk result (self.new ≡ record self.old { arrivals = self.old.arrivals ++ messages.Vote vote ∷ [] }) }
+        ensures err { OnErr result (self.new ≡ self.old) }
+    {
+        self.arrivals.push(Message::Vote(vote))?;
+        Ok(())
+    }
+
+    /// Whether the signer's proposal for the slot was kept before.
+    pub fn repeats_proposal(&self, proposed: &Proposed) -> bool
+        ensures { result ≡ list_any (is_same_proposal proposed.now) self.now.arrivals }
+    {
+        repeats_proposal(self.arrivals.as_slice(), proposed)
+    }
+
+    /// Whether the signer's vote of this kind for the slot was kept before.
+    pub fn repeats_vote(&self, ballot: &Signed<Ballot>) -> bool
+        ensures { result ≡ list_any (is_same_vote ballot.now) self.now.arrivals }
+    {
+        repeats_vote(self.arrivals.as_slice(), ballot)
+    }
+
+    /// The proposal for which a rule is due now, if it is. It states the digest of its batch.
+    #[tactic(auto, unfolding(crate::specs::Instances::due_by))]
+    pub fn due(&self, view: &View, rule: Rule) -> Option<&Proposed>
+        ensures batch { option_map (λ (p : Proposed). p.batch) (option_copied result) ≡ due_by rule view.now self.now }
+        ensures digest { IfSome result (λ p. p.now.head.statement.digest ≡ digest_of p.now.batch) }
+        ensures free { IsSome result → is_free self.now ≡ true }
+    {
+        match rule {
+            Rule::Write if self.is_open(view) && !self.wrote => self.proposal(view),
+            Rule::Accept if self.is_open(view) && !self.has_accepted() => {
+                self.backed(view, VoteKind::Write)
+            }
+            Rule::Decide if self.is_free() => self.backed(view, VoteKind::Accept),
+            Rule::Write | Rule::Accept | Rule::Decide => None,
+        }
+    }
+
+    /// The first members, ascending, whose votes for a digest in the open slot make a quorum: all
+    /// that voted so where they are fewer.
+    pub fn certificate(
+        &self,
+        alloc: Global,
+        view: &View,
+        kind: VoteKind,
+        digest: &Digest32,
+    ) -> Result<Sequence<MemberId>, AllocError>
+        requires { is_free self.now ≡ true }
+        ensures { IfOk result (λ members. members ≡ certificate self.now.arrivals view.now kind (open_slot view.now self.now) digest.now) }
+    {
+        let arrivals = self.arrivals.as_slice();
+        certificate(alloc, arrivals, view, kind, &self.open_slot(view), digest)
+    }
+
+    /// The member has written in the open slot.
+    pub fn wrote(&mut self)
+        ensures { self.new ≡ record self.old { wrote = true } }
+    {
+        self.wrote = true;
+    }
+
+    /// The member has accepted the batch of a digest in the open slot.
+    pub fn accepted(&mut self, digest: Digest32)
+        ensures { self.new ≡ record self.old { lock = Some (record { regency = regency_of self.old; digest = digest }) } }
+    {
+        self.lock = Some(Lock {
+            regency: self.regency(),
+            digest,
+        });
+    }
+
+    /// The batch of the next place is decided.
+    pub fn decided(&mut self)
+        requires { is_free self.old ≡ true }
+        ensures { self.new ≡ record self.old { decided = true } }
+    {
+        self.decided = true;
+    }
+
+    /// The batch that was decided is delivered: the instance is that of the place behind it.
+    pub fn delivered(&mut self)
+        requires { self.old.decided ≡ true }
+        ensures { self.new ≡ moved_on self.old }
+    {
+        self.place = self.place.next();
+        self.decided = false;
+        self.wrote = false;
+        self.lock = None;
+    }
+
+    /// Drops the proposals and votes that are not needed any more in a view.
+    #[tactic(auto, unfolding(crate::specs::Instances::trimmed), using(crate::proofs::Lists::each_filter))]
+    pub fn trim(&mut self, view: ViewNo)
+        ensures { self.new ≡ trimmed view self.old }
+    {
+        let place = self.decided_place();
+        let regency = self.regency();
+        keep_needed(&mut self.arrivals, view, place, regency);
+    }
+
+    /// Whether the member has accepted in the open slot.
+    fn has_accepted(&self) -> bool
+        ensures { result ≡ is_locked_in (regency_of self.now) self.now.lock }
+    {
+        match self.lock {
+            None => false,
+            Some(lock) => lock.regency == self.regency(),
+        }
+    }
+
+    /// The first proposal for the open slot.
+    fn proposal(&self, view: &View) -> Option<&Proposed>
+        requires { is_free self.now ≡ true }
+        ensures batch { option_map (λ (p : Proposed). p.batch) (option_copied result) ≡ proposal_of self.now.arrivals (open_slot view.now self.now) }
+        ensures digest { IfSome result (λ p. p.now.head.statement.digest ≡ digest_of p.now.batch) }
+    {
+        proposal_of(self.arrivals.as_slice(), &self.open_slot(view))
+    }
+
+    /// The first proposal for the open slot, if a quorum votes for it.
+    fn backed(&self, view: &View, kind: VoteKind) -> Option<&Proposed>
+        requires { is_free self.now ≡ true }
+        ensures batch { option_map (λ (p : Proposed). p.batch) (option_copied result) ≡ backed view.now self.now kind (proposal_of self.now.arrivals (open_slot view.now self.now)) }
+        ensures digest { IfSome result (λ p. p.now.head.statement.digest ≡ digest_of p.now.batch) }
+    {
+        match self.proposal(view) {
+            None => None,
+            Some(proposed) => {
+                let slot = self.open_slot(view);
+                let digest = &proposed.head.statement().digest;
+                if has_quorum(self.arrivals.as_slice(), view, kind, &slot, digest) {
+                    Some(proposed)
+                } else {
+                    None
+                }
+            }
+        }
+    }
+}

@@ -1,0 +1,33 @@
+//! What is still needed past a place.
+ghost use Rattle.std.specs.Prelude.{◌≡◌, filter};
+ghost use Rattle.kept_arrivals.specs.Kept.{is_ahead, is_needed};
+
+use smart_base::number::{Place, Regency, ViewNo};
+use smart_messages::message::Message;
+use smart_messages::statement::Slot;
+
+/// Whether a slot is past a place, and of this view and regency or later ones.
+pub fn is_ahead(view: ViewNo, place: Place, regency: Regency, slot: &Slot) -> bool
+    ensures { result ≡ is_ahead view place regency slot.now }
+{
+    place < slot.place && view <= slot.view && regency <= slot.regency
+}
+
+fn is_needed(view: ViewNo, place: Place, regency: Regency, message: &Message) -> bool
+    ensures { result ≡ is_needed view place regency message.now }
+{
+    match message {
+        Message::Propose(proposed) => {
+            is_ahead(view, place, regency, &proposed.head.statement().slot)
+        }
+        Message::Vote(ballot) => is_ahead(view, place, regency, &ballot.statement().slot),
+        Message::Ask(_) | Message::Reply(_) => false,
+    }
+}
+
+/// Keeps the messages that are still needed past a place.
+pub fn keep_needed(arrivals: &mut Vec<Message>, view: ViewNo, place: Place, regency: Regency)
+    ensures { arrivals.new.items ≡ filter (is_needed view place regency) arrivals.old.items }
+{
+    arrivals.retain(|message| is_needed(view, place, regency, message));
+}
