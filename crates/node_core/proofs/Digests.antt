@@ -1,13 +1,10 @@
--- Which kept messages state the digest of their batch.
-use Rattle.std.proofs.Common.{◌≡◌, ℕ, ◌==◌, Bool, true, false, not, List, [], ◌∷◌, refl, sym, cond, Option, Some, None}
+-- Which messages state the digest of their batch.
+use Rattle.std.proofs.Common.{◌≡◌, ℕ, ◌==◌, Bool, true, false, not, List, refl, sym, ◌∙◌, cond, Option, Some, None, is_some}
 use Rattle.std.proofs.lemmas.Bool.{eqb-true}
-use Rattle.std.specs.Prelude.{filter}
-use Rattle.smart_base.specs.Lists.{Each, or_else, same_bytes}
+use Rattle.smart_base.specs.Lists.{or_else, same_bytes}
 use Rattle.smart_base.specs.Views.{leader}
 use Rattle.smart_base.proofs.SameLists.{and_true, same_list-equal}
 use Rattle.smart_messages.specs.Kinds.{proposals}
-use Rattle.smart_messages.specs.declared.message.Message.{Message}
-use Rattle.smart_messages.specs.declared.message.Message.TheVariants.{Ask, Propose, Vote, Reply}
 use Rattle.smart_messages.specs.declared.message.Proposed.{Proposed}
 use Rattle.smart_messages.specs.declared.statement.VoteKind.TheVariants.{Write}
 use Rattle.smart_messages.specs.Messages.{Batch}
@@ -16,17 +13,10 @@ use Rattle.node_rules.specs.declared.node.Target.TheVariants as targets
 use Rattle.node_rules.specs.Nodes.{Node, view_of, open_slot, holding, recording}
 use Rattle.node_rules.specs.Rules.{writing, write_batch, writes, accepting, accept_batch, accepts, deciding, decide_batch, decides}
 use Rattle.node_rules.specs.Seals.{is_verified, digest_of}
-use Rattle.node_rules.specs.Arrivals.{signer_why, slot_why, is_valid, why_propose, why_dropped}
+use Rattle.node_rules.specs.Arrivals.{signer_why, slot_why, is_valid, why_propose}
+use Rattle.node_rules.specs.declared.node.Why.{Why}
 use Rattle.node_rules.specs.declared.node.Why.TheVariants.{NotLeader, InvalidBatch}
-use Rattle.node_core.specs.Digests.{Bears, ballot_for}
-
-each_if : {A : Type 0} (P : A → Type 0) (test : Bool) (x : A) (xs : List A) → P x → Each P xs → Each P (cond test (x ∷ xs) xs)
-each_if P true x xs has all = (has, all)
-each_if P false x xs has all = all
-
-pub each_filter : {A : Type 0} (P : A → Type 0) (p : A → Bool) (xs : List A) → Each P xs → Each P (filter p xs)
-each_filter P p [] all = all
-each_filter P p (x ∷ xs) all = each_if P (p x) x (filter p xs) all.0 (each_filter P p xs all.1)
+use Rattle.node_core.specs.Digests.{ballot_for}
 
 or_else-rest : {A : Type 0} (first rest : Option A) → or_else first rest ≡ None → rest ≡ None
 or_else-rest None rest none = none
@@ -43,14 +33,15 @@ valid_where n p none =
     second_passed (not (p.head.signer == leader (view_of n) p.head.statement.slot.regency)) (is_valid n.secret p) NotLeader InvalidBatch _
     (or_else-rest (slot_why n p.head.statement.slot) _ (or_else-rest (signer_why n (is_verified proposals n.secret p.head) p.head.signer) _ none))
 
+none_of : {A : Type 0} (a : Option A) → is_some a ≡ false → a ≡ None
+none_of None none = refl
+none_of (Some a) none = absurd (cc)
+
 -- a proposal that is not dropped states the digest of its batch
-pub kept_bears : {S : Type 0} (n : Node S) (m : Message) → why_dropped n m ≡ None → Bears m
-kept_bears n (Ask q) none = tt
-kept_bears n (Propose p) none =
+pub bears_where : {S : Type 0} (n : Node S) (p : Proposed) (why : Option Why) → why ≡ why_propose n p → is_some why ≡ false → p.head.statement.digest ≡ digest_of p.batch
+bears_where n p why is none =
     sym (same_list-equal (λ x y. x == y) (λ x y. eqb-true x y) (digest_of p.batch) p.head.statement.digest
-    (and_true _ (same_bytes (digest_of p.batch) p.head.statement.digest) (valid_where n p none)).1)
-kept_bears n (Vote b) none = tt
-kept_bears n (Reply a) none = tt
+    (and_true _ (same_bytes (digest_of p.batch) p.head.statement.digest) (valid_where n p (sym is ∙ none_of why none))).1)
 
 -- what is written for a proposal that is due, and what is accepted
 pub writes_where : {S : Type 0} (n : Node S) (batch : Batch) (digest : List ℕ) → Some batch ≡ writing n → digest ≡ digest_of batch

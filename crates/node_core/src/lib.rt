@@ -2,7 +2,5 @@
 #![tactic(auto)]
 
 mod find;
-mod kept;
 pub mod node;
-mod replica;
 mod seal;

@@ -1,36 +1,35 @@
 //! The node itself.
-ghost use Rattle.std.specs.Prelude.{◌≡◌, ◌+◌, ◌^◌, ◌<◌, ◌≤◌, true, [], None, length, IfOk, OnOk, is_some};
+ghost use Rattle.std.specs.Prelude.{◌≡◌, ◌+◌, ◌^◌, ◌<◌, ◌≤◌, true, length, IfOk, OnOk, OnErr, is_some};
 ghost use Rattle.std.specs.Option.{option_copied};
-ghost use Rattle.node_rules.specs.Nodes.{view_of, regency_of, next_place, is_wrote, is_accepted, decided_place, open_slot, is_free, is_open, holding, recording};
-ghost use Rattle.std.specs.List.{list_any};
+ghost use Rattle.node_rules.specs.Nodes.{view_of, regency_of, decided_place, open_slot, is_free, is_open, holding};
+ghost use Rattle.consensus_instance.specs.Locks.{lock_of};
 ghost use Rattle.kept_arrivals.specs.Kept.{trimmed, core_step};
 ghost use Rattle.smart_messages.specs.Messages.{decoded};
-ghost use Rattle.node_core.specs.Books.{entry_place};
-ghost use Rattle.node_rules.specs.Arrivals.{why_dropped, kept};
-ghost use Rattle.node_rules.specs.Steps.{step_of, outcome_from, answered, arrival_outcome, reading_outcome, first_leaving, after_first, leaving, released, opened};
+ghost use Rattle.node_rules.specs.Steps.{step_of, outcome_from, reading_outcome, first_leaving, after_first, leaving, released, opened};
 
 mod arrivals;
+mod asks;
 mod rules;
 
-use crate::find::{is_accepted, is_wrote, keep_ahead};
-use crate::kept::Kept;
+use crate::find::{count_leaving, keep_ahead};
 use crate::seal::MemberKeys;
+use consensus_instance::instance::Instance;
+use consensus_instance::lock::Lock;
+use delivery::replica::KeptReplica;
 use node_rules::node::{Fired, Held, Target, Why};
+use request_pool::pool::RequestPool;
 use smart_base::fault::ReadError;
 use smart_base::name::MemberId;
 use smart_base::number::{Place, Regency};
 use smart_base::sequence::Sequence;
-use smart_base::view::{View, Views};
+use smart_base::view::View;
 use smart_keys::ring::Ring;
 use smart_messages::batch::Batch;
 use smart_messages::codec::decode;
 use smart_messages::entry::{LogEntry, NodeEvent};
 use smart_messages::message::Message;
-use smart_messages::signed::Signed;
-use smart_messages::statement::{Request, Slot};
-use smart_service::replica::Replica;
+use smart_messages::statement::Slot;
 use smart_service::service::Service;
-use smart_service::table::ClientTable;
 use std::alloc::{AllocError, Global};
 use std::marker::Model;
 
@@ -40,36 +39,33 @@ use std::marker::Model;
 pub struct NodeCore<S> {
     alloc: Global,
     keys: MemberKeys,
-    replica: Replica<S>,
+    replica: KeptReplica<S>,
     waiting: Option<Batch>,
-    pool: Vec<Signed<Request>>,
-    arrivals: Kept,
+    pool: RequestPool,
+    /// What was kept of proposals and votes, and what the book says of the next place.
+    instance: Instance,
     entries: Sequence<LogEntry>,
     firm: u64,
     held: Sequence<Held>,
     proposed: Vec<Slot>,
     behind: bool,
-    /// Whether the book has a write for the slot in which the node takes part.
-    wrote: bool,
-    /// Whether the book has an accept for that slot.
-    accepted: bool,
 }
 
 impl<S> Model for NodeCore<S> {
     ghost use Rattle.std.specs.Prelude.{◌+◌, ◌<◌, ◌^◌, IsSome};
     ghost use Rattle.smart_base.specs.Views.{present};
     ghost use Rattle.node_rules.specs.Nodes.{Node};
-    ghost use Rattle.node_core.specs.Books.{Remembers};
+    ghost use Rattle.consensus_instance.specs.Nodes.{IsInstance};
 
     ghost Value = { Node S };
 
     ghost view = { λ c. record {
       id = c.keys.member;
       secret = c.keys.secret;
-      replica = c.replica;
+      replica = c.replica.replica;
       waiting = c.waiting;
-      pool = c.pool.items;
-      arrivals = c.arrivals;
+      pool = c.pool;
+      arrivals = c.instance.arrivals;
       entries = c.entries;
       firm = c.firm;
       held = c.held;
@@ -77,7 +73,7 @@ impl<S> Model for NodeCore<S> {
       behind = c.behind;
     } };
 
-    ghost invariant = { λ c. (IsSome c.waiting → c.replica.place + 1 < 2 ^ 63) × Remembers c.entries (record { view = (present c.replica.views).number; place = c.replica.place + 1; regency = 0 }) c.wrote c.accepted };
+    ghost invariant = { λ c. (IsSome c.waiting → c.replica.replica.place + 1 < 2 ^ 63) × IsInstance c.keys.member (present c.replica.replica.views).number c.replica.replica.place c.waiting c.instance.arrivals c.entries c.instance };
 }
 
 /// What a step tells: the rules that fired, in order, and why an arrival was dropped.
@@ -92,29 +88,21 @@ impl<S: Service> NodeCore<S> {
     pub fn begin(alloc: Global, id: MemberId, view: View, ring: Ring) -> Result<Self, AllocError>
         ensures { IfOk result (λ node. node ≡ opened S.meaning ring id view) }
     {
-        let service = S::first(alloc)?;
-        let views = Views::new(alloc, view)?;
+        let replica = KeptReplica::empty(alloc, view)?;
         let mut entries = Sequence::new(alloc);
         entries.push(LogEntry::Opened)?;
         Ok(NodeCore {
             alloc,
             keys: MemberKeys::new(id, ring),
-            replica: Replica {
-                service,
-                table: ClientTable::new(alloc),
-                views,
-                place: Place::zero(),
-            },
+            replica,
             waiting: None,
-            pool: Vec::new(alloc),
-            arrivals: Kept::new(alloc),
+            pool: RequestPool::new(alloc),
+            instance: Instance::begin(alloc, id),
             entries,
             firm: 0,
             held: Sequence::new(alloc),
             proposed: Vec::new(alloc),
             behind: false,
-            wrote: false,
-            accepted: false,
         })
     }
 
@@ -129,14 +117,14 @@ impl<S: Service> NodeCore<S> {
     pub fn place(&self) -> Place
         ensures { result ≡ self.now.replica.place }
     {
-        self.replica.place
+        self.replica.replica().place
     }
 
     /// The view in force.
     pub fn view(&self) -> &View
         ensures { result.now ≡ view_of self.now }
     {
-        self.replica.views.present()
+        self.replica.replica().views.present()
     }
 
     /// How many entries are firm.
@@ -182,13 +170,17 @@ impl<S: Service> NodeCore<S> {
     }
 
     /// Takes one event: what happens to the node, and then one pass of its rules. Of what was kept
-    /// before, only what is still needed remains.
+    /// before, only what is still needed remains. Where want of memory once stopped a delivery
+    /// half-way, each event is answered by want of memory.
     #[tactic(auto, unfolding(kept_arrivals::specs::Kept::core_step))]
     pub fn step(&mut self, event: &NodeEvent) -> Result<Outcome, AllocError>
         ensures node { OnOk result (self.new ≡ (core_step S.meaning self.old event.now).node) }
         ensures fired { IfOk result (λ o. o.fired ≡ (core_step S.meaning self.old event.now).fired) }
         ensures dropped { IfOk result (λ o. o.dropped ≡ (core_step S.meaning self.old event.now).dropped) }
     {
+        if self.replica.spent() {
+            return Err(AllocError);
+        }
         let outcome = self.step_of(event)?;
         self.trim();
         Ok(outcome)
@@ -206,16 +198,19 @@ impl<S: Service> NodeCore<S> {
         Some(self.held.take_first())
     }
 
-    /// The held messages leave in order, up to the first whose entries are not firm.
+    /// The held messages leave in order, up to the first whose entries are not firm. Without memory
+    /// none leaves. The cost is linear in the held messages.
+    #[tactic(auto, using(crate::proofs::Leaving::take_leaving, crate::proofs::Leaving::drop_leaving, crate::proofs::Leaving::none_leaving, crate::proofs::Leaving::all_staying))]
     pub fn release_all(&mut self) -> Result<Sequence<Held>, AllocError>
         ensures held { IfOk result (λ left. left ≡ leaving self.old.firm self.old.held) }
         ensures node { OnOk result (self.new ≡ released self.old) }
+        ensures err { OnErr result (self.new ≡ self.old) }
     {
-        let mut left = Sequence::new(self.alloc);
-        while let Some(held) = self.release() {
-            left.push(held)?;
+        let count = count_leaving(self.held.as_slice(), self.firm);
+        if count == 0 {
+            return Ok(Sequence::new(self.alloc));
         }
-        Ok(left)
+        self.held.take_front(count)
     }
 
     /// The step of a node that keeps all.
@@ -240,14 +235,14 @@ impl<S: Service> NodeCore<S> {
     }
 
     /// Drops what no rule needs any more.
-    #[tactic(auto, unfolding(kept_arrivals::specs::Kept::trimmed))]
+    #[tactic(auto, unfolding(kept_arrivals::specs::Kept::trimmed, consensus_instance::specs::Instances::trimmed), using(consensus_instance::proofs::Entries::keeping_instance))]
     fn trim(&mut self)
         ensures { self.new ≡ trimmed self.old }
     {
         let view = self.view().number();
         let place = self.decided_place();
         let regency = self.regency();
-        self.arrivals.keep_needed(view, place, regency);
+        self.instance.trim(view);
         keep_ahead(&mut self.proposed, view, place, regency);
     }
 
@@ -265,42 +260,6 @@ impl<S: Service> NodeCore<S> {
                 dropped: Some(Why::Unread),
             }),
         }
-    }
-
-    /// Drops an arrival for its first reason, or keeps it, passes the rules and answers it.
-    #[tactic(auto, using(crate::proofs::Again::why_behind))]
-    fn arrival_outcome(&mut self, message: Message) -> Result<Outcome, AllocError>
-        ensures node { OnOk result (self.new ≡ (arrival_outcome self.old message (why_dropped self.old message)).node) }
-        ensures fired { IfOk result (λ o. o.fired ≡ (arrival_outcome self.old message (why_dropped self.old message)).fired) }
-        ensures dropped { IfOk result (λ o. o.dropped ≡ (arrival_outcome self.old message (why_dropped self.old message)).dropped) }
-    {
-        let dropped = self.why_dropped(&message)?;
-        self.note(&message);
-        if dropped.is_some() {
-            return Ok(Outcome {
-                fired: Sequence::new(self.alloc),
-                dropped,
-            });
-        }
-        self.kept_outcome(message)
-    }
-
-    /// Keeps an arrival, passes the rules and answers it.
-    fn kept_outcome(&mut self, message: Message) -> Result<Outcome, AllocError>
-        requires { why_dropped self.old message ≡ None }
-        ensures node { OnOk result (self.new ≡ (answered (outcome_from (kept self.old message) []) message).node) }
-        ensures fired { IfOk result (λ o. o.fired ≡ (answered (outcome_from (kept self.old message) []) message).fired) }
-        ensures dropped { IfOk result (λ o. o.dropped ≡ None) }
-    {
-        let line = self.answering(&message)?;
-        self.keep(message)?;
-        let mut fired = Sequence::new(self.alloc);
-        self.passes(&mut fired)?;
-        self.answer_line(line, &mut fired)?;
-        Ok(Outcome {
-            fired,
-            dropped: None,
-        })
     }
 
     /// One pass of the rules behind an event.
@@ -321,32 +280,36 @@ impl<S: Service> NodeCore<S> {
     pub fn regency(&self) -> Regency
         ensures { result ≡ regency_of self.now }
     {
-        Regency::new(0)
+        self.instance.regency()
+    }
+
+    /// The batch that the node accepted at its next place in the greatest regency, if it accepted
+    /// one in this view.
+    pub fn lock(&self) -> Option<Lock>
+        ensures { result ≡ lock_of (open_slot self.now) self.now.entries }
+    {
+        self.instance.lock()
     }
 
     /// The last place that is delivered or decided.
     fn decided_place(&self) -> Place
         ensures { result ≡ decided_place self.now }
     {
-        if self.waiting.is_some() {
-            self.replica.place.next()
-        } else {
-            self.replica.place
-        }
+        self.instance.decided_place()
     }
 
     /// Whether no batch waits, and there is a next place.
     fn is_free(&self) -> bool
         ensures { result ≡ is_free self.now }
     {
-        self.waiting.is_none() && self.replica.place.get() + 1 < 1 << 63
+        self.instance.is_free()
     }
 
     /// Whether a vote is open at the next place.
     fn is_open(&self) -> bool
         ensures { result ≡ is_open self.now }
     {
-        self.view().is_member(self.id()) && self.is_free()
+        self.instance.is_open(self.view())
     }
 
     /// The slot in which the node takes part.
@@ -354,11 +317,7 @@ impl<S: Service> NodeCore<S> {
         requires { is_free self.now ≡ true }
         ensures { result ≡ open_slot self.now }
     {
-        Slot {
-            view: self.view().number(),
-            place: self.replica.place.next(),
-            regency: self.regency(),
-        }
+        self.instance.open_slot(self.view())
     }
 
     /// Holds a message until all entries made so far are firm.
@@ -367,35 +326,5 @@ impl<S: Service> NodeCore<S> {
     {
         let needs = self.made();
         self.held.push(Held { to, message, needs })
-    }
-
-    /// Whether the node has written for the slot in which it takes part.
-    fn has_written(&self) -> bool
-        ensures { result ≡ list_any (is_wrote (open_slot self.now)) self.now.entries }
-    {
-        self.wrote
-    }
-
-    /// Whether the node has accepted in the slot in which it takes part.
-    fn has_accepted(&self) -> bool
-        ensures { result ≡ list_any (is_accepted (open_slot self.now)) self.now.entries }
-    {
-        self.accepted
-    }
-
-    /// Writes an entry down that speaks of no later place than the next.
-    #[tactic(auto, using(crate::proofs::Books::remembers_more))]
-    fn record(&mut self, entry: LogEntry) -> Result<(), AllocError>
-        requires free { is_free self.old ≡ true }
-        requires next { entry_place entry ≤ next_place self.old }
-        ensures { OnOk result (self.new ≡ recording self.old entry) }
-    {
-        let slot = self.open_slot();
-        let wrote = is_wrote(&slot, &entry);
-        let accepted = is_accepted(&slot, &entry);
-        self.entries.push(entry)?;
-        self.wrote = self.wrote || wrote;
-        self.accepted = self.accepted || accepted;
-        Ok(())
     }
 }

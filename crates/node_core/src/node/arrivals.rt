@@ -1,54 +1,96 @@
 //! Which arrivals a node drops, and what it keeps of the others.
-ghost use Rattle.std.specs.Prelude.{◌≡◌, None, IfOk, OnOk};
+ghost use Rattle.std.specs.Prelude.{◌≡◌, ◌||◌, ◌&&◌, is_none, IfOk, OnOk};
+ghost use Rattle.smart_messages.specs.Messages.{Fits};
+ghost use Rattle.smart_messages.specs.declared.message.Message.TheVariants as messages;
 ghost use Rattle.node_rules.specs.Seals.{is_verified};
-ghost use Rattle.node_rules.specs.Arrivals.{slot_why, signer_why, why_ask, why_propose, why_vote, why_reply, why_dropped, is_beyond, tells_behind, noted, kept};
+ghost use Rattle.node_rules.specs.Arrivals.{slot_why, signer_why, why_propose, why_vote, why_reply, why_dropped, is_beyond, noted};
+ghost use Rattle.node_rules.specs.Steps.{arrival_outcome};
+ghost use Rattle.node_core.specs.Arriving.{kept_unless, passed};
 
-use crate::find::{offer, repeats_proposal, repeats_vote};
-use crate::node::NodeCore;
-use crate::replica::is_next;
+use crate::node::{NodeCore, Outcome};
 use crate::seal::{is_valid, is_verified};
 use node_rules::node::Why;
 use smart_base::name::MemberId;
+use smart_base::sequence::Sequence;
 use smart_messages::message::{Message, Proposed};
 use smart_messages::signed::{Signed, Statement};
-use smart_messages::statement::{Answer, Ballot, Request, Slot};
+use smart_messages::statement::{Answer, Ballot, Slot};
 use smart_service::service::Service;
 use std::alloc::AllocError;
 
 impl<S: Service> NodeCore<S> {
-    /// Why an arrival is dropped, if it is.
-    pub(super) fn why_dropped(&self, message: &Message) -> Result<Option<Why>, AllocError>
-        ensures { IfOk result (λ why. why ≡ why_dropped self.now message.now) }
+    /// Drops an arrival for its first reason, or keeps it, passes the rules and answers it.
+    #[tactic(auto, using(crate::proofs::Asks::own_request, crate::proofs::Arrivals::proposal_outcome, crate::proofs::Arrivals::vote_outcome, crate::proofs::Arrivals::reply_outcome))]
+    pub(super) fn arrival_outcome(&mut self, message: Message) -> Result<Outcome, AllocError>
+        requires { Fits message }
+        ensures node { OnOk result (self.new ≡ (arrival_outcome self.old message (why_dropped self.old message)).node) }
+        ensures fired { IfOk result (λ o. o.fired ≡ (arrival_outcome self.old message (why_dropped self.old message)).fired) }
+        ensures dropped { IfOk result (λ o. o.dropped ≡ (arrival_outcome self.old message (why_dropped self.old message)).dropped) }
     {
         match message {
-            Message::Ask(request) => Ok(self.why_ask(request)),
-            Message::Propose(proposed) => Ok(self.why_propose(proposed)?),
-            Message::Vote(ballot) => Ok(self.why_vote(ballot)),
-            Message::Reply(answer) => Ok(self.why_reply(answer)),
-        }
-    }
-
-    /// Notes whether a member's message tells the node that it is behind.
-    #[tactic(auto, unfolding(node_rules::specs::Arrivals::noted))]
-    pub(super) fn note(&mut self, message: &Message)
-        ensures { self.new ≡ noted self.old message.now }
-    {
-        self.behind = self.behind || self.tells_behind(message);
-    }
-
-    fn tells_behind(&self, message: &Message) -> bool
-        ensures { result ≡ tells_behind self.now message.now }
-    {
-        match message {
+            Message::Ask(request) => self.ask_outcome(request),
             Message::Propose(proposed) => {
-                let head = &proposed.head;
-                self.is_beyond(head.statement().slot) && self.signer_why(head).is_none()
+                let dropped = self.take_proposal(proposed)?;
+                self.passed(dropped)
             }
             Message::Vote(ballot) => {
-                self.is_beyond(ballot.statement().slot) && self.signer_why(ballot).is_none()
+                let dropped = self.take_vote(ballot)?;
+                self.passed(dropped)
             }
-            Message::Ask(_) | Message::Reply(_) => false,
+            Message::Reply(answer) => {
+                let dropped = self.why_reply(&answer);
+                self.passed(dropped)
+            }
         }
+    }
+
+    /// Passes the rules behind an arrival that is not dropped.
+    pub(super) fn passed(&mut self, dropped: Option<Why>) -> Result<Outcome, AllocError>
+        ensures node { OnOk result (self.new ≡ (passed self.old dropped).node) }
+        ensures fired { IfOk result (λ o. o.fired ≡ (passed self.old dropped).fired) }
+        ensures dropped { IfOk result (λ o. o.dropped ≡ (passed self.old dropped).dropped) }
+    {
+        let fired = Sequence::new(self.alloc);
+        if dropped.is_some() {
+            return Ok(Outcome { fired, dropped });
+        }
+        self.outcome_from(fired)
+    }
+
+    /// Keeps a proposal, or tells why it is dropped.
+    #[tactic(auto, unfolding(node_rules::specs::Arrivals::noted, node_rules::specs::Arrivals::kept))]
+    fn take_proposal(&mut self, proposed: Proposed) -> Result<Option<Why>, AllocError>
+        ensures why { IfOk result (λ why. why ≡ why_propose self.old proposed) }
+        ensures node { IfOk result (λ why. self.new ≡ kept_unless why (noted self.old (messages.Propose proposed)) (messages.Propose proposed)) }
+    {
+        let dropped = self.why_propose(&proposed)?;
+        let Proposed { head, batch } = proposed;
+        self.note(&head, head.statement().slot);
+        if dropped.is_none() {
+            self.instance.on_propose(head, batch)?;
+        }
+        Ok(dropped)
+    }
+
+    /// Keeps a vote, or tells why it is dropped.
+    #[tactic(auto, unfolding(node_rules::specs::Arrivals::noted, node_rules::specs::Arrivals::kept))]
+    fn take_vote(&mut self, ballot: Signed<Ballot>) -> Result<Option<Why>, AllocError>
+        ensures why { IfOk result (λ why. why ≡ why_vote self.old ballot) }
+        ensures node { IfOk result (λ why. self.new ≡ kept_unless why (noted self.old (messages.Vote ballot)) (messages.Vote ballot)) }
+    {
+        let dropped = self.why_vote(&ballot);
+        self.note(&ballot, ballot.statement().slot);
+        if dropped.is_none() {
+            self.instance.on_vote(ballot)?;
+        }
+        Ok(dropped)
+    }
+
+    /// Notes whether a member's message for a slot tells the node that it is behind.
+    fn note<T: Statement>(&mut self, signed: &Signed<T>, slot: Slot)
+        ensures { self.new ≡ record self.old { behind = self.old.behind || (is_none (signer_why self.old (is_verified T.form self.old.secret signed.now) signed.now.signer) && is_beyond self.old slot) } }
+    {
+        self.behind = self.behind || self.is_beyond(slot) && self.signer_why(signed).is_none();
     }
 
     fn is_beyond(&self, slot: Slot) -> bool
@@ -57,31 +99,6 @@ impl<S: Service> NodeCore<S> {
         let view = self.view().number().get();
         let last = self.decided_place().get();
         view < slot.view.get() || slot.view.get() == view && last + 1 < slot.place.get()
-    }
-
-    /// Keeps what the rules need of an arrival that is not dropped.
-    #[tactic(auto, unfolding(node_rules::specs::Arrivals::kept), using(crate::proofs::Digests::kept_bears))]
-    pub(super) fn keep(&mut self, message: Message) -> Result<(), AllocError>
-        requires { why_dropped self.old message ≡ None }
-        ensures { OnOk result (self.new ≡ kept self.old message) }
-    {
-        match message {
-            Message::Ask(request) => {
-                if is_next(&self.replica.table, request.statement()) {
-                    offer(&mut self.pool, request)?;
-                }
-                Ok(())
-            }
-            Message::Propose(proposed) => {
-                self.arrivals.push(Message::Propose(proposed))?;
-                Ok(())
-            }
-            Message::Vote(ballot) => {
-                self.arrivals.push(Message::Vote(ballot))?;
-                Ok(())
-            }
-            Message::Reply(_) => Ok(()),
-        }
     }
 
     #[tactic(auto, unfolding(node_rules::specs::Arrivals::slot_why))]
@@ -120,27 +137,6 @@ impl<S: Service> NodeCore<S> {
         }
     }
 
-    #[tactic(auto, unfolding(node_rules::specs::Arrivals::why_ask))]
-    fn why_ask(&self, request: &Signed<Request>) -> Option<Why>
-        ensures { result ≡ why_ask self.now request.now }
-    {
-        let asked = request.statement();
-        let last = self.replica.table.last_seq(asked.client);
-        if !self.view().is_member(self.id()) {
-            Some(Why::NotMember)
-        } else if !is_verified(self.keys.ring(), request) {
-            Some(Why::BadTag)
-        } else if request.signer() == 0 || 1024 < request.signer() {
-            Some(Why::Stranger)
-        } else if asked.seq < last {
-            Some(Why::OldSeq)
-        } else if 1 < asked.seq - last {
-            Some(Why::FarSeq)
-        } else {
-            None
-        }
-    }
-
     #[tactic(auto, unfolding(node_rules::specs::Arrivals::why_propose))]
     fn why_propose(&self, proposed: &Proposed) -> Result<Option<Why>, AllocError>
         ensures { IfOk result (λ why. why ≡ why_propose self.now proposed.now) }
@@ -157,7 +153,7 @@ impl<S: Service> NodeCore<S> {
             Ok(Some(Why::NotLeader))
         } else if !is_valid(self.alloc, self.keys.ring(), proposed)? {
             Ok(Some(Why::InvalidBatch))
-        } else if repeats_proposal(self.arrivals.as_slice(), proposed) {
+        } else if self.instance.repeats_proposal(proposed) {
             Ok(Some(Why::Repeated))
         } else {
             Ok(None)
@@ -174,7 +170,7 @@ impl<S: Service> NodeCore<S> {
         if let Some(why) = self.slot_why(ballot.statement().slot) {
             return Some(why);
         }
-        if repeats_vote(self.arrivals.as_slice(), ballot) {
+        if self.instance.repeats_vote(ballot) {
             Some(Why::Repeated)
         } else {
             None

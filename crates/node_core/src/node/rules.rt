@@ -7,18 +7,19 @@ ghost use Rattle.node_rules.specs.Nodes.{next_place, proposal_of, open_slot, is_
 ghost use Rattle.node_rules.specs.Seals.{signed, digest_of};
 ghost use Rattle.smart_messages.specs.Kinds.{proposals};
 ghost use Rattle.node_core.specs.Digests.{ballot_for};
+ghost use Rattle.consensus_instance.specs.Nodes.{due_at};
 ghost use Rattle.smart_messages.specs.declared.statement.VoteKind.TheVariants as kinds;
 ghost use Rattle.node_rules.specs.declared.node.Target.TheVariants as targets;
-ghost use Rattle.smart_service.specs.Tables.{last_seq, line_for};
 ghost use Rattle.node_rules.specs.Replicas.{delivered, executed_lines};
-ghost use Rattle.node_rules.specs.Rules.{settled, reply_of, replying, delivers, delivery, proposing, propose_batch, proposes, ballot, writing, write_batch, writes, backed, backers, accepting, accept_batch, accepts, deciding, decide_batch, decides, answering, answer_line, fired_answer, fired_if};
+ghost use Rattle.node_rules.specs.Rules.{reply_of, replying, delivers, delivery, proposing, propose_batch, proposes, ballot, writing, write_batch, writes, backed, backers, accepting, accept_batch, accepts, deciding, decide_batch, decides, answer_line, fired_answer, fired_if};
 ghost use Rattle.node_rules.specs.declared.node.Fired.TheVariants as fires;
 ghost use Rattle.node_rules.specs.Steps.{votes, fired_votes, passes, fired_pass};
 
-use crate::find::{certificate, gathered, has_proposed, has_quorum, settle};
+use crate::find::has_proposed;
 use crate::node::NodeCore;
-use crate::replica::deliver;
 use crate::seal::digest_of;
+use consensus_instance::rule::Rule;
+use delivery::replica::deliver;
 use node_rules::node::{Delivery, Fired, Target};
 use smart_base::bytes::Digest32;
 use smart_base::duplicate::Duplicate;
@@ -28,7 +29,7 @@ use smart_messages::batch::Batch;
 use smart_messages::entry::LogEntry;
 use smart_messages::message::{Message, Proposed};
 use smart_messages::signed::Signed;
-use smart_messages::statement::{Answer, Ballot, Proposal, Request, VoteKind};
+use smart_messages::statement::{Answer, Ballot, Proposal, VoteKind};
 use smart_service::service::Service;
 use smart_service::table::TableLine;
 use std::alloc::AllocError;
@@ -89,15 +90,19 @@ impl<S: Service> NodeCore<S> {
         ensures node { OnOk result (self.new ≡ delivers S.meaning self.old) }
         ensures fired { IfOk result (λ fired. fired ≡ delivery S.meaning self.old self.old.waiting) }
     {
+        if self.replica.spent() {
+            return Err(AllocError);
+        }
         let mut fired = Sequence::new(self.alloc);
+        let answers = self.view().is_member(self.id());
         match self.waiting.take() {
             None => Ok(fired),
             Some(batch) => {
-                let answers = self.view().is_member(self.id());
-                let place = self.replica.place.next();
-                let lines = self.execute(&batch)?;
+                self.instance.delivered();
+                let lines = deliver(self.alloc, &mut self.replica, &batch)?;
+                self.pool.settle(&self.replica.replica().table);
                 fired.push(Fired::Delivered(Delivery {
-                    place,
+                    place: self.place(),
                     batch,
                     executed: lines.len() as u64,
                 }))?;
@@ -107,20 +112,6 @@ impl<S: Service> NodeCore<S> {
                 Ok(fired)
             }
         }
-    }
-
-    /// Executes a batch at the next place, and gives the lines of the requests that were executed.
-    fn execute(&mut self, batch: &Batch) -> Result<Sequence<TableLine>, AllocError>
-        requires free { self.old.waiting ≡ None }
-        requires room { next_place self.old < 2 ^ 63 }
-        ensures node { OnOk result (self.new ≡ record self.old { replica = delivered S.meaning self.old.replica batch.now; pool = settled (delivered S.meaning self.old.replica batch.now).table self.old.pool }) }
-        ensures lines { IfOk result (λ lines. lines ≡ executed_lines S.meaning self.old.replica batch.now) }
-    {
-        self.wrote = false;
-        self.accepted = false;
-        let lines = deliver(self.alloc, &mut self.replica, batch)?;
-        settle(&mut self.pool, &self.replica.table);
-        Ok(lines)
     }
 
     #[tactic(auto, unfolding(node_rules::specs::Rules::proposing))]
@@ -135,7 +126,7 @@ impl<S: Service> NodeCore<S> {
         if has_proposed(self.proposed.as_slice(), &slot) {
             return Ok(None);
         }
-        gathered(self.alloc, self.pool.as_slice(), slot.place)
+        self.pool.gather(slot.place)
     }
 
     /// The node's proposal of a digest for the slot that is open.
@@ -186,17 +177,13 @@ impl<S: Service> NodeCore<S> {
         Ok(Message::Vote(self.keys.sealed(self.alloc, ballot)?))
     }
 
-    /// The proposal to write for.
-    #[tactic(auto, unfolding(node_rules::specs::Rules::writing))]
-    fn writing(&self) -> Option<&Proposed>
-        ensures batch { option_map (λ (p : Proposed). p.batch) (option_copied result) ≡ writing self.now }
+    /// The proposal for which a rule is due. It states the digest of its batch.
+    fn due(&self, rule: Rule) -> Option<&Proposed>
+        ensures batch { option_map (λ (p : Proposed). p.batch) (option_copied result) ≡ due_at rule self.now }
         ensures digest { IfSome result (λ p. p.now.head.statement.digest ≡ digest_of p.now.batch) }
         ensures free { IsSome result → is_free self.now ≡ true }
     {
-        if !self.is_open() || self.has_written() {
-            return None;
-        }
-        self.arrivals.proposal_of(&self.open_slot())
+        self.instance.due(self.view(), rule)
     }
 
     /// Writes for the batch of a digest.
@@ -206,7 +193,8 @@ impl<S: Service> NodeCore<S> {
     {
         let slot = self.open_slot();
         let vote = self.ballot(VoteKind::Write, digest)?;
-        self.record(LogEntry::Wrote { slot, digest })?;
+        self.entries.push(LogEntry::Wrote { slot, digest })?;
+        self.instance.wrote();
         self.hold(Target::View, vote)?;
         Ok(())
     }
@@ -216,7 +204,7 @@ impl<S: Service> NodeCore<S> {
         ensures node { OnOk result (self.new ≡ writes self.old) }
         ensures fired { OnOk result (fired.new ≡ fired.old ++ fired_if fires.Wrote (writing self.old)) }
     {
-        match self.writing() {
+        match self.due(Rule::Write) {
             None => Ok(()),
             Some(proposed) => {
                 let digest = proposed.head.statement().digest;
@@ -227,46 +215,13 @@ impl<S: Service> NodeCore<S> {
         }
     }
 
-    /// The first proposal for the slot that is open, if a quorum votes for it.
-    fn backed(&self, kind: VoteKind) -> Option<&Proposed>
-        requires { is_free self.now ≡ true }
-        ensures batch { option_map (λ (p : Proposed). p.batch) (option_copied result) ≡ backed self.now kind (proposal_of self.now.arrivals (open_slot self.now)) }
-        ensures digest { IfSome result (λ p. p.now.head.statement.digest ≡ digest_of p.now.batch) }
-    {
-        let slot = self.open_slot();
-        match self.arrivals.proposal_of(&slot) {
-            None => None,
-            Some(proposed) => {
-                let digest = &proposed.head.statement().digest;
-                if has_quorum(self.arrivals.as_slice(), self.view(), kind, &slot, digest) {
-                    Some(proposed)
-                } else {
-                    None
-                }
-            }
-        }
-    }
-
     /// The members whose votes back a digest in the slot that is open.
     fn backers(&self, kind: VoteKind, digest: &Digest32) -> Result<Sequence<MemberId>, AllocError>
         requires { is_free self.now ≡ true }
         ensures { IfOk result (λ members. members ≡ certificate self.now.arrivals (view_of self.now) kind (open_slot self.now) digest.now) }
     {
-        let arrivals = self.arrivals.as_slice();
-        let slot = self.open_slot();
-        certificate(self.alloc, arrivals, self.view(), kind, &slot, digest)
-    }
-
-    #[tactic(auto, unfolding(node_rules::specs::Rules::accepting))]
-    fn accepting(&self) -> Option<&Proposed>
-        ensures batch { option_map (λ (p : Proposed). p.batch) (option_copied result) ≡ accepting self.now }
-        ensures digest { IfSome result (λ p. p.now.head.statement.digest ≡ digest_of p.now.batch) }
-        ensures free { IsSome result → is_free self.now ≡ true }
-    {
-        if !self.is_open() || self.has_accepted() {
-            return None;
-        }
-        self.backed(VoteKind::Write)
+        self.instance
+            .certificate(self.alloc, self.view(), kind, digest)
     }
 
     /// Accepts a batch, whose digest comes with it.
@@ -279,11 +234,12 @@ impl<S: Service> NodeCore<S> {
         let slot = self.open_slot();
         let members = self.backers(VoteKind::Write, &digest)?;
         let vote = self.ballot(VoteKind::Accept, digest)?;
-        self.record(LogEntry::Accepted {
+        self.entries.push(LogEntry::Accepted {
             slot,
             voters: members,
             batch,
         })?;
+        self.instance.accepted(digest);
         self.hold(Target::View, vote)?;
         Ok(())
     }
@@ -293,7 +249,7 @@ impl<S: Service> NodeCore<S> {
         ensures node { OnOk result (self.new ≡ accepts self.old) }
         ensures fired { OnOk result (fired.new ≡ fired.old ++ fired_if fires.Accepted (accepting self.old)) }
     {
-        match self.accepting() {
+        match self.due(Rule::Accept) {
             None => Ok(()),
             Some(proposed) => {
                 let digest = proposed.head.statement().digest;
@@ -303,18 +259,6 @@ impl<S: Service> NodeCore<S> {
                 Ok(())
             }
         }
-    }
-
-    #[tactic(auto, unfolding(node_rules::specs::Rules::deciding))]
-    fn deciding(&self) -> Option<&Proposed>
-        ensures batch { option_map (λ (p : Proposed). p.batch) (option_copied result) ≡ deciding self.now }
-        ensures digest { IfSome result (λ p. p.now.head.statement.digest ≡ digest_of p.now.batch) }
-        ensures free { IsSome result → is_free self.now ≡ true }
-    {
-        if !self.is_free() {
-            return None;
-        }
-        self.backed(VoteKind::Accept)
     }
 
     /// Decides a batch, whose digest comes with it.
@@ -327,12 +271,13 @@ impl<S: Service> NodeCore<S> {
         let slot = self.open_slot();
         let members = self.backers(VoteKind::Accept, &digest)?;
         let copy = batch.duplicate(self.alloc)?;
-        self.record(LogEntry::Decided {
+        self.entries.push(LogEntry::Decided {
             slot,
             voters: members,
             batch: copy,
         })?;
         self.waiting = Some(batch);
+        self.instance.decided();
         Ok(())
     }
 
@@ -341,39 +286,15 @@ impl<S: Service> NodeCore<S> {
         ensures node { OnOk result (self.new ≡ decides self.old) }
         ensures fired { OnOk result (fired.new ≡ fired.old ++ fired_if (fires.Decided (next_place self.old)) (deciding self.old)) }
     {
-        match self.deciding() {
+        match self.due(Rule::Decide) {
             None => Ok(()),
             Some(proposed) => {
                 let digest = proposed.head.statement().digest;
                 let batch = proposed.batch.duplicate(self.alloc)?;
-                fired.push(Fired::Decided(self.replica.place.next()))?;
+                fired.push(Fired::Decided(self.place().next()))?;
                 self.decide_batch(digest, batch)?;
                 Ok(())
             }
-        }
-    }
-
-    /// A copy of the line of a client that asks for its last executed request again.
-    #[tactic(auto, unfolding(node_rules::specs::Rules::answering))]
-    pub(super) fn answering(&self, message: &Message) -> Result<Option<TableLine>, AllocError>
-        ensures { IfOk result (λ line. line ≡ answering self.now message.now) }
-    {
-        match message {
-            Message::Ask(request) => self.asked_again(request.statement()),
-            Message::Propose(_) | Message::Vote(_) | Message::Reply(_) => Ok(None),
-        }
-    }
-
-    fn asked_again(&self, asked: &Request) -> Result<Option<TableLine>, AllocError>
-        ensures { IfOk result (λ line. line ≡ if asked.now.seq == last_seq self.now.replica.table asked.now.client then line_for self.now.replica.table asked.now.client else None) }
-    {
-        let table = &self.replica.table;
-        if asked.seq != table.last_seq(asked.client) {
-            return Ok(None);
-        }
-        match table.line(asked.client) {
-            None => Ok(None),
-            Some(line) => Ok(Some(line.duplicate(self.alloc)?)),
         }
     }
 

@@ -1,0 +1,36 @@
+-- A message that answers nothing passes the rules, or none.
+use Rattle.std.proofs.Common.{◌≡◌, Bool, List, refl, ap, sym, Option, Some, None}
+use Rattle.std.proofs.lemmas.List.{append-nil}
+use Rattle.std.proofs.Math.Bool.{or-false}
+use Rattle.smart_messages.specs.Forms.{SignedBy}
+use Rattle.smart_messages.specs.declared.statement.Ballot.{Ballot}
+use Rattle.smart_messages.specs.declared.statement.Answer.{Answer}
+use Rattle.smart_messages.specs.declared.message.Message.TheVariants.{Propose, Vote, Reply}
+use Rattle.smart_messages.specs.declared.message.Proposed.{Proposed}
+use Rattle.node_rules.specs.Nodes.{Node}
+use Rattle.node_rules.specs.Arrivals.{noted, kept}
+use Rattle.node_rules.specs.Rules.{answering, answer_line, answers_again}
+use Rattle.node_rules.specs.Steps.{passes, arrival_outcome}
+use Rattle.node_rules.specs.declared.node.Fired.{Fired}
+use Rattle.node_rules.specs.declared.node.Why.{Why}
+use Rattle.node_core.specs.Arriving.{kept_unless, passed}
+
+pub proposal_outcome : {S : Type 0} (n : Node S) (p : Proposed) (why : Option Why) → passed (kept_unless why (noted n (Propose p)) (Propose p)) why ≡ arrival_outcome n (Propose p) why
+unfolding answers_again answering answer_line
+proposal_outcome n p None = ap (λ (f : List Fired). record { node = passes (kept (noted n (Propose p)) (Propose p)); fired = f; dropped = None }) (sym (append-nil _))
+proposal_outcome n p (Some why) = refl
+
+pub vote_outcome : {S : Type 0} (n : Node S) (b : SignedBy Ballot) (why : Option Why) → passed (kept_unless why (noted n (Vote b)) (Vote b)) why ≡ arrival_outcome n (Vote b) why
+unfolding answers_again answering answer_line
+vote_outcome n b None = ap (λ (f : List Fired). record { node = passes (kept (noted n (Vote b)) (Vote b)); fired = f; dropped = None }) (sym (append-nil _))
+vote_outcome n b (Some why) = refl
+
+pub reply_noted : {S : Type 0} (n : Node S) (a : SignedBy Answer) → noted n (Reply a) ≡ n
+unfolding noted
+reply_noted {S = S} n a = ap (λ (b : Bool). record n { behind = b }) (or-false n.behind)
+
+-- no reply is kept
+pub reply_outcome : {S : Type 0} (n : Node S) (a : SignedBy Answer) (why : Option Why) → passed n why ≡ arrival_outcome n (Reply a) why
+unfolding answers_again answering answer_line kept
+reply_outcome n a None = rw (reply_noted n a) (ap (λ (f : List Fired). record { node = passes n; fired = f; dropped = None }) (sym (append-nil _)))
+reply_outcome n a (Some why) = rw (reply_noted n a) refl
