@@ -1,0 +1,81 @@
+-- Facts on tests, on first replies and on first reasons.
+use Rattle.std.proofs.Common.{◌≡◌, ℕ, ◌++◌, ◌==◌, Bool, true, false, not, ◌&&◌, ◌||◌, List, [], ◌∷◌, filter, refl, cond, Option, Some, None, eqb-true, inl, inr, ◌⊎◌}
+use Rattle.std.specs.List.{list_any}
+use Rattle.smart_base.specs.Lists.{or_else, same_bytes}
+use Rattle.smart_base.proofs.SameLists.{same_list-equal}
+use Rattle.smart_messages.specs.Forms.{SignedBy}
+use Rattle.smart_messages.specs.declared.statement.Answer.{Answer}
+use Rattle.client_quorum.specs.Clients.{same_answer}
+use Rattle.client_quorum.specs.Quorums.{first_of}
+use Rattle.client_quorum.specs.declared.client.Ignored.{Ignored}
+use Rattle.client_quorum.specs.declared.client.Ignored.TheVariants as reasons
+
+and_true : (a b : Bool) → (a && b) ≡ true → (a ≡ true) × (b ≡ true)
+and_true true b is = (refl, is)
+and_true false b is = absurd (cc)
+
+-- a test and what it gives
+pub decide : (b : Bool) → (b ≡ true) ⊎ (b ≡ false)
+decide true = inl refl
+decide false = inr refl
+
+-- tests that agree leave the same values
+pub filter_alike : {A : Type 0} (p q : A → Bool) → ((x : A) → p x ≡ q x) → (xs : List A) → filter p xs ≡ filter q xs
+filter_alike p q alike [] = refl
+filter_alike p q alike (x ∷ xs) = let first = alike x in let rest = filter_alike p q alike xs in cc
+
+-- a test that always fails leaves none
+pub filter_none : {A : Type 0} (xs : List A) → filter (λ x. false) xs ≡ []
+filter_none [] = refl
+filter_none (x ∷ xs) = filter_none xs
+
+-- any of a list with one more at its end
+pub any_end : {A : Type 0} (p : A → Bool) (xs : List A) (x : A) → list_any p (xs ++ x ∷ []) ≡ (list_any p xs || p x)
+any_end p [] x = or_none (p x)
+  where
+    or_none : (b : Bool) → (b || false) ≡ b
+    or_none true = refl
+    or_none false = refl
+any_end p (y ∷ xs) x = or_more (p y) (list_any p (xs ++ x ∷ [])) (list_any p xs) (p x) (any_end p xs x)
+  where
+    or_more : (a b c d : Bool) → b ≡ (c || d) → (a || b) ≡ ((a || c) || d)
+    or_more true b c d same = refl
+    or_more false b c d same = same
+
+-- replies that are equal are equal to the same ones
+pub same_answer-alike : (a b : Answer) → same_answer a b ≡ true → (x : Answer) → same_answer x a ≡ same_answer x b
+same_answer-alike a b same x =
+    let three = and_true ((a.view == b.view) && (a.place == b.place) && (a.index == b.index)) (same_bytes a.reply b.reply) same in
+    let two = and_true ((a.view == b.view) && (a.place == b.place)) (a.index == b.index) three.0 in
+    let one = and_true (a.view == b.view) (a.place == b.place) two.0 in
+    let view = eqb-true a.view b.view one.0 in
+    let place = eqb-true a.place b.place one.1 in
+    let index = eqb-true a.index b.index two.1 in
+    let reply = same_list-equal (λ x y. x == y) (λ x y is. eqb-true x y is) a.reply b.reply three.1 in
+    cc
+
+-- the first of a list with one more at its end
+pub first_end : (test : SignedBy Answer → Bool) (replies : List (SignedBy Answer)) (a : SignedBy Answer) (member : ℕ)
+    → first_of test (replies ++ a ∷ []) member ≡ or_else (first_of test replies member) (cond ((a.signer == member) && test a) (Some a.statement) None)
+first_end test [] a member = refl
+first_end test (r ∷ replies) a member = taken ((r.signer == member) && test r) r.statement _ _ _ (first_end test replies a member)
+  where
+    taken : (b : Bool) (x : Answer) (long short last : Option Answer) → long ≡ or_else short last → cond b (Some x) long ≡ or_else (cond b (Some x) short) last
+    taken true x long short last same = refl
+    taken false x long short last same = same
+
+-- the first reason that applies
+
+-- no reason applies, or one does
+abbrev pub Reasons : Bool → Bool → Option Ignored → Type 0
+Reasons counts repeats why = ((why ≡ None) × (counts ≡ true) × (repeats ≡ false)) ⊎ ((w : Ignored) × (why ≡ Some w) × ((counts ≡ false) ⊎ (repeats ≡ true)))
+
+pub reasons_of : (tagged waits view member repeats : Bool)
+    → Reasons (tagged && waits && view && member) repeats
+    (cond (not tagged) (Some reasons.BadTag) (cond (not waits) (Some reasons.Settled) (cond (not view) (Some reasons.UnknownView) (cond (not member) (Some reasons.Stranger) (cond repeats (Some reasons.Repeated) None)))))
+reasons_of false waits view member repeats = inr (reasons.BadTag, refl, inl refl)
+reasons_of true false view member repeats = inr (reasons.Settled, refl, inl refl)
+reasons_of true true false member repeats = inr (reasons.UnknownView, refl, inl refl)
+reasons_of true true true false repeats = inr (reasons.Stranger, refl, inl refl)
+reasons_of true true true true true = inr (reasons.Repeated, refl, inr refl)
+reasons_of true true true true false = inl (refl, refl, refl)
