@@ -1,81 +1,16 @@
--- What a client asks, and when it accepts a reply.
-use Rattle.std.specs.Prelude.{ℕ, ◌+◌, ◌==◌, nat_le, Bool, false, not, ◌&&◌, List, [], ◌∷◌, ◌++◌, filter, if◌then◌else◌, Option, Some, None, max}
-use Rattle.std.specs.List.{list_any}
-use Rattle.smart_base.specs.Lists.{same_bytes}
-use Rattle.smart_base.specs.Views.{View, weight_of, quorum, is_member}
+-- What a client of a script's group makes of a reply.
+use Rattle.std.specs.Prelude.{Option}
+use Rattle.smart_base.specs.Views.{View}
 use Rattle.smart_messages.specs.Forms.{SignedBy}
-use Rattle.smart_messages.specs.Kinds.{answers}
-use Rattle.smart_messages.specs.declared.statement.Request.{Request}
 use Rattle.smart_messages.specs.declared.statement.Answer.{Answer}
-use Rattle.node_rules.specs.Seals.{is_verified}
+use Rattle.client_quorum.specs.Clients as clients
+use Rattle.client_quorum.specs.declared.client.Client.{Client}
+use Rattle.client_quorum.specs.declared.client.Ignored.{Ignored}
+use Rattle.client_quorum.specs.declared.client.Heard.{Heard}
 use Rattle.world_rules.specs.Secrets.{group_secret}
-use Rattle.world_rules.specs.declared.client.Client.{Client}
-use Rattle.world_rules.specs.declared.client.Acceptance.{Acceptance}
-use Rattle.world_rules.specs.declared.client.Ignored.{Ignored}
-use Rattle.world_rules.specs.declared.client.Ignored.TheVariants as reasons
-use Rattle.world_rules.specs.declared.client.Heard.{Heard}
-use Rattle.world_rules.specs.declared.client.Heard.TheVariants as hears
 
--- a client that has not asked
-abbrev pub fresh : ℕ → Client
-fresh id = record { id = id; last = 0; waiting = None; seen = 0; replies = [] }
+abbrev pub why_ignored : View → Client → SignedBy Answer → Option Ignored
+why_ignored v c a = clients.why_ignored group_secret v c a
 
--- the next request of a client
-abbrev pub request_of : Client → List ℕ → Request
-request_of c op = record { client = c.id; seq = c.last + 1; after = c.seen; op = op }
-
--- the client with a request that waits for its reply
-abbrev pub asking : Client → Request → Client
-asking c q = record c { last = q.seq; waiting = Some q; replies = [] }
-
--- two replies that are equal but for the member
-abbrev pub same_answer : Answer → Answer → Bool
-same_answer a b = (a.view == b.view) && (a.place == b.place) && (a.index == b.index) && same_bytes a.reply b.reply
-
--- whether a member gave this reply
-abbrev pub has_answer : List (SignedBy Answer) → Answer → ℕ → Bool
-has_answer replies a member = list_any (λ r. (r.signer == member) && same_answer r.statement a) replies
-
--- what the members that gave this reply weigh together
-abbrev pub have : View → List (SignedBy Answer) → Answer → ℕ
-have v replies a = weight_of v (filter (has_answer replies a) v.members)
-
--- the reply is to the request that waits
-abbrev pub is_waited_for : Option Request → Answer → Bool
-is_waited_for None a = false
-is_waited_for (Some q) a = (q.client == a.client) && (q.seq == a.seq)
-
--- the first reason to ignore a reply
-unfoldable pub why_ignored : View → Client → SignedBy Answer → Option Ignored
-why_ignored v c a =
-    if not (is_verified answers group_secret a) then Some reasons.BadTag
-    else if not (is_waited_for c.waiting a.statement) then Some reasons.Settled
-    else if not (a.statement.view == v.number) then Some reasons.UnknownView
-    else if not (is_member v a.signer) then Some reasons.Stranger
-    else if list_any (λ r. r.signer == a.signer) c.replies then Some reasons.Repeated
-    else None
-
-abbrev pub acceptance : Request → Answer → Acceptance
-acceptance q a = record { request = q; view = a.view; place = a.place; index = a.index; reply = a.reply }
-
--- a reply that counts is accepted where a quorum of the view has given it, this member among them
-abbrev pub count_heard : View → Client → SignedBy Answer → Request → Heard
-count_heard v c a q =
-    if nat_le (quorum v) (have v (c.replies ++ a ∷ []) a.statement)
-    then hears.Accepted (acceptance q a.statement)
-    else hears.Counted (have v (c.replies ++ a ∷ []) a.statement) (quorum v)
-
-abbrev pub heard_unless : View → Client → SignedBy Answer → Option Ignored → Option Request → Heard
-heard_unless v c a (Some why) waiting = hears.Ignored why
-heard_unless v c a None None = hears.Ignored reasons.Settled
-heard_unless v c a None (Some q) = count_heard v c a q
-
--- what a client makes of a reply
-unfoldable pub heard : View → Client → SignedBy Answer → Heard
-heard v c a = heard_unless v c a (why_ignored v c a) c.waiting
-
--- the client behind it
-abbrev pub after_heard : Client → SignedBy Answer → Heard → Client
-after_heard c a (hears.Counted count need) = record c { replies = c.replies ++ a ∷ [] }
-after_heard c a (hears.Accepted acceptance) = record c { waiting = None; seen = max c.seen a.statement.place; replies = [] }
-after_heard c a (hears.Ignored why) = c
+abbrev pub heard : View → Client → SignedBy Answer → Heard
+heard v c a = clients.heard group_secret v c a

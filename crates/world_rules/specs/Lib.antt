@@ -4,6 +4,7 @@ pub mod Clients
 pub mod Repeats
 pub mod Worlds
 pub mod Plays
+pub mod Knowing
 pub mod Promises
 pub mod Texts
 pub mod Scripts

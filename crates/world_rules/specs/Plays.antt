@@ -8,7 +8,7 @@ use Rattle.node_rules.specs.Nodes.{Node}
 use Rattle.node_rules.specs.Steps.{Outcome}
 use Rattle.smart_base.specs.declared.party.Party.{Party}
 use Rattle.smart_base.specs.declared.party.Party.TheVariants as parties
-use Rattle.world_rules.specs.Worlds.{World, asks, settle, settle_all, flows, host_index, at_member, give_number, deliver_each, shows, begun}
+use Rattle.world_rules.specs.Worlds.{World, asks, repeats, tells, settle, settle_all, flows, host_index, at_member, give_number, deliver_each, shows, begun}
 use Rattle.world_rules.specs.declared.line.Line.{Line}
 use Rattle.world_rules.specs.declared.line.Line.TheVariants as lines
 use Rattle.world_rules.specs.declared.line.OutLine.{OutLine}
@@ -26,6 +26,8 @@ has_party w (parties.Client id) = true
 unfoldable pub is_there : {S : Type 0} → World S → Line → Bool
 is_there w lines.Nothing = true
 is_there w (lines.Ask client op) = true
+is_there w (lines.Again client) = true
+is_there w (lines.Tell from to) = true
 is_there w (lines.Flow members) = list_all (has_member w) members
 is_there w (lines.Give number to) = nat_le 1 number && nat_le number (length w.sent) && list_all (has_party w) to
 is_there w (lines.Deliver members) = list_all (has_member w) members
@@ -37,6 +39,8 @@ is_there w lines.Show = true
 unfoldable pub line_played : {S : Type 0} → (Node S → NodeEvent → Outcome S) → World S → Line → World S
 line_played step w lines.Nothing = w
 line_played step w (lines.Ask client op) = asks client op w
+line_played step w (lines.Again client) = repeats client w
+line_played step w (lines.Tell from to) = tells from to w
 line_played step w (lines.Flow members) = flows step members w
 line_played step w (lines.Give number to) = give_number step number to w
 line_played step w (lines.Deliver members) = deliver_each step members w

@@ -15,7 +15,8 @@ use Rattle.node_rules.specs.declared.node.Delivery.{Delivery}
 use Rattle.world_rules.specs.Secrets.{group_secret}
 use Rattle.world_rules.specs.Worlds.{Host, World, begun}
 use Rattle.world_rules.specs.Plays.{world_after, lines_told}
-use Rattle.world_rules.specs.declared.client.Acceptance.{Acceptance}
+use Rattle.world_rules.specs.Knowing.{known_by}
+use Rattle.client_quorum.specs.declared.client.Acceptance.{Acceptance}
 use Rattle.world_rules.specs.declared.line.Line.{Line}
 use Rattle.world_rules.specs.declared.line.OutLine.{OutLine}
 use Rattle.world_rules.specs.declared.line.OutLine.TheVariants as outs
@@ -42,7 +43,8 @@ HasAsked [] q = ⊥
 HasAsked (s ∷ sent) q = (s ≡ record { origin = origins.Client q.client; to = targets.View; message = Ask (signed requests group_secret q.client q) }) ⊎ HasAsked sent q
 
 -- a reply that was accepted names the one place of its request in the list, the request there is the one that the client asked, the
--- reply is the service's answer there, it states the view in force there, and the place is above every place that the client knew
+-- reply is the service's answer there, it states the view in force there, and the place is above the one that the request states: the
+-- greatest that the client knew when it asked (`past_known` of `OneListThroughout`)
 pub record IsRight {S : Type 0} (m : Meaning S) (view : View) (sent : List Sent) (chosen : List Batch) (a : Acceptance) : Type 0 where
   pub asked : HasAsked sent a.request
   pub place_is : place_of m view chosen a.request.client a.request.seq ≡ Some (a.place, a.index)
@@ -57,7 +59,7 @@ Rises [] = Unit {0}
 Rises (a ∷ later) = Each (λ b. b.request.client ≡ a.request.client → a.place ≤ b.request.after) later × Rises later
 
 -- all nodes deliver fronts of one list, and each reply that a client accepted is the service's answer at its request's one place there,
--- past every place that its client knew
+-- past the place that its request states
 pub record OneList {S : Type 0} (m : Meaning S) (w : World S) : Type 0 where
   pub hosts : Each (IsPrefix m w.view w.chosen) w.hosts
   pub accepted : Each (IsRight m w.view w.sent w.chosen) w.accepted
@@ -66,7 +68,7 @@ pub record OneList {S : Type 0} (m : Meaning S) (w : World S) : Type 0 where
 -- a transcript line that tells of an accepted reply names the one place of its request in the list, and tells the service's answer there
 abbrev pub IsAnswered : {S : Type 0} → Meaning S → View → List Batch → OutLine → Type 0
 IsAnswered m view chosen (outs.Accepted client seq place index reply) = (place_of m view chosen client seq ≡ Some (place, index)) × (answer m view chosen place index ≡ Some reply)
-IsAnswered m view chosen (outs.Group members faulty) = Unit {0}
+IsAnswered m view chosen (outs.Group members faulty app) = Unit {0}
 IsAnswered m view chosen (outs.Sent number origin summary) = Unit {0}
 IsAnswered m view chosen (outs.Decided member place) = Unit {0}
 IsAnswered m view chosen (outs.Delivered member place executed) = Unit {0}
@@ -75,16 +77,26 @@ IsAnswered m view chosen (outs.Counted client have need) = Unit {0}
 IsAnswered m view chosen (outs.Ignored client why) = Unit {0}
 IsAnswered m view chosen (outs.Busy client seq) = Unit {0}
 IsAnswered m view chosen (outs.Idle member) = Unit {0}
+IsAnswered m view chosen (outs.IdleClient client) = Unit {0}
+IsAnswered m view chosen (outs.Learned client place) = Unit {0}
 IsAnswered m view chosen (outs.Stands member place number regency) = Unit {0}
 IsAnswered m view chosen (outs.Seen client place) = Unit {0}
 IsAnswered m view chosen (outs.End lines messages) = Unit {0}
+
+-- a request was among those sent, or it states a place no less than each one that the transcript told its client
+abbrev pub IsPast : List Sent → List OutLine → Request → Type 0
+IsPast sent told q = HasAsked sent q ⊎ (known_by q.client told ≤ q.after)
 
 -- the world after the first lines of a script over a group
 abbrev pub world_at : {S : Type 0} → Meaning S → View → List Line → ℕ → World S
 world_at m view ls k = world_after (step_of m) (begun m view) (take k ls)
 
--- one list holds after each line, the list only grows, and each transcript line that tells of an accepted reply tells its answer there
+-- one list holds after each line, the list only grows, and each transcript line that tells of an accepted reply tells its answer there.
+-- Each request whose reply is accepted, be it when it may, states what its client knew: of each line after which it had not been sent
+-- yet, a place no less than each one that the transcript had told the client by then, of a reply that it accepted or of one that it was
+-- told. The reply stands past them all, as its place is above the one that the request states (`above` of `IsRight`)
 pub record OneListThroughout {S : Type 0} (m : Meaning S) (view : View) (ls : List Line) : Type 0 where
   pub one_list : (k : ℕ) → OneList m (world_at m view ls k)
   pub grows : (j k : ℕ) → j ≤ k → take (length (world_at m view ls j).chosen) (world_at m view ls k).chosen ≡ (world_at m view ls j).chosen
   pub told : (k : ℕ) → Each (IsAnswered m view (world_at m view ls k).chosen) (lines_told (step_of m) (begun m view) (take k ls))
+  pub past_known : (j k : ℕ) → Each (λ a. IsPast (world_at m view ls j).sent (lines_told (step_of m) (begun m view) (take j ls)) a.request) (world_at m view ls k).accepted

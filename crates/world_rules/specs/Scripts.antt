@@ -6,6 +6,8 @@ use Rattle.smart_base.specs.Lists.{same_bytes}
 use Rattle.smart_base.specs.Views.{View}
 use Rattle.smart_base.specs.declared.party.Party.{Party}
 use Rattle.smart_base.specs.declared.party.Party.TheVariants as parties
+use Rattle.world_rules.specs.declared.line.App.{App}
+use Rattle.world_rules.specs.declared.line.App.TheVariants as apps
 use Rattle.world_rules.specs.declared.line.Line.{Line}
 use Rattle.world_rules.specs.declared.line.Line.TheVariants as lines
 use Rattle.world_rules.specs.declared.line.Kind.{Kind}
@@ -97,6 +99,22 @@ ask_line bytes [] = Err kinds.Count
 ask_line bytes (client ∷ []) = Err kinds.Count
 ask_line bytes (client ∷ op ∷ more) = ask_with (behind_space (behind_space bytes)) (client_of client)
 
+abbrev pub again_line : List (List ℕ) → Result Line Kind
+again_line [] = Err kinds.Count
+again_line (client ∷ []) = or_number lines.Again (client_of client)
+again_line (client ∷ next ∷ more) = Err kinds.Count
+
+abbrev pub tell_with : Option ℕ → Option ℕ → Result Line Kind
+tell_with None to = Err kinds.Number
+tell_with (Some from) None = Err kinds.Number
+tell_with (Some from) (Some to) = Ok (lines.Tell from to)
+
+abbrev pub told_line : List (List ℕ) → Result Line Kind
+told_line [] = Err kinds.Count
+told_line (from ∷ []) = Err kinds.Count
+told_line (from ∷ to ∷ []) = tell_with (client_of from) (client_of to)
+told_line (from ∷ to ∷ next ∷ more) = Err kinds.Count
+
 abbrev pub flow_line : List (List ℕ) → Result Line Kind
 flow_line members = or_number lines.Flow (each_word member_of members)
 
@@ -127,6 +145,8 @@ abbrev pub line_by : List ℕ → List (List ℕ) → Result Line Kind
 line_by bytes [] = Err kinds.Word
 line_by bytes (word ∷ words) =
     if same_bytes word (codes "ask") then ask_line bytes words
+    else if same_bytes word (codes "again") then again_line words
+    else if same_bytes word (codes "told") then told_line words
     else if same_bytes word (codes "flow") then flow_line words
     else if same_bytes word (codes "give") then give_line words
     else if same_bytes word (codes "deliver") then deliver_line words
@@ -172,6 +192,9 @@ group_by (word ∷ words) = if same_bytes word (codes "group") then group_words 
 unfoldable pub group_line : List ℕ → Option View
 group_line bytes = group_by (words_in bytes)
 
--- the line `app count`
-abbrev pub is_app_line : List ℕ → Bool
-is_app_line bytes = same_bytes bytes (codes "app count")
+-- the line `app count` or `app kv`, if it is one
+unfoldable pub app_line : List ℕ → Option App
+app_line bytes =
+    if same_bytes bytes (codes "app count") then Some apps.Count
+    else if same_bytes bytes (codes "app kv") then Some apps.Kv
+    else None

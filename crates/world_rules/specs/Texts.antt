@@ -5,10 +5,12 @@ use Rattle.std.specs.Fmt.{decimal}
 use Rattle.smart_base.specs.Views.{View}
 use Rattle.node_rules.specs.declared.node.Why.{Why}
 use Rattle.node_rules.specs.declared.node.Why.TheVariants as whys
-use Rattle.world_rules.specs.declared.client.Ignored.{Ignored}
-use Rattle.world_rules.specs.declared.client.Ignored.TheVariants as reasons
+use Rattle.client_quorum.specs.declared.client.Ignored.{Ignored}
+use Rattle.client_quorum.specs.declared.client.Ignored.TheVariants as reasons
 use Rattle.world_rules.specs.declared.message.Origin.{Origin}
 use Rattle.world_rules.specs.declared.message.Origin.TheVariants as origins
+use Rattle.world_rules.specs.declared.line.App.{App}
+use Rattle.world_rules.specs.declared.line.App.TheVariants as apps
 use Rattle.world_rules.specs.declared.line.Summary.{Summary}
 use Rattle.world_rules.specs.declared.line.Summary.TheVariants as summaries
 use Rattle.world_rules.specs.declared.line.OutLine.{OutLine}
@@ -54,6 +56,10 @@ summary_text (summaries.Write v k r) = codes "write" ++ (after_space v ++ (after
 summary_text (summaries.Accept v k r) = codes "accept" ++ (after_space v ++ (after_space k ++ after_space r))
 summary_text (summaries.Reply c s k i) = codes "reply" ++ (after_space c ++ (after_space s ++ (after_space k ++ after_space i)))
 
+abbrev pub app_text : App → List ℕ
+app_text apps.Count = codes "count"
+app_text apps.Kv = codes "kv"
+
 abbrev pub hex_digit : ℕ → ℕ
 hex_digit n = if nat_lt n 10 then 48 + n else 87 + n
 
@@ -62,7 +68,7 @@ abbrev pub shown : ℕ → List ℕ
 shown b = if nat_le 32 b && nat_le b 126 && not (b == 92) then b ∷ [] else 92 ∷ 120 ∷ hex_digit (b / 16) ∷ hex_digit (b % 16) ∷ []
 
 abbrev pub words_of : OutLine → List ℕ
-words_of (outs.Group n f) = codes "group" ++ (after_space n ++ (after_space f ++ codes " count 1024"))
+words_of (outs.Group n f app) = codes "group" ++ (after_space n ++ (after_space f ++ (32 ∷ app_text app ++ codes " 1024")))
 words_of (outs.Sent number origin summary) = codes "sent" ++ (after_space number ++ (32 ∷ origin_text origin ++ (32 ∷ summary_text summary)))
 words_of (outs.Decided id k) = codes "decided n" ++ (decimal id ++ after_space k)
 words_of (outs.Delivered id k count) = codes "delivered n" ++ (decimal id ++ (after_space k ++ after_space count))
@@ -72,6 +78,8 @@ words_of (outs.Accepted id s k i text) = codes "accepted c" ++ (decimal id ++ (a
 words_of (outs.Ignored id why) = codes "ignored c" ++ (decimal id ++ (32 ∷ ignored_text why))
 words_of (outs.Busy id s) = codes "busy c" ++ (decimal id ++ after_space s)
 words_of (outs.Idle id) = codes "idle n" ++ decimal id
+words_of (outs.IdleClient id) = codes "idle c" ++ decimal id
+words_of (outs.Learned id k) = codes "told c" ++ (decimal id ++ after_space k)
 words_of (outs.Stands id k v r) = codes "place n" ++ (decimal id ++ (after_space k ++ (after_space v ++ after_space r)))
 words_of (outs.Seen id k) = codes "seen c" ++ (decimal id ++ after_space k)
 words_of (outs.End lines messages) = codes "end" ++ (after_space lines ++ after_space messages)
@@ -84,5 +92,5 @@ abbrev pub text_of : List OutLine → List ℕ
 text_of lines = flat_map line_text lines
 
 -- the line that tells the header of a script
-abbrev pub header_line : View → OutLine
-header_line view = outs.Group (length view.members) view.f
+abbrev pub header_line : View → App → OutLine
+header_line view app = outs.Group (length view.members) view.f app

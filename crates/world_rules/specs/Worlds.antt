@@ -33,12 +33,13 @@ use Rattle.node_rules.specs.declared.node.Fired.TheVariants as fires
 use Rattle.world_rules.specs.Repeats.{until_rest, each_from}
 use Rattle.world_rules.specs.Secrets.{group_secret}
 use Rattle.world_rules.specs.Premises.{collides}
-use Rattle.world_rules.specs.Clients.{fresh, request_of, asking, heard, after_heard}
-use Rattle.world_rules.specs.declared.client.Client.{Client}
-use Rattle.world_rules.specs.declared.client.Acceptance.{Acceptance}
-use Rattle.world_rules.specs.declared.client.Ignored.TheVariants as reasons
-use Rattle.world_rules.specs.declared.client.Heard.{Heard}
-use Rattle.world_rules.specs.declared.client.Heard.TheVariants as hears
+use Rattle.client_quorum.specs.Clients.{fresh, request_of, asking, learning, after_heard}
+use Rattle.world_rules.specs.Clients.{heard}
+use Rattle.client_quorum.specs.declared.client.Client.{Client}
+use Rattle.client_quorum.specs.declared.client.Acceptance.{Acceptance}
+use Rattle.client_quorum.specs.declared.client.Ignored.TheVariants as reasons
+use Rattle.client_quorum.specs.declared.client.Heard.{Heard}
+use Rattle.client_quorum.specs.declared.client.Heard.TheVariants as hears
 use Rattle.world_rules.specs.declared.message.Origin.{Origin}
 use Rattle.world_rules.specs.declared.message.Origin.TheVariants as origins
 use Rattle.world_rules.specs.declared.message.Sent.{Sent}
@@ -254,6 +255,31 @@ ask_found w i op (Some c) = client_asks w i c op c.waiting
 
 unfoldable pub asks : {S : Type 0} → ℕ → List ℕ → World S → World S
 asks i op w = if is_some w.ending then w else ask_found w i op (slice_get w.clients i)
+
+-- a client sends its request that waits once more
+abbrev pub client_repeats : {S : Type 0} → World S → Client → Option Request → World S
+client_repeats w c None = telling w (outs.IdleClient c.id)
+client_repeats w c (Some q) = sends w (origins.Client c.id) targets.View (Ask (signed requests group_secret c.id q))
+
+abbrev pub repeat_found : {S : Type 0} → World S → Option Client → World S
+repeat_found w None = w
+repeat_found w (Some c) = client_repeats w c c.waiting
+
+unfoldable pub repeats : {S : Type 0} → ℕ → World S → World S
+repeats i w = if is_some w.ending then w else repeat_found w (slice_get w.clients i)
+
+-- a client is told of a place
+abbrev pub learns : {S : Type 0} → World S → ℕ → ℕ → Option Client → World S
+learns w place i None = w
+learns w place i (Some c) = telling (record w { clients = slice_set w.clients i (learning c place) }) (outs.Learned c.id (learning c place).seen)
+
+abbrev pub learns_from : {S : Type 0} → World S → Option Client → ℕ → World S
+learns_from w None i = w
+learns_from w (Some c) i = learns w c.seen i (slice_get w.clients i)
+
+-- a client is told of the greatest place that another knows
+unfoldable pub tells : {S : Type 0} → ℕ → ℕ → World S → World S
+tells from to w = if is_some w.ending then w else learns_from w (slice_get w.clients from) to
 
 -- flow
 

@@ -3,6 +3,5 @@
 //! types that they speak of.
 #![tactic(auto)]
 
-pub mod client;
 pub mod line;
 pub mod message;

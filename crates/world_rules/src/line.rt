@@ -1,12 +1,21 @@
 //! The lines of a script and of its transcript.
-use crate::client::Ignored;
 use crate::message::Origin;
+use client_quorum::client::Ignored;
 use node_rules::node::Why;
 use smart_base::bytes::Payload;
 use smart_base::name::{ClientId, MemberId};
 use smart_base::number::{Place, Regency, ViewNo};
 use smart_base::party::Party;
 use smart_base::sequence::Sequence;
+
+/// The service that a script's header names.
+#[derive(Clone, Copy, Debug, PartialEq, Eq)]
+pub enum App {
+    /// A sum.
+    Count,
+    /// Values by keys.
+    Kv,
+}
 
 /// A script line behind the header.
 #[derive(Drop)]
@@ -15,6 +24,10 @@ pub enum Line {
     Nothing,
     /// `ask C OP`: client C asks for the operation.
     Ask { client: ClientId, op: Payload },
+    /// `again C`: client C sends its request that waits once more.
+    Again { client: ClientId },
+    /// `told C D`: client D is told the greatest place that client C knows.
+    Tell { from: ClientId, to: ClientId },
     /// `flow M..`: every message that was sent is given to those of these members that it is for, or to its client, until nothing
     /// is due. Where none is listed, all members are.
     Flow { members: Sequence<MemberId> },
@@ -88,10 +101,11 @@ pub enum Summary {
 /// A line of the transcript.
 #[derive(Drop)]
 pub enum OutLine {
-    /// The header: members, and how many of them may be faulty.
+    /// The header: members, how many of them may be faulty, and the service.
     Group {
         members: u64,
         faulty: u8,
+        app: App,
     },
     /// A message left: its number, its sender, and what it is.
     Sent {
@@ -142,6 +156,15 @@ pub enum OutLine {
     /// A node had nothing to do.
     Idle {
         member: MemberId,
+    },
+    /// A client had nothing to send.
+    IdleClient {
+        client: ClientId,
+    },
+    /// A client was told of a place: the greatest that it knows now.
+    Learned {
+        client: ClientId,
+        place: Place,
     },
     /// Where a node stands: its last delivered place, its view and its regency.
     Stands {

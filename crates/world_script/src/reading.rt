@@ -1,7 +1,7 @@
 //! What the lines of a script mean.
 ghost use Rattle.std.specs.Prelude.{◌≡◌, ◌&&◌, ◌<◌, ◌≤◌, nat_le, IfOk, IfSome, take};
 ghost use Rattle.std.specs.List.{list_all};
-ghost use Rattle.world_rules.specs.Scripts.{is_printed, is_short, is_nothing, number_in, member_of, client_of, each_word, party_of_word, ask_line, flow_line, give_line, deliver_line, settle_line, show_line, line_by, line_of, members_from, view_for, group_words, group_line, is_app_line};
+ghost use Rattle.world_rules.specs.Scripts.{is_printed, is_short, is_nothing, number_in, member_of, client_of, each_word, party_of_word, ask_line, again_line, tell_with, told_line, flow_line, give_line, deliver_line, settle_line, show_line, line_by, line_of, members_from, view_for, group_words, group_line, app_line};
 
 use crate::words::{Words, behind_space, words_in};
 use smart_base::bytes::{PAYLOAD_BYTES, Payload};
@@ -12,7 +12,7 @@ use smart_base::party::Party;
 use smart_base::sequence::Sequence;
 use smart_base::view::View;
 use std::alloc::{AllocError, Global};
-use world_rules::line::{Kind, Line};
+use world_rules::line::{App, Kind, Line};
 
 /// The most bytes that a line has.
 const LINE_BYTES: usize = 65_536;
@@ -58,11 +58,18 @@ pub fn is_nothing(bytes: &[u8]) -> bool
     }
 }
 
-/// Whether a line is `app count`.
-pub fn is_app_line(bytes: &[u8]) -> bool
-    ensures { result ≡ is_app_line bytes.now }
+/// The service that the line `app count` or `app kv` names, if the line is one.
+#[tactic(auto, unfolding(world_rules::specs::Scripts::app_line))]
+pub fn app_line(bytes: &[u8]) -> Option<App>
+    ensures { result ≡ app_line bytes.now }
 {
-    same_bytes(bytes, b"app count")
+    if same_bytes(bytes, b"app count") {
+        Some(App::Count)
+    } else if same_bytes(bytes, b"app kv") {
+        Some(App::Kv)
+    } else {
+        None
+    }
 }
 
 /// A number from a least to a greatest one.
@@ -153,6 +160,50 @@ fn ask_line(alloc: Global, bytes: &[u8], words: Words<'_>) -> Result<Result<Line
     Ok(Ok(Line::Ask { client, op }))
 }
 
+/// One client's number.
+fn again_line(words: Words<'_>) -> Result<Line, Kind>
+    ensures { result ≡ again_line words.entry }
+{
+    let Some((word, more)) = words.split_first() else {
+        return Err(Kind::Count);
+    };
+    let None = more.split_first() else {
+        return Err(Kind::Count);
+    };
+    let Some(client) = client_of(word) else {
+        return Err(Kind::Number);
+    };
+    Ok(Line::Again { client })
+}
+
+fn tell_with(from: Option<ClientId>, to: Option<ClientId>) -> Result<Line, Kind>
+    ensures { result ≡ tell_with from to }
+{
+    let Some(from) = from else {
+        return Err(Kind::Number);
+    };
+    let Some(to) = to else {
+        return Err(Kind::Number);
+    };
+    Ok(Line::Tell { from, to })
+}
+
+/// The numbers of two clients.
+fn told_line(words: Words<'_>) -> Result<Line, Kind>
+    ensures { result ≡ told_line words.entry }
+{
+    let Some((from, more)) = words.split_first() else {
+        return Err(Kind::Count);
+    };
+    let Some((to, more)) = more.split_first() else {
+        return Err(Kind::Count);
+    };
+    let None = more.split_first() else {
+        return Err(Kind::Count);
+    };
+    tell_with(client_of(from), client_of(to))
+}
+
 fn flow_line(alloc: Global, words: Words<'_>) -> Result<Result<Line, Kind>, AllocError>
     ensures { IfOk result (λ line. line ≡ flow_line words.entry) }
 {
@@ -229,6 +280,10 @@ fn line_by(alloc: Global, bytes: &[u8], words: Words<'_>) -> Result<Result<Line,
     };
     if same_bytes(word, b"ask") {
         ask_line(alloc, bytes, words)
+    } else if same_bytes(word, b"again") {
+        Ok(again_line(words))
+    } else if same_bytes(word, b"told") {
+        Ok(told_line(words))
     } else if same_bytes(word, b"flow") {
         flow_line(alloc, words)
     } else if same_bytes(word, b"give") {

@@ -1,4 +1,5 @@
-use crate::reading::line_of;
+use crate::reading::{app_line, line_of};
+use crate::text::app_text;
 use std::alloc::{AllocError, Global};
 use std::process::Abort;
 use std::test::Fail;
@@ -22,6 +23,8 @@ fn line_name(line: &Line) -> &'static str {
     match line {
         Line::Nothing => "nothing",
         Line::Ask { .. } => "ask",
+        Line::Again { .. } => "again",
+        Line::Tell { .. } => "told",
         Line::Flow { .. } => "flow",
         Line::Give { .. } => "give",
         Line::Deliver { .. } => "deliver",
@@ -92,6 +95,15 @@ fn lines_are_told(rt: HostRuntime) -> Result<(), Fail> {
 #[test]
 fn other_lines_are_told(rt: HostRuntime) -> Result<(), Fail> {
     let rows = [
+        ("again", "Count"),
+        ("again 1", "again"),
+        ("again 0", "Number"),
+        ("again 1 2", "Count"),
+        ("told 1", "Count"),
+        ("told 1 1024", "told"),
+        ("told 1 1025", "Number"),
+        ("told x 1 2", "Count"),
+        ("told 1 ", "Number"),
         ("deliver", "Count"),
         ("deliver 1 1", "deliver"),
         ("deliver 1 ", "Number"),
@@ -115,6 +127,23 @@ fn other_lines_are_told(rt: HostRuntime) -> Result<(), Fail> {
         ("ask 1 \t", "Byte"),
     ];
     are_told(&rt, rt.alloc(), rows.as_slice())?;
+    Ok(())
+}
+
+#[test]
+fn services_are_named(rt: HostRuntime) -> Result<(), Fail> {
+    let rows = [
+        ("app count", "count"),
+        ("app kv", "kv"),
+        ("app", ""),
+        ("app kv ", ""),
+        ("app  kv", ""),
+        ("app sum", ""),
+    ];
+    for (text, name) in rows {
+        let told = app_line(text.as_bytes()).map_or("", app_text);
+        assert_eq!(rt; told, name, "`{text}`");
+    }
     Ok(())
 }
 

@@ -1,13 +1,13 @@
 //! The lines of a transcript, as text.
 ghost use Rattle.std.specs.Prelude.{◌≡◌, ◌++◌, ◌<◌, IfOk, OnOk, string_bytes};
 ghost use Rattle.std.specs.List.{flat_map};
-ghost use Rattle.world_rules.specs.Texts.{why_text, ignored_text, origin_text, summary_text, hex_digit, shown, words_of, line_text, text_of};
+ghost use Rattle.world_rules.specs.Texts.{why_text, ignored_text, app_text, origin_text, summary_text, hex_digit, shown, words_of, line_text, text_of};
 
+use client_quorum::client::Ignored;
 use node_rules::node::Why;
 use std::alloc::{AllocError, Global};
 use std::fmt::{self, Write};
-use world_rules::client::Ignored;
-use world_rules::line::{OutLine, Summary};
+use world_rules::line::{App, OutLine, Summary};
 use world_rules::message::Origin;
 
 /// The name of a reason.
@@ -44,6 +44,16 @@ pub fn ignored_text(why: Ignored) -> &'static str
         Ignored::UnknownView => "UnknownView",
         Ignored::Stranger => "Stranger",
         Ignored::Repeated => "Repeated",
+    }
+}
+
+/// The name of a service.
+pub fn app_text(app: App) -> &'static str
+    ensures { result.now ≡ app_text app }
+{
+    match app {
+        App::Count => "count",
+        App::Kv => "kv",
     }
 }
 
@@ -159,7 +169,14 @@ fn push_words(out: &mut String, line: &OutLine) -> Result<(), AllocError>
     ensures { OnOk result (string_bytes out.new ≡ string_bytes out.old ++ words_of line.now) }
 {
     match line {
-        OutLine::Group { members, faulty } => write!(out, "group {members} {faulty} count 1024"),
+        OutLine::Group {
+            members,
+            faulty,
+            app,
+        } => {
+            let app = app_text(*app);
+            write!(out, "group {members} {faulty} {app} 1024")
+        }
         OutLine::Sent {
             number,
             origin,
@@ -208,6 +225,14 @@ fn push_words(out: &mut String, line: &OutLine) -> Result<(), AllocError>
         OutLine::Idle { member } => {
             let id = member.get();
             write!(out, "idle n{id}")
+        }
+        OutLine::IdleClient { client } => {
+            let id = client.get();
+            write!(out, "idle c{id}")
+        }
+        OutLine::Learned { client, place } => {
+            let (id, place) = (client.get(), place.get());
+            write!(out, "told c{id} {place}")
         }
         OutLine::Stands {
             member,
