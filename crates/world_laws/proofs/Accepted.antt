@@ -16,18 +16,19 @@ use Rattle.node_rules.specs.Steps.{Outcome, step_of, leaving}
 use Rattle.node_rules.specs.declared.node.Held.{Held}
 use Rattle.node_rules.specs.declared.node.Target.{Target}
 use Rattle.node_rules.specs.declared.node.Target.TheVariants as targets
-use Rattle.world_rules.specs.Clients.{acceptance, heard}
+use Rattle.client_quorum.specs.Clients.{acceptance}
+use Rattle.world_rules.specs.Clients.{heard}
 use Rattle.world_rules.specs.Promises.{HasAsked, IsRight}
 use Rattle.world_rules.specs.Worlds.{Host, World, sends, sends_all, chosen_with, stepped, acceptance_in, hearing, begun}
-use Rattle.world_rules.specs.declared.client.Client.{Client}
-use Rattle.world_rules.specs.declared.client.Acceptance.{Acceptance}
-use Rattle.world_rules.specs.declared.client.Heard.{Heard}
-use Rattle.world_rules.specs.declared.client.Heard.TheVariants as hears
+use Rattle.client_quorum.specs.declared.client.Client.{Client}
+use Rattle.client_quorum.specs.declared.client.Acceptance.{Acceptance}
+use Rattle.client_quorum.specs.declared.client.Heard.{Heard}
+use Rattle.client_quorum.specs.declared.client.Heard.TheVariants as hears
 use Rattle.world_rules.specs.declared.message.Origin.{Origin}
 use Rattle.world_rules.specs.declared.message.Origin.TheVariants as origins
 use Rattle.world_laws.specs.Lines.{HasLine}
 use Rattle.world_laws.proofs.Lists.{either, each_end, each_weaker, each_both}
-use Rattle.world_laws.proofs.Keeps.{ask_of, asked_by, by-sends, Keeps, ReadsSent, reply_has}
+use Rattle.world_laws.proofs.Keeps.{ask_of, asked_by, by-sends, Keeps, ReadsSent, reply_has, signed_by}
 use Rattle.world_laws.proofs.Aligned.{IsExecuted}
 use Rattle.world_laws.proofs.OnePlace.{place_of-line, answer-line}
 use Rattle.world_laws.proofs.Executions.{executions-more, IsOfRequest, request-line, view-line}
@@ -117,6 +118,8 @@ keeps-told m P reads k =
         k.ask w i c op at free few brief p.0,
         told-sends m (asked_by w i c op) (origins.Client c.id) targets.View (ask_of c op) (record { all = p.1.all }),
       );
+      again = λ w i c q at waits p. (k.again w i c q at waits p.0, told-sends m w (origins.Client c.id) targets.View (signed_by c q) p.1);
+      learn = λ w i j c d at other p. (k.learn w i j c d at other p.0, record { all = p.1.all });
       same = λ w mark told p. (k.same w mark told p.0, record { all = p.1.all });
     }
 

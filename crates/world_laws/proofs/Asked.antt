@@ -23,7 +23,7 @@ use Rattle.node_rules.specs.declared.node.Target.{Target}
 use Rattle.node_rules.specs.declared.node.Target.TheVariants as targets
 use Rattle.smart_base.specs.Views.{View, is_view}
 use Rattle.world_rules.specs.Secrets.{group_secret}
-use Rattle.world_rules.specs.Clients.{request_of}
+use Rattle.client_quorum.specs.Clients.{request_of}
 use Rattle.world_rules.specs.Promises.{HasAsked}
 use Rattle.world_rules.specs.Worlds.{Host, World, sends, sends_all, chosen_with, host_after, stepped, hearing, hosts_from, begun}
 use Rattle.world_rules.specs.Plays.{world_after}
@@ -33,7 +33,7 @@ use Rattle.world_rules.specs.declared.message.Origin.TheVariants as origins
 use Rattle.world_rules.specs.declared.message.Sent.{Sent}
 use Rattle.world_laws.proofs.Lists.{some-equal, and_true, each_end, each_weaker, each_set, each_get}
 use Rattle.world_laws.proofs.Numbered.{EachAt, each_at_end, each_at_get, each_at_weaker}
-use Rattle.world_laws.proofs.Keeps.{HasMessage, ask_of, asked_by, by-sends, MayRead, KeepsRead}
+use Rattle.world_laws.proofs.Keeps.{HasMessage, ask_of, asked_by, by-sends, MayRead, KeepsRead, signed_by}
 use Rattle.world_laws.proofs.FitNodes.{IsBrief}
 use Rattle.world_laws.proofs.Fitting.{play-keeps}
 use Rattle.world_laws.proofs.Authentic.{GoodBatch, MessageAsked, ForBatch, NodeAuthentic, ReadAsked, EventAsked, fits_each, message-weaker, authentic-weaker, authentic-released, authentic-step, each-leaving}
@@ -182,6 +182,10 @@ keeps-asked m =
       ask = λ w i c op at free is.
           asked-sends (asked_by w i c op) (origins.Client c.id) targets.View (ask_of c op)
           (asked_now w.sent (request_of c op)) (record { all = record { hosts = is.all.hosts; sent = is.all.sent; chosen = is.all.chosen } });
+      again = λ w i c q at waits own is.
+          asked-sends w (origins.Client c.id) targets.View (signed_by c q)
+          (subst (λ (id : ℕ). HasAsked (w.sent ++ record { origin = origins.Client id; to = targets.View; message = Ask (signed requests group_secret id q) } ∷ []) q) own (asked_now w.sent q)) is;
+      learn = λ w i c place at is. record { all = record { hosts = is.all.hosts; sent = is.all.sent; chosen = is.all.chosen } };
       same = λ w mark told is. record { all = record { hosts = is.all.hosts; sent = is.all.sent; chosen = is.all.chosen } };
     }
 

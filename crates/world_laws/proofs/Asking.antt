@@ -18,36 +18,38 @@ use Rattle.node_rules.specs.declared.node.Held.{Held}
 use Rattle.node_rules.specs.declared.node.Target.{Target}
 use Rattle.node_rules.specs.declared.node.Target.TheVariants as targets
 use Rattle.world_rules.specs.Secrets.{group_secret}
-use Rattle.world_rules.specs.Clients.{fresh, request_of, asking, acceptance, heard, after_heard}
+use Rattle.client_quorum.specs.Clients.{fresh, request_of, asking, learning, acceptance, after_heard}
+use Rattle.world_rules.specs.Clients.{heard}
 use Rattle.world_rules.specs.Promises.{HasAsked, Rises}
 use Rattle.world_rules.specs.Worlds.{Host, World, sends, sends_all, stepped, acceptance_in, hearing, clients_from, begun}
-use Rattle.world_rules.specs.Plays.{world_after}
-use Rattle.world_rules.specs.declared.client.Client.{Client}
+use Rattle.world_rules.specs.Plays.{rested, world_after}
+use Rattle.client_quorum.specs.declared.client.Client.{Client}
 use Rattle.world_rules.specs.declared.line.Line.{Line}
-use Rattle.world_rules.specs.declared.client.Acceptance.{Acceptance}
-use Rattle.world_rules.specs.declared.client.Heard.{Heard}
-use Rattle.world_rules.specs.declared.client.Heard.TheVariants as hears
+use Rattle.client_quorum.specs.declared.client.Acceptance.{Acceptance}
+use Rattle.client_quorum.specs.declared.client.Heard.{Heard}
+use Rattle.client_quorum.specs.declared.client.Heard.TheVariants as hears
 use Rattle.world_rules.specs.declared.message.Ending.{Ending}
 use Rattle.world_rules.specs.declared.message.Origin.{Origin}
 use Rattle.world_rules.specs.declared.message.Origin.TheVariants as origins
 use Rattle.world_rules.specs.declared.message.Sent.{Sent}
 use Rattle.world_laws.proofs.Lists.{some-equal, each_end, each_weaker}
 use Rattle.world_laws.proofs.Numbered.{EachAt, each_at_get, each_at_weaker, each_at_set}
-use Rattle.world_laws.proofs.Keeps.{ask_of, asked_by, by-sends-ended, KeepsLive, live-world_after}
+use Rattle.world_laws.proofs.Keeps.{ask_of, asked_by, by-sends-ended, KeepsLive, live-world_after, signed_by}
 use Rattle.world_laws.proofs.Asked.{asked_end, asked_now}
 use Rattle.world_laws.proofs.Hearing.{Accepts, accepts_waiting}
 
--- a request that waits is its client's last, states what the client has seen, and was asked, unless its message had no number any more
-pub record Waits (sent : List Sent) (ending : Option Ending) (i last seen : ℕ) (q : Request) : Type 0 where
+-- a request that waits is its client's last, states no place below those of all that the client accepted, and was asked, unless its message
+-- had no number any more
+pub record Waits (sent : List Sent) (ending : Option Ending) (accepted : List Acceptance) (i last : ℕ) (q : Request) : Type 0 where
   pub client : q.client ≡ i
   pub seq : q.seq ≡ last
-  pub after : q.after ≡ seen
+  pub after : Each (λ a. a.request.client ≡ i → a.place ≤ q.after) accepted
   pub asked : ending ≡ None → HasAsked sent q
 
 -- a client stands at its number, has counted its requests, and has seen the place of all that it accepted
 pub record ClientRight (sent : List Sent) (ending : Option Ending) (accepted : List Acceptance) (i : ℕ) (c : Client) : Type 0 where
   pub id : c.id ≡ i
-  pub waits : (q : Request) → c.waiting ≡ Some q → Waits sent ending i c.last c.seen q
+  pub waits : (q : Request) → c.waiting ≡ Some q → Waits sent ending accepted i c.last q
   pub last : (q : Request) → HasAsked sent q → q.client ≡ i → q.seq ≤ c.last
   pub seen : Each (λ a. a.request.client ≡ i → a.place ≤ c.seen) accepted
 
@@ -72,12 +74,12 @@ node_asks_nothing [] id to message q asked = elim asked [ inl here ↦ absurd (o
 node_asks_nothing (t ∷ sent) id to message q asked = elim asked [ inl here ↦ inl here | inr later ↦ inr (node_asks_nothing sent id to message q later) ]
 
 -- the message of a request
-abbrev signed_ask : Request → Message
-signed_ask q = Ask (signed requests group_secret q.client q)
+abbrev signed_ask : ℕ → Request → Message
+signed_ask id q = Ask (signed requests group_secret id q)
 
 -- what a client asks, it asked before or asks now
-asks_one : (sent : List Sent) (origin : Origin) (to : Target) (new q : Request) → HasAsked (sent ++ record { origin = origin; to = to; message = signed_ask new } ∷ []) q → HasAsked sent q ⊎ (q ≡ new)
-asks_one [] origin to new q asked = elim asked [ inl here ↦ inr (same_request (ap (λ (s : Sent). s.message) here)) | inr later ↦ absurd later ]
+asks_one : (sent : List Sent) (origin : Origin) (to : Target) (id : ℕ) (new q : Request) → HasAsked (sent ++ record { origin = origin; to = to; message = signed_ask id new } ∷ []) q → HasAsked sent q ⊎ (q ≡ new)
+asks_one [] origin to id new q asked = elim asked [ inl here ↦ inr (same_request (ap (λ (s : Sent). s.message) here)) | inr later ↦ absurd later ]
   where
     statement : Message → Request → Request
     statement (Ask a) r = a.statement
@@ -85,10 +87,10 @@ asks_one [] origin to new q asked = elim asked [ inl here ↦ inr (same_request 
     statement (Vote v) r = r
     statement (Reply a) r = r
 
-    same_request : signed_ask new ≡ signed_ask q → q ≡ new
+    same_request : signed_ask id new ≡ signed_ask q.client q → q ≡ new
     same_request same = sym (ap (λ (x : Message). statement x new) same)
-asks_one (t ∷ sent) origin to new q asked =
-    elim asked [ inl here ↦ inl (inl here) | inr later ↦ elim (asks_one sent origin to new q later) [ inl before ↦ inl (inr before) | inr now ↦ inr now ] ]
+asks_one (t ∷ sent) origin to id new q asked =
+    elim asked [ inl here ↦ inl (inl here) | inr later ↦ elim (asks_one sent origin to id new q later) [ inl before ↦ inl (inr before) | inr now ↦ inr now ] ]
 
 -- a message of a node leaves
 
@@ -149,7 +151,7 @@ right-ask sent sent' ending ending' clients accepted i c op at forth back now on
           is.each
           (record {
             id = own.id;
-            waits = λ q waits. subst (Waits sent' ending' i (c.last + 1) c.seen) (some-equal new q waits) (record { client = own.id; seq = refl; after = refl; asked = now });
+            waits = λ q waits. subst (Waits sent' ending' accepted i (c.last + 1)) (some-equal new q waits) (record { client = own.id; seq = refl; after = own.seen; asked = now });
             last = λ q asked is_i. elim (back q asked) [ inl before ↦ more (own.last q before is_i) | inr same ↦ last_is (ap (λ (r : Request). r.seq) same) ];
             seen = own.seen;
           });
@@ -187,7 +189,7 @@ right-asks {S = S} w i c op at is =
       all = right-ask w.sent w.sent w.ending ending w.clients w.accepted i c op at (λ q asked. asked) (λ q asked. inl asked) (λ on. absurd (ended on)) (λ on. absurd (ended on)) is.all;
     })
     (λ free room. record {
-      all = right-ask w.sent (w.sent ++ s ∷ []) w.ending w.ending w.clients w.accepted i c op at (asked_end w.sent s) (asks_one w.sent (origins.Client c.id) targets.View (request_of c op))
+      all = right-ask w.sent (w.sent ++ s ∷ []) w.ending w.ending w.clients w.accepted i c op at (asked_end w.sent s) (asks_one w.sent (origins.Client c.id) targets.View c.id (request_of c op))
           (λ on. asked_now w.sent (request_of c op)) (λ on. on) is.all;
     })
 
@@ -217,12 +219,17 @@ right-accept : (sent : List Sent) (ending : Option Ending) (clients : List Clien
     → Right sent ending (slice_set clients i (record c { waiting = None; seen = max c.seen a.statement.place; replies = [] })) (accepted ++ acceptance q a.statement ∷ [])
 right-accept sent ending clients accepted i c a q at waits on is =
     let own : ClientRight sent ending accepted i c = each_at_get (ClientRight sent ending accepted) clients i c is.each at in
-    let old : Waits sent ending i c.last c.seen q = own.waits q waits in
+    let old : Waits sent ending accepted i c.last q = own.waits q waits in
     record {
       each = each_at_set (ClientRight sent ending accepted) (ClientRight sent ending (accepted ++ acceptance q a.statement ∷ [])) clients i (record c { waiting = None; seen = max c.seen a.statement.place; replies = [] })
           (λ j y other right. record {
             id = right.id;
-            waits = right.waits;
+            waits = λ r waits. let own_r = right.waits r waits in record {
+              client = own_r.client;
+              seq = own_r.seq;
+              after = each_end (λ (b : Acceptance). b.request.client ≡ j → b.place ≤ r.after) accepted (acceptance q a.statement) own_r.after (λ is_j. absurd (other (sym is_j ∙ old.client)));
+              asked = own_r.asked;
+            };
             last = right.last;
             seen = each_end (λ (b : Acceptance). b.request.client ≡ j → b.place ≤ y.seen) accepted (acceptance q a.statement) right.seen (λ is_j. absurd (other (sym is_j ∙ old.client)));
           })
@@ -238,8 +245,8 @@ right-accept sent ending clients accepted i c a q at waits on is =
       one = is.one;
       asked = each_end (λ (b : Acceptance). HasAsked sent b.request) accepted (acceptance q a.statement) is.asked (old.asked on);
       rising = rises_end accepted (acceptance q a.statement) is.rising
-          (each_weaker (λ (b : Acceptance). b.request.client ≡ i → b.place ≤ c.seen) (λ (b : Acceptance). q.client ≡ b.request.client → b.place ≤ q.after)
-          (λ b low same. known (low (sym same ∙ old.client)) old.after) accepted own.seen);
+          (each_weaker (λ (b : Acceptance). b.request.client ≡ i → b.place ≤ q.after) (λ (b : Acceptance). q.client ≡ b.request.client → b.place ≤ q.after)
+          (λ b low same. low (sym same ∙ old.client)) accepted old.after);
     }
   where
     no_request : (r : Request) → None ≡ Some r → ⊥
@@ -250,9 +257,6 @@ right-accept sent ending clients accepted i c a q at waits on is =
 
     highest : a.statement.place ≤ max c.seen a.statement.place
     highest = omega arith
-
-    known : {p : ℕ} → p ≤ c.seen → q.after ≡ c.seen → p ≤ q.after
-    known low same = omega arith
 
 -- clients stay right where one hears a reply
 right-heard : (sent : List Sent) (ending : Option Ending) (clients : List Client) (accepted : List Acceptance) (v : View) (i : ℕ) (c : Client) (a : SignedBy Answer) (h : Heard)
@@ -268,6 +272,47 @@ right-heard sent ending clients accepted v i c a (hears.Accepted acc) at on is_h
     subst (λ (b : Acceptance). Right sent ending (slice_set clients i (record c { waiting = None; seen = max c.seen a.statement.place; replies = [] })) (accepted ++ b ∷ [])) (sym taken.is)
     (right-accept sent ending clients accepted i c a taken.request at taken.counts.waits on is)
 
+-- a client sends its request once more
+
+-- clients stay right where one sends once more what it asked
+right-again : {S : Type 0} (w : World S) (i : ℕ) (c : Client) (q : Request) → w.ending ≡ None → slice_get w.clients i ≡ Some c → c.waiting ≡ Some q → ClientsRight w
+    → ClientsRight (sends w (origins.Client c.id) targets.View (signed_by c q))
+right-again {S = S} w i c q on at waits is =
+    let s : Sent = record { origin = origins.Client c.id; to = targets.View; message = signed_by c q } in
+    let own : ClientRight w.sent w.ending w.accepted i c = each_at_get (ClientRight w.sent w.ending w.accepted) w.clients i c is.all.each at in
+    let before : HasAsked w.sent q = (own.waits q waits).asked on in
+    by-sends-ended (λ (v : World S). ClientsRight v) w (origins.Client c.id) targets.View (signed_by c q)
+    (λ ending ended. record { all = right-sent w.sent w.sent w.ending ending w.clients w.accepted (λ r asked. asked) (λ r asked. asked) (λ on. absurd (ended on)) is.all })
+    (λ free room. record {
+      all = right-sent w.sent (w.sent ++ s ∷ []) w.ending w.ending w.clients w.accepted (asked_end w.sent s)
+          (λ r asked. elim (asks_one w.sent (origins.Client c.id) targets.View c.id q r asked) [ inl old ↦ old | inr new ↦ subst (HasAsked w.sent) (sym new) before ])
+          (λ on. on) is.all;
+    })
+
+-- a client is told of a place
+
+-- clients stay right where one learns of a place
+right-learn : (sent : List Sent) (ending : Option Ending) (clients : List Client) (accepted : List Acceptance) (i : ℕ) (c : Client) (place : ℕ) → slice_get clients i ≡ Some c → Right sent ending clients accepted
+    → Right sent ending (slice_set clients i (learning c place)) accepted
+right-learn sent ending clients accepted i c place at is =
+    let own : ClientRight sent ending accepted i c = each_at_get (ClientRight sent ending accepted) clients i c is.each at in
+    record {
+      each = each_at_set (ClientRight sent ending accepted) (ClientRight sent ending accepted) clients i (learning c place) (λ j y other right. right) is.each
+          (record {
+            id = own.id;
+            waits = own.waits;
+            last = own.last;
+            seen = each_weaker (λ (a : Acceptance). a.request.client ≡ i → a.place ≤ c.seen) (λ (a : Acceptance). a.request.client ≡ i → a.place ≤ max c.seen place)
+                (λ a low is_i. higher (low is_i)) accepted own.seen;
+          });
+      one = is.one;
+      asked = is.asked;
+      rising = is.rising;
+    }
+  where
+    higher : {p : ℕ} → p ≤ c.seen → p ≤ max c.seen place
+    higher low = omega arith
+
 -- clients stay right, whatever the nodes do
 pub keeps-right : {S : Type 0} (step : Node S → NodeEvent → Outcome S) → KeepsLive step ClientsRight
 unfolding hearing
@@ -276,15 +321,20 @@ keeps-right step =
       event = λ w i h event on at may is. right-stepped w i h (step h.node event) is;
       hear = λ w i c x a on at has read is. record { all = right-heard w.sent w.ending w.clients w.accepted w.view i c a (heard w.view c a) at on refl is.all };
       ask = λ w i c op on at free few brief is. right-asks w i c op at is;
+      again = λ w i c q on at waits is. right-again w i c q on at waits is;
+      learn = λ w i j c d on at other is. record { all = right-learn w.sent w.ending w.clients w.accepted i c d.seen at is.all };
       mark = λ w s on at is. record { all = is.all };
       tell = λ w line beside is. record { all = is.all };
-      rest = λ w is. record { all = is.all };
     }
+
+-- between two lines
+pub rested-right : {S : Type 0} (w : World S) → ClientsRight w → ClientsRight (rested w)
+rested-right w is = record { all = is.all }
 
 -- the beginning
 
 -- what holds of each fresh client
-each_fresh : (P : ℕ → Client → Type 0) (count i : ℕ) → ((k : ℕ) → P k (fresh (i + k))) → EachAt P (clients_from count i)
+pub each_fresh : (P : ℕ → Client → Type 0) (count i : ℕ) → ((k : ℕ) → P k (fresh (i + k))) → EachAt P (clients_from count i)
 unfolding clients_from
 each_fresh P zero i each = tt
 each_fresh P (suc count) i each =
@@ -307,4 +357,4 @@ right-begun m view =
 
 -- after any lines of any script, clients are right
 pub right-after : {S : Type 0} (m : Meaning S) (step : Node S → NodeEvent → Outcome S) (view : View) (ls : List Line) → ClientsRight (world_after step (begun m view) ls)
-right-after m step view ls = live-world_after step ClientsRight (keeps-right step) (begun m view) ls (right-begun m view)
+right-after m step view ls = live-world_after step ClientsRight (keeps-right step) rested-right (begun m view) ls (right-begun m view)

@@ -22,8 +22,9 @@ use Rattle.smart_service.specs.declared.table.TableLine.{TableLine}
 use Rattle.node_rules.specs.Replicas.{is_next, delivered}
 use Rattle.node_rules.specs.Seals.{signed, is_verified, digest_of, request_fits, is_managers, fits}
 use Rattle.node_rules.specs.Nodes.{Node, view_of, next_place, open_slot, is_free, holding, recording, has_quorum, proposal_in, proposal_of}
-use Rattle.node_rules.specs.Arrivals.{slot_why, signer_why, is_valid, why_propose, why_dropped, offered, kept, noted}
-use Rattle.node_rules.specs.Rules.{settled, reply_of, replying, lines_to_answer, deliver_batch, delivers, gathered, proposing, propose_batch, proposes, ballot, writing, write_batch, writes, backed, backers, accepting, accept_batch, accepts, deciding, decide_batch, decides, answering, answer_line, answers_again}
+use Rattle.node_rules.specs.Arrivals.{slot_why, signer_why, is_valid, why_propose, why_dropped, kept, noted}
+use Rattle.node_rules.specs.Pools.{offered, settled, is_within, filled, batch_of, gathered}
+use Rattle.node_rules.specs.Rules.{reply_of, replying, lines_to_answer, deliver_batch, delivers, proposing, propose_batch, proposes, ballot, writing, write_batch, writes, backed, backers, accepting, accept_batch, accepts, deciding, decide_batch, decides, answering, answer_line, answers_again}
 use Rattle.node_rules.specs.Steps.{votes, passes, arrival_outcome, reading_outcome, step_of, staying, leaving, released}
 use Rattle.node_rules.specs.declared.node.Why.{Why}
 use Rattle.node_rules.specs.declared.node.Why.TheVariants.{NotMember, BadTag, NotLeader, InvalidBatch}
@@ -243,11 +244,24 @@ for_batch-if : (P : Batch → Type 0) (test : Bool) (batch : Option Batch) → F
 for_batch-if P true batch p = p
 for_batch-if P false batch p = tt
 
--- the request that the pool gives was asked
+-- a batch is filled with requests that were asked
+each_filled : (A : SignedBy Request → Type 0) (batch qs : Batch) → Each A batch → Each A qs → Each A (filled batch qs)
+each_filled A batch [] all each = all
+each_filled A batch (q ∷ qs) all each =
+    either (λ (b : Batch). Each A b) (is_within (batch ++ q ∷ [])) (filled (batch ++ q ∷ []) qs) batch (each_filled A (batch ++ q ∷ []) qs (each_end A batch q all each.0) each.1) all
+
+-- so the batch of some requests was asked, if there is one
+batch_of_asked : (A : SignedBy Request → Type 0) (qs : Batch) → Each A qs → ForBatch (batch_of qs) (λ batch. Each A batch)
+batch_of_asked A [] each = tt
+batch_of_asked A (q ∷ qs) each =
+    either (λ (batch : Option Batch). ForBatch batch (λ b. Each A b)) (is_managers q) (Some (q ∷ [])) (Some (filled (q ∷ []) (filter (λ p. not (is_managers p)) qs))) (each.0, tt)
+    (each_filled A (q ∷ []) (filter (λ p. not (is_managers p)) qs) (each.0, tt) (each_filter A (λ p. not (is_managers p)) qs each.1))
+
+-- the requests that the pool gives were asked
 gathered_asked : (A : SignedBy Request → Type 0) (pool : Batch) (place : ℕ) → Each A pool → ForBatch (gathered pool place) (λ batch. Each A batch)
-gathered_asked A [] place each = tt
-gathered_asked A (q ∷ pool) place each =
-    either (λ (batch : Option Batch). ForBatch batch (λ batch. Each A batch)) (nat_lt q.statement.after place) (Some (q ∷ [])) (gathered pool place) (each.0, tt) (gathered_asked A pool place each.1)
+unfolding gathered
+gathered_asked A pool place each =
+    batch_of_asked A (filter (λ (q : SignedBy Request). nat_lt q.statement.after place) pool) (each_filter A (λ (q : SignedBy Request). nat_lt q.statement.after place) pool each)
 
 -- what a node proposes was asked
 proposing_asked : {S : Type 0} (A : SignedBy Request → Type 0) (n : Node S) → NodeAuthentic A n → ForBatch (proposing n) (λ batch. Each A batch)

@@ -26,7 +26,7 @@ use Rattle.world_laws.specs.Sending.{IsOwn, rests_on, IsBorne, SentFirm}
 use Rattle.world_laws.specs.Settling.{flow_begins, flow_goes, message_goes, node_goes}
 use Rattle.world_laws.proofs.Lists.{and_true, either, some-equal, each_end, each_weaker, each_set, each_get, repeated_keeps, each_from_keeps}
 use Rattle.world_laws.proofs.Equal.{and_intro}
-use Rattle.world_laws.proofs.Keeps.{MayCome, ask_of, asked_by, by-sends, Keeps, KeepsLive, live, keeps-world_after, live-settle_once, live-settle, live-settle_all, live-flow_once, at_listed-keeps}
+use Rattle.world_laws.proofs.Keeps.{MayCome, ask_of, asked_by, by-sends, Keeps, KeepsLive, live, keeps-world_after, live-settle_once, live-settle, live-settle_all, live-flow_once, at_listed-keeps, signed_by}
 use Rattle.world_laws.proofs.Says.{or_left, or_right}
 use Rattle.world_laws.proofs.Said.{or_true}
 use Rattle.world_laws.proofs.Leaving.{leaving_rest}
@@ -184,6 +184,8 @@ keeps-borne m =
       ask = λ w i c op at free few brief is.
           borne-sends (asked_by w i c op) (origins.Client c.id) targets.View (ask_of c op) refl tt
           (record { hosts = is.hosts; sent = record { own = is.sent.own; borne = is.sent.borne } });
+      again = λ w i c q at waits is. borne-sends w (origins.Client c.id) targets.View (signed_by c q) refl tt is;
+      learn = λ w i j c d at other is. record { hosts = is.hosts; sent = record { own = is.sent.own; borne = is.sent.borne } };
       same = λ w mark told is. record { hosts = is.hosts; sent = record { own = is.sent.own; borne = is.sent.borne } };
     }
 

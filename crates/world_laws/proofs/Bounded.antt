@@ -22,7 +22,7 @@ use Rattle.world_rules.specs.declared.message.Origin.{Origin}
 use Rattle.world_rules.specs.declared.message.Origin.TheVariants as origins
 use Rattle.world_rules.specs.declared.message.Sent.{Sent}
 use Rattle.world_laws.proofs.Lists.{either}
-use Rattle.world_laws.proofs.Keeps.{asked_by, ask_of, KeepsLive, by-sends, has_at, live-goes, live-settle_all, live-world_after}
+use Rattle.world_laws.proofs.Keeps.{asked_by, ask_of, KeepsLive, by-sends, has_at, live-goes, live-settle_all, live-world_after, signed_by}
 use Rattle.world_laws.proofs.Rests.{rests_still}
 
 -- the mark has come to a number, no mark passes the messages, and all messages have numbers
@@ -66,9 +66,10 @@ keeps-passed step low =
       ask = λ w i c op on at free few brief is.
           passed-sends low (asked_by w i c op) (origins.Client c.id) targets.View (ask_of c op)
           (record { past = is.past; mark = is.mark; sent = is.sent });
+      again = λ w i c q on at waits is. passed-sends low w (origins.Client c.id) targets.View (signed_by c q) is;
+      learn = λ w i j c d on at other is. record { past = is.past; mark = is.mark; sent = is.sent };
       mark = λ w s on at is. record { past = omega (arith, is.past); mark = omega (arith, slice_get_within w.sent w.mark s at); sent = is.sent };
       tell = λ w line beside is. record { past = is.past; mark = is.mark; sent = is.sent };
-      rest = λ w is. record { past = is.past; mark = is.mark; sent = is.sent };
     }
 
 -- the mark and the messages are bounded, whatever happens
@@ -79,9 +80,10 @@ keeps-bounded step =
       event = λ w i h event on at may is. bounded (k.event w i h event on at may (passed is));
       hear = λ w i c x a on at has read is. bounded (k.hear w i c x a on at has read (passed is));
       ask = λ w i c op on at free few brief is. bounded (k.ask w i c op on at free few brief (passed is));
+      again = λ w i c q on at waits is. bounded (k.again w i c q on at waits (passed is));
+      learn = λ w i j c d on at other is. bounded (k.learn w i j c d on at other (passed is));
       mark = λ w s on at is. bounded (k.mark w s on at (passed is));
       tell = λ w line beside is. bounded (k.tell w line beside (passed is));
-      rest = λ w is. bounded (k.rest w (passed is));
     }
   where
     passed : {S : Type 0} {w : World S} → BoundedWorld w → Passed 0 w
@@ -96,7 +98,7 @@ bounded-begun m view = record { mark = omega arith; sent = omega arith }
 
 -- after any lines of any script, the mark and the messages are bounded
 pub bounded-after : {S : Type 0} (m : Meaning S) (step : Node S → NodeEvent → Outcome S) (view : View) (ls : List Line) → BoundedWorld (world_after step (begun m view) ls)
-bounded-after m step view ls = live-world_after step BoundedWorld (keeps-bounded step) (begun m view) ls (bounded-begun m view)
+bounded-after m step view ls = live-world_after step BoundedWorld (keeps-bounded step) (λ w is. record { mark = is.mark; sent = is.sent }) (begun m view) ls (bounded-begun m view)
 
 -- a turn of a flow rests, or raises the mark
 raises_sent : {S : Type 0} (step : Node S → NodeEvent → Outcome S) (members : List ℕ) (w : World S) (found : Option Sent) → slice_get w.sent w.mark ≡ found → BoundedWorld w

@@ -23,14 +23,14 @@ use Rattle.world_rules.specs.Clients.{heard}
 use Rattle.world_rules.specs.Worlds.{Host, World, sends, sends_all, delivery_in, chosen_with, host_after, stepped, hearing, hosts_from, begun}
 use Rattle.world_rules.specs.Promises.{AtPlaces, IsPrefix, world_at}
 use Rattle.world_rules.specs.declared.line.Line.{Line}
-use Rattle.world_rules.specs.declared.client.Client.{Client}
-use Rattle.world_rules.specs.declared.client.Heard.{Heard}
+use Rattle.client_quorum.specs.declared.client.Client.{Client}
+use Rattle.client_quorum.specs.declared.client.Heard.{Heard}
 use Rattle.world_rules.specs.declared.message.Origin.{Origin}
 use Rattle.world_rules.specs.declared.message.Origin.TheVariants as origins
 use Rattle.world_rules.specs.declared.message.Sent.{Sent}
 use Rattle.world_laws.specs.Books.{decided_of, DeliversInOrder}
 use Rattle.world_laws.proofs.Lists.{each_end, each_append, each_weaker, each_both, each_set, each_get}
-use Rattle.world_laws.proofs.Keeps.{HasMessage, ask_of, asked_by, by-sends, Keeps, keeps-world_after, ReadsSent, MayRead, may_read}
+use Rattle.world_laws.proofs.Keeps.{HasMessage, ask_of, asked_by, by-sends, Keeps, keeps-world_after, ReadsSent, MayRead, may_read, signed_by}
 use Rattle.world_laws.proofs.Authentic.{each-leaving, each-staying}
 use Rattle.smart_base.proofs.ViewFacts.{view-distinct}
 use Rattle.world_laws.proofs.FitNodes.{IsBrief}
@@ -169,6 +169,8 @@ chosen-kept m brief =
       event = λ w i h event at may r. (k.event w i h event at may r.0, right-event m w i h event at (may_read w h event (grounded-reads w r.0) may) r.0 r.1);
       hear = λ w i c x a at has read r. (k.hear w i c x a at has read r.0, right-hear m w i c a (heard w.view c a) r.1);
       ask = λ w i c op at free few short r. (k.ask w i c op at free few short r.0, right-ask m w i c op r.1);
+      again = λ w i c q at waits r. (k.again w i c q at waits r.0, (right-sends m w (origins.Client c.id) targets.View (signed_by c q) [] tt tt r.1).0);
+      learn = λ w i j c d at other r. (k.learn w i j c d at other r.0, r.1);
       same = λ w mark told r. (k.same w mark told r.0, r.1);
     }
 

@@ -23,10 +23,10 @@ use Rattle.kept_arrivals.proofs.Steps.{core_step_trimmed, opened_stands}
 use Rattle.world_rules.specs.Repeats.{repeated, turns, until_rest, each_from}
 use Rattle.world_rules.specs.Secrets.{group_secret}
 use Rattle.world_rules.specs.Premises.{collides}
-use Rattle.world_rules.specs.Clients.{request_of, asking}
-use Rattle.world_rules.specs.Worlds.{Host, World, sends, sends_all, told_drop, told_fired, chosen_with, host_after, stepped, host_takes, node_takes, due, takes_due, settle_once, settle, settle_all, gives, give_all, hearing, client_hears, hears_bytes, client_takes, client_asks, ask_found, asks, goes, flow_sent, flow_once, flows, hosts_from, begun, is_listed, where_listed, at_listed, each_listed, host_index, at_index, at_member, arrives, arrives_at, sent_arrives, give_number, told_idle, telling_all, host_delivers, deliver_at, deliver_each, shown_host, shown_client, shows}
+use Rattle.client_quorum.specs.Clients.{request_of, asking}
+use Rattle.world_rules.specs.Worlds.{Host, World, sends, sends_all, told_drop, told_fired, chosen_with, host_after, stepped, host_takes, node_takes, due, takes_due, settle_once, settle, settle_all, gives, give_all, hearing, client_hears, hears_bytes, client_takes, client_asks, ask_found, asks, client_repeats, repeat_found, repeats, learns, learns_from, tells, goes, flow_sent, flow_once, flows, hosts_from, begun, is_listed, where_listed, at_listed, each_listed, host_index, at_index, at_member, arrives, arrives_at, sent_arrives, give_number, told_idle, telling_all, host_delivers, deliver_at, deliver_each, shown_host, shown_client, shows}
 use Rattle.world_rules.specs.Plays.{has_member, has_party, is_there, line_played, rested, world_after, lines_told}
-use Rattle.world_rules.specs.declared.client.Client.{Client}
+use Rattle.client_quorum.specs.declared.client.Client.{Client}
 use Rattle.world_rules.specs.declared.message.Origin.{Origin}
 use Rattle.world_rules.specs.declared.message.Origin.TheVariants as origins
 use Rattle.world_rules.specs.declared.message.Sent.{Sent}
@@ -268,6 +268,39 @@ asks_same : {S : Type 0} (i : ℕ) (op : List ℕ) (w : World S) → asks i op (
 unfolding asks trimmed_world
 asks_same i op w = choice_same trimmed_world (is_some w.ending) _ _ _ _ refl (ask_found_same w i op (slice_get w.clients i))
 
+-- a client sends its request once more, or tells that it is idle
+client_repeats_same : {S : Type 0} (w : World S) (c : Client) (waiting : Option Request) → client_repeats (trimmed_world w) c waiting ≡ trimmed_world (client_repeats w c waiting)
+unfolding trimmed_world
+client_repeats_same w c None = refl
+client_repeats_same w c (Some q) = sends_same w (origins.Client c.id) targets.View (Ask (signed requests group_secret c.id q))
+
+-- a client that is found does
+repeat_found_same : {S : Type 0} (w : World S) (found : Option Client) → repeat_found (trimmed_world w) found ≡ trimmed_world (repeat_found w found)
+repeat_found_same w None = refl
+repeat_found_same w (Some c) = client_repeats_same w c c.waiting
+
+-- the client at an index does
+repeats_same : {S : Type 0} (i : ℕ) (w : World S) → repeats i (trimmed_world w) ≡ trimmed_world (repeats i w)
+unfolding repeats trimmed_world
+repeats_same i w = choice_same trimmed_world (is_some w.ending) _ _ _ _ refl (repeat_found_same w (slice_get w.clients i))
+
+-- a client that is found learns of a place
+learns_same : {S : Type 0} (w : World S) (place i : ℕ) (found : Option Client) → learns (trimmed_world w) place i found ≡ trimmed_world (learns w place i found)
+unfolding trimmed_world
+learns_same w place i None = refl
+learns_same w place i (Some c) = refl
+
+-- if the client that knows it is found
+learns_from_same : {S : Type 0} (w : World S) (found : Option Client) (i : ℕ) → learns_from (trimmed_world w) found i ≡ trimmed_world (learns_from w found i)
+unfolding trimmed_world
+learns_from_same w None i = refl
+learns_from_same w (Some c) i = learns_same w c.seen i (slice_get w.clients i)
+
+-- a client is told of the greatest place that another knows
+tells_same : {S : Type 0} (from to : ℕ) (w : World S) → tells from to (trimmed_world w) ≡ trimmed_world (tells from to w)
+unfolding tells trimmed_world
+tells_same from to w = choice_same trimmed_world (is_some w.ending) _ _ _ _ refl (learns_from_same w (slice_get w.clients from) to)
+
 -- flow
 
 -- bytes go to whom they are for
@@ -359,6 +392,8 @@ pub core_line : {S : Type 0} (m : Meaning S) (w : World S) (line : Line) → lin
 unfolding line_played
 core_line m w lines.Nothing = refl
 core_line m w (lines.Ask client op) = asks_same client op w
+core_line m w (lines.Again client) = repeats_same client w
+core_line m w (lines.Tell from to) = tells_same from to w
 core_line m w (lines.Flow members) = flows_same m members w
 core_line m w (lines.Give number to) = give_number_same m number to w
 core_line m w (lines.Deliver members) = deliver_each_same m members w
@@ -384,6 +419,8 @@ pub there_same : {S : Type 0} (w : World S) (line : Line) → is_there (trimmed_
 unfolding is_there trimmed_world
 there_same w lines.Nothing = refl
 there_same w (lines.Ask client op) = refl
+there_same w (lines.Again client) = refl
+there_same w (lines.Tell from to) = refl
 there_same w (lines.Flow members) = has_each_same (has_member (trimmed_world w)) (has_member w) (has_member_same w) members
 there_same w (lines.Give number to) =
     ap (λ t. nat_le 1 number && nat_le number (length w.sent) && t) (has_each_same (has_party (trimmed_world w)) (has_party w) (has_party_same w) to)

@@ -12,7 +12,8 @@ use Rattle.smart_service.specs.Services.{Meaning}
 use Rattle.smart_service.specs.declared.replica.Replica.{Replica}
 use Rattle.node_rules.specs.Replicas.{is_next}
 use Rattle.node_rules.specs.Nodes.{Node, next_place}
-use Rattle.node_rules.specs.Arrivals.{why_dropped, offered, kept, noted}
+use Rattle.node_rules.specs.Arrivals.{why_dropped, kept, noted}
+use Rattle.node_rules.specs.Pools.{offered}
 use Rattle.node_rules.specs.Rules.{deliver_batch, delivers, delivery, answering, fired_answer}
 use Rattle.node_rules.specs.Steps.{Outcome, fired_pass, outcome_from, arrival_outcome, reading_outcome, step_of, answered}
 use Rattle.node_rules.specs.declared.node.Why.{Why}

@@ -26,21 +26,24 @@ use Rattle.node_rules.specs.Steps.{Outcome, step_of, votes, fired_votes, passes,
 use Rattle.node_rules.specs.Steps as steps
 use Rattle.node_rules.specs.Arrivals.{slot_why, signer_why, why_ask, why_propose, why_vote, why_dropped, kept, noted}
 use Rattle.node_rules.specs.Replicas.{execute, delivered, executed_lines}
+use Rattle.node_rules.specs.Pools.{gathered}
 use Rattle.node_rules.specs.Rules.{deliver_batch, delivery, delivers, proposing, propose_batch, proposes, writing, write_batch, writes, accepting, accept_batch, accepts, deciding, decide_batch, decides, fired_if, answering, answer_line, answers_again, fired_answer}
 use Rattle.node_rules.specs.declared.node.Why.TheVariants.{BadTag, InvalidBatch}
 use Rattle.node_rules.specs.declared.node.Target.TheVariants as targets
 use Rattle.node_rules.specs.declared.node.Fired.TheVariants as fires
 use Rattle.world_rules.specs.Secrets.{group_secret}
 use Rattle.world_rules.specs.Premises.{collides}
-use Rattle.world_rules.specs.Clients.{why_ignored, heard_unless, heard}
+use Rattle.client_quorum.specs.Clients as clients
+use Rattle.client_quorum.specs.Clients.{heard_unless}
+use Rattle.world_rules.specs.Clients.{heard}
 use Rattle.world_rules.specs.Repeats.{repeated, turns, until_rest, each_from}
 use Rattle.world_rules.specs.Worlds.{Host, World, begun, clients_from, asks, sends, stepped, host_takes, node_takes, due, takes_due, settle_once, settle, settle_all, gives, hearing, client_hears, hears_bytes, client_takes, flow_sent, flow_once, where_listed, at_listed}
 use Rattle.world_rules.specs.Plays.{line_played, rested}
 use Rattle.world_rules.specs.Promises.{world_at}
-use Rattle.world_rules.specs.declared.client.Client.{Client}
-use Rattle.world_rules.specs.declared.client.Ignored.TheVariants as reasons
-use Rattle.world_rules.specs.declared.client.Heard.{Heard}
-use Rattle.world_rules.specs.declared.client.Heard.TheVariants as hears
+use Rattle.client_quorum.specs.declared.client.Client.{Client}
+use Rattle.client_quorum.specs.declared.client.Ignored.TheVariants as reasons
+use Rattle.client_quorum.specs.declared.client.Heard.{Heard}
+use Rattle.client_quorum.specs.declared.client.Heard.TheVariants as hears
 use Rattle.world_rules.specs.declared.message.Origin.{Origin}
 use Rattle.world_rules.specs.declared.message.Origin.TheVariants as origins
 use Rattle.world_laws.specs.Examples.{lone, ask_and_flow, first_request, first_signed, first_acceptance}
@@ -287,7 +290,7 @@ answered m = hearing (record (replied m) { mark = (replied m).mark + 1 }) 1 wait
 
 -- what the facts on these worlds unfold to compute them
 unfoldable computed : ⊤
-unfolding asks sends collides clients_from repeated settle_once node_takes stepped step_of votes fired_votes passes fired_pass passed host_in slot_why signer_why why_ask why_propose why_vote noted kept answering execute delivered executed_lines deliver_batch delivery delivers proposing propose_batch proposes writing write_batch writes accepting accept_batch accepts deciding decide_batch decides turn asked begins proposed wrote accepted replied hearing answered
+unfolding asks sends collides clients_from gathered repeated settle_once node_takes stepped step_of votes fired_votes passes fired_pass passed host_in slot_why signer_why why_ask why_propose why_vote noted kept answering execute delivered executed_lines deliver_batch delivery delivers proposing propose_batch proposes writing write_batch writes accepting accept_batch accepts deciding decide_batch decides turn asked begins proposed wrote accepted replied hearing answered
 computed = tt
 
 -- the turns of the play
@@ -359,7 +362,7 @@ not_ignored false is = absurd (cc)
 
 -- the client accepts the reply
 accepts_first : {S : Type 0} (m : Meaning S) → IsBrief m → heard lone waiting_client (first_reply m) ≡ hears.Accepted (first_acceptance m)
-unfolding heard why_ignored
+unfolding clients.heard clients.why_ignored
 accepts_first m brief =
     ap (λ why. heard_unless lone waiting_client (first_reply m) why (Some first_request)) (not_ignored (is_verified answers group_secret (first_reply m)) (good_reply m brief).tagged)
     ∙ one_is_enough (hears.Accepted (first_acceptance m)) _ (same_bytes (m.reply m.first (7 ∷ [])) (m.reply m.first (7 ∷ []))) (bytes-itself (m.reply m.first (7 ∷ [])))

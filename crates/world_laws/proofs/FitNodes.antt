@@ -1,6 +1,6 @@
 -- What a node holds and sends has a spelling, and bears its signers' tags: rule by rule.
-use Rattle.std.proofs.Common.{◌≡◌, ℕ, ◌+◌, ◌^◌, ◌<◌, ◌≤◌, ◌++◌, ◌==◌, ◌&&◌, Bool, true, false, not, List, [], ◌∷◌, length, refl, sym, subst, cond, Option, Some, None, Result, Ok, Err, is_none, nat_lt, arith}
-use Rattle.std.proofs.lemmas.Bool.{ltb-true}
+use Rattle.std.proofs.Common.{◌≡◌, ℕ, ◌+◌, ◌^◌, ◌<◌, ◌≤◌, ◌++◌, ◌==◌, ◌&&◌, Bool, true, false, not, List, [], ◌∷◌, length, refl, sym, subst, cond, Option, Some, None, Result, Ok, Err, is_none, nat_lt, nat_le, filter, arith}
+use Rattle.std.proofs.lemmas.Bool.{ltb-true, leb-true}
 use Rattle.std.specs.List.{list_any, AllByRecursion}
 use Rattle.std.specs.Option.{option_to_list}
 use Rattle.smart_base.specs.Lists.{Each}
@@ -9,7 +9,7 @@ use Rattle.smart_base.specs.Views.{View, is_member, leader, present}
 use Rattle.smart_messages.specs.Equality.{same_slot}
 use Rattle.smart_messages.specs.Forms.{SignedBy}
 use Rattle.smart_messages.specs.Kinds.{requests}
-use Rattle.smart_messages.specs.Messages.{Batch, FitsBatch, decoded}
+use Rattle.smart_messages.specs.Messages.{Batch, batch_text, FitsBatch, decoded}
 use Rattle.smart_messages.specs.Spelling.{FitsSlot, FitsRequest, IsSigner, FitsSigned}
 use Rattle.smart_messages.specs.declared.statement.Request.{Request}
 use Rattle.smart_messages.specs.declared.statement.Slot.{Slot}
@@ -23,22 +23,23 @@ use Rattle.smart_messages.specs.declared.entry.NodeEvent.TheVariants.{Arrive, Ti
 use Rattle.smart_service.specs.Services.{Meaning}
 use Rattle.smart_service.specs.declared.table.TableLine.{TableLine}
 use Rattle.smart_service.specs.declared.replica.Replica.{Replica}
-use Rattle.node_rules.specs.Seals.{is_verified, digest_of}
+use Rattle.node_rules.specs.Seals.{is_verified, digest_of, is_managers}
 use Rattle.node_rules.specs.Replicas.{is_next, line_of, execute, line_made, lines_of, at_next, delivered, executed_lines}
 use Rattle.node_rules.specs.Nodes.{Node, view_of, regency_of, next_place, open_slot, is_free, is_open, holding, recording, has_quorum, proposal_in, proposal_of, is_wrote, is_accepted}
-use Rattle.node_rules.specs.Arrivals.{why_dropped, offered, kept, noted}
-use Rattle.node_rules.specs.Rules.{settled, reply_of, replying, lines_to_answer, deliver_batch, delivers, gathered, proposing, propose_batch, proposes, ballot, writing, write_batch, writes, backed, backers, accepting, accept_batch, accepts, deciding, decide_batch, decides, answering, answer_line, answers_again}
+use Rattle.node_rules.specs.Arrivals.{why_dropped, kept, noted}
+use Rattle.node_rules.specs.Pools.{offered, settled, is_within, filled, batch_of, gathered}
+use Rattle.node_rules.specs.Rules.{reply_of, replying, lines_to_answer, deliver_batch, delivers, proposing, propose_batch, proposes, ballot, writing, write_batch, writes, backed, backers, accepting, accept_batch, accepts, deciding, decide_batch, decides, answering, answer_line, answers_again}
 use Rattle.node_rules.specs.Steps.{votes, passes, arrival_outcome, reading_outcome, step_of, released, opened}
 use Rattle.node_rules.specs.declared.node.Why.{Why}
 use Rattle.node_rules.specs.declared.node.Held.{Held}
 use Rattle.node_rules.specs.declared.node.Target.{Target}
 use Rattle.node_rules.specs.declared.node.Target.TheVariants as targets
 use Rattle.world_rules.specs.Secrets.{group_secret}
-use Rattle.world_laws.proofs.Lists.{and_true, either, each_end, each_append}
+use Rattle.world_laws.proofs.Lists.{and_true, either, either_by, each_end, each_append}
 use Rattle.world_laws.proofs.Executions.{views-execute, views-delivered}
 use Rattle.world_laws.proofs.OnePlace.{place-execute}
 use Rattle.world_laws.proofs.Authentic.{ForBatch, for_batch-weaker, for_batch-or, each_offered, each_filter, each-staying}
-use Rattle.world_laws.proofs.Genuine.{IsGood, AreVerified, digest_of-length, vote-good, reply-good, propose-good, single-fits, single-verified}
+use Rattle.world_laws.proofs.Genuine.{IsGood, AreVerified, digest_of-length, vote-good, reply-good, propose-good, single-fits, single-verified, longer-fits, longer-verified}
 use Rattle.world_laws.proofs.Again.{ForLine, answering-each, each-delivered}
 
 -- a proposal's batch has a spelling
@@ -249,12 +250,33 @@ open-low n is = free-low n (and_true (is_member (view_of n) n.id) (is_free n) is
 open-fits : {S : Type 0} (n : Node S) → FitNode n → next_place n < 2 ^ 63 → FitsSlot (open_slot n)
 open-fits n is low = record { view_fits = is.view; place_fits = (omega arith, low); regency_fits = omega arith }
 
+-- a batch that may be sent: it has a spelling, and each request in it its client's tag
+abbrev FitsSending : Batch → Type 0
+FitsSending batch = FitsBatch batch × AreVerified batch
+
+-- what fits is filled with what the limits leave room for
+filled-fits : (batch qs : Batch) → FitsSending batch → Each FitsPool qs → FitsSending (filled batch qs)
+filled-fits batch [] fit each = fit
+filled-fits batch (q ∷ qs) fit each =
+    either_by (λ (b : Batch). FitsSending b) (is_within (batch ++ q ∷ [])) (filled (batch ++ q ∷ []) qs) batch
+    (λ within. let limits = and_true (nat_le (length (batch ++ q ∷ [])) 64) (nat_le (length (batch_text (batch ++ q ∷ []))) 262144) within in
+    filled-fits (batch ++ q ∷ []) qs
+    (longer-fits batch q fit.0 each.0.fits (leb-true (length (batch ++ q ∷ [])) 64 limits.0) (leb-true (length (batch_text (batch ++ q ∷ []))) 262144 limits.1), longer-verified batch q fit.1 each.0.tagged) each.1)
+    (λ full. fit)
+
+-- the batch of some requests
+batch_of-fits : (qs : Batch) → Each FitsPool qs → ForBatch (batch_of qs) FitsSending
+batch_of-fits [] each = tt
+batch_of-fits (q ∷ qs) each =
+    let one : FitsSending (q ∷ []) = (single-fits q each.0.fits, single-verified q each.0.tagged) in
+    either (λ (batch : Option Batch). ForBatch batch FitsSending) (is_managers q) (Some (q ∷ [])) (Some (filled (q ∷ []) (filter (λ p. not (is_managers p)) qs))) one
+    (filled-fits (q ∷ []) (filter (λ p. not (is_managers p)) qs) one (each_filter FitsPool (λ p. not (is_managers p)) qs each.1))
+
 -- what the pool gives
-gathered-fits : (pool : List (SignedBy Request)) (place : ℕ) → Each FitsPool pool → ForBatch (gathered pool place) (λ batch. FitsBatch batch × AreVerified batch)
-gathered-fits [] place each = tt
-gathered-fits (q ∷ pool) place each =
-    either (λ (found : Option Batch). ForBatch found (λ batch. FitsBatch batch × AreVerified batch)) (nat_lt q.statement.after place) (Some (q ∷ [])) (gathered pool place)
-    (single-fits q each.0.fits, single-verified q each.0.tagged) (gathered-fits pool place each.1)
+gathered-fits : (pool : Batch) (place : ℕ) → Each FitsPool pool → ForBatch (gathered pool place) FitsSending
+unfolding gathered
+gathered-fits pool place each =
+    batch_of-fits (filter (λ (q : SignedBy Request). nat_lt q.statement.after place) pool) (each_filter FitsPool (λ (q : SignedBy Request). nat_lt q.statement.after place) pool each)
 
 -- what holds anyway, holds of a batch, if there is one
 any_batch : (P : Type 0) → P → (batch : Option Batch) → ForBatch batch (λ b. P)
@@ -267,7 +289,7 @@ proposing-fits n is =
     guarded (FitsProposed (next_place n)) _ (gathered n.pool (next_place n))
     (λ guard. let one = and_true (is_open n && (leader (view_of n) (regency_of n) == n.id)) (not (list_any (same_slot (open_slot n)) n.proposed)) guard in
     let two = and_true (is_open n) (leader (view_of n) (regency_of n) == n.id) one.0 in
-    for_batch-weaker (λ batch. FitsBatch batch × AreVerified batch) (FitsProposed (next_place n)) (λ batch fit. ((fit.0, open-low n two.0), fit.1)) (gathered n.pool (next_place n)) (gathered-fits n.pool (next_place n) is.pool))
+    for_batch-weaker FitsSending (FitsProposed (next_place n)) (λ batch fit. ((fit.0, open-low n two.0), fit.1)) (gathered n.pool (next_place n)) (gathered-fits n.pool (next_place n) is.pool))
 
 fit-propose_batch : {S : Type 0} (n : Node S) (batch : Option Batch) → ForBatch batch (FitsProposed (next_place n)) → FitNode n → FitNode (propose_batch n batch)
 unfolding propose_batch

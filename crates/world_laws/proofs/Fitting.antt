@@ -1,12 +1,13 @@
 -- Each message that is sent in a play over a view is read as itself, and its statements bear the tags of their signers.
-use Rattle.std.proofs.Common.{◌≡◌, ℕ, zero, suc, ◌+◌, ◌*◌, ◌^◌, ◌<◌, ◌≤◌, ◌∙◌, ◌&&◌, true, List, [], ◌∷◌, length, refl, ap, subst, Ok, nat_lt, nat_le, inl, inr, arith}
+use Rattle.std.proofs.Common.{◌≡◌, ℕ, zero, suc, ◌+◌, ◌*◌, ◌^◌, ◌<◌, ◌≤◌, ◌∙◌, ◌&&◌, true, List, [], ◌∷◌, length, refl, ap, subst, Some, None, Ok, nat_lt, nat_le, inl, inr, arith}
 use Rattle.std.proofs.lemmas.Bool.{ltb-true, leb-true}
 use Rattle.smart_base.specs.Lists.{Each}
 use Rattle.smart_base.specs.Views.{View, ascends, is_view}
 use Rattle.smart_messages.specs.Forms.{SignedBy}
 use Rattle.smart_messages.specs.Messages.{spelling, decoded}
-use Rattle.smart_messages.specs.Spelling.{IsSigner}
+use Rattle.smart_messages.specs.Spelling.{IsSigner, FitsRequest}
 use Rattle.smart_messages.proofs.Messages.{spelling_is}
+use Rattle.smart_messages.specs.declared.statement.Request.{Request}
 use Rattle.smart_messages.specs.declared.statement.Answer.{Answer}
 use Rattle.smart_messages.specs.declared.message.Message.{Message}
 use Rattle.smart_messages.specs.declared.message.Message.TheVariants.{Reply}
@@ -17,19 +18,20 @@ use Rattle.node_rules.specs.Steps.{Outcome, step_of, leaving}
 use Rattle.node_rules.specs.declared.node.Held.{Held}
 use Rattle.node_rules.specs.declared.node.Target.{Target}
 use Rattle.node_rules.specs.declared.node.Target.TheVariants as targets
-use Rattle.world_rules.specs.Clients.{request_of, asking, heard, after_heard}
+use Rattle.client_quorum.specs.Clients.{request_of, asking, learning, after_heard}
+use Rattle.world_rules.specs.Clients.{heard}
 use Rattle.world_rules.specs.Worlds.{Host, World, sends, sends_all, host_after, stepped, hearing, hosts_from, clients_from, begun}
 use Rattle.world_rules.specs.Plays.{world_after}
-use Rattle.world_rules.specs.declared.client.Client.{Client}
-use Rattle.world_rules.specs.declared.client.Heard.{Heard}
-use Rattle.world_rules.specs.declared.client.Heard.TheVariants as hears
+use Rattle.client_quorum.specs.declared.client.Client.{Client}
+use Rattle.client_quorum.specs.declared.client.Heard.{Heard}
+use Rattle.client_quorum.specs.declared.client.Heard.TheVariants as hears
 use Rattle.world_rules.specs.declared.line.Line.{Line}
 use Rattle.world_rules.specs.declared.message.Origin.{Origin}
 use Rattle.world_rules.specs.declared.message.Origin.TheVariants as origins
 use Rattle.world_rules.specs.declared.message.Sent.{Sent}
 use Rattle.world_laws.specs.Sending.{IsGenuine, AllGenuine}
-use Rattle.world_laws.proofs.Lists.{and_true, each_end, each_weaker, each_set, each_get}
-use Rattle.world_laws.proofs.Keeps.{HasMessage, MayCome, ask_of, asked_by, Keeps, by-sends, ReadsSent, KeepsRead, keeps-reading, keeps-world_after}
+use Rattle.world_laws.proofs.Lists.{and_true, some-equal, each_end, each_weaker, each_set, each_get}
+use Rattle.world_laws.proofs.Keeps.{HasMessage, MayCome, ask_of, asked_by, Keeps, by-sends, ReadsSent, KeepsRead, keeps-reading, keeps-world_after, signed_by, OwnWaits}
 use Rattle.world_laws.proofs.Genuine.{IsGood, good-genuine, ask-good}
 use Rattle.world_laws.proofs.Authentic.{each-leaving}
 use Rattle.world_laws.proofs.FitNodes.{FitNode, IsBrief, FitsEvent, fit-step, fit-released, fit-opened}
@@ -38,6 +40,7 @@ use Rattle.world_laws.proofs.FitNodes.{FitNode, IsBrief, FitsEvent, fit-step, fi
 pub record FitClient (c : Client) : Type 0 where
   pub named : c.id < 2 ^ 16
   pub seen : c.seen < 2 ^ 64
+  pub waits : (q : Request) → c.waiting ≡ Some q → FitsRequest c.id q
 
 -- all that nodes and clients hold has a spelling, and all that was sent
 pub record AllFit {S : Type 0} (w : World S) : Type 0 where
@@ -53,6 +56,10 @@ good-has (s ∷ sent) x each has = elim has [ inl here ↦ subst (λ (y : Messag
 -- so it is read as itself
 pub fit-reads : {S : Type 0} (w : World S) → AllFit w → ReadsSent w
 fit-reads w is x has = spelling_is x (good-has w.sent x is.sent has).fits
+
+-- and what waits is its client's own
+pub fit-owns : {S : Type 0} (w : World S) → AllFit w → OwnWaits w
+fit-owns w is i c q at waits = ((each_get FitClient w.clients i c is.clients at).waits q waits).client_is
 
 -- what its bytes are read as has a spelling
 read-good : {S : Type 0} (w : World S) (bytes : List ℕ) (x y : Message) → AllFit w → HasMessage w.sent x → bytes ≡ spelling x → decoded bytes ≡ Ok y → IsGood y
@@ -87,10 +94,18 @@ fit-stepped {S = S} w i h o fit is =
     fit-sends_all h.node.id _ (leaving o.node.firm o.node.held) (each-leaving (λ (x : Held). IsGood x.message) o.node.firm o.node.held fit.held)
     (record { hosts = each_set (λ (g : Host S). FitNode g.node) w.hosts i (host_after h o) is.hosts (fit-released o.node fit); clients = is.clients; sent = is.sent })
 
+-- where no request waits
+no_request : (id : ℕ) (q : Request) → None ≡ Some q → FitsRequest id q
+no_request id q same = absurd (cc)
+
+-- where one does
+one_waits : (id : ℕ) (new : Request) → FitsRequest id new → (q : Request) → Some new ≡ Some q → FitsRequest id q
+one_waits id new fit q same = subst (FitsRequest id) (some-equal new q same) fit
+
 -- a client that has heard a reply
 fit-after_heard : (c : Client) (a : SignedBy Answer) (h : Heard) → a.statement.place < 2 ^ 63 → FitClient c → FitClient (after_heard c a h)
-fit-after_heard c a (hears.Counted count need) low is = record { named = is.named; seen = is.seen }
-fit-after_heard c a (hears.Accepted acceptance) low is = record { named = is.named; seen = omega (arith, low, is.seen) }
+fit-after_heard c a (hears.Counted count need) low is = record { named = is.named; seen = is.seen; waits = is.waits }
+fit-after_heard c a (hears.Accepted acceptance) low is = record { named = is.named; seen = omega (arith, low, is.seen); waits = no_request c.id }
 fit-after_heard c a (hears.Ignored why) low is = is
 
 -- the place of a reply
@@ -114,9 +129,23 @@ keeps-fit {S = S} m brief =
           };
       ask = λ w i c op at free few brief is.
           let fit = each_get FitClient w.clients i c is.clients at in
-          fit-sends (asked_by w i c op) (origins.Client c.id) targets.View (ask_of c op)
-          (ask-good c.id (request_of c op) (record { client_is = refl; client_fits = fit.named; seq_fits = (omega arith, few); after_fits = fit.seen; op_fits = brief }))
-          (record { hosts = is.hosts; clients = each_set FitClient w.clients i (asking c (request_of c op)) is.clients (record { named = fit.named; seen = fit.seen }); sent = is.sent });
+          let new : FitsRequest c.id (request_of c op) = record { client_is = refl; client_fits = fit.named; seq_fits = (omega arith, few); after_fits = fit.seen; op_fits = brief } in
+          fit-sends (asked_by w i c op) (origins.Client c.id) targets.View (ask_of c op) (ask-good c.id (request_of c op) new)
+          (record {
+            hosts = is.hosts;
+            clients = each_set FitClient w.clients i (asking c (request_of c op)) is.clients (record { named = fit.named; seen = fit.seen; waits = one_waits c.id (request_of c op) new });
+            sent = is.sent;
+          });
+      again = λ w i c q at waits is.
+          fit-sends w (origins.Client c.id) targets.View (signed_by c q) (ask-good c.id q ((each_get FitClient w.clients i c is.clients at).waits q waits)) is;
+      learn = λ w i j c d at other is.
+          let fit = each_get FitClient w.clients i c is.clients at in
+          record {
+            hosts = is.hosts;
+            clients = each_set FitClient w.clients i (learning c d.seen) is.clients
+                (record { named = fit.named; seen = omega (arith, fit.seen, (each_get FitClient w.clients j d is.clients other).seen); waits = fit.waits });
+            sent = is.sent;
+          };
       same = λ w mark told is. record { hosts = is.hosts; clients = is.clients; sent = is.sent };
     }
 
@@ -151,7 +180,7 @@ hosts_fit m view (id ∷ ids) low each = (fit-opened m id view each.0 low, hosts
 clients_fit : (count i : ℕ) → i + count ≤ 2 ^ 16 → Each FitClient (clients_from count i)
 unfolding clients_from
 clients_fit zero i low = tt
-clients_fit (suc count) i low = (record { named = omega (arith, low); seen = omega arith }, clients_fit count (i + 1) (omega (arith, low)))
+clients_fit (suc count) i low = (record { named = omega (arith, low); seen = omega arith; waits = no_request i }, clients_fit count (i + 1) (omega (arith, low)))
 
 -- a play begins so
 pub fit-begun : {S : Type 0} (m : Meaning S) (view : View) → is_view view ≡ true → AllFit (begun m view)
@@ -174,4 +203,4 @@ all_genuine {S = S} m brief view ls is =
 -- what each event keeps where what was sent is read, each play over a view keeps
 pub play-keeps : {S : Type 0} (m : Meaning S) → IsBrief m → (P : World S → Type 0) → KeepsRead (step_of m) P → (view : View) (ls : List Line) → is_view view ≡ true → P (begun m view) → P (world_after (step_of m) (begun m view) ls)
 play-keeps {S = S} m brief P k view ls is p =
-    (keeps-world_after (step_of m) (λ (w : World S). AllFit w × P w) (keeps-reading (step_of m) AllFit P (keeps-fit m brief) fit-reads k) (begun m view) ls (fit-begun m view is, p)).1
+    (keeps-world_after (step_of m) (λ (w : World S). AllFit w × P w) (keeps-reading (step_of m) AllFit P (keeps-fit m brief) fit-reads fit-owns k) (begun m view) ls (fit-begun m view is, p)).1

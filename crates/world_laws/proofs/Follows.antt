@@ -18,7 +18,8 @@ use Rattle.node_rules.specs.Replicas.{delivered}
 use Rattle.node_rules.specs.Seals.{digest_of}
 use Rattle.node_rules.specs.Nodes.{Node, next_place, open_slot, holding, recording}
 use Rattle.node_rules.specs.Arrivals.{why_dropped, kept, noted}
-use Rattle.node_rules.specs.Rules.{settled, reply_of, replying, lines_to_answer, deliver_batch, delivers, delivery, proposing, propose_batch, proposes, writing, write_batch, writes, backers, accepting, accept_batch, accepts, deciding, decide_batch, decides, fired_if, answering, answer_line, answers_again, fired_answer}
+use Rattle.node_rules.specs.Pools.{settled}
+use Rattle.node_rules.specs.Rules.{reply_of, replying, lines_to_answer, deliver_batch, delivers, delivery, proposing, propose_batch, proposes, writing, write_batch, writes, backers, accepting, accept_batch, accepts, deciding, decide_batch, decides, fired_if, answering, answer_line, answers_again, fired_answer}
 use Rattle.node_rules.specs.Steps.{votes, fired_votes, passes, fired_pass, arrival_outcome, reading_outcome, step_of}
 use Rattle.node_rules.specs.declared.node.Why.{Why}
 use Rattle.node_rules.specs.declared.node.Target.TheVariants as targets

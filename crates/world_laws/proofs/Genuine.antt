@@ -1,7 +1,7 @@
 -- Messages that have a spelling and whose statements bear the tag of their signer.
-use Rattle.std.proofs.Common.{◌≡◌, ℕ, ◌+◌, ◌^◌, ◌<◌, true, List, [], ◌∷◌, length, length-append, refl, arith}
+use Rattle.std.proofs.Common.{◌≡◌, ℕ, ◌+◌, ◌^◌, ◌<◌, ◌≤◌, ◌++◌, true, List, [], ◌∷◌, length, length-append, refl, arith}
 use Rattle.std.specs.Int.{w16}
-use Rattle.std.specs.List.{list_all}
+use Rattle.std.specs.List.{list_all, AllByRecursion}
 use Rattle.smart_base.specs.Spelling.{behind}
 use Rattle.smart_keys.proofs.Digests.{digest-length}
 use Rattle.smart_keys.proofs.Tags.{tag_of-length, is_tag-tag_of}
@@ -21,6 +21,7 @@ use Rattle.smart_messages.specs.declared.message.Message.TheVariants.{Ask, Propo
 use Rattle.node_rules.specs.Seals.{signed, is_verified, digest_of}
 use Rattle.world_rules.specs.Secrets.{group_secret}
 use Rattle.world_laws.specs.Sending.{is_tagged, IsGenuine}
+use Rattle.world_laws.proofs.Lists.{and_true}
 use Rattle.world_laws.proofs.Equal.{and_intro}
 
 -- it has a spelling, and each statement in it bears its signer's tag
@@ -133,3 +134,19 @@ single-fits q fit =
 -- whose request bears its tag
 pub single-verified : (q : SignedBy Request) → is_verified requests group_secret q ≡ true → AreVerified (q ∷ [])
 single-verified q tagged = and_intro (is_verified requests group_secret q) true tagged refl
+
+-- a batch of one request more, within the limits
+pub longer-fits : (batch : Batch) (q : SignedBy Request) → FitsBatch batch → FitsSigned requests FitsRequest q → length (batch ++ q ∷ []) ≤ 64 → length (batch_text (batch ++ q ∷ [])) ≤ 262144 → FitsBatch (batch ++ q ∷ [])
+longer-fits batch q is fit few short =
+    record { count_fits = (omega (arith, length-append batch (q ∷ [])), few); each_fits = all_end batch is.each_fits; bytes_fit = short }
+  where
+    all_end : (qs : Batch) → AllByRecursion (FitsSigned requests FitsRequest) qs → AllByRecursion (FitsSigned requests FitsRequest) (qs ++ q ∷ [])
+    all_end [] all = (fit, tt)
+    all_end (r ∷ rs) all = (all.0, all_end rs all.1)
+
+-- whose request bears its tag too
+pub longer-verified : (batch : Batch) (q : SignedBy Request) → AreVerified batch → is_verified requests group_secret q ≡ true → AreVerified (batch ++ q ∷ [])
+longer-verified [] q are tagged = single-verified q tagged
+longer-verified (r ∷ rs) q are tagged =
+    let both = and_true (is_verified requests group_secret r) (list_all (λ x. is_verified requests group_secret x) rs) are in
+    and_intro (is_verified requests group_secret r) (list_all (λ x. is_verified requests group_secret x) (rs ++ q ∷ [])) both.0 (longer-verified rs q both.1 tagged)

@@ -11,12 +11,14 @@ use Rattle.smart_messages.specs.declared.statement.Answer.{Answer}
 use Rattle.smart_messages.specs.declared.message.Message.TheVariants.{Reply}
 use Rattle.node_rules.specs.Seals.{is_verified}
 use Rattle.world_rules.specs.Secrets.{group_secret}
-use Rattle.world_rules.specs.Clients.{asking, same_answer, has_answer, have, is_waited_for, why_ignored, acceptance, heard_unless, heard, after_heard}
-use Rattle.world_rules.specs.declared.client.Client.{Client}
-use Rattle.world_rules.specs.declared.client.Acceptance.{Acceptance}
-use Rattle.world_rules.specs.declared.client.Ignored.{Ignored}
-use Rattle.world_rules.specs.declared.client.Heard.{Heard}
-use Rattle.world_rules.specs.declared.client.Heard.TheVariants as hears
+use Rattle.client_quorum.specs.Clients as clients
+use Rattle.client_quorum.specs.Clients.{asking, same_answer, has_answer, have, is_waited_for, acceptance, heard_unless, after_heard}
+use Rattle.world_rules.specs.Clients.{why_ignored, heard}
+use Rattle.client_quorum.specs.declared.client.Client.{Client}
+use Rattle.client_quorum.specs.declared.client.Acceptance.{Acceptance}
+use Rattle.client_quorum.specs.declared.client.Ignored.{Ignored}
+use Rattle.client_quorum.specs.declared.client.Heard.{Heard}
+use Rattle.client_quorum.specs.declared.client.Heard.TheVariants as hears
 use Rattle.world_laws.specs.Sending.{is_reply, has_given, hears_all, IsGiven}
 use Rattle.world_laws.proofs.Lists.{and_true, either, some-equal, each_end, each_weaker}
 use Rattle.world_laws.proofs.Equal.{and_intro}
@@ -91,7 +93,7 @@ kept_last Given v c a q given counts = record { given = given; tagged = counts.t
 
 -- what a client keeps behind a reply
 pub keeps_heard : (Given : SignedBy Answer → Type 0) (v : View) (c : Client) (a : SignedBy Answer) → Given a → ClientKeeps Given c → ClientKeeps Given (after_heard c a (heard v c a))
-unfolding heard
+unfolding clients.heard
 keeps_heard Given v c a given kept = by (why_ignored v c a) c.waiting refl refl
   where
     by : (why : Option Ignored) (waiting : Option Request) → why_ignored v c a ≡ why → c.waiting ≡ waiting → ClientKeeps Given (after_heard c a (heard_unless v c a why waiting))

@@ -18,8 +18,9 @@ use Rattle.smart_service.specs.declared.table.TableLine.{TableLine}
 use Rattle.node_rules.specs.Replicas.{is_next, delivered}
 use Rattle.node_rules.specs.Seals.{digest_of}
 use Rattle.node_rules.specs.Nodes.{Node, next_place, open_slot, is_free, holding, proposal_in, proposal_of}
-use Rattle.node_rules.specs.Arrivals.{why_dropped, offered, kept, noted}
-use Rattle.node_rules.specs.Rules.{settled, reply_of, replying, lines_to_answer, deliver_batch, delivers, proposing, propose_batch, proposes, writing, write_batch, writes, backed, backers, accepting, accept_batch, accepts, deciding, decide_batch, decides, answering, answer_line, answers_again}
+use Rattle.node_rules.specs.Arrivals.{why_dropped, kept, noted}
+use Rattle.node_rules.specs.Pools.{offered, settled}
+use Rattle.node_rules.specs.Rules.{reply_of, replying, lines_to_answer, deliver_batch, delivers, proposing, propose_batch, proposes, writing, write_batch, writes, backed, backers, accepting, accept_batch, accepts, deciding, decide_batch, decides, answering, answer_line, answers_again}
 use Rattle.node_rules.specs.Steps.{Outcome, votes, passes, arrival_outcome, reading_outcome, step_of, leaving}
 use Rattle.node_rules.specs.declared.node.Why.{Why}
 use Rattle.node_rules.specs.declared.node.Held.{Held}
@@ -34,7 +35,7 @@ use Rattle.world_laws.specs.Books.{decided_of}
 use Rattle.world_laws.proofs.Lists.{either, each_end, each_weaker, each_set, each_get}
 use Rattle.world_laws.proofs.InOrder.{decided-append, decided-none}
 use Rattle.world_laws.proofs.Certified.{Exact}
-use Rattle.world_laws.proofs.Keeps.{HasMessage, ask_of, asked_by, Keeps, by-sends, ReadsSent, MayRead, may_read}
+use Rattle.world_laws.proofs.Keeps.{HasMessage, ask_of, asked_by, Keeps, by-sends, ReadsSent, MayRead, may_read, signed_by}
 use Rattle.world_laws.proofs.Authentic.{ForBatch, for_batch-weaker}
 use Rattle.world_laws.proofs.FitNodes.{IsBrief, proposal_of-if, backed-if}
 use Rattle.world_laws.proofs.Fitting.{AllFit, keeps-fit, fit-reads, fit-begun}
@@ -302,6 +303,9 @@ keeps-grounded {S = S} m brief =
       ask = λ w i c op at free few short is.
           whole (sends (asked_by w i c op) (origins.Client c.id) targets.View (ask_of c op)) (k.ask w i c op at free few short is.fit)
           (met-sends (asked_by w i c op) (origins.Client c.id) targets.View (ask_of c op) (record { texts = is.texts; hosts = is.hosts; chosen = is.chosen }));
+      again = λ w i c q at waits is.
+          whole (sends w (origins.Client c.id) targets.View (signed_by c q)) (k.again w i c q at waits is.fit) (met-sends w (origins.Client c.id) targets.View (signed_by c q) (part w is));
+      learn = λ w i j c d at other is. record { fit = k.learn w i j c d at other is.fit; texts = is.texts; hosts = is.hosts; chosen = is.chosen };
       same = λ w mark told is. record { fit = k.same w mark told is.fit; texts = is.texts; hosts = is.hosts; chosen = is.chosen };
     }
 

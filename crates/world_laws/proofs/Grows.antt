@@ -16,13 +16,13 @@ use Rattle.world_rules.specs.Clients.{heard}
 use Rattle.world_rules.specs.Worlds.{Host, World, sends, sends_all, chosen_with, stepped, hearing, begun}
 use Rattle.world_rules.specs.Plays.{line_played, rested, world_after}
 use Rattle.world_rules.specs.Promises.{world_at}
-use Rattle.world_rules.specs.declared.client.Client.{Client}
-use Rattle.world_rules.specs.declared.client.Heard.{Heard}
+use Rattle.client_quorum.specs.declared.client.Client.{Client}
+use Rattle.client_quorum.specs.declared.client.Heard.{Heard}
 use Rattle.world_rules.specs.declared.line.Line.{Line}
 use Rattle.world_rules.specs.declared.message.Origin.{Origin}
 use Rattle.world_rules.specs.declared.message.Origin.TheVariants as origins
 use Rattle.world_laws.proofs.Lists.{either}
-use Rattle.world_laws.proofs.Keeps.{ask_of, asked_by, by-sends, Keeps, keeps-world_after}
+use Rattle.world_laws.proofs.Keeps.{ask_of, asked_by, by-sends, Keeps, keeps-world_after, signed_by}
 use Rattle.world_laws.proofs.Fronts.{IsFront, front-same, front-append}
 
 -- messages that leave change neither the list nor the view
@@ -80,6 +80,8 @@ front-kept step front =
       event = λ w i h event at may is. rw chosen-stepped (front-chosen_with front w.chosen (next_place (step h.node event).node) (step h.node event).node.waiting is);
       hear = λ w i c x a at has read is. rw chosen-hearing is;
       ask = λ w i c op at free few brief is. rw chosen-sends is;
+      again = λ w i c q at waits is. rw chosen-sends is;
+      learn = λ w i j c d at other is. is;
       same = λ w mark told is. is;
     }
 
@@ -90,6 +92,8 @@ view-kept step view =
       event = λ w i h event at may is. view-stepped w i h (step h.node event) ∙ is;
       hear = λ w i c x a at has read is. view-hearing w i c a (heard w.view c a) ∙ is;
       ask = λ w i c op at free few brief is. view-sends (asked_by w i c op) (origins.Client c.id) targets.View (ask_of c op) ∙ is;
+      again = λ w i c q at waits is. view-sends w (origins.Client c.id) targets.View (signed_by c q) ∙ is;
+      learn = λ w i j c d at other is. is;
       same = λ w mark told is. is;
     }
 

@@ -8,12 +8,14 @@ use Rattle.smart_messages.specs.declared.statement.Request.{Request}
 use Rattle.smart_messages.specs.declared.statement.Answer.{Answer}
 use Rattle.node_rules.specs.Seals.{is_verified}
 use Rattle.world_rules.specs.Secrets.{group_secret}
-use Rattle.world_rules.specs.Clients.{have, is_waited_for, why_ignored, acceptance, heard_unless, heard}
-use Rattle.world_rules.specs.declared.client.Client.{Client}
-use Rattle.world_rules.specs.declared.client.Acceptance.{Acceptance}
-use Rattle.world_rules.specs.declared.client.Ignored.{Ignored}
-use Rattle.world_rules.specs.declared.client.Ignored.TheVariants as reasons
-use Rattle.world_rules.specs.declared.client.Heard.TheVariants as hears
+use Rattle.client_quorum.specs.Clients as clients
+use Rattle.client_quorum.specs.Clients.{have, is_waited_for, acceptance, heard_unless}
+use Rattle.world_rules.specs.Clients.{why_ignored, heard}
+use Rattle.client_quorum.specs.declared.client.Client.{Client}
+use Rattle.client_quorum.specs.declared.client.Acceptance.{Acceptance}
+use Rattle.client_quorum.specs.declared.client.Ignored.{Ignored}
+use Rattle.client_quorum.specs.declared.client.Ignored.TheVariants as reasons
+use Rattle.client_quorum.specs.declared.client.Heard.TheVariants as hears
 use Rattle.world_laws.proofs.Lists.{and_true}
 
 -- the reply bears its member's tag and counts for the request that waits
@@ -45,7 +47,7 @@ test_failed false x none = refl
 
 -- a reply that no reason ignores counts for the request that waits
 pub counts_where_not_ignored : (v : View) (c : Client) (a : SignedBy Answer) (q : Request) → c.waiting ≡ Some q → why_ignored v c a ≡ None → CountsFor v c a q
-unfolding why_ignored
+unfolding clients.why_ignored
 counts_where_not_ignored v c a q waits none =
     let tag = test_passed (is_verified answers group_secret a) reasons.BadTag _ none in
     let one = test_passed (is_waited_for c.waiting a.statement) reasons.Settled _ tag.1 in
@@ -78,5 +80,5 @@ accepts_unless v c a acc None (Some q) fine waits same =
 
 -- a client accepts nothing but a reply to its waiting request, and that where a quorum of members gave it
 pub accepts_waiting : (v : View) (c : Client) (a : SignedBy Answer) (acc : Acceptance) → heard v c a ≡ hears.Accepted acc → Accepts v c a acc
-unfolding heard
+unfolding clients.heard
 accepts_waiting v c a acc same = accepts_unless v c a acc (why_ignored v c a) c.waiting refl refl same

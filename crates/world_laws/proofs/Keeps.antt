@@ -21,11 +21,12 @@ use Rattle.node_rules.specs.declared.node.Target.{Target}
 use Rattle.node_rules.specs.declared.node.Target.TheVariants as targets
 use Rattle.world_rules.specs.Secrets.{group_secret}
 use Rattle.world_rules.specs.Premises.{collides}
-use Rattle.world_rules.specs.Clients.{request_of, asking, heard}
-use Rattle.world_rules.specs.Worlds.{Host, World, summary_of, telling, sends, sends_all, stepped, host_takes, node_takes, due, takes_due, settle_once, settle, settle_all, gives, give_all, hearing, client_hears, hears_bytes, client_takes, client_asks, ask_found, asks, goes, flow_sent, flow_once, is_listed, where_listed, at_listed, each_listed, host_index, at_index, at_member, arrives, arrives_at, sent_arrives, give_number, told_idle, telling_all, host_delivers, deliver_at, deliver_each, shown_host, shown_client, shows}
+use Rattle.client_quorum.specs.Clients.{request_of, asking, learning}
+use Rattle.world_rules.specs.Clients.{heard}
+use Rattle.world_rules.specs.Worlds.{Host, World, summary_of, telling, sends, sends_all, told_drop, told_fired, stepped, host_takes, node_takes, due, takes_due, settle_once, settle, settle_all, gives, give_all, hearing, client_hears, hears_bytes, client_takes, client_asks, ask_found, asks, client_repeats, repeat_found, repeats, learns, learns_from, tells, goes, flow_sent, flow_once, is_listed, where_listed, at_listed, each_listed, host_index, at_index, at_member, arrives, arrives_at, sent_arrives, give_number, told_idle, telling_all, host_delivers, deliver_at, deliver_each, shown_host, shown_client, shows}
 use Rattle.world_rules.specs.Plays.{line_played, rested, world_after}
-use Rattle.world_rules.specs.declared.client.Client.{Client}
-use Rattle.world_rules.specs.declared.client.Heard.{Heard}
+use Rattle.client_quorum.specs.declared.client.Client.{Client}
+use Rattle.client_quorum.specs.declared.client.Heard.{Heard}
 use Rattle.world_rules.specs.declared.line.Line.{Line}
 use Rattle.world_rules.specs.declared.line.Line.TheVariants as lines
 use Rattle.world_rules.specs.declared.line.OutLine.{OutLine}
@@ -41,6 +42,8 @@ use Rattle.std.specs.List.{flat_map}
 use Rattle.smart_base.specs.declared.party.Party.{Party}
 use Rattle.smart_base.specs.declared.party.Party.TheVariants as parties
 use Rattle.node_rules.specs.declared.node.Fired.{Fired}
+use Rattle.node_rules.specs.declared.node.Fired.TheVariants as fires
+use Rattle.node_rules.specs.declared.node.Why.{Why}
 
 -- a message was sent
 abbrev pub HasMessage : List Sent → Message → Type 0
@@ -60,17 +63,29 @@ MayCome w h Tick = Unit {0}
 MayCome w h Deliver = Unit {0}
 MayCome w h (Firm count) = count ≡ length h.node.entries
 
+-- a request of a client, with its tag
+abbrev pub signed_by : Client → Request → Message
+signed_by c q = Ask (signed requests group_secret c.id q)
+
 -- the request that a client asks, with its tag
 abbrev pub ask_of : Client → List ℕ → Message
-ask_of c op = Ask (signed requests group_secret c.id (request_of c op))
+ask_of c op = signed_by c (request_of c op)
 
 -- the world in which a client has asked and its request has not left
 abbrev pub asked_by : {S : Type 0} → World S → ℕ → Client → List ℕ → World S
 asked_by w i c op = record w { clients = slice_set w.clients i (asking c (request_of c op)) }
 
--- a transcript line that tells of no accepted reply
+-- the world in which a client has learned of a place
+abbrev pub learned_by : {S : Type 0} → World S → ℕ → Client → ℕ → World S
+learned_by w i c place = record w { clients = slice_set w.clients i (learning c place) }
+
+-- what a client tells that has
+abbrev pub learned_line : Client → ℕ → OutLine
+learned_line c place = outs.Learned c.id (learning c place).seen
+
+-- a transcript line that tells of no place that a client knows: of no accepted reply, and of none that it was told
 abbrev pub IsBeside : OutLine → Type 0
-IsBeside (outs.Group members faulty) = Unit {0}
+IsBeside (outs.Group members faulty app) = Unit {0}
 IsBeside (outs.Sent number origin summary) = Unit {0}
 IsBeside (outs.Decided member place) = Unit {0}
 IsBeside (outs.Delivered member place executed) = Unit {0}
@@ -80,6 +95,8 @@ IsBeside (outs.Accepted client seq place index reply) = ⊥
 IsBeside (outs.Ignored client why) = Unit {0}
 IsBeside (outs.Busy client seq) = Unit {0}
 IsBeside (outs.Idle member) = Unit {0}
+IsBeside (outs.IdleClient client) = Unit {0}
+IsBeside (outs.Learned client place) = ⊥
 IsBeside (outs.Stands member place number regency) = Unit {0}
 IsBeside (outs.Seen client place) = Unit {0}
 IsBeside (outs.End lines messages) = Unit {0}
@@ -94,6 +111,10 @@ pub record Keeps {S : Type 0} (step : Node S → NodeEvent → Outcome S) (P : W
   -- a client asks
   pub ask : (w : World S) (i : ℕ) (c : Client) (op : List ℕ) → slice_get w.clients i ≡ Some c → c.waiting ≡ None → c.last + 1 < 2 ^ 63 → length op ≤ 4096 → P w
       → P (sends (asked_by w i c op) (origins.Client c.id) targets.View (ask_of c op))
+  -- a client sends the request that waits once more
+  pub again : (w : World S) (i : ℕ) (c : Client) (q : Request) → slice_get w.clients i ≡ Some c → c.waiting ≡ Some q → P w → P (sends w (origins.Client c.id) targets.View (signed_by c q))
+  -- a client learns of the greatest place that another knows
+  pub learn : (w : World S) (i j : ℕ) (c d : Client) → slice_get w.clients i ≡ Some c → slice_get w.clients j ≡ Some d → P w → P (learned_by w i c d.seen)
   -- nothing but the flow's mark and the transcript changes
   pub same : (w : World S) (mark : ℕ) (told : List OutLine) → P w → P (record w { mark = mark; told = told })
 
@@ -107,12 +128,16 @@ pub record KeepsLive {S : Type 0} (step : Node S → NodeEvent → Outcome S) (P
   -- a client asks
   pub ask : (w : World S) (i : ℕ) (c : Client) (op : List ℕ) → w.ending ≡ None → slice_get w.clients i ≡ Some c → c.waiting ≡ None → c.last + 1 < 2 ^ 63 → length op ≤ 4096 → P w
       → P (sends (asked_by w i c op) (origins.Client c.id) targets.View (ask_of c op))
+  -- a client sends the request that waits once more
+  pub again : (w : World S) (i : ℕ) (c : Client) (q : Request) → w.ending ≡ None → slice_get w.clients i ≡ Some c → c.waiting ≡ Some q → P w
+      → P (sends w (origins.Client c.id) targets.View (signed_by c q))
+  -- a client learns of the greatest place that another knows, and tells what it knows then
+  pub learn : (w : World S) (i j : ℕ) (c d : Client) → w.ending ≡ None → slice_get w.clients i ≡ Some c → slice_get w.clients j ≡ Some d → P w
+      → P (telling (learned_by w i c d.seen) (learned_line c d.seen))
   -- a flow goes on to the message behind the mark
   pub mark : (w : World S) (s : Sent) → w.ending ≡ None → slice_get w.sent w.mark ≡ Some s → P w → P (record w { mark = w.mark + 1 })
-  -- a line is told that tells of no accepted reply, and nothing else changes
+  -- a line is told that tells of no place that a client knows, and nothing else changes
   pub tell : (w : World S) (line : OutLine) → IsBeside line → P w → P (telling w line)
-  -- a script line is over
-  pub rest : (w : World S) → P w → P (rested w)
 
 -- what each event keeps whatever was said of the ending, it keeps while nothing has ended the play
 pub live : {S : Type 0} (step : Node S → NodeEvent → Outcome S) (P : World S → Type 0) → Keeps step P → KeepsLive step P
@@ -121,9 +146,10 @@ live step P k =
       event = λ w i h event on at may p. k.event w i h event at may p;
       hear = λ w i c x a on at has read p. k.hear w i c x a at has read p;
       ask = λ w i c op on at free low brief p. k.ask w i c op at free low brief p;
+      again = λ w i c q on at is p. k.again w i c q at is p;
+      learn = λ w i j c d on at other p. k.same (learned_by w i c d.seen) w.mark (w.told ++ learned_line c d.seen ∷ []) (k.learn w i j c d at other p);
       mark = λ w s on at p. k.same w (w.mark + 1) w.told p;
       tell = λ w line beside p. k.same w w.mark (w.told ++ line ∷ []) p;
-      rest = λ w p. k.same w w.mark [] p;
     }
 
 -- two facts that are kept, are kept together
@@ -133,9 +159,10 @@ live-both step P Q k l =
       event = λ w i h event on at may is. (k.event w i h event on at may is.0, l.event w i h event on at may is.1);
       hear = λ w i c x a on at has read is. (k.hear w i c x a on at has read is.0, l.hear w i c x a on at has read is.1);
       ask = λ w i c op on at free low brief is. (k.ask w i c op on at free low brief is.0, l.ask w i c op on at free low brief is.1);
+      again = λ w i c q on at waits is. (k.again w i c q on at waits is.0, l.again w i c q on at waits is.1);
+      learn = λ w i j c d on at other is. (k.learn w i j c d on at other is.0, l.learn w i j c d on at other is.1);
       mark = λ w s on at is. (k.mark w s on at is.0, l.mark w s on at is.1);
       tell = λ w line beside is. (k.tell w line beside is.0, l.tell w line beside is.1);
-      rest = λ w is. (k.rest w is.0, l.rest w is.1);
     }
 
 -- messages leave
@@ -198,6 +225,8 @@ carries step P x k =
       event = λ w i h event at may p. (k.event w i h event at may p.0, has-stepped w i h (step h.node event) x p.1);
       hear = λ w i c y a at has read p. (k.hear w i c y a at has read p.0, has-hearing w i c a (heard w.view c a) x p.1);
       ask = λ w i c op at free low brief p. (k.ask w i c op at free low brief p.0, has-sends (asked_by w i c op) (origins.Client c.id) targets.View (ask_of c op) x p.1);
+      again = λ w i c q at waits p. (k.again w i c q at waits p.0, has-sends w (origins.Client c.id) targets.View (signed_by c q) x p.1);
+      learn = λ w i j c d at other p. (k.learn w i j c d at other p.0, p.1);
       same = λ w mark told p. (k.same w mark told p.0, p.1);
     }
 
@@ -208,9 +237,10 @@ live-carries step P x k =
       event = λ w i h event on at may p. (k.event w i h event on at may p.0, has-stepped w i h (step h.node event) x p.1);
       hear = λ w i c y a on at has read p. (k.hear w i c y a on at has read p.0, has-hearing w i c a (heard w.view c a) x p.1);
       ask = λ w i c op on at free low brief p. (k.ask w i c op on at free low brief p.0, has-sends (asked_by w i c op) (origins.Client c.id) targets.View (ask_of c op) x p.1);
+      again = λ w i c q on at waits p. (k.again w i c q on at waits p.0, has-sends w (origins.Client c.id) targets.View (signed_by c q) x p.1);
+      learn = λ w i j c d on at other p. (k.learn w i j c d on at other p.0, p.1);
       mark = λ w s on at p. (k.mark w s on at p.0, p.1);
       tell = λ w line beside p. (k.tell w line beside p.0, p.1);
-      rest = λ w p. (k.rest w p.0, p.1);
     }
 
 -- what is not there is nothing
@@ -357,6 +387,40 @@ live-asks : {S : Type 0} (step : Node S → NodeEvent → Outcome S) (P : World 
 unfolding asks
 live-asks step P k i op w p = either_by P (is_some w.ending) w _ (λ over. p) (λ on. live-ask_found step P k w i op (slice_get w.clients i) (none_is w.ending on) refl p)
 
+-- a client sends its request once more, or tells that it is idle
+live-client_repeats : {S : Type 0} (step : Node S → NodeEvent → Outcome S) (P : World S → Type 0) → KeepsLive step P → (w : World S) (i : ℕ) (c : Client) (waiting : Option Request)
+    → w.ending ≡ None → slice_get w.clients i ≡ Some c → c.waiting ≡ waiting → P w → P (client_repeats w c waiting)
+live-client_repeats step P k w i c None on at is p = k.tell w _ tt p
+live-client_repeats step P k w i c (Some q) on at is p = k.again w i c q on at is p
+
+-- a client that is found does
+live-repeat_found : {S : Type 0} (step : Node S → NodeEvent → Outcome S) (P : World S → Type 0) → KeepsLive step P → (w : World S) (i : ℕ) (found : Option Client)
+    → w.ending ≡ None → slice_get w.clients i ≡ found → P w → P (repeat_found w found)
+live-repeat_found step P k w i None on at p = p
+live-repeat_found step P k w i (Some c) on at p = live-client_repeats step P k w i c c.waiting on at refl p
+
+-- the client at an index does
+live-repeats : {S : Type 0} (step : Node S → NodeEvent → Outcome S) (P : World S → Type 0) → KeepsLive step P → (i : ℕ) (w : World S) → P w → P (repeats i w)
+unfolding repeats
+live-repeats step P k i w p = either_by P (is_some w.ending) w _ (λ over. p) (λ on. live-repeat_found step P k w i (slice_get w.clients i) (none_is w.ending on) refl p)
+
+-- a client that is found learns of the greatest place that another knows
+live-learns : {S : Type 0} (step : Node S → NodeEvent → Outcome S) (P : World S → Type 0) → KeepsLive step P → (w : World S) (j : ℕ) (d : Client) (i : ℕ) (found : Option Client)
+    → w.ending ≡ None → slice_get w.clients j ≡ Some d → slice_get w.clients i ≡ found → P w → P (learns w d.seen i found)
+live-learns step P k w j d i None on other at p = p
+live-learns step P k w j d i (Some c) on other at p = k.learn w i j c d on at other p
+
+-- if the other is found
+live-learns_from : {S : Type 0} (step : Node S → NodeEvent → Outcome S) (P : World S → Type 0) → KeepsLive step P → (w : World S) (j : ℕ) (found : Option Client) (i : ℕ)
+    → w.ending ≡ None → slice_get w.clients j ≡ found → P w → P (learns_from w found i)
+live-learns_from step P k w j None i on other p = p
+live-learns_from step P k w j (Some d) i on other p = live-learns step P k w j d i (slice_get w.clients i) on other refl p
+
+-- a client is told of the greatest place that another knows
+live-tells : {S : Type 0} (step : Node S → NodeEvent → Outcome S) (P : World S → Type 0) → KeepsLive step P → (from to : ℕ) (w : World S) → P w → P (tells from to w)
+unfolding tells
+live-tells step P k from to w p = either_by P (is_some w.ending) w _ (λ over. p) (λ on. live-learns_from step P k w from (slice_get w.clients from) to (none_is w.ending on) refl p)
+
 -- flow
 
 -- the message at an index of those that were sent was sent
@@ -384,10 +448,10 @@ live-flow_once step P k members w p = either_by P (is_some w.ending) w _ (λ ove
 
 -- lines that are told
 
-pub live-tells : {S : Type 0} (step : Node S → NodeEvent → Outcome S) (P : World S → Type 0) → KeepsLive step P → (w : World S) (lines : List OutLine) → Each IsBeside lines → P w → P (telling_all w lines)
-live-tells step P k w [] beside p = subst (λ (told : List OutLine). P (record w { told = told })) (sym (append-nil w.told)) p
-live-tells step P k w (l ∷ ls) beside p =
-    subst (λ (told : List OutLine). P (record w { told = told })) (append_assoc w.told (l ∷ []) ls) (live-tells step P k (telling w l) ls beside.1 (k.tell w l beside.0 p))
+pub live-telling_all : {S : Type 0} (step : Node S → NodeEvent → Outcome S) (P : World S → Type 0) → KeepsLive step P → (w : World S) (lines : List OutLine) → Each IsBeside lines → P w → P (telling_all w lines)
+live-telling_all step P k w [] beside p = subst (λ (told : List OutLine). P (record w { told = told })) (sym (append-nil w.told)) p
+live-telling_all step P k w (l ∷ ls) beside p =
+    subst (λ (told : List OutLine). P (record w { told = told })) (append_assoc w.told (l ∷ []) ls) (live-telling_all step P k (telling w l) ls beside.1 (k.tell w l beside.0 p))
 
 -- deliveries one by one
 
@@ -425,7 +489,7 @@ live-host_delivers : {S : Type 0} (step : Node S → NodeEvent → Outcome S) (P
     → P (host_delivers step i w found)
 live-host_delivers step P k i w None on at p = p
 live-host_delivers step P k i w (Some h) on at p =
-    live-tells step P k (stepped w i h (step h.node Deliver)) (told_idle h.node.id (step h.node Deliver).fired) (idle-beside h.node.id (step h.node Deliver).fired) (k.event w i h Deliver on at tt p)
+    live-telling_all step P k (stepped w i h (step h.node Deliver)) (told_idle h.node.id (step h.node Deliver).fired) (idle-beside h.node.id (step h.node Deliver).fired) (k.event w i h Deliver on at tt p)
 
 live-deliver_at : {S : Type 0} (step : Node S → NodeEvent → Outcome S) (P : World S → Type 0) → KeepsLive step P → (i : ℕ) (w : World S) → P w → P (deliver_at step i w)
 unfolding deliver_at
@@ -434,6 +498,28 @@ live-deliver_at step P k i w p = either_by P (is_some w.ending) w _ (λ over. p)
 live-deliver_each : {S : Type 0} (step : Node S → NodeEvent → Outcome S) (P : World S → Type 0) → KeepsLive step P → (members : List ℕ) (w : World S) → P w → P (deliver_each step members w)
 live-deliver_each step P k [] w p = p
 live-deliver_each step P k (m ∷ ms) w p = live-deliver_each step P k ms (at_member (deliver_at step) m w) (at_member-keeps P (deliver_at step) (live-deliver_at step P k) m w p)
+
+-- what a node tells
+
+drop-beside : (id : ℕ) (why : Option Why) → Each IsBeside (told_drop id why)
+drop-beside id None = tt
+drop-beside id (Some why) = (tt, tt)
+
+fired-beside : (id : ℕ) (fired : Fired) → Each IsBeside (told_fired id fired)
+fired-beside id (fires.Delivered d) = (tt, tt)
+fired-beside id fires.Proposed = tt
+fired-beside id fires.Wrote = tt
+fired-beside id fires.Accepted = tt
+fired-beside id (fires.Decided place) = (tt, tt)
+fired-beside id fires.Answered = tt
+
+all_fired-beside : (id : ℕ) (fired : List Fired) → Each IsBeside (flat_map (told_fired id) fired)
+all_fired-beside id [] = tt
+all_fired-beside id (f ∷ fired) = each_append IsBeside (told_fired id f) (flat_map (told_fired id) fired) (fired-beside id f) (all_fired-beside id fired)
+
+-- a node's step tells a client no place
+pub outcome-beside : {S : Type 0} (id : ℕ) (o : Outcome S) → Each IsBeside (told_drop id o.dropped ++ flat_map (told_fired id) o.fired)
+outcome-beside id o = each_append IsBeside (told_drop id o.dropped) (flat_map (told_fired id) o.fired) (drop-beside id o.dropped) (all_fired-beside id o.fired)
 
 -- what is shown
 
@@ -448,7 +534,7 @@ clients-beside (c ∷ cs) =
 
 live-shows : {S : Type 0} (step : Node S → NodeEvent → Outcome S) (P : World S → Type 0) → KeepsLive step P → (w : World S) → P w → P (shows w)
 live-shows step P k w p =
-    live-tells step P k w (map shown_host w.hosts ++ flat_map shown_client w.clients)
+    live-telling_all step P k w (map shown_host w.hosts ++ flat_map shown_client w.clients)
     (each_append IsBeside (map shown_host w.hosts) (flat_map shown_client w.clients) (hosts-beside w.hosts) (clients-beside w.clients)) p
 
 -- lines
@@ -458,6 +544,8 @@ pub live-line_played : {S : Type 0} (step : Node S → NodeEvent → Outcome S) 
 unfolding line_played
 live-line_played step P k w lines.Nothing p = p
 live-line_played step P k w (lines.Ask client op) p = live-asks step P k client op w p
+live-line_played step P k w (lines.Again client) p = live-repeats step P k client w p
+live-line_played step P k w (lines.Tell from to) p = live-tells step P k from to w p
 live-line_played step P k w (lines.Flow members) p = until_rest_keeps P (flow_once step members) (live-flow_once step P k members) (settle_all step members w) (live-settle_all step P k members w p)
 live-line_played step P k w (lines.Give number to) p = live-give_number step P k number to w p
 live-line_played step P k w (lines.Deliver members) p = live-deliver_each step P k members w p
@@ -466,10 +554,10 @@ live-line_played step P k w lines.SettleAll p = live-settle_all step P k [] w p
 live-line_played step P k w lines.Show p = live-shows step P k w p
 
 -- all lines of a script
-pub live-world_after : {S : Type 0} (step : Node S → NodeEvent → Outcome S) (P : World S → Type 0) → KeepsLive step P → (w : World S) (ls : List Line) → P w → P (world_after step w ls)
-live-world_after step P k w [] p = p
-live-world_after step P k w (l ∷ ls) p =
-    live-world_after step P k (rested (line_played step w l)) ls (k.rest (line_played step w l) (live-line_played step P k w l p))
+pub live-world_after : {S : Type 0} (step : Node S → NodeEvent → Outcome S) (P : World S → Type 0) → KeepsLive step P → ((w : World S) → P w → P (rested w)) → (w : World S) (ls : List Line) → P w → P (world_after step w ls)
+live-world_after step P k rests w [] p = p
+live-world_after step P k rests w (l ∷ ls) p =
+    live-world_after step P k rests (rested (line_played step w l)) ls (rests (line_played step w l) (live-line_played step P k w l p))
 
 -- the same of what is kept whatever was said of the ending
 
@@ -479,13 +567,17 @@ keeps-line_played step P k w line p = live-line_played step P (live step P k) w 
 
 -- all lines of a script
 pub keeps-world_after : {S : Type 0} (step : Node S → NodeEvent → Outcome S) (P : World S → Type 0) → Keeps step P → (w : World S) (ls : List Line) → P w → P (world_after step w ls)
-keeps-world_after step P k w ls p = live-world_after step P (live step P k) w ls p
+keeps-world_after step P k w ls p = live-world_after step P (live step P k) (λ v p. k.same v v.mark [] p) w ls p
 
 -- what holds where each message that was sent is read as itself
 
 -- each message that was sent is read from its bytes as itself
 abbrev pub ReadsSent : {S : Type 0} → World S → Type 0
 ReadsSent w = (x : Message) → HasMessage w.sent x → decoded (spelling x) ≡ Ok x
+
+-- each request that waits is its client's own
+abbrev pub OwnWaits : {S : Type 0} → World S → Type 0
+OwnWaits w = (i : ℕ) (c : Client) (q : Request) → slice_get w.clients i ≡ Some c → c.waiting ≡ Some q → q.client ≡ c.id
 
 -- bytes are read as a message that was sent, whose bytes they are
 pub record Comes (sent : List Sent) (bytes : List ℕ) : Type 0 where
@@ -510,6 +602,11 @@ pub record KeepsRead {S : Type 0} (step : Node S → NodeEvent → Outcome S) (P
   -- a client asks
   pub ask : (w : World S) (i : ℕ) (c : Client) (op : List ℕ) → slice_get w.clients i ≡ Some c → c.waiting ≡ None → P w
       → P (sends (asked_by w i c op) (origins.Client c.id) targets.View (ask_of c op))
+  -- a client sends the request that waits once more, which is its own
+  pub again : (w : World S) (i : ℕ) (c : Client) (q : Request) → slice_get w.clients i ≡ Some c → c.waiting ≡ Some q → q.client ≡ c.id → P w
+      → P (sends w (origins.Client c.id) targets.View (signed_by c q))
+  -- a client learns of a place
+  pub learn : (w : World S) (i : ℕ) (c : Client) (place : ℕ) → slice_get w.clients i ≡ Some c → P w → P (learned_by w i c place)
   -- nothing but the flow's mark and the transcript changes
   pub same : (w : World S) (mark : ℕ) (told : List OutLine) → P w → P (record w { mark = mark; told = told })
 
@@ -525,12 +622,15 @@ may_read w h (Firm count) reads may = may
 pub reply_has : (sent : List Sent) (x y : Message) → decoded (spelling x) ≡ Ok x → decoded (spelling x) ≡ Ok y → HasMessage sent x → HasMessage sent y
 reply_has sent x y own other has = let same : x ≡ y = cc in subst (λ (z : Message). HasMessage sent z) same has
 
--- beside a fact by which what was sent is read, and which is kept, all is kept that is kept where what was sent is read
-pub keeps-reading : {S : Type 0} (step : Node S → NodeEvent → Outcome S) (R P : World S → Type 0) → Keeps step R → ((w : World S) → R w → ReadsSent w) → KeepsRead step P → Keeps step (λ w. R w × P w)
-keeps-reading step R P r reads k =
+-- beside a fact by which what was sent is read and what waits is its client's own, and which is kept, all is kept that is kept where that is so
+pub keeps-reading : {S : Type 0} (step : Node S → NodeEvent → Outcome S) (R P : World S → Type 0) → Keeps step R → ((w : World S) → R w → ReadsSent w) → ((w : World S) → R w → OwnWaits w) → KeepsRead step P
+    → Keeps step (λ w. R w × P w)
+keeps-reading step R P r reads owns k =
     record {
       event = λ w i h event at may is. (r.event w i h event at may is.0, k.event w i h event at (may_read w h event (reads w is.0) may) is.1);
       hear = λ w i c x a at has read is. (r.hear w i c x a at has read is.0, k.hear w i c a at (reply_has w.sent x (Reply a) (reads w is.0 x has) read has) is.1);
       ask = λ w i c op at free few brief is. (r.ask w i c op at free few brief is.0, k.ask w i c op at free is.1);
+      again = λ w i c q at waits is. (r.again w i c q at waits is.0, k.again w i c q at waits (owns w is.0 i c q at waits) is.1);
+      learn = λ w i j c d at other is. (r.learn w i j c d at other is.0, k.learn w i c d.seen at is.1);
       same = λ w mark told is. (r.same w mark told is.0, k.same w mark told is.1);
     }

@@ -30,6 +30,8 @@ pub mod Bounded
 pub mod CoreWorlds
 pub mod Accepted
 pub mod Told
+pub mod Seen
+pub mod Past
 pub mod OneListLaw
 pub mod Steady
 pub mod Settles

@@ -24,6 +24,11 @@ pub each_at_weaker : {A : Type 0} (P Q : ℕ → A → Type 0) → ((i : ℕ) (x
 each_at_weaker P Q weaker [] each = tt
 each_at_weaker P Q weaker (x ∷ xs) each = (weaker zero x each.0, each_at_weaker (λ i. P (suc i)) (λ i. Q (suc i)) (λ i y. weaker (suc i) y) xs each.1)
 
+-- what follows from two facts of each
+pub each_at_both : {A : Type 0} (P Q R : ℕ → A → Type 0) → ((i : ℕ) (x : A) → P i x → Q i x → R i x) → (xs : List A) → EachAt P xs → EachAt Q xs → EachAt R xs
+each_at_both P Q R both [] ep eq = tt
+each_at_both P Q R both (x ∷ xs) ep eq = (both zero x ep.0 eq.0, each_at_both (λ i. P (suc i)) (λ i. Q (suc i)) (λ i. R (suc i)) (λ i y. both (suc i) y) xs ep.1 eq.1)
+
 -- another value at an index, where the values at all others stay
 pub each_at_set : {A : Type 0} (P Q : ℕ → A → Type 0) (xs : List A) (i : ℕ) (x : A) → ((j : ℕ) (y : A) → (j ≡ i → ⊥) → P j y → Q j y) → EachAt P xs → Q i x → EachAt Q (slice_set xs i x)
 each_at_set P Q [] i x others each is = tt

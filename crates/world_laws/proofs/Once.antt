@@ -15,7 +15,8 @@ use Rattle.smart_service.specs.declared.table.TableLine.{TableLine}
 use Rattle.node_rules.specs.Replicas.{delivered}
 use Rattle.node_rules.specs.Nodes.{Node, holding, is_open, open_slot, is_accepted}
 use Rattle.node_rules.specs.Arrivals.{why_dropped, kept, noted}
-use Rattle.node_rules.specs.Rules.{settled, reply_of, replying, lines_to_answer, deliver_batch, delivers, proposing, propose_batch, proposes, writing, write_batch, writes, accepting, accept_batch, accepts, deciding, decide_batch, decides, answers_again}
+use Rattle.node_rules.specs.Pools.{settled}
+use Rattle.node_rules.specs.Rules.{reply_of, replying, lines_to_answer, deliver_batch, delivers, proposing, propose_batch, proposes, writing, write_batch, writes, accepting, accept_batch, accepts, deciding, decide_batch, decides, answers_again}
 use Rattle.node_rules.specs.Steps.{votes, passes, arrival_outcome, reading_outcome, step_of}
 use Rattle.node_rules.specs.declared.node.Why.{Why}
 use Rattle.node_rules.specs.declared.node.Target.TheVariants as targets

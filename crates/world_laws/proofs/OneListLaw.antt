@@ -18,6 +18,7 @@ use Rattle.world_laws.proofs.Asked.{asked-after}
 use Rattle.world_laws.proofs.Asking.{right-after}
 use Rattle.world_laws.proofs.Accepted.{AcceptedTold, AcceptedRight, keeps-told, told-begun, accepted-right}
 use Rattle.world_laws.proofs.Told.{lines-answered}
+use Rattle.world_laws.proofs.Past.{past-known}
 
 -- the list is right, and all replies tell of it, those that were sent and those that were accepted
 abbrev pub ToldRight : {S : Type 0} → Meaning S → World S → Type 0
@@ -53,4 +54,4 @@ told-at m brief view is ls k = lines-answered m view (take k ls) (accepted-at m 
 
 -- one list holds throughout a script and only grows, and the lines of accepted replies tell its answers
 pub one_list-throughout : {S : Type 0} (m : Meaning S) → IsBrief m → (view : View) → is_view view ≡ true → (ls : List Line) → OneListThroughout m view ls
-one_list-throughout m brief view is ls = record { one_list = one_list-at m brief view is ls; grows = list-grows m view ls; told = told-at m brief view is ls }
+one_list-throughout m brief view is ls = record { one_list = one_list-at m brief view is ls; grows = list-grows m view ls; told = told-at m brief view is ls; past_known = past-known m view ls }

@@ -14,13 +14,14 @@ use Rattle.node_rules.specs.declared.node.Held.{Held}
 use Rattle.node_rules.specs.declared.node.Target.{Target}
 use Rattle.node_rules.specs.declared.node.Target.TheVariants as targets
 use Rattle.world_rules.specs.Secrets.{group_secret}
-use Rattle.world_rules.specs.Clients.{acceptance, heard}
+use Rattle.client_quorum.specs.Clients.{learning, acceptance}
+use Rattle.world_rules.specs.Clients.{heard}
 use Rattle.world_rules.specs.Worlds.{Host, World, sends, sends_all, host_after, stepped, acceptance_in, hearing, hosts_from, clients_from, begun}
 use Rattle.world_rules.specs.Plays.{world_after}
-use Rattle.world_rules.specs.declared.client.Client.{Client}
-use Rattle.world_rules.specs.declared.client.Acceptance.{Acceptance}
-use Rattle.world_rules.specs.declared.client.Heard.{Heard}
-use Rattle.world_rules.specs.declared.client.Heard.TheVariants as hears
+use Rattle.client_quorum.specs.declared.client.Client.{Client}
+use Rattle.client_quorum.specs.declared.client.Acceptance.{Acceptance}
+use Rattle.client_quorum.specs.declared.client.Heard.{Heard}
+use Rattle.client_quorum.specs.declared.client.Heard.TheVariants as hears
 use Rattle.world_rules.specs.declared.line.Line.{Line}
 use Rattle.world_rules.specs.declared.message.Origin.{Origin}
 use Rattle.world_rules.specs.declared.message.Origin.TheVariants as origins
@@ -28,7 +29,7 @@ use Rattle.world_rules.specs.declared.message.Sent.{Sent}
 use Rattle.world_laws.specs.Sending.{IsOwn, is_reply, is_of, is_for, has_replied, QuorumReplied, QuorumsReplied}
 use Rattle.world_laws.proofs.Lists.{each_end, each_weaker, each_set, each_get}
 use Rattle.world_laws.proofs.Equal.{and_intro}
-use Rattle.world_laws.proofs.Keeps.{HasMessage, ask_of, asked_by, by-sends, has_end, KeepsRead}
+use Rattle.world_laws.proofs.Keeps.{HasMessage, ask_of, asked_by, by-sends, has_end, KeepsRead, signed_by}
 use Rattle.world_laws.proofs.FitNodes.{IsBrief}
 use Rattle.world_laws.proofs.Fitting.{play-keeps}
 use Rattle.world_laws.proofs.Hearing.{Accepts, accepts_waiting}
@@ -161,6 +162,14 @@ keeps-replied {S = S} m =
       ask = λ w i c op at free is.
           replied-sends (asked_by w i c op) (origins.Client c.id) targets.View (ask_of c op) refl
           (record { hosts = is.hosts; sent = is.sent; clients = each_set (ClientKeeps (WasSent w.sent)) w.clients i _ is.clients tt; accepted = is.accepted });
+      again = λ w i c q at waits own is. replied-sends w (origins.Client c.id) targets.View (signed_by c q) refl is;
+      learn = λ w i c place at is.
+          record {
+            hosts = is.hosts;
+            sent = is.sent;
+            clients = each_set (ClientKeeps (WasSent w.sent)) w.clients i (learning c place) is.clients (each_get (ClientKeeps (WasSent w.sent)) w.clients i c is.clients at);
+            accepted = is.accepted;
+          };
       same = λ w mark told is. record { hosts = is.hosts; sent = is.sent; clients = is.clients; accepted = is.accepted };
     }
 

@@ -14,8 +14,9 @@ use Rattle.smart_service.specs.declared.table.TableLine.{TableLine}
 use Rattle.smart_service.specs.declared.replica.Replica.{Replica}
 use Rattle.node_rules.specs.Replicas.{is_next, delivered, executed_lines, executions, empty}
 use Rattle.node_rules.specs.Nodes.{Node, view_of, next_place, holding}
-use Rattle.node_rules.specs.Arrivals.{why_dropped, offered, kept, noted}
-use Rattle.node_rules.specs.Rules.{settled, reply_of, replying, lines_to_answer, deliver_batch, delivers, proposing, propose_batch, proposes, writing, write_batch, writes, accepting, accept_batch, accepts, deciding, decide_batch, decides, answering, answer_line, answers_again}
+use Rattle.node_rules.specs.Arrivals.{why_dropped, kept, noted}
+use Rattle.node_rules.specs.Pools.{offered, settled}
+use Rattle.node_rules.specs.Rules.{reply_of, replying, lines_to_answer, deliver_batch, delivers, proposing, propose_batch, proposes, writing, write_batch, writes, accepting, accept_batch, accepts, deciding, decide_batch, decides, answering, answer_line, answers_again}
 use Rattle.node_rules.specs.Steps.{Outcome, votes, passes, arrival_outcome, reading_outcome, step_of, leaving}
 use Rattle.node_rules.specs.declared.node.Why.{Why}
 use Rattle.node_rules.specs.declared.node.Held.{Held}
@@ -23,14 +24,14 @@ use Rattle.node_rules.specs.declared.node.Target.{Target}
 use Rattle.node_rules.specs.declared.node.Target.TheVariants as targets
 use Rattle.world_rules.specs.Clients.{heard}
 use Rattle.world_rules.specs.Worlds.{Host, World, sends, sends_all, chosen_with, host_after, stepped, hearing, hosts_from, begun}
-use Rattle.world_rules.specs.declared.client.Client.{Client}
-use Rattle.world_rules.specs.declared.client.Heard.{Heard}
+use Rattle.client_quorum.specs.declared.client.Client.{Client}
+use Rattle.client_quorum.specs.declared.client.Heard.{Heard}
 use Rattle.world_rules.specs.declared.message.Origin.{Origin}
 use Rattle.world_rules.specs.declared.message.Origin.TheVariants as origins
 use Rattle.world_rules.specs.declared.message.Sent.{Sent}
 use Rattle.world_laws.specs.Lines.{HasLine}
 use Rattle.world_laws.proofs.Lists.{either, each_end, each_weaker, each_set, each_get}
-use Rattle.world_laws.proofs.Keeps.{HasMessage, ask_of, asked_by, by-sends, Keeps}
+use Rattle.world_laws.proofs.Keeps.{HasMessage, ask_of, asked_by, by-sends, Keeps, signed_by}
 use Rattle.world_laws.proofs.Authentic.{each-leaving, each-staying}
 use Rattle.world_laws.proofs.Aligned.{Aligned, AllAligned, line_told, IsExecuted}
 use Rattle.world_laws.proofs.Executions.{executions-more, executed-at}
@@ -261,6 +262,8 @@ keeps-replies {S = S} m P k aligned =
         right-sends m (asked_by w i c op) (origins.Client c.id) targets.View (ask_of c op) tt
             (record { sent = p.1.sent; held = p.1.held }),
       );
+      again = λ w i c q at waits p. (k.again w i c q at waits p.0, right-sends m w (origins.Client c.id) targets.View (signed_by c q) tt p.1);
+      learn = λ w i j c d at other p. (k.learn w i j c d at other p.0, record { sent = p.1.sent; held = p.1.held });
       same = λ w mark told p. (k.same w mark told p.0, record { sent = p.1.sent; held = p.1.held });
     }
 

@@ -22,7 +22,7 @@ use Rattle.world_rules.specs.declared.message.Origin.{Origin}
 use Rattle.world_rules.specs.declared.message.Origin.TheVariants as origins
 use Rattle.world_laws.specs.Settling.{HasSettled, flow_begins, flow_goes, message_goes}
 use Rattle.world_laws.proofs.Lists.{either, each_set, each_get, repeated_keeps, until_rest_keeps, each_from_keeps}
-use Rattle.world_laws.proofs.Keeps.{ask_of, asked_by, by-sends, Keeps, KeepsLive, live, live-settle_all, live-flow_once, keeps-world_after, at_listed-keeps}
+use Rattle.world_laws.proofs.Keeps.{ask_of, asked_by, by-sends, Keeps, KeepsLive, live, live-settle_all, live-flow_once, keeps-world_after, at_listed-keeps, signed_by}
 use Rattle.world_laws.proofs.Rests.{rests_still}
 use Rattle.world_laws.proofs.Steady.{Steady, steady-step, steady-released, steady-opened, firm-step, place-firm, place-deliver}
 
@@ -77,6 +77,10 @@ keeps-steady {S = S} m =
         all = subst (λ (hosts : List (Host S)). Each (λ g. Steady g.node) hosts)
             (sym (hosts-sends (asked_by w i c op) (origins.Client c.id) targets.View (ask_of c op))) is.all;
       };
+      again = λ w i c q at waits is. record {
+        all = subst (λ (hosts : List (Host S)). Each (λ g. Steady g.node) hosts) (sym (hosts-sends w (origins.Client c.id) targets.View (signed_by c q))) is.all;
+      };
+      learn = λ w i j c d at other is. record { all = is.all };
       same = λ w mark told is. record { all = is.all };
     }
 

@@ -1,5 +1,5 @@
 -- Each line of a transcript that tells of an accepted reply tells the service's answer.
-use Rattle.std.proofs.Common.{◌≡◌, ℕ, ◌++◌, List, [], ◌∷◌, refl, ap, ◌∙◌, sym, Option, Some, None, inl, inr, ◌⊎◌, subst}
+use Rattle.std.proofs.Common.{◌≡◌, ℕ, ◌++◌, List, [], ◌∷◌, refl, ap, ◌∙◌, sym, Some, inl, inr, ◌⊎◌, subst}
 use Rattle.std.specs.Prelude.{slice_get}
 use Rattle.std.specs.List.{flat_map}
 use Rattle.smart_base.specs.Lists.{Each}
@@ -13,20 +13,18 @@ use Rattle.smart_messages.specs.declared.entry.NodeEvent.{NodeEvent}
 use Rattle.smart_service.specs.Services.{Meaning}
 use Rattle.node_rules.specs.Nodes.{Node}
 use Rattle.node_rules.specs.Steps.{Outcome, step_of, leaving}
-use Rattle.node_rules.specs.declared.node.Why.{Why}
 use Rattle.node_rules.specs.declared.node.Held.{Held}
 use Rattle.node_rules.specs.declared.node.Target.{Target}
 use Rattle.node_rules.specs.declared.node.Target.TheVariants as targets
-use Rattle.node_rules.specs.declared.node.Fired.{Fired}
-use Rattle.node_rules.specs.declared.node.Fired.TheVariants as fires
+use Rattle.client_quorum.specs.Clients.{learning}
 use Rattle.world_rules.specs.Clients.{heard}
 use Rattle.world_rules.specs.Promises.{IsRight, IsAnswered}
 use Rattle.world_rules.specs.Worlds.{Host, World, sends, sends_all, told_drop, told_fired, stepped, told_heard, acceptance_in, hearing, begun}
 use Rattle.world_rules.specs.Plays.{line_played, rested, world_after, lines_told}
-use Rattle.world_rules.specs.declared.client.Client.{Client}
-use Rattle.world_rules.specs.declared.client.Acceptance.{Acceptance}
-use Rattle.world_rules.specs.declared.client.Heard.{Heard}
-use Rattle.world_rules.specs.declared.client.Heard.TheVariants as hears
+use Rattle.client_quorum.specs.declared.client.Client.{Client}
+use Rattle.client_quorum.specs.declared.client.Acceptance.{Acceptance}
+use Rattle.client_quorum.specs.declared.client.Heard.{Heard}
+use Rattle.client_quorum.specs.declared.client.Heard.TheVariants as hears
 use Rattle.world_rules.specs.declared.line.Line.{Line}
 use Rattle.world_rules.specs.declared.line.OutLine.{OutLine}
 use Rattle.world_rules.specs.declared.line.OutLine.TheVariants as outs
@@ -35,9 +33,9 @@ use Rattle.world_rules.specs.declared.message.Origin.TheVariants as origins
 use Rattle.world_rules.specs.declared.message.Sent.{Sent}
 use Rattle.world_laws.proofs.Lists.{each_end, each_append, each_weaker}
 use Rattle.world_laws.proofs.Numbered.{each_at_get}
-use Rattle.world_laws.proofs.Keeps.{IsBeside, ask_of, asked_by, by-sends, Keeps, KeepsLive, live-line_played, keeps-world_after}
+use Rattle.world_laws.proofs.Keeps.{IsBeside, outcome-beside, ask_of, asked_by, by-sends, Keeps, KeepsLive, live-line_played, keeps-world_after, signed_by, learned_line}
 use Rattle.world_laws.proofs.Hearing.{Accepts, accepts_waiting}
-use Rattle.world_laws.proofs.Asking.{ClientRight, ClientsRight, keeps-right, right-begun}
+use Rattle.world_laws.proofs.Asking.{ClientRight, ClientsRight, keeps-right, rested-right, right-begun}
 use Rattle.world_laws.proofs.Accepted.{AcceptedRight}
 use Rattle.world_laws.proofs.Grows.{view-stays}
 
@@ -50,9 +48,15 @@ abbrev IsOf : List Acceptance → OutLine → Type 0
 IsOf [] line = ⊥
 IsOf (a ∷ accepted) line = (line_of a ≡ line) ⊎ IsOf accepted line
 
+-- a line tells of what a client learned
+record IsLearned (line : OutLine) : Type 0 where
+  client : ℕ
+  place : ℕ
+  is : outs.Learned client place ≡ line
+
 -- a line tells of no accepted reply, or of one that was accepted
 abbrev Stems : List Acceptance → OutLine → Type 0
-Stems accepted line = IsBeside line ⊎ IsOf accepted line
+Stems accepted line = IsBeside line ⊎ (IsLearned line ⊎ IsOf accepted line)
 
 -- all lines of the present script line do
 record ToldStems {S : Type 0} (w : World S) : Type 0 where
@@ -67,7 +71,7 @@ of_more (a ∷ accepted) more line is = elim is [ inl here ↦ inl here | inr la
 
 -- a line that stems from accepted replies stems from more of them
 stems_more : (accepted more : List Acceptance) (line : OutLine) → Stems accepted line → Stems (accepted ++ more) line
-stems_more accepted more line stems = elim stems [ inl beside ↦ inl beside | inr is ↦ inr (of_more accepted more line is) ]
+stems_more accepted more line stems = elim stems [ inl beside ↦ inl beside | inr other ↦ inr (elim other [ inl learned ↦ inl learned | inr is ↦ inr (of_more accepted more line is) ]) ]
 
 -- the line of what is accepted last
 of_last : (accepted : List Acceptance) (a : Acceptance) (line : OutLine) → line_of a ≡ line → IsOf (accepted ++ a ∷ []) line
@@ -88,25 +92,6 @@ stems-sends_all id w (h ∷ hs) is = stems-sends_all id (sends w (origins.Node i
 
 -- a node's step
 
--- an arrival that is dropped tells of no accepted reply
-stems-drop : (accepted : List Acceptance) (id : ℕ) (why : Option Why) → Each (Stems accepted) (told_drop id why)
-stems-drop accepted id None = tt
-stems-drop accepted id (Some why) = (inl tt, tt)
-
--- nor does a rule that fired
-stems-fired : (accepted : List Acceptance) (id : ℕ) (fired : Fired) → Each (Stems accepted) (told_fired id fired)
-stems-fired accepted id (fires.Delivered d) = (inl tt, tt)
-stems-fired accepted id fires.Proposed = tt
-stems-fired accepted id fires.Wrote = tt
-stems-fired accepted id fires.Accepted = tt
-stems-fired accepted id (fires.Decided place) = (inl tt, tt)
-stems-fired accepted id fires.Answered = tt
-
--- nor do all that fired
-stems-all_fired : (accepted : List Acceptance) (id : ℕ) (fired : List Fired) → Each (Stems accepted) (flat_map (told_fired id) fired)
-stems-all_fired accepted id [] = tt
-stems-all_fired accepted id (f ∷ fired) = each_append (Stems accepted) (told_fired id f) (flat_map (told_fired id) fired) (stems-fired accepted id f) (stems-all_fired accepted id fired)
-
 -- a host's node steps
 stems-stepped : {S : Type 0} (w : World S) (i : ℕ) (h : Host S) (o : Outcome S) → ToldStems w → ToldStems (stepped w i h o)
 unfolding stepped
@@ -114,7 +99,7 @@ stems-stepped w i h o is =
     stems-sends_all h.node.id _ (leaving o.node.firm o.node.held)
     (record {
       all = each_append (Stems w.accepted) w.told _ is.all
-          (each_append (Stems w.accepted) (told_drop h.node.id o.dropped) (flat_map (told_fired h.node.id) o.fired) (stems-drop w.accepted h.node.id o.dropped) (stems-all_fired w.accepted h.node.id o.fired));
+          (each_weaker IsBeside (Stems w.accepted) (λ line beside. inl beside) (told_drop h.node.id o.dropped ++ flat_map (told_fired h.node.id) o.fired) (outcome-beside h.node.id o));
     })
 
 -- a client hears
@@ -126,7 +111,7 @@ stems-heard accepted v c a (hears.Ignored why) is own = inl tt
 stems-heard accepted v c a (hears.Accepted acc) is own =
     let taken : Accepts v c a acc = accepts_waiting v c a acc is in
     let client : acc.request.client ≡ c.id = ap (λ (b : Acceptance). b.request.client) taken.is ∙ own taken.request taken.counts.waits in
-    inr (of_last accepted acc (outs.Accepted c.id acc.request.seq acc.place acc.index acc.reply) (ap (λ (id : ℕ). outs.Accepted id acc.request.seq acc.place acc.index acc.reply) client))
+    inr (inr (of_last accepted acc (outs.Accepted c.id acc.request.seq acc.place acc.index acc.reply) (ap (λ (id : ℕ). outs.Accepted id acc.request.seq acc.place acc.index acc.reply) client)))
 
 -- the request that waits at a client is its own
 waits_own : {S : Type 0} (w : World S) (i : ℕ) (c : Client) → slice_get w.clients i ≡ Some c → ClientsRight w → (q : Request) → c.waiting ≡ Some q → q.client ≡ c.id
@@ -161,10 +146,18 @@ keeps-stemming step =
         k.ask w i c op on at free few brief is.0,
         stems-sends (asked_by w i c op) (origins.Client c.id) targets.View (ask_of c op) (record { all = is.1.all }),
       );
+      again = λ w i c q on at waits is. (k.again w i c q on at waits is.0, stems-sends w (origins.Client c.id) targets.View (signed_by c q) is.1);
+      learn = λ w i j c d on at other is. (
+        k.learn w i j c d on at other is.0,
+        record { all = each_end (Stems w.accepted) w.told (learned_line c d.seen) is.1.all (inr (inl (record { client = c.id; place = (learning c d.seen).seen; is = refl }))) },
+      );
       mark = λ w s on at is. (k.mark w s on at is.0, record { all = is.1.all });
       tell = λ w line beside is. (k.tell w line beside is.0, record { all = each_end (Stems w.accepted) w.told line is.1.all (inl beside) });
-      rest = λ w is. (k.rest w is.0, record { all = tt });
     }
+
+-- between two lines
+rested-stemming : {S : Type 0} (w : World S) → Stemming w → Stemming (rested w)
+rested-stemming w is = (rested-right w is.0, record { all = tt })
 
 -- what was accepted stays so
 
@@ -194,6 +187,8 @@ keeps-stems step line =
       event = λ w i h event at may stems. rw accepted-stepped stems;
       hear = λ w i c x a at has read stems. rw accepted-hearing (stems_more w.accepted (acceptance_in (heard w.view c a)) line stems);
       ask = λ w i c op at free few brief stems. rw accepted-sends stems;
+      again = λ w i c q at waits stems. rw accepted-sends stems;
+      learn = λ w i j c d at other stems. stems;
       same = λ w mark told stems. stems;
     }
 
@@ -208,11 +203,11 @@ lines-stem {S = S} step w (l ∷ ls) is =
     let stemming : Stemming played = live-line_played step Stemming (keeps-stemming step) w l is in
     each_append (Stems after.accepted) played.told (lines_told step (rested played) ls)
     (each_weaker (Stems played.accepted) (Stems after.accepted) (λ line stems. keeps-world_after step (λ (v : World S). Stems v.accepted line) (keeps-stems step line) (rested played) ls stems) played.told stemming.1.all)
-    (lines-stem step (rested played) ls ((keeps-stemming step).rest played stemming))
+    (lines-stem step (rested played) ls (rested-stemming played stemming))
 
 -- a line that tells of no accepted reply
 beside-answered : {S : Type 0} (m : Meaning S) (view : View) (chosen : List Batch) (line : OutLine) → IsBeside line → IsAnswered m view chosen line
-beside-answered m view chosen (outs.Group members faulty) beside = tt
+beside-answered m view chosen (outs.Group members faulty app) beside = tt
 beside-answered m view chosen (outs.Sent number origin summary) beside = tt
 beside-answered m view chosen (outs.Decided member place) beside = tt
 beside-answered m view chosen (outs.Delivered member place executed) beside = tt
@@ -222,6 +217,8 @@ beside-answered m view chosen (outs.Accepted client seq place index reply) besid
 beside-answered m view chosen (outs.Ignored client why) beside = tt
 beside-answered m view chosen (outs.Busy client seq) beside = tt
 beside-answered m view chosen (outs.Idle member) beside = tt
+beside-answered m view chosen (outs.IdleClient client) beside = tt
+beside-answered m view chosen (outs.Learned client place) beside = absurd beside
 beside-answered m view chosen (outs.Stands member place number regency) beside = tt
 beside-answered m view chosen (outs.Seen client place) beside = tt
 beside-answered m view chosen (outs.End lines messages) beside = tt
@@ -240,7 +237,13 @@ of-answered m view sent chosen (a ∷ accepted) line right is =
 stems-answered : {S : Type 0} (m : Meaning S) (view : View) (sent : List Sent) (chosen : List Batch) (accepted : List Acceptance) → Each (IsRight m view sent chosen) accepted
     → (line : OutLine) → Stems accepted line → IsAnswered m view chosen line
 stems-answered m view sent chosen accepted right line stems =
-    elim stems [ inl beside ↦ beside-answered m view chosen line beside | inr is ↦ of-answered m view sent chosen accepted line right is ]
+    elim stems [
+      | inl beside ↦ beside-answered m view chosen line beside
+      | inr other ↦ elim other [
+        | inl learned ↦ subst (IsAnswered m view chosen) learned.is tt
+        | inr is ↦ of-answered m view sent chosen accepted line right is
+      ]
+    ]
 
 -- where all accepted replies are right, each line that tells of one tells the service's answer
 pub lines-answered : {S : Type 0} (m : Meaning S) (view : View) (ls : List Line) → AcceptedRight m (world_after (step_of m) (begun m view) ls)

@@ -25,8 +25,9 @@ use Rattle.smart_service.specs.declared.table.TableLine.{TableLine}
 use Rattle.node_rules.specs.Replicas.{is_next, delivered}
 use Rattle.node_rules.specs.Seals.{signed, is_verified, digest_of}
 use Rattle.node_rules.specs.Nodes.{Node, view_of, open_slot, is_free, is_open, holding, is_vote, has_vote, has_quorum, certificate, proposal_of, is_accepted}
-use Rattle.node_rules.specs.Arrivals.{signer_why, why_vote, why_dropped, offered, kept, noted}
-use Rattle.node_rules.specs.Rules.{settled, reply_of, replying, lines_to_answer, deliver_batch, delivers, proposing, propose_batch, proposes, writing, write_batch, writes, backed, backers, accepting, accept_batch, accepts, deciding, decide_batch, decides, answering, answer_line, answers_again}
+use Rattle.node_rules.specs.Arrivals.{signer_why, why_vote, why_dropped, kept, noted}
+use Rattle.node_rules.specs.Pools.{offered, settled}
+use Rattle.node_rules.specs.Rules.{reply_of, replying, lines_to_answer, deliver_batch, delivers, proposing, propose_batch, proposes, writing, write_batch, writes, backed, backers, accepting, accept_batch, accepts, deciding, decide_batch, decides, answering, answer_line, answers_again}
 use Rattle.node_rules.specs.Steps.{votes, passes, arrival_outcome, reading_outcome, step_of, opened}
 use Rattle.node_rules.specs.declared.node.Why.{Why}
 use Rattle.node_rules.specs.declared.node.Target.TheVariants as targets

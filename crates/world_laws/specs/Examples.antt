@@ -7,7 +7,7 @@ use Rattle.smart_messages.specs.declared.statement.Request.{Request}
 use Rattle.smart_service.specs.Services.{Meaning}
 use Rattle.node_rules.specs.Seals.{signed}
 use Rattle.world_rules.specs.Secrets.{group_secret}
-use Rattle.world_rules.specs.declared.client.Acceptance.{Acceptance}
+use Rattle.client_quorum.specs.declared.client.Acceptance.{Acceptance}
 use Rattle.world_rules.specs.declared.line.Line.{Line}
 use Rattle.world_rules.specs.declared.line.Line.TheVariants as lines
 

@@ -4,6 +4,7 @@
 
 pub mod cores;
 pub mod execution;
+pub mod knowing;
 pub mod laws;
 pub mod one_list;
 pub mod promises;

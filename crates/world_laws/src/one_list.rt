@@ -12,10 +12,12 @@ use smart_service::service::Service;
 /// front, and it has delivered one batch at each place of that front, in order: the list's there.
 /// Each reply that a client accepted is the service's answer at the one place where its request
 /// stands in the list, the request there is the one that the client asked, the reply states the
-/// view in force there, and that place is past every place that the client knew. The list only
-/// grows: what it holds after one line, it begins with after every later one. Each line of the
-/// transcript that tells of an accepted reply names the one place of its request in the list, and
-/// tells the service's answer there.
+/// view in force there, and that place is past the one that the request states. That one is no less
+/// than any that the client knew before it asked: after no line before its request was sent had the
+/// transcript told it a greater place, be it of a reply that it accepted or one that it was told. The
+/// list only grows: what it holds after one line, it begins with after every later one. Each line of
+/// the transcript that tells of an accepted reply names the one place of its request in the list,
+/// and tells the service's answer there.
 pub fn one_list_throughout<S: Service>()
     ensures { (view : View) (ls : List Line) → is_view view ≡ true → OneListThroughout S.meaning view ls }
 {}

@@ -1,0 +1,254 @@
+-- What a client has seen is what the transcript tells that it knows.
+use Rattle.std.proofs.Common.{◌≡◌, ℕ, zero, suc, ◌+◌, ◌<◌, ◌≤◌, ◌++◌, ◌==◌, Bool, true, false, List, [], ◌∷◌, length, refl, ap, ◌∙◌, sym, arith, cond, Some, max, subst, eqb-true, eq-eqb}
+use Rattle.std.specs.Prelude.{slice_get, slice_set, option_map}
+use Rattle.std.specs.List.{flat_map}
+use Rattle.smart_base.specs.Lists.{Each}
+use Rattle.smart_base.specs.Views.{View}
+use Rattle.smart_messages.specs.Forms.{SignedBy}
+use Rattle.smart_messages.specs.declared.statement.Answer.{Answer}
+use Rattle.smart_messages.specs.declared.message.Message.{Message}
+use Rattle.smart_messages.specs.declared.entry.NodeEvent.{NodeEvent}
+use Rattle.smart_service.specs.Services.{Meaning}
+use Rattle.node_rules.specs.Nodes.{Node}
+use Rattle.node_rules.specs.Steps.{Outcome, leaving}
+use Rattle.node_rules.specs.declared.node.Held.{Held}
+use Rattle.node_rules.specs.declared.node.Target.{Target}
+use Rattle.node_rules.specs.declared.node.Target.TheVariants as targets
+use Rattle.client_quorum.specs.Clients.{request_of, asking, learning, after_heard}
+use Rattle.client_quorum.specs.declared.client.Client.{Client}
+use Rattle.client_quorum.specs.declared.client.Acceptance.{Acceptance}
+use Rattle.client_quorum.specs.declared.client.Heard.{Heard}
+use Rattle.client_quorum.specs.declared.client.Heard.TheVariants as hears
+use Rattle.world_rules.specs.Clients.{heard}
+use Rattle.world_rules.specs.Worlds.{Host, World, sends, sends_all, told_drop, told_fired, stepped, told_heard, hearing, clients_from, begun}
+use Rattle.world_rules.specs.Plays.{line_played, rested, world_after, lines_told}
+use Rattle.world_rules.specs.declared.line.Line.{Line}
+use Rattle.world_rules.specs.declared.line.OutLine.{OutLine}
+use Rattle.world_rules.specs.declared.line.OutLine.TheVariants as outs
+use Rattle.world_rules.specs.declared.message.Origin.{Origin}
+use Rattle.world_rules.specs.declared.message.Origin.TheVariants as origins
+use Rattle.world_rules.specs.Knowing.{place_told, known_by, seen_by}
+use Rattle.world_laws.proofs.Numbered.{EachAt, each_at_get, each_at_weaker, each_at_set}
+use Rattle.world_laws.proofs.Keeps.{IsBeside, outcome-beside, signed_by, ask_of, asked_by, learned_line, by-sends, KeepsLive, live-line_played}
+use Rattle.world_laws.proofs.Hearing.{Accepts, accepts_waiting}
+use Rattle.world_laws.proofs.Asking.{ClientRight, ClientsRight, keeps-right, rested-right, each_fresh, right-begun}
+
+-- transcripts
+
+-- what more lines tell
+known-append : (i : ℕ) (xs ys : List OutLine) → known_by i (xs ++ ys) ≡ max (known_by i xs) (known_by i ys)
+known-append i [] ys = omega arith
+known-append i (x ∷ xs) ys = omega (arith, known-append i xs ys)
+
+-- a line beside tells a client no place
+none_told : (i : ℕ) (line : OutLine) → IsBeside line → place_told i line ≡ 0
+none_told i (outs.Group members faulty app) beside = refl
+none_told i (outs.Sent number origin summary) beside = refl
+none_told i (outs.Decided member place) beside = refl
+none_told i (outs.Delivered member place executed) beside = refl
+none_told i (outs.Dropped member why) beside = refl
+none_told i (outs.Counted client have need) beside = refl
+none_told i (outs.Accepted client seq place index reply) beside = absurd beside
+none_told i (outs.Ignored client why) beside = refl
+none_told i (outs.Busy client seq) beside = refl
+none_told i (outs.Idle member) beside = refl
+none_told i (outs.IdleClient client) beside = refl
+none_told i (outs.Learned client place) beside = absurd beside
+none_told i (outs.Stands member place number regency) beside = refl
+none_told i (outs.Seen client place) beside = refl
+none_told i (outs.End lines messages) beside = refl
+
+-- nor do many
+none_known : (i : ℕ) (lines : List OutLine) → Each IsBeside lines → known_by i lines ≡ 0
+none_known i [] each = refl
+none_known i (l ∷ ls) each = omega (arith, none_told i l each.0, none_known i ls each.1)
+
+-- what is told a client
+
+-- a client is told its place
+place_own : (client i place : ℕ) → client ≡ i → cond (client == i) place 0 ≡ place
+place_own client i place same = ap (λ t. cond t place 0) (eq-eqb client i same)
+
+-- and no other's
+place_other : (client i place : ℕ) → (client ≡ i → ⊥) → cond (client == i) place 0 ≡ 0
+place_other client i place other = by (client == i) refl
+  where
+    by : (t : Bool) → (client == i) ≡ t → cond t place 0 ≡ 0
+    by true is = absurd (other (eqb-true client i is))
+    by false is = refl
+
+-- what clients know
+
+-- a client has seen what it knew before the present script line, and what that tells it
+abbrev Knows : (ℕ → ℕ) → List OutLine → ℕ → Client → Type 0
+Knows before told i c = c.seen ≡ max (before i) (known_by i told)
+
+-- all clients have, and there are as many as ever
+record AllKnow {S : Type 0} (before : ℕ → ℕ) (count : ℕ) (w : World S) : Type 0 where
+  each : EachAt (Knows before w.told) w.clients
+  there : length w.clients ≡ count
+
+-- lines that tell no client a place change nothing
+know-beside : (before : ℕ → ℕ) (clients : List Client) (told lines : List OutLine) → Each IsBeside lines → EachAt (Knows before told) clients → EachAt (Knows before (told ++ lines)) clients
+know-beside before clients told lines beside each =
+    each_at_weaker (Knows before told) (Knows before (told ++ lines)) (λ i c knows. omega (arith, knows, known-append i told lines, none_known i lines beside)) clients each
+
+-- a line tells one client a place
+know-told : (before : ℕ → ℕ) (clients : List Client) (told : List OutLine) (i : ℕ) (c c' : Client) (line : OutLine) (place : ℕ) → slice_get clients i ≡ Some c → c'.seen ≡ max c.seen place → place_told i line ≡ place
+    → ((j : ℕ) → (j ≡ i → ⊥) → place_told j line ≡ 0) → EachAt (Knows before told) clients → EachAt (Knows before (told ++ line ∷ [])) (slice_set clients i c')
+know-told before clients told i c c' line place at seen own other each =
+    each_at_set (Knows before told) (Knows before (told ++ line ∷ [])) clients i c'
+    (λ j y not_i knows. omega (arith, knows, known-append j told (line ∷ []), other j not_i)) each
+    (omega (arith, each_at_get (Knows before told) clients i c each at, seen, own, known-append i told (line ∷ [])))
+
+-- as many clients as before
+count-set : {A : Type 0} (xs : List A) (i : ℕ) (x : A) → length (slice_set xs i x) ≡ length xs
+count-set [] i x = refl
+count-set (y ∷ xs) zero x = refl
+count-set (y ∷ xs) (suc i) x = ap suc (count-set xs i x)
+
+-- messages that leave
+
+know-sends : {S : Type 0} (before : ℕ → ℕ) (count : ℕ) (w : World S) (origin : Origin) (to : Target) (message : Message) → AllKnow before count w → AllKnow before count (sends w origin to message)
+know-sends {S = S} before count w origin to message is =
+    by-sends (λ (v : World S). AllKnow before count v) w origin to message (λ ending. record { each = is.each; there = is.there })
+    (λ free room. record { each = know-beside before w.clients w.told _ (tt, tt) is.each; there = is.there })
+
+know-sends_all : {S : Type 0} (before : ℕ → ℕ) (count id : ℕ) (w : World S) (held : List Held) → AllKnow before count w → AllKnow before count (sends_all id w held)
+know-sends_all before count id w [] is = is
+know-sends_all before count id w (h ∷ hs) is = know-sends_all before count id (sends w (origins.Node id) h.to h.message) hs (know-sends before count w (origins.Node id) h.to h.message is)
+
+-- a node's step
+
+know-stepped : {S : Type 0} (before : ℕ → ℕ) (count : ℕ) (w : World S) (i : ℕ) (h : Host S) (o : Outcome S) → AllKnow before count w → AllKnow before count (stepped w i h o)
+unfolding stepped
+know-stepped before count w i h o is =
+    know-sends_all before count h.node.id _ (leaving o.node.firm o.node.held)
+    (record {
+      each = know-beside before w.clients w.told (told_drop h.node.id o.dropped ++ flat_map (told_fired h.node.id) o.fired)
+          (outcome-beside h.node.id o) is.each;
+      there = is.there;
+    })
+
+-- a client hears
+
+know-heard : (before : ℕ → ℕ) (clients : List Client) (told : List OutLine) (v : View) (i : ℕ) (c : Client) (a : SignedBy Answer) (h : Heard) → slice_get clients i ≡ Some c → c.id ≡ i → heard v c a ≡ h
+    → EachAt (Knows before told) clients → EachAt (Knows before (told ++ told_heard c.id h ∷ [])) (slice_set clients i (after_heard c a h))
+know-heard before clients told v i c a (hears.Counted count need) at id is each = know-told before clients told i c _ _ 0 at (omega arith) refl (λ j other. refl) each
+know-heard before clients told v i c a (hears.Ignored why) at id is each = know-told before clients told i c c _ 0 at (omega arith) refl (λ j other. refl) each
+know-heard before clients told v i c a (hears.Accepted acc) at id is each =
+    let taken : Accepts v c a acc = accepts_waiting v c a acc is in
+    know-told before clients told i c _ _ a.statement.place at refl
+    (place_own c.id i acc.place id ∙ ap (λ (b : Acceptance). b.place) taken.is) (λ j other. place_other c.id j acc.place (λ same. other (sym same ∙ id))) each
+
+know-hearing : {S : Type 0} (before : ℕ → ℕ) (count : ℕ) (w : World S) (i : ℕ) (c : Client) (a : SignedBy Answer) → slice_get w.clients i ≡ Some c → c.id ≡ i → AllKnow before count w
+    → AllKnow before count (hearing w i c a (heard w.view c a))
+unfolding hearing
+know-hearing before count w i c a at id is =
+    record { each = know-heard before w.clients w.told w.view i c a (heard w.view c a) at id refl is.each; there = count-set w.clients i _ ∙ is.there }
+
+-- a client asks
+
+know-asked : {S : Type 0} (before : ℕ → ℕ) (count : ℕ) (w : World S) (i : ℕ) (c : Client) (op : List ℕ) → slice_get w.clients i ≡ Some c → AllKnow before count w → AllKnow before count (asked_by w i c op)
+know-asked before count w i c op at is =
+    record {
+      each = each_at_set (Knows before w.told) (Knows before w.told) w.clients i (asking c (request_of c op)) (λ j y other knows. knows) is.each (each_at_get (Knows before w.told) w.clients i c is.each at);
+      there = count-set w.clients i _ ∙ is.there;
+    }
+
+-- a play
+
+-- clients are right, and have seen what the transcript tells
+abbrev Knowing : {S : Type 0} → (ℕ → ℕ) → ℕ → World S → Type 0
+Knowing before count w = ClientsRight w × AllKnow before count w
+
+-- a client stands at its number
+pub id_at : {S : Type 0} (w : World S) (i : ℕ) (c : Client) → slice_get w.clients i ≡ Some c → ClientsRight w → c.id ≡ i
+id_at w i c at right = (each_at_get (ClientRight w.sent w.ending w.accepted) w.clients i c right.all.each at).id
+
+-- each event keeps that
+keeps-knowing : {S : Type 0} (step : Node S → NodeEvent → Outcome S) (before : ℕ → ℕ) (count : ℕ) → KeepsLive step (Knowing before count)
+keeps-knowing step before count =
+    let k = keeps-right step in
+    record {
+      event = λ w i h event on at may is. (k.event w i h event on at may is.0, know-stepped before count w i h (step h.node event) is.1);
+      hear = λ w i c x a on at has read is. (k.hear w i c x a on at has read is.0, know-hearing before count w i c a at (id_at w i c at is.0) is.1);
+      ask = λ w i c op on at free few brief is. (
+        k.ask w i c op on at free few brief is.0,
+        know-sends before count (asked_by w i c op) (origins.Client c.id) targets.View (ask_of c op) (know-asked before count w i c op at is.1),
+      );
+      again = λ w i c q on at waits is. (k.again w i c q on at waits is.0, know-sends before count w (origins.Client c.id) targets.View (signed_by c q) is.1);
+      learn = λ w i j c d on at other is. (
+        k.learn w i j c d on at other is.0,
+        record {
+          each = know-told before w.clients w.told i c (learning c d.seen) (learned_line c d.seen) (max c.seen d.seen) at (omega arith) (place_own c.id i (max c.seen d.seen) (id_at w i c at is.0))
+              (λ n not_i. place_other c.id n (max c.seen d.seen) (λ same. not_i (sym same ∙ id_at w i c at is.0))) is.1.each;
+          there = count-set w.clients i _ ∙ is.1.there;
+        },
+      );
+      mark = λ w s on at is. (k.mark w s on at is.0, record { each = is.1.each; there = is.1.there });
+      tell = λ w line beside is. (k.tell w line beside is.0, record { each = know-beside before w.clients w.told (line ∷ []) (beside, tt) is.1.each; there = is.1.there });
+    }
+
+-- what each client has seen, and how many there are
+record Seen {S : Type 0} (known : ℕ → ℕ) (count : ℕ) (w : World S) : Type 0 where
+  each : EachAt (λ i c. c.seen ≡ known i) w.clients
+  there : length w.clients ≡ count
+
+-- where nothing is told yet, a client has seen what it knew before
+none-told : {S : Type 0} (known : ℕ → ℕ) (count : ℕ) (w : World S) → w.told ≡ [] → Seen known count w → AllKnow known count w
+none-told known count w none is =
+    record {
+      each = subst (λ (told : List OutLine). EachAt (Knows known told) w.clients) (sym none) (each_at_weaker (λ i c. c.seen ≡ known i) (Knows known []) (λ i c seen. omega (arith, seen)) w.clients is.each);
+      there = is.there;
+    }
+
+-- behind lines each client has seen what it knew before them, and what they tell it
+seen-after : {S : Type 0} (step : Node S → NodeEvent → Outcome S) (known : ℕ → ℕ) (count : ℕ) (w : World S) (ls : List Line) → ClientsRight w → w.told ≡ [] → Seen known count w
+    → Seen (λ i. max (known i) (known_by i (lines_told step w ls))) count (world_after step w ls)
+seen-after step known count w [] right none is =
+    record { each = each_at_weaker (λ i c. c.seen ≡ known i) (λ i c. c.seen ≡ max (known i) 0) (λ i c seen. omega (arith, seen)) w.clients is.each; there = is.there }
+seen-after {S = S} step known count w (l ∷ ls) right none is =
+    let played : World S = line_played step w l in
+    let after : World S = world_after step (rested played) ls in
+    let later : List OutLine = lines_told step (rested played) ls in
+    let k : Knowing known count played = live-line_played step (Knowing known count) (keeps-knowing step known count) w l (right, none-told known count w none is) in
+    let rest : Seen (λ i. max (max (known i) (known_by i played.told)) (known_by i later)) count after =
+    seen-after step (λ i. max (known i) (known_by i played.told)) count (rested played) ls (rested-right played k.0) refl (record { each = k.1.each; there = k.1.there }) in
+    record {
+      each = each_at_weaker (λ i c. c.seen ≡ max (max (known i) (known_by i played.told)) (known_by i later)) (λ i c. c.seen ≡ max (known i) (known_by i (played.told ++ later)))
+          (λ i c seen. omega (arith, seen, known-append i played.told later)) after.clients rest.each;
+      there = rest.there;
+    }
+
+-- so many clients
+fresh-count : (count i : ℕ) → length (clients_from count i) ≡ count
+unfolding clients_from
+fresh-count zero i = refl
+fresh-count (suc count) i = ap suc (fresh-count count (i + 1))
+
+-- clients begin having seen nothing
+seen-begun : {S : Type 0} (m : Meaning S) (view : View) → Seen (λ i. 0) 1025 (begun m view)
+seen-begun m view = record { each = each_fresh (λ i c. c.seen ≡ 0) 1025 0 (λ k. refl); there = fresh-count 1025 0 }
+
+-- what each client at an index has seen
+seen-at : (known : ℕ → ℕ) (clients : List Client) (i : ℕ) → EachAt (λ j (c : Client). c.seen ≡ known j) clients → i < length clients → option_map (λ (c : Client). c.seen) (slice_get clients i) ≡ Some (known i)
+seen-at known [] i each within = absurd (omega (arith, within))
+seen-at known (c ∷ cs) zero each within = ap (λ (n : ℕ). Some n) each.0
+seen-at known (c ∷ cs) (suc i) each within = seen-at (λ j. known (suc j)) cs i each.1 (omega (arith, within))
+
+-- after any lines of any script, each client has seen what the transcript tells that it knows
+pub seen-told : {S : Type 0} (m : Meaning S) (step : Node S → NodeEvent → Outcome S) (view : View) (ls : List Line)
+    → EachAt (λ i c. c.seen ≡ known_by i (lines_told step (begun m view) ls)) (world_after step (begun m view) ls).clients
+seen-told {S = S} m step view ls =
+    let after : World S = world_after step (begun m view) ls in
+    each_at_weaker (λ i c. c.seen ≡ max 0 (known_by i (lines_told step (begun m view) ls))) (λ i c. c.seen ≡ known_by i (lines_told step (begun m view) ls))
+    (λ i c seen. omega (arith, seen)) after.clients (seen-after step (λ i. 0) 1025 (begun m view) ls (right-begun m view) refl (seen-begun m view)).each
+
+-- and so has the client of a number
+pub clients_know : {S : Type 0} (m : Meaning S) (step : Node S → NodeEvent → Outcome S) (view : View) (ls : List Line) (client : ℕ) → client ≤ 1024
+    → seen_by (world_after step (begun m view) ls) client ≡ Some (known_by client (lines_told step (begun m view) ls))
+clients_know {S = S} m step view ls client low =
+    let after : World S = world_after step (begun m view) ls in
+    let is : Seen (λ i. max 0 (known_by i (lines_told step (begun m view) ls))) 1025 after = seen-after step (λ i. 0) 1025 (begun m view) ls (right-begun m view) refl (seen-begun m view) in
+    seen-at (λ i. max 0 (known_by i (lines_told step (begun m view) ls))) after.clients client is.each (omega (arith, low, is.there)) ∙ ap (λ (n : ℕ). Some n) (omega arith)

@@ -1,0 +1,18 @@
+//! What clients know.
+ghost use Rattle.std.specs.Prelude.{◌≡◌, ◌≤◌, ℕ, List, Some};
+ghost use Rattle.smart_base.specs.Views.{View};
+ghost use Rattle.node_rules.specs.Steps.{step_of};
+ghost use Rattle.world_rules.specs.Worlds.{begun};
+ghost use Rattle.world_rules.specs.Plays.{world_after, lines_told};
+ghost use Rattle.world_rules.specs.declared.line.Line.{Line};
+ghost use Rattle.world_rules.specs.Knowing.{known_by, seen_by};
+
+use smart_service::service::Service;
+
+/// In every play, after any lines, the greatest place that a client knows is the greatest one that
+/// the transcript so far tells it: of a reply that it accepted, or one that it learned. Where the
+/// transcript tells it none, it knows none.
+pub fn clients_know<S: Service>()
+    ensures { (view : View) (ls : List Line) (client : ℕ) → client ≤ 1024 →
+        seen_by (world_after (step_of S.meaning) (begun S.meaning view) ls) client ≡ Some (known_by client (lines_told (step_of S.meaning) (begun S.meaning view) ls)) }
+{}
