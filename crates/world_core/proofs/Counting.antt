@@ -1,6 +1,6 @@
 -- Clients that are counted up.
 use Rattle.std.proofs.Common.{◌≡◌, ℕ, ◌+◌, ◌-◌, ◌<◌, ◌≤◌, suc, [], ◌∷◌, refl, arith}
-use Rattle.world_rules.specs.Clients.{fresh}
+use Rattle.client_quorum.specs.Clients.{fresh}
 use Rattle.world_rules.specs.Worlds.{clients_from}
 
 -- the first of those left

@@ -5,8 +5,9 @@ use Rattle.smart_messages.specs.Messages.{decoded}
 use Rattle.smart_messages.specs.declared.message.Message.{Message}
 use Rattle.smart_messages.specs.declared.message.Message.TheVariants.{Ask, Propose, Vote, Reply}
 use Rattle.world_rules.specs.Worlds.{World, client_hears, hears_bytes, client_takes}
-use Rattle.world_rules.specs.declared.client.Client.{Client}
-use Rattle.world_core.specs.Replies.{reply_in, hears_reply, takes_by, takes_reply}
+use Rattle.client_quorum.specs.declared.client.Client.{Client}
+use Rattle.client_quorum.specs.Clients.{reply_in}
+use Rattle.world_core.specs.Replies.{hears_reply, takes_by, takes_reply}
 
 -- what was read, by whether it is a reply
 hears-read : {S : Type 0} (w : World S) (i : ℕ) (c : Client) (read : Result Message ℕ) → hears_reply w i c (reply_in read) ≡ client_hears w i c read

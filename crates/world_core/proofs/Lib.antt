@@ -3,4 +3,5 @@ pub mod LedgerLaws
 pub mod Turns
 pub mod Played
 pub mod Hearing
+pub mod Asking
 pub mod Idling

@@ -6,17 +6,9 @@ use Rattle.smart_messages.specs.declared.message.Message.{Message}
 use Rattle.smart_messages.specs.declared.message.Message.TheVariants.{Ask, Propose, Vote, Reply}
 use Rattle.world_rules.specs.Clients.{heard}
 use Rattle.world_rules.specs.Worlds.{World, telling, hearing}
-use Rattle.world_rules.specs.declared.client.Client.{Client}
-use Rattle.world_rules.specs.declared.client.Ignored.TheVariants as reasons
+use Rattle.client_quorum.specs.declared.client.Client.{Client}
+use Rattle.client_quorum.specs.declared.client.Ignored.TheVariants as reasons
 use Rattle.world_rules.specs.declared.line.OutLine.TheVariants as outs
-
--- the reply that was read, if it is one
-abbrev pub reply_in : Result Message ℕ → Option (SignedBy Answer)
-reply_in (Err at) = None
-reply_in (Ok (Ask q)) = None
-reply_in (Ok (Propose p)) = None
-reply_in (Ok (Vote b)) = None
-reply_in (Ok (Reply a)) = Some a
 
 -- a client hears a reply, or ignores what is none
 abbrev pub hears_reply : {S : Type 0} → World S → ℕ → Client → Option (SignedBy Answer) → World S

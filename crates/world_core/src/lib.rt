@@ -2,7 +2,6 @@
 //! batches that was chosen.
 #![tactic(auto)]
 
-pub mod client;
 pub mod host;
 pub mod ledger;
 pub mod message;

@@ -2,12 +2,12 @@
 ghost use Rattle.std.specs.Prelude.{◌≡◌, IfOk, length};
 ghost use Rattle.world_rules.specs.Worlds.{vote_summary, summary_of, told_heard};
 
+use client_quorum::client::Heard;
 use smart_base::duplicate::Duplicate;
 use smart_base::name::ClientId;
 use smart_messages::message::Message;
 use smart_messages::statement::{Ballot, VoteKind};
 use std::alloc::{AllocError, Global};
-use world_rules::client::Heard;
 use world_rules::line::{OutLine, Summary};
 use world_rules::message::Origin;
 

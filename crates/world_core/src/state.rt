@@ -2,43 +2,45 @@
 ghost use Rattle.std.specs.Prelude.{◌≡◌, ◌+◌, ◌-◌, ◌^◌, ◌<◌, ◌++◌, ◌==◌, [], ◌∷◌, IfOk, OnOk, None, Some, length, slice_get, slice_set, false};
 ghost use Rattle.std.specs.List.{flat_map, list_all, list_any};
 ghost use Rattle.smart_base.specs.Lists.{or_else};
-ghost use Rattle.smart_messages.specs.Messages.{spelling, decoded};
+ghost use Rattle.smart_messages.specs.Messages.{spelling};
 ghost use Rattle.smart_messages.specs.declared.entry.NodeEvent.TheVariants.{Arrive};
 ghost use Rattle.node_rules.specs.Steps.{opened};
 ghost use Rattle.kept_arrivals.specs.Kept.{core_step};
 ghost use Rattle.world_rules.specs.Repeats.{repeated, turns, until_rest, each_from};
 ghost use Rattle.world_rules.specs.Secrets.{group_secret};
-ghost use Rattle.world_rules.specs.Clients.{heard, after_heard};
-ghost use Rattle.world_rules.specs.Worlds.{telling, sends, sends_all, summary_of, stepped, node_takes, settle_once, settle, settle_all, gives, give_all, acceptance_in, told_heard, hearing, client_takes, client_asks, asks, goes, flow_once, flows, hosts_from, clients_from, begun, is_listed, at_listed, host_takes, host_index, at_index, at_member, arrives, arrives_at, give_number, telling_all, deliver_at, deliver_each, shown_client, shows};
+ghost use Rattle.client_quorum.specs.Clients.{after_heard};
+ghost use Rattle.world_rules.specs.Clients.{heard};
+ghost use Rattle.world_rules.specs.Worlds.{telling, sends, sends_all, summary_of, stepped, node_takes, settle_once, settle, settle_all, gives, give_all, acceptance_in, told_heard, hearing, client_takes, asks, repeat_found, repeats, learns, tells, goes, flow_once, flows, hosts_from, clients_from, begun, is_listed, at_listed, host_takes, host_index, at_index, at_member, arrives, arrives_at, give_number, telling_all, deliver_at, deliver_each, shown_client, shows};
 ghost use Rattle.world_rules.specs.Plays.{has_member, has_party, is_there, line_played, rested};
-ghost use Rattle.world_core.specs.Replies.{reply_in, takes_reply};
+ghost use Rattle.world_core.specs.Replies.{takes_reply};
+ghost use Rattle.world_core.specs.Asking.{repeats_by};
 ghost use Rattle.world_core.specs.Idling.{is_idle_at, idle_lines};
 
-use crate::client::{ask, fresh, hear};
 use crate::host::{Host, host_index, show_hosts, step_host};
 use crate::ledger::Ledger;
 use crate::message::{sent_line, told_heard};
 use crate::secret::GroupRing;
+use client_quorum::client::{Acceptance, Client, Heard, Ignored};
+use client_quorum::hearing::read_reply;
 use node_rules::node::{Held, Target};
 use smart_base::bytes::Payload;
 use smart_base::duplicate::Duplicate;
-use smart_base::fault::ReadError;
 use smart_base::name::{ClientId, MemberId};
+use smart_base::number::Place;
 use smart_base::party::Party;
 use smart_base::sequence::{Bytes, Sequence};
 use smart_base::view::View;
 use smart_keys::ring::Ring;
 use smart_messages::batch::Batch;
-use smart_messages::codec::{decode, encode};
+use smart_messages::codec::encode;
 use smart_messages::entry::NodeEvent;
 use smart_messages::message::Message;
 use smart_messages::signed::Signed;
-use smart_messages::statement::Answer;
+use smart_messages::statement::{Answer, Request};
 use smart_service::service::Service;
 use std::alloc::{AllocError, Global};
 use std::marker::Model;
 use std::mem;
-use world_rules::client::{Acceptance, Client, Heard, Ignored};
 use world_rules::line::{Line, OutLine};
 use world_rules::message::{Ending, Origin, Premise, Sent};
 
@@ -83,18 +85,6 @@ impl<S> Model for WorldState<S> {
     } };
 }
 
-/// The reply that these bytes are, if they are one.
-fn reply_in(alloc: Global, bytes: &[u8]) -> Result<Option<Signed<Answer>>, AllocError>
-    ensures { IfOk result (λ reply. reply ≡ reply_in (decoded bytes.now)) }
-{
-    match decode(alloc, bytes) {
-        Ok(Message::Reply(answer)) => Ok(Some(answer)),
-        Ok(Message::Ask(_)) | Ok(Message::Propose(_)) | Ok(Message::Vote(_)) => Ok(None),
-        Err(ReadError::Unread { .. }) => Ok(None),
-        Err(ReadError::NoMemory) => Err(AllocError),
-    }
-}
-
 /// A limit is told only of a play that nothing has ended.
 fn or_limit(ending: Option<Ending>) -> Option<Ending>
     ensures { result ≡ or_else ending (Some Ending.Limit) }
@@ -130,7 +120,7 @@ fn hear_reply(
     ensures told { OnOk result (told.new.items ≡ told.old.items ++ told_heard client.old.id (heard view.now client.old answer.now) ∷ []) }
 {
     let id = client.id;
-    let heard = hear(alloc, view, ring, client, answer)?;
+    let heard = client.hear_reply(alloc, view, ring, answer)?;
     told.push(told_heard(alloc, id, &heard)?)?;
     keep_accepted(accepted, heard)?;
     Ok(())
@@ -214,7 +204,7 @@ fn first_clients(alloc: Global, count: u16) -> Result<Vec<Client>, AllocError>
 {
     let mut clients: Vec<Client> = Vec::new(alloc);
     for i in 0..count {
-        clients.push(fresh(alloc, ClientId::new(i)))?;
+        clients.push(Client::new(alloc, ClientId::new(i)))?;
     }
     Ok(clients)
 }
@@ -442,7 +432,7 @@ impl<S: Service> WorldState<S> {
     fn client_takes(&mut self, i: usize, bytes: &[u8]) -> Result<(), AllocError>
         ensures { OnOk result (self.new ≡ client_takes i bytes.now self.old) }
     {
-        let reply = reply_in(self.alloc, bytes)?;
+        let reply = read_reply(self.alloc, bytes)?;
         self.takes_reply(i, &reply)?;
         Ok(())
     }
@@ -466,8 +456,74 @@ impl<S: Service> WorldState<S> {
         if self.clients[i].last >= (1 << 63) - 1 {
             return Ok(());
         }
-        let request = ask(self.alloc, self.ring.get(), &mut self.clients[i], op)?;
-        self.send(Origin::Client(id), Target::View, Message::Ask(request))?;
+        match self.clients[i].ask(self.alloc, self.ring.get(), op) {
+            Ok(request) => {
+                self.send(Origin::Client(id), Target::View, Message::Ask(request))?;
+                Ok(())
+            }
+            // None waits: its only want is memory.
+            Err(_) => Err(AllocError),
+        }
+    }
+
+    /// The client at an index sends its request that waits once more.
+    #[tactic(auto, unfolding(world_rules::specs::Worlds::repeats))]
+    fn repeat(&mut self, i: usize) -> Result<(), AllocError>
+        ensures { OnOk result (self.new ≡ repeats i self.old) }
+    {
+        if self.ending.is_some() || i >= self.clients.len() {
+            return Ok(());
+        }
+        self.repeat_waiting(i)
+    }
+
+    /// The client sends the request that waits, if one does.
+    #[tactic(auto, using(crate::proofs::Asking::repeats_waiting))]
+    fn repeat_waiting(&mut self, i: usize) -> Result<(), AllocError>
+        requires { i < length self.old.clients }
+        ensures { OnOk result (self.new ≡ repeat_found self.old (slice_get self.old.clients i)) }
+    {
+        let id = self.clients[i].id;
+        let request = self.clients[i].again(self.alloc, self.ring.get())?;
+        self.send_again(id, request)
+    }
+
+    fn send_again(
+        &mut self,
+        id: ClientId,
+        request: Option<Signed<Request>>,
+    ) -> Result<(), AllocError>
+        ensures { OnOk result (self.new ≡ repeats_by self.old id request) }
+    {
+        match request {
+            None => self.tell(OutLine::IdleClient { client: id }),
+            Some(request) => self.send(Origin::Client(id), Target::View, Message::Ask(request)),
+        }
+    }
+
+    /// The client at an index is told of a place.
+    fn learn(&mut self, place: Place, i: usize) -> Result<(), AllocError>
+        ensures { OnOk result (self.new ≡ learns self.old place i (slice_get self.old.clients i)) }
+    {
+        if i >= self.clients.len() {
+            return Ok(());
+        }
+        self.clients[i].tell(place);
+        let (client, place) = (self.clients[i].id, self.clients[i].seen);
+        self.tell(OutLine::Learned { client, place })?;
+        Ok(())
+    }
+
+    /// A client is told of the greatest place that another knows.
+    #[tactic(auto, unfolding(world_rules::specs::Worlds::tells))]
+    fn tell_client(&mut self, from: usize, to: usize) -> Result<(), AllocError>
+        ensures { OnOk result (self.new ≡ tells from to self.old) }
+    {
+        if self.ending.is_some() || from >= self.clients.len() {
+            return Ok(());
+        }
+        let place = self.clients[from].seen;
+        self.learn(place, to)?;
         Ok(())
     }
 
@@ -538,38 +594,44 @@ impl<S: Service> WorldState<S> {
         Ok(())
     }
 
-    /// A member's node takes bytes.
-    fn member_takes(&mut self, member: MemberId, bytes: &Bytes) -> Result<(), AllocError>
-        ensures { OnOk result (self.new ≡ at_member (λ i w. node_takes (core_step S.meaning) i (Arrive bytes.now) w) member self.old) }
+    /// A member's node takes an event.
+    fn member_takes(&mut self, member: MemberId, event: &NodeEvent) -> Result<(), AllocError>
+        ensures { OnOk result (self.new ≡ at_member (λ i w. node_takes (core_step S.meaning) i event.now w) member self.old) }
     {
         if let Some(i) = host_index(self.hosts.as_slice(), member) {
-            let arrival = NodeEvent::Arrive(bytes.duplicate(self.alloc)?);
-            self.node_takes(i, &arrival)?;
+            self.node_takes(i, event)?;
         }
         Ok(())
     }
 
-    /// Bytes arrive at a member's node or at a client.
-    fn arrive(&mut self, bytes: &Bytes, to: &Party) -> Result<(), AllocError>
+    /// Bytes, and their arrival, come to a member's node or to a client.
+    fn arrive(&mut self, bytes: &[u8], arrival: &NodeEvent, to: &Party) -> Result<(), AllocError>
+        requires { arrival.now ≡ Arrive bytes.now }
         ensures { OnOk result (self.new ≡ arrives (core_step S.meaning) bytes.now to.now self.old) }
     {
         match to {
             Party::Member(id) => {
-                self.member_takes(*id, bytes)?;
+                self.member_takes(*id, arrival)?;
                 Ok(())
             }
             Party::Client(id) => {
-                self.client_takes(id.get() as usize, bytes.as_slice())?;
+                self.client_takes(id.get() as usize, bytes)?;
                 Ok(())
             }
         }
     }
 
-    fn arrive_at(&mut self, bytes: &Bytes, to: &[Party]) -> Result<(), AllocError>
+    fn arrive_at(
+        &mut self,
+        bytes: &[u8],
+        arrival: &NodeEvent,
+        to: &[Party],
+    ) -> Result<(), AllocError>
+        requires { arrival.now ≡ Arrive bytes.now }
         ensures { OnOk result (self.new ≡ arrives_at (core_step S.meaning) bytes.now to.now self.old) }
     {
         for party in to {
-            self.arrive(bytes, party)?;
+            self.arrive(bytes, arrival, party)?;
         }
         Ok(())
     }
@@ -583,7 +645,8 @@ impl<S: Service> WorldState<S> {
             return Ok(());
         }
         let (_, bytes) = letter(self.alloc, &self.sent.as_slice()[index])?;
-        self.arrive_at(&bytes, to)?;
+        let arrival = NodeEvent::Arrive(bytes.duplicate(self.alloc)?);
+        self.arrive_at(bytes.as_slice(), &arrival, to)?;
         Ok(())
     }
 
@@ -673,7 +736,12 @@ impl<S: Service> WorldState<S> {
         ensures { result ≡ is_there self.now line.now }
     {
         match line {
-            Line::Nothing | Line::Ask { .. } | Line::SettleAll | Line::Show => true,
+            Line::Nothing
+            | Line::Ask { .. }
+            | Line::Again { .. }
+            | Line::Tell { .. }
+            | Line::SettleAll
+            | Line::Show => true,
             Line::Flow { members } | Line::Deliver { members } => self.has_members(
                 members.as_slice(),
             ),
@@ -695,6 +763,14 @@ impl<S: Service> WorldState<S> {
             Line::Nothing => Ok(()),
             Line::Ask { client, op } => {
                 self.ask(client.get() as usize, op)?;
+                Ok(())
+            }
+            Line::Again { client } => {
+                self.repeat(client.get() as usize)?;
+                Ok(())
+            }
+            Line::Tell { from, to } => {
+                self.tell_client(from.get() as usize, to.get() as usize)?;
                 Ok(())
             }
             Line::Flow { members } => {

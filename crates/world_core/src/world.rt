@@ -9,6 +9,7 @@ ghost use Rattle.world_rules.specs.declared.message.Premise.{Premise};
 
 use crate::host::Host;
 use crate::state::WorldState;
+use client_quorum::client::Acceptance;
 use node_rules::node::Delivery;
 use smart_base::duplicate::Duplicate;
 use smart_base::name::MemberId;
@@ -19,7 +20,6 @@ use smart_messages::entry::LogEntry;
 use smart_service::service::Service;
 use std::alloc::{AllocError, Global};
 use std::marker::Model;
-use world_rules::client::Acceptance;
 use world_rules::line::{Line, OutLine};
 use world_rules::message::{Ending, Premise, Sent};
 

@@ -6,7 +6,7 @@ use Rattle.world_core.proofs.state.first_clients.Goals as goal
 pub loop-i-preserved : goal.loop-i-preserved
 loop-i-preserved c =
     let e = clients_more c.args.count c.loop-i.i c.loop-i-test.true in
-    rw (c.in_ok-push.ensures.items, c.fresh.ensures, c.new.ensures) (append_assoc c.loop-i.clients.items _ _ ∙ (ap (λ more. c.loop-i.clients.items ++ more) (sym e) ∙ c.loop-i.invariant))
+    rw (c.in_ok-push.ensures.items, c.new-in-loop-i.ensures, c.new.ensures) (append_assoc c.loop-i.clients.items _ _ ∙ (ap (λ more. c.loop-i.clients.items ++ more) (sym e) ∙ c.loop-i.invariant))
 
 pub returns : goal.returns
 returns c =

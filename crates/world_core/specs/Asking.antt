@@ -1,0 +1,14 @@
+-- What a client sends again, by the signed request that waits.
+use Rattle.std.specs.Prelude.{ℕ, Option, Some, None}
+use Rattle.smart_messages.specs.Forms.{SignedBy}
+use Rattle.smart_messages.specs.declared.statement.Request.{Request}
+use Rattle.smart_messages.specs.declared.message.Message.TheVariants.{Ask}
+use Rattle.node_rules.specs.declared.node.Target.TheVariants as targets
+use Rattle.world_rules.specs.Worlds.{World, telling, sends}
+use Rattle.world_rules.specs.declared.line.OutLine.TheVariants as outs
+use Rattle.world_rules.specs.declared.message.Origin.TheVariants as origins
+
+-- a client sends a signed request, or is idle
+abbrev pub repeats_by : {S : Type 0} → World S → ℕ → Option (SignedBy Request) → World S
+repeats_by w id None = telling w (outs.IdleClient id)
+repeats_by w id (Some q) = sends w (origins.Client id) targets.View (Ask q)
