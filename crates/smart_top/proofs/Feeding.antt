@@ -2,13 +2,10 @@
 use Rattle.std.proofs.Common.{Bool, eqb-true, ◌≡◌, ◌<◌, ◌≤◌, ◌++◌, ◌==◌, ◌∙◌, ℕ, zero, suc, drop, length, get_or, arith, true, false, List, [], ◌∷◌, Option, None, Some, is_some, take, refl, ap, sym, subst, append_assoc, inl, inr}
 use Rattle.std.proofs.lemmas.List.{append-nil, length-append}
 use Rattle.std.specs.Io.KnownBytes.{Appends, Keeps}
-use Rattle.smart_messages.specs.declared.entry.NodeEvent.{NodeEvent}
-use Rattle.smart_service.specs.Services.{Meaning}
-use Rattle.node_rules.specs.Nodes.{Node}
-use Rattle.node_rules.specs.Steps.{Outcome}
 use Rattle.world_rules.specs.Texts.{text_of}
 use Rattle.smart_top.specs.declared.reader.Halt.{Halt}
 use Rattle.smart_top.specs.declared.reader.Halt.TheVariants as halts
+use Rattle.smart_top.specs.Apps.{Steps}
 use Rattle.smart_top.specs.Readings.{Reading, unread, whole_lines, rest_of, line_taken, line_told, reading_after, told_after}
 use Rattle.smart_top.specs.Feeds.{text_after, script_after, HasTaken, HasRefused, HasBroken, HasTold, Within, Halted}
 use Rattle.smart_top.proofs.LongLines.{IsLong, long-told, long-refused}
@@ -29,56 +26,56 @@ appends-nothing (Some a) = sym (append-nil a)
 
 -- a line that ends
 
-pub script-feed : {S : Type 0} (step : Node S → NodeEvent → Outcome S) (m : Meaning S) (bytes : List ℕ) → script_after step m (bytes ++ 10 ∷ []) ≡ line_taken step m (script_after step m bytes) (rest_of [] bytes)
-script-feed step m bytes =
-    ap (λ ls. reading_after step m unread ls) (whole-feed [] bytes 10 refl) ∙ after-append step m unread (whole_lines [] bytes) (rest_of [] bytes ∷ [])
+pub script-feed : (steps : Steps) (bytes : List ℕ) → script_after steps (bytes ++ 10 ∷ []) ≡ line_taken steps (script_after steps bytes) (rest_of [] bytes)
+script-feed steps bytes =
+    ap (λ ls. reading_after steps unread ls) (whole-feed [] bytes 10 refl) ∙ after-append steps unread (whole_lines [] bytes) (rest_of [] bytes ∷ [])
 
-pub text-feed : {S : Type 0} (step : Node S → NodeEvent → Outcome S) (m : Meaning S) (bytes : List ℕ)
-    → text_after step m (bytes ++ 10 ∷ []) ≡ text_after step m bytes ++ text_of (line_told step (script_after step m bytes) (rest_of [] bytes))
-text-feed step m bytes =
-    ap (λ ls. text_of (told_after step m unread ls)) (whole-feed [] bytes 10 refl)
-    ∙ (ap text_of (told-append step m unread (whole_lines [] bytes) (rest_of [] bytes ∷ []))
-    ∙ (text-append (told_after step m unread (whole_lines [] bytes)) _
-    ∙ ap (λ text. text_after step m bytes ++ text) (ap text_of (append-nil (line_told step (script_after step m bytes) (rest_of [] bytes))))))
+pub text-feed : (steps : Steps) (bytes : List ℕ)
+    → text_after steps (bytes ++ 10 ∷ []) ≡ text_after steps bytes ++ text_of (line_told steps (script_after steps bytes) (rest_of [] bytes))
+text-feed steps bytes =
+    ap (λ ls. text_of (told_after steps unread ls)) (whole-feed [] bytes 10 refl)
+    ∙ (ap text_of (told-append steps unread (whole_lines [] bytes) (rest_of [] bytes ∷ []))
+    ∙ (text-append (told_after steps unread (whole_lines [] bytes)) _
+    ∙ ap (λ text. text_after steps bytes ++ text) (ap text_of (append-nil (line_told steps (script_after steps bytes) (rest_of [] bytes))))))
 
 -- what a line tells behind bytes that were taken
-told-line : {S : Type 0} (step : Node S → NodeEvent → Outcome S) (m : Meaning S) (bytes line : List ℕ) (script : Reading S) → line ≡ rest_of [] bytes → script ≡ script_after step m bytes
-    → text_after step m bytes ++ text_of (line_told step script line) ≡ text_after step m (bytes ++ 10 ∷ [])
-told-line {S = S} step m bytes line script line_is script_is =
-    ap (λ text. text_after step m bytes ++ text_of text)
-    (ap (λ (r : Reading S). line_told step r line) script_is ∙ ap (λ l. line_told step (script_after step m bytes) l) line_is)
-    ∙ sym (text-feed step m bytes)
+told-line : (steps : Steps) (bytes line : List ℕ) (script : Reading) → line ≡ rest_of [] bytes → script ≡ script_after steps bytes
+    → text_after steps bytes ++ text_of (line_told steps script line) ≡ text_after steps (bytes ++ 10 ∷ [])
+told-line steps bytes line script line_is script_is =
+    ap (λ text. text_after steps bytes ++ text_of text)
+    (ap (λ (r : Reading). line_told steps r line) script_is ∙ ap (λ l. line_told steps (script_after steps bytes) l) line_is)
+    ∙ sym (text-feed steps bytes)
 
-taken-line : {S : Type 0} (step : Node S → NodeEvent → Outcome S) (m : Meaning S) (bytes line : List ℕ) (script : Reading S) → line ≡ rest_of [] bytes → script ≡ script_after step m bytes
-    → line_taken step m script line ≡ script_after step m (bytes ++ 10 ∷ [])
-taken-line {S = S} step m bytes line script line_is script_is =
-    ap (λ (r : Reading S). line_taken step m r line) script_is ∙ (ap (λ l. line_taken step m (script_after step m bytes) l) line_is ∙ sym (script-feed step m bytes))
+taken-line : (steps : Steps) (bytes line : List ℕ) (script : Reading) → line ≡ rest_of [] bytes → script ≡ script_after steps bytes
+    → line_taken steps script line ≡ script_after steps (bytes ++ 10 ∷ [])
+taken-line steps bytes line script line_is script_is =
+    ap (λ (r : Reading). line_taken steps r line) script_is ∙ (ap (λ l. line_taken steps (script_after steps bytes) l) line_is ∙ sym (script-feed steps bytes))
 
 -- a line that was played and told
-pub line-played : {S : Type 0} (step : Node S → NodeEvent → Outcome S) (m : Meaning S) (bytes : List ℕ) (written now now' : Option (List ℕ)) (line line' : List ℕ) (script script' : Reading S)
-    → HasTaken step m bytes written now line script → script' ≡ line_taken step m script line → script'.refused ≡ None → line' ≡ [] → Appends now now' (text_of (line_told step script line))
-    → HasTaken step m (bytes ++ 10 ∷ []) written now' line' script'
-line-played {S = S} step m bytes written now now' line line' script script' taken is going ended told =
-    let count : script'.count ≡ (line_taken step m script line).count = ap (λ (r : Reading S). r.count) is in
-    let counts = taken-counts step m script line (ap (λ (r : Reading S). r.refused) (sym is) ∙ going) in
+pub line-played : (steps : Steps) (bytes : List ℕ) (written now now' : Option (List ℕ)) (line line' : List ℕ) (script script' : Reading)
+    → HasTaken steps bytes written now line script → script' ≡ line_taken steps script line → script'.refused ≡ None → line' ≡ [] → Appends now now' (text_of (line_told steps script line))
+    → HasTaken steps (bytes ++ 10 ∷ []) written now' line' script'
+line-played steps bytes written now now' line line' script script' taken is going ended told =
+    let count : script'.count ≡ (line_taken steps script line).count = ap (λ (r : Reading). r.count) is in
+    let counts = taken-counts steps script line (ap (λ (r : Reading). r.refused) (sym is) ∙ going) in
     record {
       line_is = ended ∙ sym (rest-feed [] bytes 10 refl);
-      script_is = is ∙ taken-line step m bytes line script taken.line_is taken.script_is;
+      script_is = is ∙ taken-line steps bytes line script taken.line_is taken.script_is;
       going = going;
-      text = subst (λ text. Appends written now' text) (told-line step m bytes line script taken.line_is taken.script_is)
-          (appends-then written now now' (text_after step m bytes) (text_of (line_told step script line)) taken.text told);
+      text = subst (λ text. Appends written now' text) (told-line steps bytes line script taken.line_is taken.script_is)
+          (appends-then written now now' (text_after steps bytes) (text_of (line_told steps script line)) taken.text told);
       short = omega (arith, ap (λ l. length l) ended);
       within = omega (arith, counts.0, counts.1, count);
       few = omega (arith, counts.0, count, taken.few, taken.short, length-append bytes (10 ∷ []));
     }
 
 -- a line that was refused
-pub line-refused : {S : Type 0} (step : Node S → NodeEvent → Outcome S) (m : Meaning S) (bytes : List ℕ) (written now now' : Option (List ℕ)) (line : List ℕ) (script script' : Reading S)
-    → HasTaken step m bytes written now line script → script'.refused ≡ (line_taken step m script line).refused → script'.count ≡ (line_taken step m script line).count → is_some script'.refused ≡ true
-    → Appends now now' (text_of (line_told step script line))
-    → Within bytes (10 ∷ []) (λ taken. HasRefused step m taken written now' script')
-line-refused {S = S} step m bytes written now now' line script script' taken refused count is told =
-    let same = taken-line step m bytes line script taken.line_is taken.script_is in
+pub line-refused : (steps : Steps) (bytes : List ℕ) (written now now' : Option (List ℕ)) (line : List ℕ) (script script' : Reading)
+    → HasTaken steps bytes written now line script → script'.refused ≡ (line_taken steps script line).refused → script'.count ≡ (line_taken steps script line).count → is_some script'.refused ≡ true
+    → Appends now now' (text_of (line_told steps script line))
+    → Within bytes (10 ∷ []) (λ taken. HasRefused steps taken written now' script')
+line-refused steps bytes written now now' line script script' taken refused count is told =
+    let same = taken-line steps bytes line script taken.line_is taken.script_is in
     record {
       front = 10 ∷ [];
       rest = [];
@@ -86,21 +83,21 @@ line-refused {S = S} step m bytes written now now' line script script' taken ref
       holds = record {
         closed = bytes ++ 10 ∷ [];
         closes = inl refl;
-        refused = refused ∙ ap (λ (r : Reading S). r.refused) same;
-        count = count ∙ ap (λ (r : Reading S). r.count) same;
+        refused = refused ∙ ap (λ (r : Reading). r.refused) same;
+        count = count ∙ ap (λ (r : Reading). r.count) same;
         is = is;
-        text = subst (λ text. Appends written now' text) (told-line step m bytes line script taken.line_is taken.script_is)
-            (appends-then written now now' (text_after step m bytes) (text_of (line_told step script line)) taken.text told);
+        text = subst (λ text. Appends written now' text) (told-line steps bytes line script taken.line_is taken.script_is)
+            (appends-then written now now' (text_after steps bytes) (text_of (line_told steps script line)) taken.text told);
       };
     }
 
 -- a line of which only a front was written
-pub line-broken : {S : Type 0} (step : Node S → NodeEvent → Outcome S) (m : Meaning S) (bytes : List ℕ) (written now now' : Option (List ℕ)) (line : List ℕ) (script : Reading S) (count : ℕ)
-    → HasTaken step m bytes written now line script → Appends now now' (take count (text_of (line_told step script line)))
-    → Within bytes (10 ∷ []) (λ taken. HasBroken step m taken written now')
-line-broken step m bytes written now now' line script count taken told =
-    let more = front_behind (text_after step m bytes) (text_of (line_told step script line)) [] count in
-    let whole = ap (λ text. text_after step m bytes ++ text) (append-nil (text_of (line_told step script line))) ∙ told-line step m bytes line script taken.line_is taken.script_is in
+pub line-broken : (steps : Steps) (bytes : List ℕ) (written now now' : Option (List ℕ)) (line : List ℕ) (script : Reading) (count : ℕ)
+    → HasTaken steps bytes written now line script → Appends now now' (take count (text_of (line_told steps script line)))
+    → Within bytes (10 ∷ []) (λ taken. HasBroken steps taken written now')
+line-broken steps bytes written now now' line script count taken told =
+    let more = front_behind (text_after steps bytes) (text_of (line_told steps script line)) [] count in
+    let whole = ap (λ text. text_after steps bytes ++ text) (append-nil (text_of (line_told steps script line))) ∙ told-line steps bytes line script taken.line_is taken.script_is in
     record {
       front = 10 ∷ [];
       rest = [];
@@ -108,29 +105,29 @@ line-broken step m bytes written now now' line script count taken told =
       holds = record {
         count = more.0;
         text = subst (λ text. Appends written now' text) (sym more.1 ∙ ap (λ text. take more.0 text) whole)
-            (appends-then written now now' (text_after step m bytes) (take count (text_of (line_told step script line))) taken.text told);
+            (appends-then written now now' (text_after steps bytes) (take count (text_of (line_told steps script line))) taken.text told);
       };
     }
 
 -- nothing of a line was written
-pub line-unwritten : {S : Type 0} (step : Node S → NodeEvent → Outcome S) (m : Meaning S) (bytes piece : List ℕ) (written now now' : Option (List ℕ)) (line : List ℕ) (script : Reading S)
-    → HasTaken step m bytes written now line script → now' ≡ now → Within bytes piece (λ taken. HasTold step m taken written now')
-line-unwritten step m bytes piece written now now' line script taken same =
+pub line-unwritten : (steps : Steps) (bytes piece : List ℕ) (written now now' : Option (List ℕ)) (line : List ℕ) (script : Reading)
+    → HasTaken steps bytes written now line script → now' ≡ now → Within bytes piece (λ taken. HasTold steps taken written now')
+line-unwritten steps bytes piece written now now' line script taken same =
     record {
       front = [];
       rest = piece;
       split = refl;
-      holds = record { text = subst (λ text. Appends written now' text) (ap (λ b. text_after step m b) (sym (append-nil bytes))) (subst (λ w. Appends written w (text_after step m bytes)) (sym same) taken.text) };
+      holds = record { text = subst (λ text. Appends written now' text) (ap (λ b. text_after steps b) (sym (append-nil bytes))) (subst (λ w. Appends written w (text_after steps bytes)) (sym same) taken.text) };
     }
 
 -- a line that was not written whole
-pub line-halted : {S : Type 0} (step : Node S → NodeEvent → Outcome S) (m : Meaning S) (bytes : List ℕ) (written now now' : Option (List ℕ)) (line : List ℕ) (script script' : Reading S) (halt : Halt)
-    → HasTaken step m bytes written now line script → (halt ≡ halts.Refused → ⊥) → (halt ≡ halts.NoMemory → now' ≡ now) → (count : ℕ) × Appends now now' (take count (text_of (line_told step script line)))
-    → Halted step m bytes (10 ∷ []) written now' script' halt
-line-halted step m bytes written now now' line script script' halts.Refused taken never same told = absurd (never refl)
-line-halted step m bytes written now now' line script script' halts.WriteFault taken never same told = line-broken step m bytes written now now' line script told.0 taken told.1
-line-halted step m bytes written now now' line script script' halts.SinkMemory taken never same told = line-broken step m bytes written now now' line script told.0 taken told.1
-line-halted step m bytes written now now' line script script' halts.NoMemory taken never same told = line-unwritten step m bytes (10 ∷ []) written now now' line script taken (same refl)
+pub line-halted : (steps : Steps) (bytes : List ℕ) (written now now' : Option (List ℕ)) (line : List ℕ) (script script' : Reading) (halt : Halt)
+    → HasTaken steps bytes written now line script → (halt ≡ halts.Refused → ⊥) → (halt ≡ halts.NoMemory → now' ≡ now) → (count : ℕ) × Appends now now' (take count (text_of (line_told steps script line)))
+    → Halted steps bytes (10 ∷ []) written now' script' halt
+line-halted steps bytes written now now' line script script' halts.Refused taken never same told = absurd (never refl)
+line-halted steps bytes written now now' line script script' halts.WriteFault taken never same told = line-broken steps bytes written now now' line script told.0 taken told.1
+line-halted steps bytes written now now' line script script' halts.SinkMemory taken never same told = line-broken steps bytes written now now' line script told.0 taken told.1
+line-halted steps bytes written now now' line script script' halts.NoMemory taken never same told = line-unwritten steps bytes (10 ∷ []) written now now' line script taken (same refl)
 
 pub none_is : {A : Type 0} (x : Option A) → is_some x ≡ false → x ≡ None
 none_is None is = refl
@@ -141,40 +138,40 @@ none_is (Some x) is = absurd (cc)
 byte-line : (bytes line line' : List ℕ) (b : ℕ) → (b == 10) ≡ false → line' ≡ line ++ b ∷ [] → line ≡ rest_of [] bytes → line' ≡ rest_of [] (bytes ++ b ∷ [])
 byte-line bytes line line' b other more is = more ∙ (ap (λ l. l ++ b ∷ []) is ∙ sym (rest-more [] bytes b other))
 
-byte-script : {S : Type 0} (step : Node S → NodeEvent → Outcome S) (m : Meaning S) (bytes : List ℕ) (b : ℕ) → (b == 10) ≡ false → script_after step m bytes ≡ script_after step m (bytes ++ b ∷ [])
-byte-script step m bytes b other = ap (λ ls. reading_after step m unread ls) (sym (whole-more [] bytes b other))
+byte-script : (steps : Steps) (bytes : List ℕ) (b : ℕ) → (b == 10) ≡ false → script_after steps bytes ≡ script_after steps (bytes ++ b ∷ [])
+byte-script steps bytes b other = ap (λ ls. reading_after steps unread ls) (sym (whole-more [] bytes b other))
 
-byte-text : {S : Type 0} (step : Node S → NodeEvent → Outcome S) (m : Meaning S) (bytes : List ℕ) (b : ℕ) → (b == 10) ≡ false → text_after step m bytes ≡ text_after step m (bytes ++ b ∷ [])
-byte-text step m bytes b other = ap (λ ls. text_of (told_after step m unread ls)) (sym (whole-more [] bytes b other))
+byte-text : (steps : Steps) (bytes : List ℕ) (b : ℕ) → (b == 10) ≡ false → text_after steps bytes ≡ text_after steps (bytes ++ b ∷ [])
+byte-text steps bytes b other = ap (λ ls. text_of (told_after steps unread ls)) (sym (whole-more [] bytes b other))
 
-pub byte-taken : {S : Type 0} (step : Node S → NodeEvent → Outcome S) (m : Meaning S) (bytes : List ℕ) (written now : Option (List ℕ)) (line line' : List ℕ) (script : Reading S) (b : ℕ)
-    → (b == 10) ≡ false → line' ≡ line ++ b ∷ [] → length line' ≤ 65536 → HasTaken step m bytes written now line script → HasTaken step m (bytes ++ b ∷ []) written now line' script
-byte-taken step m bytes written now line line' script b other more short taken =
+pub byte-taken : (steps : Steps) (bytes : List ℕ) (written now : Option (List ℕ)) (line line' : List ℕ) (script : Reading) (b : ℕ)
+    → (b == 10) ≡ false → line' ≡ line ++ b ∷ [] → length line' ≤ 65536 → HasTaken steps bytes written now line script → HasTaken steps (bytes ++ b ∷ []) written now line' script
+byte-taken steps bytes written now line line' script b other more short taken =
     record {
       line_is = byte-line bytes line line' b other more taken.line_is;
-      script_is = taken.script_is ∙ byte-script step m bytes b other;
+      script_is = taken.script_is ∙ byte-script steps bytes b other;
       going = taken.going;
-      text = subst (λ text. Appends written now text) (byte-text step m bytes b other) taken.text;
+      text = subst (λ text. Appends written now text) (byte-text steps bytes b other) taken.text;
       short = short;
       within = taken.within;
       few = omega (arith, taken.few, length-append bytes (b ∷ []), ap (λ l. length l) more, length-append line (b ∷ []));
     }
 
 -- a byte that makes a line too long, which was refused then
-pub byte-refused : {S : Type 0} (step : Node S → NodeEvent → Outcome S) (m : Meaning S) (bytes : List ℕ) (written now : Option (List ℕ)) (line line' : List ℕ) (script script' : Reading S) (b : ℕ)
-    → (b == 10) ≡ false → line' ≡ line ++ b ∷ [] → IsLong line' → HasTaken step m bytes written now line script
-    → script'.refused ≡ (line_taken step m script line').refused → script'.count ≡ (line_taken step m script line').count
-    → Within bytes (b ∷ []) (λ taken. HasRefused step m taken written now script')
-byte-refused {S = S} step m bytes written now line line' script script' b other more long taken refused count =
+pub byte-refused : (steps : Steps) (bytes : List ℕ) (written now : Option (List ℕ)) (line line' : List ℕ) (script script' : Reading) (b : ℕ)
+    → (b == 10) ≡ false → line' ≡ line ++ b ∷ [] → IsLong line' → HasTaken steps bytes written now line script
+    → script'.refused ≡ (line_taken steps script line').refused → script'.count ≡ (line_taken steps script line').count
+    → Within bytes (b ∷ []) (λ taken. HasRefused steps taken written now script')
+byte-refused steps bytes written now line line' script script' b other more long taken refused count =
     let begun : List ℕ = bytes ++ b ∷ [] in
     let closed : List ℕ = begun ++ 10 ∷ [] in
     let line_is : line' ≡ rest_of [] begun = byte-line bytes line line' b other more taken.line_is in
-    let script_is : script ≡ script_after step m begun = taken.script_is ∙ byte-script step m bytes b other in
-    let same : line_taken step m script line' ≡ script_after step m closed = taken-line step m begun line' script line_is script_is in
-    let told : text_after step m bytes ≡ text_after step m closed =
-    byte-text step m bytes b other
-    ∙ (sym (append-nil (text_after step m begun))
-    ∙ (ap (λ lines. text_after step m begun ++ text_of lines) (sym (long-told step script line' long)) ∙ told-line step m begun line' script line_is script_is)) in
+    let script_is : script ≡ script_after steps begun = taken.script_is ∙ byte-script steps bytes b other in
+    let same : line_taken steps script line' ≡ script_after steps closed = taken-line steps begun line' script line_is script_is in
+    let told : text_after steps bytes ≡ text_after steps closed =
+    byte-text steps bytes b other
+    ∙ (sym (append-nil (text_after steps begun))
+    ∙ (ap (λ lines. text_after steps begun ++ text_of lines) (sym (long-told steps script line' long)) ∙ told-line steps begun line' script line_is script_is)) in
     record {
       front = b ∷ [];
       rest = [];
@@ -182,9 +179,9 @@ byte-refused {S = S} step m bytes written now line line' script script' b other 
       holds = record {
         closed = closed;
         closes = inr (refl, subst (λ l. IsLong l) line_is long);
-        refused = refused ∙ ap (λ (r : Reading S). r.refused) same;
-        count = count ∙ ap (λ (r : Reading S). r.count) same;
-        is = ap (λ x. is_some x) refused ∙ long-refused step m script line' long;
+        refused = refused ∙ ap (λ (r : Reading). r.refused) same;
+        count = count ∙ ap (λ (r : Reading). r.count) same;
+        is = ap (λ x. is_some x) refused ∙ long-refused steps script line' long;
         text = subst (λ text. Appends written now text) told taken.text;
       };
     }
@@ -200,12 +197,12 @@ within-later bytes front piece rest whole P split w =
     }
 
 -- what stopped a piece behind a front of a longer piece stopped that
-pub halted-later : {S : Type 0} (step : Node S → NodeEvent → Outcome S) (m : Meaning S) (bytes front piece rest whole : List ℕ) (written now : Option (List ℕ)) (script : Reading S) (halt : Halt)
-    → whole ≡ front ++ (piece ++ rest) → Halted step m (bytes ++ front) piece written now script halt → Halted step m bytes whole written now script halt
-halted-later step m bytes front piece rest whole written now script halts.Refused split w = within-later bytes front piece rest whole _ split w
-halted-later step m bytes front piece rest whole written now script halts.WriteFault split w = within-later bytes front piece rest whole _ split w
-halted-later step m bytes front piece rest whole written now script halts.SinkMemory split w = within-later bytes front piece rest whole _ split w
-halted-later step m bytes front piece rest whole written now script halts.NoMemory split w = within-later bytes front piece rest whole _ split w
+pub halted-later : (steps : Steps) (bytes front piece rest whole : List ℕ) (written now : Option (List ℕ)) (script : Reading) (halt : Halt)
+    → whole ≡ front ++ (piece ++ rest) → Halted steps (bytes ++ front) piece written now script halt → Halted steps bytes whole written now script halt
+halted-later steps bytes front piece rest whole written now script halts.Refused split w = within-later bytes front piece rest whole _ split w
+halted-later steps bytes front piece rest whole written now script halts.WriteFault split w = within-later bytes front piece rest whole _ split w
+halted-later steps bytes front piece rest whole written now script halts.SinkMemory split w = within-later bytes front piece rest whole _ split w
+halted-later steps bytes front piece rest whole written now script halts.NoMemory split w = within-later bytes front piece rest whole _ split w
 
 -- a list by one of its values
 pub piece-split : (xs : List ℕ) (i d : ℕ) → i < length xs → xs ≡ take i xs ++ ((get_or xs i d ∷ []) ++ drop (suc i) xs)

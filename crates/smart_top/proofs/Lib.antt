@@ -7,4 +7,3 @@ pub mod ReadingTells
 pub mod Feeding
 pub mod Ending
 pub mod Closing
-pub mod ReadingLines

@@ -4,16 +4,13 @@ use Rattle.std.specs.Prelude.{not, if◌then◌else◌, Err}
 use Rattle.std.specs.List.{list_all}
 use Rattle.std.proofs.lemmas.Bool.{lt-leb}
 use Rattle.std.proofs.lemmas.List.{append_assoc, append-nil, length-append}
-use Rattle.smart_messages.specs.declared.entry.NodeEvent.{NodeEvent}
-use Rattle.smart_service.specs.Services.{Meaning}
-use Rattle.node_rules.specs.Nodes.{Node}
-use Rattle.node_rules.specs.Steps.{Outcome}
-use Rattle.world_rules.specs.Plays.{Play}
 use Rattle.world_rules.specs.Scripts.{is_printed, is_short, line_of}
 use Rattle.world_rules.specs.declared.line.Kind.{Kind}
 use Rattle.world_rules.specs.declared.line.Kind.TheVariants as kinds
 use Rattle.world_laws.proofs.Lists.{either, either_by}
 use Rattle.smart_top.specs.declared.status.Refusal.TheVariants as refusals
+use Rattle.smart_top.specs.Apps.{Steps}
+use Rattle.smart_top.specs.declared.app.AppPlay.{AppPlay}
 use Rattle.smart_top.specs.Readings.{Reading, unread, refusing, whole_lines, rest_of, last_line, script_lines, line_done, told_done, taken_at, told_at, is_full, line_taken, line_told, reading_after, told_after}
 use Rattle.smart_top.proofs.ReadingLaws.{chosen_true, after-append, told-append, after-refused, told_after-refused, whole-append, rest-append}
 
@@ -40,63 +37,63 @@ unfolding line_of
 no-meaning l long = by_kind (λ kind. Err kind) (not (is_printed l)) (not (is_short l)) _ (not-short l long)
 
 -- it is refused where it stands
-refused-at : {S : Type 0} (step : Node S → NodeEvent → Outcome S) (m : Meaning S) (r : Reading S) (l : List ℕ) (play : Option (Play S)) → IsLong l
-    → taken_at step m r l play ≡ refusing r (refusals.Script (long_kind l))
-refused-at step m r l None long = by_kind (λ kind. refusing r (refusals.Script kind)) (not (is_printed l)) (not (is_short l)) _ (not-short l long)
-refused-at step m r l (Some p) long = ap (λ line. line_done step r p line) (no-meaning l long)
+refused-at : (steps : Steps) (r : Reading) (l : List ℕ) (play : Option AppPlay) → IsLong l
+    → taken_at steps r l play ≡ refusing r (refusals.Script (long_kind l))
+refused-at steps r l None long = by_kind (λ kind. refusing r (refusals.Script kind)) (not (is_printed l)) (not (is_short l)) _ (not-short l long)
+refused-at steps r l (Some p) long = ap (λ line. line_done steps r p line) (no-meaning l long)
 
 -- there it tells nothing
-untold-at : {S : Type 0} (step : Node S → NodeEvent → Outcome S) (r : Reading S) (l : List ℕ) (play : Option (Play S)) → IsLong l → told_at step r l play ≡ []
-untold-at step r l None long = either (λ told. told ≡ []) (not (is_printed l)) _ _ refl (chosen_true (not (is_short l)) _ _ (not-short l long))
-untold-at step r l (Some p) long = ap (λ line. told_done step p line) (no-meaning l long)
+untold-at : (steps : Steps) (r : Reading) (l : List ℕ) (play : Option AppPlay) → IsLong l → told_at steps r l play ≡ []
+untold-at steps r l None long = either (λ told. told ≡ []) (not (is_printed l)) _ _ refl (chosen_true (not (is_short l)) _ _ (not-short l long))
+untold-at steps r l (Some p) long = ap (λ line. told_done steps p line) (no-meaning l long)
 
 -- a script behind it
-pub long-taken : {S : Type 0} (step : Node S → NodeEvent → Outcome S) (m : Meaning S) (r : Reading S) (l : List ℕ) → IsLong l
-    → line_taken step m r l ≡ (if is_some r.refused then r else if is_full r then refusing r refusals.Limit else refusing r (refusals.Script (long_kind l)))
+pub long-taken : (steps : Steps) (r : Reading) (l : List ℕ) → IsLong l
+    → line_taken steps r l ≡ (if is_some r.refused then r else if is_full r then refusing r refusals.Limit else refusing r (refusals.Script (long_kind l)))
 unfolding line_taken
-long-taken step m r l long = ap (λ q. cond (is_some r.refused) r (cond (is_full r) (refusing r refusals.Limit) q)) (refused-at step m r l r.play long)
+long-taken steps r l long = ap (λ q. cond (is_some r.refused) r (cond (is_full r) (refusing r refusals.Limit) q)) (refused-at steps r l r.play long)
 
 -- it tells nothing
-pub long-told : {S : Type 0} (step : Node S → NodeEvent → Outcome S) (r : Reading S) (l : List ℕ) → IsLong l → line_told step r l ≡ []
+pub long-told : (steps : Steps) (r : Reading) (l : List ℕ) → IsLong l → line_told steps r l ≡ []
 unfolding line_told
-long-told step r l long = either (λ told. told ≡ []) (is_some r.refused) _ _ refl (either (λ told. told ≡ []) (is_full r) _ _ refl (untold-at step r l r.play long))
+long-told steps r l long = either (λ told. told ≡ []) (is_some r.refused) _ _ refl (either (λ told. told ≡ []) (is_full r) _ _ refl (untold-at steps r l r.play long))
 
 -- it is refused
-pub long-refused : {S : Type 0} (step : Node S → NodeEvent → Outcome S) (m : Meaning S) (r : Reading S) (l : List ℕ) → IsLong l → is_some (line_taken step m r l).refused ≡ true
-long-refused {S = S} step m r l long =
-    subst (λ (q : Reading S). is_some q.refused ≡ true) (sym (long-taken step m r l long))
-    (either_by (λ (q : Reading S). is_some q.refused ≡ true) (is_some r.refused) _ _ (λ is. is)
-    (λ going. either (λ (q : Reading S). is_some q.refused ≡ true) (is_full r) _ _ refl refl))
+pub long-refused : (steps : Steps) (r : Reading) (l : List ℕ) → IsLong l → is_some (line_taken steps r l).refused ≡ true
+long-refused steps r l long =
+    subst (λ (q : Reading). is_some q.refused ≡ true) (sym (long-taken steps r l long))
+    (either_by (λ (q : Reading). is_some q.refused ≡ true) (is_some r.refused) _ _ (λ is. is)
+    (λ going. either (λ (q : Reading). is_some q.refused ≡ true) (is_full r) _ _ refl refl))
 
 -- what is wrong with it rests on its first 65,537 bytes
 kind-alike : (k l : List ℕ) → take 65537 k ≡ take 65537 l → long_kind k ≡ long_kind l
 kind-alike k l same = ap (λ xs. cond (not (list_all (λ b. nat_le 32 b && nat_le b 126) xs)) kinds.Byte kinds.Long) same
 
 -- all such lines that begin alike leave a script alike
-pub long-alike : {S : Type 0} (step : Node S → NodeEvent → Outcome S) (m : Meaning S) (r : Reading S) (k l : List ℕ) → IsLong k → IsLong l → take 65537 k ≡ take 65537 l
-    → line_taken step m r k ≡ line_taken step m r l
-long-alike step m r k l long_k long_l same =
-    long-taken step m r k long_k
-    ∙ (ap (λ kind. cond (is_some r.refused) r (cond (is_full r) (refusing r refusals.Limit) (refusing r (refusals.Script kind)))) (kind-alike k l same) ∙ sym (long-taken step m r l long_l))
+pub long-alike : (steps : Steps) (r : Reading) (k l : List ℕ) → IsLong k → IsLong l → take 65537 k ≡ take 65537 l
+    → line_taken steps r k ≡ line_taken steps r l
+long-alike steps r k l long_k long_l same =
+    long-taken steps r k long_k
+    ∙ (ap (λ kind. cond (is_some r.refused) r (cond (is_full r) (refusing r refusals.Limit) (refusing r (refusals.Script kind)))) (kind-alike k l same) ∙ sym (long-taken steps r l long_l))
 
 -- lines whose last one is too long read as those with another such line in its place that begins alike, and more behind it
-pub long-read : {S : Type 0} (step : Node S → NodeEvent → Outcome S) (m : Meaning S) (ls more : List (List ℕ)) (k l : List ℕ) → IsLong k → IsLong l → take 65537 l ≡ take 65537 k
-    → reading_after step m unread (ls ++ l ∷ more) ≡ reading_after step m unread (ls ++ k ∷ [])
-long-read step m ls more k l long_k long_l same =
-    let r = reading_after step m unread ls in
-    after-append step m unread ls (l ∷ more)
-    ∙ (after-refused step m (line_taken step m r l) more (long-refused step m r l long_l)
-    ∙ (long-alike step m r l k long_l long_k same ∙ sym (after-append step m unread ls (k ∷ []))))
+pub long-read : (steps : Steps) (ls more : List (List ℕ)) (k l : List ℕ) → IsLong k → IsLong l → take 65537 l ≡ take 65537 k
+    → reading_after steps unread (ls ++ l ∷ more) ≡ reading_after steps unread (ls ++ k ∷ [])
+long-read steps ls more k l long_k long_l same =
+    let r = reading_after steps unread ls in
+    after-append steps unread ls (l ∷ more)
+    ∙ (after-refused steps (line_taken steps r l) more (long-refused steps r l long_l)
+    ∙ (long-alike steps r l k long_l long_k same ∙ sym (after-append steps unread ls (k ∷ []))))
 
 -- of such lines nothing is told
-pub long-untold : {S : Type 0} (step : Node S → NodeEvent → Outcome S) (m : Meaning S) (ls more : List (List ℕ)) (l : List ℕ) → IsLong l
-    → told_after step m unread (ls ++ l ∷ more) ≡ told_after step m unread ls
-long-untold step m ls more l long =
-    let r = reading_after step m unread ls in
-    told-append step m unread ls (l ∷ more)
-    ∙ (ap (λ told. told_after step m unread ls ++ told)
-    (ap (λ told. told ++ told_after step m (line_taken step m r l) more) (long-told step r l long) ∙ told_after-refused step m (line_taken step m r l) more (long-refused step m r l long))
-    ∙ append-nil (told_after step m unread ls))
+pub long-untold : (steps : Steps) (ls more : List (List ℕ)) (l : List ℕ) → IsLong l
+    → told_after steps unread (ls ++ l ∷ more) ≡ told_after steps unread ls
+long-untold steps ls more l long =
+    let r = reading_after steps unread ls in
+    told-append steps unread ls (l ∷ more)
+    ∙ (ap (λ told. told_after steps unread ls ++ told)
+    (ap (λ told. told ++ told_after steps (line_taken steps r l) more) (long-told steps r l long) ∙ told_after-refused steps (line_taken steps r l) more (long-refused steps r l long))
+    ∙ append-nil (told_after steps unread ls))
 
 -- the lines that a line which has begun goes on to, by whether the next byte ends it
 lines_step : (t : Bool) (line : List ℕ) (b : ℕ) (ys : List ℕ) (a c : List (List ℕ)) (e : List ℕ) → ((x : List ℕ) × (more : List (List ℕ)) × (c ++ last_line e ≡ ((line ++ b ∷ []) ++ x) ∷ more))

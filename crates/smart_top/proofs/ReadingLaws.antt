@@ -3,12 +3,9 @@ use Rattle.std.proofs.Common.{◌≡◌, ℕ, zero, suc, Bool, true, false, ◌=
 use Rattle.std.specs.Prelude.{if◌then◌else◌}
 use Rattle.std.proofs.lemmas.List.{append_assoc}
 use Rattle.std.proofs.lemmas.Grind.{flat_map-append}
-use Rattle.smart_messages.specs.declared.entry.NodeEvent.{NodeEvent}
-use Rattle.smart_service.specs.Services.{Meaning}
-use Rattle.node_rules.specs.Nodes.{Node}
-use Rattle.node_rules.specs.Steps.{Outcome}
 use Rattle.world_rules.specs.Texts.{line_text, text_of}
 use Rattle.world_rules.specs.declared.line.OutLine.{OutLine}
+use Rattle.smart_top.specs.Apps.{Steps}
 use Rattle.smart_top.specs.Readings.{Reading, whole_lines, rest_of, last_line, script_lines, line_taken, line_told, reading_after, told_after}
 
 -- the branch that is taken
@@ -22,42 +19,42 @@ chosen_false true x y is = absurd (cc)
 chosen_false false x y is = refl
 
 -- more lines are read behind the first ones
-pub after-append : {S : Type 0} (step : Node S → NodeEvent → Outcome S) (m : Meaning S) (r : Reading S) (xs ys : List (List ℕ))
-    → reading_after step m r (xs ++ ys) ≡ reading_after step m (reading_after step m r xs) ys
-after-append step m r [] ys = refl
-after-append step m r (l ∷ xs) ys = after-append step m (line_taken step m r l) xs ys
+pub after-append : (steps : Steps) (r : Reading) (xs ys : List (List ℕ))
+    → reading_after steps r (xs ++ ys) ≡ reading_after steps (reading_after steps r xs) ys
+after-append steps r [] ys = refl
+after-append steps r (l ∷ xs) ys = after-append steps (line_taken steps r l) xs ys
 
 -- what more lines tell comes behind what the first ones tell
-pub told-append : {S : Type 0} (step : Node S → NodeEvent → Outcome S) (m : Meaning S) (r : Reading S) (xs ys : List (List ℕ))
-    → told_after step m r (xs ++ ys) ≡ told_after step m r xs ++ told_after step m (reading_after step m r xs) ys
-told-append step m r [] ys = refl
-told-append step m r (l ∷ xs) ys =
-    ap (λ more. line_told step r l ++ more) (told-append step m (line_taken step m r l) xs ys)
-    ∙ sym (append_assoc (line_told step r l) (told_after step m (line_taken step m r l) xs) (told_after step m (reading_after step m (line_taken step m r l) xs) ys))
+pub told-append : (steps : Steps) (r : Reading) (xs ys : List (List ℕ))
+    → told_after steps r (xs ++ ys) ≡ told_after steps r xs ++ told_after steps (reading_after steps r xs) ys
+told-append steps r [] ys = refl
+told-append steps r (l ∷ xs) ys =
+    ap (λ more. line_told steps r l ++ more) (told-append steps (line_taken steps r l) xs ys)
+    ∙ sym (append_assoc (line_told steps r l) (told_after steps (line_taken steps r l) xs) (told_after steps (reading_after steps (line_taken steps r l) xs) ys))
 
 -- nothing is read behind a line that is refused
 
 -- a line behind it changes nothing
-pub taken-refused : {S : Type 0} (step : Node S → NodeEvent → Outcome S) (m : Meaning S) (r : Reading S) (l : List ℕ) → is_some r.refused ≡ true → line_taken step m r l ≡ r
+pub taken-refused : (steps : Steps) (r : Reading) (l : List ℕ) → is_some r.refused ≡ true → line_taken steps r l ≡ r
 unfolding line_taken
-taken-refused step m r l refused = chosen_true (is_some r.refused) _ _ refused
+taken-refused steps r l refused = chosen_true (is_some r.refused) _ _ refused
 
 -- a line behind it tells nothing
-pub told-refused : {S : Type 0} (step : Node S → NodeEvent → Outcome S) (r : Reading S) (l : List ℕ) → is_some r.refused ≡ true → line_told step r l ≡ []
+pub told-refused : (steps : Steps) (r : Reading) (l : List ℕ) → is_some r.refused ≡ true → line_told steps r l ≡ []
 unfolding line_told
-told-refused step r l refused = chosen_true (is_some r.refused) _ _ refused
+told-refused steps r l refused = chosen_true (is_some r.refused) _ _ refused
 
 -- lines behind it change nothing
-pub after-refused : {S : Type 0} (step : Node S → NodeEvent → Outcome S) (m : Meaning S) (r : Reading S) (ls : List (List ℕ)) → is_some r.refused ≡ true → reading_after step m r ls ≡ r
-after-refused step m r [] refused = refl
-after-refused step m r (l ∷ ls) refused = ap (λ q. reading_after step m q ls) (taken-refused step m r l refused) ∙ after-refused step m r ls refused
+pub after-refused : (steps : Steps) (r : Reading) (ls : List (List ℕ)) → is_some r.refused ≡ true → reading_after steps r ls ≡ r
+after-refused steps r [] refused = refl
+after-refused steps r (l ∷ ls) refused = ap (λ q. reading_after steps q ls) (taken-refused steps r l refused) ∙ after-refused steps r ls refused
 
 -- lines behind it tell nothing
-pub told_after-refused : {S : Type 0} (step : Node S → NodeEvent → Outcome S) (m : Meaning S) (r : Reading S) (ls : List (List ℕ)) → is_some r.refused ≡ true → told_after step m r ls ≡ []
-told_after-refused step m r [] refused = refl
-told_after-refused step m r (l ∷ ls) refused =
-    ap (λ told. told ++ told_after step m (line_taken step m r l) ls) (told-refused step r l refused)
-    ∙ (ap (λ q. told_after step m q ls) (taken-refused step m r l refused) ∙ told_after-refused step m r ls refused)
+pub told_after-refused : (steps : Steps) (r : Reading) (ls : List (List ℕ)) → is_some r.refused ≡ true → told_after steps r ls ≡ []
+told_after-refused steps r [] refused = refl
+told_after-refused steps r (l ∷ ls) refused =
+    ap (λ told. told ++ told_after steps (line_taken steps r l) ls) (told-refused steps r l refused)
+    ∙ (ap (λ q. told_after steps q ls) (taken-refused steps r l refused) ∙ told_after-refused steps r ls refused)
 
 -- lines of bytes
 

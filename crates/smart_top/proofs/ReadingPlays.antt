@@ -1,24 +1,32 @@
 -- What is read keeps one list.
-use Rattle.std.proofs.Common.{◌≡◌, ℕ, ◌+◌, true, false, List, [], ◌∷◌, ◌++◌, refl, ap, sym, ◌∙◌, arith, Option, Some, None, is_some, subst}
+use Rattle.std.proofs.Common.{◌≡◌, ℕ, ◌+◌, Bool, true, false, List, [], ◌∷◌, ◌++◌, refl, ap, sym, ◌∙◌, arith, cond, Option, Some, None, is_some}
 use Rattle.std.specs.Prelude.{not, nat_le, ◌&&◌, ◌*◌, Result, Ok, Err}
 use Rattle.std.proofs.lemmas.Bool.Decides.{nat_tests}
 use Rattle.smart_base.specs.Decimals.{number_of}
 use Rattle.smart_base.specs.Views.{View, is_view}
 use Rattle.smart_service.specs.Services.{Meaning}
+use Rattle.app_count.specs.Counts.{counting}
+use Rattle.app_kv.specs.Snapshots.{keeping}
 use Rattle.node_rules.specs.Steps.{step_of}
-use Rattle.world_rules.specs.Worlds.{begun}
+use Rattle.world_rules.specs.Worlds.{World, begun}
 use Rattle.world_rules.specs.Plays.{Play, is_there, line_played, rested, world_after}
 use Rattle.world_rules.specs.Promises.{OneListThroughout}
-use Rattle.world_rules.specs.Scripts.{is_printed, is_short, is_nothing, words_in, line_of, members_from, view_for, group_words, group_by, group_line, is_app_line}
+use Rattle.world_rules.specs.Scripts.{is_printed, is_short, is_nothing, words_in, line_of, members_from, view_for, group_words, group_by, group_line, app_line}
+use Rattle.world_rules.specs.declared.line.App.{App}
+use Rattle.world_rules.specs.declared.line.App.TheVariants as apps
 use Rattle.world_rules.specs.declared.line.Line.{Line}
+use Rattle.world_rules.specs.declared.line.OutLine.{OutLine}
 use Rattle.world_rules.specs.declared.line.Kind.{Kind}
 use Rattle.world_rules.specs.declared.line.Kind.TheVariants as kinds
 use Rattle.world_rules.specs.declared.message.Ending.{Ending}
 use Rattle.world_script.proofs.Members.{first_view}
 use Rattle.world_laws.proofs.Lists.{either, either_by}
 use Rattle.world_laws.proofs.Grows.{world_after-append}
-use Rattle.smart_top.specs.Readings.{Reading, unread, counting, refusing, group_taken, header_taken, played_until, line_done, taken_at, is_full, line_taken, reading_after}
-use Rattle.smart_top.specs.Runs.{OneListHolds}
+use Rattle.smart_top.specs.Apps.{node_steps, play_begun, play_after, answer_until, play_answer, app_begun, app_after, app_answer}
+use Rattle.smart_top.specs.Readings.{Reading, unread, counted, refusing, group_taken, app_taken, header_taken, played_to, line_done, taken_at, is_full, line_taken, reading_after}
+use Rattle.smart_top.specs.Runs.{OneListOf, OneListHolds}
+use Rattle.smart_top.specs.declared.app.AppPlay.{AppPlay}
+use Rattle.smart_top.specs.declared.app.AppPlay.TheVariants as plays
 use Rattle.smart_top.specs.declared.status.Refusal.{Refusal}
 use Rattle.smart_top.specs.declared.status.Refusal.TheVariants as refusals
 
@@ -54,7 +62,7 @@ pub is_view-group_line : (bytes : List ℕ) → ForView (group_line bytes)
 unfolding group_line
 is_view-group_line bytes = is_view-group_by (words_in bytes)
 
--- readings
+-- a play of one service
 
 -- a play that was read stands for its lines, goes on, and its group keeps the rule of views
 pub record IsSound {S : Type 0} (m : Meaning S) (p : Play S) : Type 0 where
@@ -63,36 +71,20 @@ pub record IsSound {S : Type 0} (m : Meaning S) (p : Play S) : Type 0 where
   pub open_world : p.world.ending ≡ None
   pub viewed : is_view p.group ≡ true
 
--- a play is sound, if there is one
-abbrev pub SoundPlay : {S : Type 0} → Meaning S → Option (Play S) → Type 0
-SoundPlay m None = Unit {0}
-SoundPlay m (Some p) = IsSound m p
+-- a play that begins
+begun-sound : {S : Type 0} (m : Meaning S) (view : View) → is_view view ≡ true → IsSound m (play_begun m view)
+begun-sound m view viewed = record { going = refl; stands = refl; open_world = refl; viewed = viewed }
 
--- a reading whose group keeps the rule of views and whose play is sound
-pub record SoundReading {S : Type 0} (m : Meaning S) (r : Reading S) : Type 0 where
-  pub of_group : ForView r.group
-  pub of_play : SoundPlay m r.play
+-- a world that tells has not ended, and tells what it has told
+answered : {S : Type 0} (t : Bool) (w : World S) (ending : Option Ending) (why : Refusal) (told : List OutLine) → cond t (answer_until w ending) (Err why) ≡ Ok told → (ending ≡ None) × (w.told ≡ told)
+answered true w None why told is = (refl, cc)
+answered true w (Some e) why told is = absurd (cc)
+answered false w ending why told is = absurd (cc)
 
--- a line that is refused
-sound-refused : {S : Type 0} (m : Meaning S) (r : Reading S) (why : Refusal) → SoundReading m r → SoundReading m (refusing r why)
-sound-refused m r why sound = record { of_group = sound.of_group; of_play = sound.of_play }
-
--- a line that is counted
-sound-counted : {S : Type 0} (m : Meaning S) (r : Reading S) → SoundReading m r → SoundReading m (counting r)
-sound-counted m r sound = record { of_group = sound.of_group; of_play = sound.of_play }
-
--- the line that begins a group
-sound-group : {S : Type 0} (m : Meaning S) (r : Reading S) (view : Option View) → ForView view → SoundReading m r → SoundReading m (group_taken r view)
-sound-group m r None viewed sound = record { of_group = sound.of_group; of_play = sound.of_play }
-sound-group m r (Some view) viewed sound = record { of_group = viewed; of_play = sound.of_play }
-
--- a line of the header
-sound-header : {S : Type 0} (m : Meaning S) (r : Reading S) (l : List ℕ) (group : Option View) → ForView group → SoundReading m r → SoundReading m (header_taken m r l group)
-sound-header m r l None viewed sound = sound-group m r (group_line l) (is_view-group_line l) sound
-sound-header m r l (Some view) viewed sound =
-    either (SoundReading m) (is_app_line l) _ _
-    (record { of_group = sound.of_group; of_play = record { going = refl; stands = refl; open_world = refl; viewed = viewed } })
-    (record { of_group = sound.of_group; of_play = sound.of_play })
+-- a line that tells
+pub answer-tells : {S : Type 0} (m : Meaning S) (p : Play S) (line : Line) (told : List OutLine) → play_answer (step_of m) p line ≡ Ok told
+    → ((line_played (step_of m) p.world line).ending ≡ None) × ((line_played (step_of m) p.world line).told ≡ told)
+answer-tells m p line told is = answered (is_there p.world line) (line_played (step_of m) p.world line) (line_played (step_of m) p.world line).ending (refusals.Script kinds.Refer) told is
 
 -- the world behind one more line
 stands-more : {S : Type 0} (m : Meaning S) (p : Play S) (line : Line) → IsSound m p
@@ -100,52 +92,107 @@ stands-more : {S : Type 0} (m : Meaning S) (p : Play S) (line : Line) → IsSoun
 stands-more m p line sound =
     ap (λ w. rested (line_played (step_of m) w line)) sound.stands ∙ sym (world_after-append (step_of m) (begun m p.group) p.lines (line ∷ []))
 
--- a line that was played, by what has ended the world there
-sound-until : {S : Type 0} (m : Meaning S) (r : Reading S) (p : Play S) (line : Line) → IsSound m p → SoundReading m r → (ending : Option Ending) → (line_played (step_of m) p.world line).ending ≡ ending
-    → SoundReading m (played_until r p line (line_played (step_of m) p.world line) ending)
-sound-until m r p line of sound (Some ending) is = record { of_group = sound.of_group; of_play = sound.of_play }
-sound-until m r p line of sound None is = record { of_group = sound.of_group; of_play = record { going = refl; stands = stands-more m p line of; open_world = is; viewed = of.viewed } }
+-- a play behind one more line
+after-sound : {S : Type 0} (m : Meaning S) (p : Play S) (line : Line) (told : List OutLine) → IsSound m p → play_answer (step_of m) p line ≡ Ok told → IsSound m (play_after (step_of m) p line)
+after-sound m p line told sound is = record { going = refl; stands = stands-more m p line sound; open_world = (answer-tells m p line told is).0; viewed = sound.viewed }
+
+-- the play of the service that the header names
+
+abbrev pub SoundApp : AppPlay → Type 0
+SoundApp (plays.Count p) = IsSound counting p
+SoundApp (plays.Kv p) = IsSound keeping p
+
+begun-app : (app : App) (view : View) → is_view view ≡ true → SoundApp (app_begun app view)
+begun-app apps.Count view viewed = begun-sound counting view viewed
+begun-app apps.Kv view viewed = begun-sound keeping view viewed
+
+after-app : (p : AppPlay) (line : Line) (told : List OutLine) → SoundApp p → app_answer node_steps p line ≡ Ok told → SoundApp (app_after node_steps p line)
+after-app (plays.Count p) line told sound is = after-sound counting p line told sound is
+after-app (plays.Kv p) line told sound is = after-sound keeping p line told sound is
+
+-- readings
+
+-- a play is sound, if there is one
+abbrev pub SoundPlay : Option AppPlay → Type 0
+SoundPlay None = Unit {0}
+SoundPlay (Some p) = SoundApp p
+
+-- a reading whose group keeps the rule of views and whose play is sound
+pub record SoundReading (r : Reading) : Type 0 where
+  pub of_group : ForView r.group
+  pub of_play : SoundPlay r.play
+
+-- a line that is refused
+sound-refused : (r : Reading) (why : Refusal) → SoundReading r → SoundReading (refusing r why)
+sound-refused r why sound = record { of_group = sound.of_group; of_play = sound.of_play }
+
+-- a line that is counted
+sound-counted : (r : Reading) → SoundReading r → SoundReading (counted r)
+sound-counted r sound = record { of_group = sound.of_group; of_play = sound.of_play }
+
+-- the line that begins a group
+sound-group : (r : Reading) (view : Option View) → ForView view → SoundReading r → SoundReading (group_taken r view)
+sound-group r None viewed sound = record { of_group = sound.of_group; of_play = sound.of_play }
+sound-group r (Some view) viewed sound = record { of_group = viewed; of_play = sound.of_play }
+
+-- the line that names a service
+sound-app : (r : Reading) (view : View) (app : Option App) → is_view view ≡ true → SoundReading r → SoundReading (app_taken r view app)
+sound-app r view None viewed sound = record { of_group = sound.of_group; of_play = sound.of_play }
+sound-app r view (Some app) viewed sound = record { of_group = sound.of_group; of_play = begun-app app view viewed }
+
+-- a line of the header
+sound-header : (r : Reading) (l : List ℕ) (group : Option View) → ForView group → SoundReading r → SoundReading (header_taken r l group)
+sound-header r l None viewed sound = sound-group r (group_line l) (is_view-group_line l) sound
+sound-header r l (Some view) viewed sound = sound-app r view (app_line l) viewed sound
+
+-- a line that leads to a play
+sound-played : (r : Reading) (p : AppPlay) (line : Line) → SoundApp p → SoundReading r → (answer : Result (List OutLine) Refusal) → app_answer node_steps p line ≡ answer
+    → SoundReading (played_to r (app_after node_steps p line) answer)
+sound-played r p line of sound (Ok told) is = record { of_group = sound.of_group; of_play = after-app p line told of is }
+sound-played r p line of sound (Err why) is = sound-refused r why sound
 
 -- a line behind the header
-sound-done : {S : Type 0} (m : Meaning S) (r : Reading S) (p : Play S) (read : Result Line Kind) → IsSound m p → SoundReading m r → SoundReading m (line_done (step_of m) r p read)
-sound-done m r p (Err kind) of sound = sound-refused m r (refusals.Script kind) sound
-sound-done m r p (Ok line) of sound =
-    either (SoundReading m) (is_there p.world line) _ _ (sound-until m r p line of sound (line_played (step_of m) p.world line).ending refl) (sound-refused m r (refusals.Script kinds.Refer) sound)
+sound-done : (r : Reading) (p : AppPlay) (read : Result Line Kind) → SoundApp p → SoundReading r → SoundReading (line_done node_steps r p read)
+sound-done r p (Err kind) of sound = sound-refused r (refusals.Script kind) sound
+sound-done r p (Ok line) of sound = sound-played r p line of sound (app_answer node_steps p line) refl
 
 -- a line by where the script stands
-sound-taken_at : {S : Type 0} (m : Meaning S) (r : Reading S) (l : List ℕ) (play : Option (Play S)) → SoundPlay m play → SoundReading m r → SoundReading m (taken_at (step_of m) m r l play)
-sound-taken_at m r l None of sound =
-    either (SoundReading m) (not (is_printed l)) _ _ (sound-refused m r (refusals.Script kinds.Byte) sound)
-    (either (SoundReading m) (not (is_short l)) _ _ (sound-refused m r (refusals.Script kinds.Long) sound)
-    (either (SoundReading m) (is_nothing l) _ _ (sound-counted m r sound) (sound-header m r l r.group sound.of_group sound)))
-sound-taken_at m r l (Some p) of sound = sound-done m r p (line_of l) of sound
+sound-taken_at : (r : Reading) (l : List ℕ) (play : Option AppPlay) → SoundPlay play → SoundReading r → SoundReading (taken_at node_steps r l play)
+sound-taken_at r l None of sound =
+    either SoundReading (not (is_printed l)) _ _ (sound-refused r (refusals.Script kinds.Byte) sound)
+    (either SoundReading (not (is_short l)) _ _ (sound-refused r (refusals.Script kinds.Long) sound)
+    (either SoundReading (is_nothing l) _ _ (sound-counted r sound) (sound-header r l r.group sound.of_group sound)))
+sound-taken_at r l (Some p) of sound = sound-done r p (line_of l) of sound
 
 -- one more line keeps a reading sound
-pub sound-taken : {S : Type 0} (m : Meaning S) (r : Reading S) (l : List ℕ) → SoundReading m r → SoundReading m (line_taken (step_of m) m r l)
+pub sound-taken : (r : Reading) (l : List ℕ) → SoundReading r → SoundReading (line_taken node_steps r l)
 unfolding line_taken
-sound-taken m r l sound =
-    either (SoundReading m) (is_some r.refused) _ _ sound
-    (either (SoundReading m) (is_full r) _ _ (sound-refused m r refusals.Limit sound) (sound-taken_at m r l r.play sound.of_play sound))
+sound-taken r l sound =
+    either SoundReading (is_some r.refused) _ _ sound
+    (either SoundReading (is_full r) _ _ (sound-refused r refusals.Limit sound) (sound-taken_at r l r.play sound.of_play sound))
 
 -- lines keep a reading sound
-pub sound-after : {S : Type 0} (m : Meaning S) (r : Reading S) (ls : List (List ℕ)) → SoundReading m r → SoundReading m (reading_after (step_of m) m r ls)
-sound-after m r [] sound = sound
-sound-after m r (l ∷ ls) sound = sound-after m (line_taken (step_of m) m r l) ls (sound-taken m r l sound)
+pub sound-after : (r : Reading) (ls : List (List ℕ)) → SoundReading r → SoundReading (reading_after node_steps r ls)
+sound-after r [] sound = sound
+sound-after r (l ∷ ls) sound = sound-after (line_taken node_steps r l) ls (sound-taken r l sound)
 
 -- whatever is read is sound
-pub sound-read : {S : Type 0} (m : Meaning S) (ls : List (List ℕ)) → SoundReading m (reading_after (step_of m) m unread ls)
-sound-read m ls = sound-after m unread ls (record { of_group = tt; of_play = tt })
+pub sound-read : (ls : List (List ℕ)) → SoundReading (reading_after node_steps unread ls)
+sound-read ls = sound-after unread ls (record { of_group = tt; of_play = tt })
 
--- a play that was read is sound
-pub sound-play : {S : Type 0} (m : Meaning S) (ls : List (List ℕ)) (p : Play S) → (reading_after (step_of m) m unread ls).play ≡ Some p → IsSound m p
-sound-play m ls p is = subst (SoundPlay m) is (sound-read m ls).of_play
+-- the law of one list over a service
+abbrev pub Law : {S : Type 0} → Meaning S → Type 0
+Law m = (view : View) → is_view view ≡ true → (lines : List Line) → OneListThroughout m view lines
 
--- one list holds of a play that is sound, if there is one, by the law of one list
-one_list-of : {S : Type 0} (m : Meaning S) → ((view : View) → is_view view ≡ true → (lines : List Line) → OneListThroughout m view lines) → (play : Option (Play S)) → SoundPlay m play → OneListHolds m play
-one_list-of m law None of = tt
-one_list-of m law (Some p) of = record { stands = of.stands; throughout = law p.group of.viewed p.lines }
+-- by it one list holds of a play that is sound
+one_list-of : {S : Type 0} (m : Meaning S) → Law m → (p : Play S) → IsSound m p → OneListOf m p
+one_list-of m law p of = record { stands = of.stands; throughout = law p.group of.viewed p.lines }
 
--- one list holds of whatever is read, by the law of one list
-pub one_list_holds : {S : Type 0} (m : Meaning S) → ((view : View) → is_view view ≡ true → (lines : List Line) → OneListThroughout m view lines) → (ls : List (List ℕ))
-    → OneListHolds m (reading_after (step_of m) m unread ls).play
-one_list_holds m law ls = one_list-of m law (reading_after (step_of m) m unread ls).play (sound-read m ls).of_play
+one_list-play : Law counting → Law keeping → (play : Option AppPlay) → SoundPlay play → OneListHolds play
+one_list-play sums values None of = tt
+one_list-play sums values (Some (plays.Count p)) of = one_list-of counting sums p of
+one_list-play sums values (Some (plays.Kv p)) of = one_list-of keeping values p of
+
+-- so it holds of whatever is read
+pub one_list_holds : Law counting → Law keeping → (ls : List (List ℕ)) → OneListHolds (reading_after node_steps unread ls).play
+one_list_holds sums values ls = one_list-play sums values (reading_after node_steps unread ls).play (sound-read ls).of_play

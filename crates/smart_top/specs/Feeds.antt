@@ -1,31 +1,28 @@
 -- How far a run has come with its input, and how it breaks off.
 use Rattle.std.specs.Prelude.{ℕ, ◌≡◌, ◌<◌, ◌≤◌, ◌+◌, ◌*◌, ◌^◌, ◌⊎◌, true, List, [], ◌∷◌, ◌++◌, length, Option, None, is_some, take}
 use Rattle.std.specs.Io.KnownBytes.{Appends, Consumes}
-use Rattle.smart_messages.specs.declared.entry.NodeEvent.{NodeEvent}
-use Rattle.smart_service.specs.Services.{Meaning}
-use Rattle.node_rules.specs.Nodes.{Node}
-use Rattle.node_rules.specs.Steps.{Outcome}
 use Rattle.world_rules.specs.Texts.{text_of}
 use Rattle.smart_top.specs.declared.status.Status.{Status}
 use Rattle.smart_top.specs.declared.status.Status.TheVariants as ends
 use Rattle.smart_top.specs.declared.reader.Halt.{Halt}
 use Rattle.smart_top.specs.declared.reader.Halt.TheVariants as halts
+use Rattle.smart_top.specs.Apps.{Steps}
 use Rattle.smart_top.specs.Readings.{Reading, unread, whole_lines, rest_of, reading_after, told_after, end_of}
 
 -- what the whole lines of bytes tell, as text
-abbrev pub text_after : {S : Type 0} → (Node S → NodeEvent → Outcome S) → Meaning S → List ℕ → List ℕ
-text_after step m bytes = text_of (told_after step m unread (whole_lines [] bytes))
+abbrev pub text_after : Steps → List ℕ → List ℕ
+text_after steps bytes = text_of (told_after steps unread (whole_lines [] bytes))
 
 -- the script behind the whole lines of bytes
-abbrev pub script_after : {S : Type 0} → (Node S → NodeEvent → Outcome S) → Meaning S → List ℕ → Reading S
-script_after step m bytes = reading_after step m unread (whole_lines [] bytes)
+abbrev pub script_after : Steps → List ℕ → Reading
+script_after steps bytes = reading_after steps unread (whole_lines [] bytes)
 
 -- these bytes were taken: their whole lines were played and told, and none was refused
-pub record HasTaken {S : Type 0} (step : Node S → NodeEvent → Outcome S) (m : Meaning S) (bytes : List ℕ) (written written' : Option (List ℕ)) (line : List ℕ) (script : Reading S) : Type 0 where
+pub record HasTaken (steps : Steps) (bytes : List ℕ) (written written' : Option (List ℕ)) (line : List ℕ) (script : Reading) : Type 0 where
   pub line_is : line ≡ rest_of [] bytes
-  pub script_is : script ≡ script_after step m bytes
+  pub script_is : script ≡ script_after steps bytes
   pub going : script.refused ≡ None
-  pub text : Appends written written' (text_after step m bytes)
+  pub text : Appends written written' (text_after steps bytes)
   -- so each line is short, and they are few: the bytes are no more than these lines have
   pub short : length line ≤ 65536
   pub within : script.count ≤ 2 ^ 20
@@ -37,22 +34,22 @@ Closes bytes closed = (closed ≡ bytes) ⊎ ((closed ≡ bytes ++ 10 ∷ []) ×
 
 -- a line of these bytes was refused, and those before it were told. Behind them a line feed may stand in thought, where the last line is too
 -- long already
-pub record HasRefused {S : Type 0} (step : Node S → NodeEvent → Outcome S) (m : Meaning S) (bytes : List ℕ) (written written' : Option (List ℕ)) (script : Reading S) : Type 0 where
+pub record HasRefused (steps : Steps) (bytes : List ℕ) (written written' : Option (List ℕ)) (script : Reading) : Type 0 where
   pub closed : List ℕ
   pub closes : Closes bytes closed
-  pub refused : script.refused ≡ (script_after step m closed).refused
-  pub count : script.count ≡ (script_after step m closed).count
+  pub refused : script.refused ≡ (script_after steps closed).refused
+  pub count : script.count ≡ (script_after steps closed).count
   pub is : is_some script.refused ≡ true
-  pub text : Appends written written' (text_after step m closed)
+  pub text : Appends written written' (text_after steps closed)
 
 -- a front of what these bytes tell was written
-pub record HasBroken {S : Type 0} (step : Node S → NodeEvent → Outcome S) (m : Meaning S) (bytes : List ℕ) (written written' : Option (List ℕ)) : Type 0 where
+pub record HasBroken (steps : Steps) (bytes : List ℕ) (written written' : Option (List ℕ)) : Type 0 where
   pub count : ℕ
-  pub text : Appends written written' (take count (text_after step m bytes))
+  pub text : Appends written written' (take count (text_after steps bytes))
 
 -- what the whole lines of these bytes tell was written
-pub record HasTold {S : Type 0} (step : Node S → NodeEvent → Outcome S) (m : Meaning S) (bytes : List ℕ) (written written' : Option (List ℕ)) : Type 0 where
-  pub text : Appends written written' (text_after step m bytes)
+pub record HasTold (steps : Steps) (bytes : List ℕ) (written written' : Option (List ℕ)) : Type 0 where
+  pub text : Appends written written' (text_after steps bytes)
 
 -- what holds behind a front of bytes and some of a piece that comes next
 pub record Within (bytes piece : List ℕ) (P : List ℕ → Type 0) : Type 0 where
@@ -62,25 +59,25 @@ pub record Within (bytes piece : List ℕ) (P : List ℕ → Type 0) : Type 0 wh
   pub holds : P (bytes ++ front)
 
 -- why taking a piece that comes behind these bytes stopped, and what stands then
-abbrev pub Halted : {S : Type 0} → (Node S → NodeEvent → Outcome S) → Meaning S → List ℕ → List ℕ → Option (List ℕ) → Option (List ℕ) → Reading S → Halt → Type 0
-Halted step m bytes piece written written' script halts.Refused = Within bytes piece (λ taken. HasRefused step m taken written written' script)
-Halted step m bytes piece written written' script halts.WriteFault = Within bytes piece (λ taken. HasBroken step m taken written written')
-Halted step m bytes piece written written' script halts.SinkMemory = Within bytes piece (λ taken. HasBroken step m taken written written')
-Halted step m bytes piece written written' script halts.NoMemory = Within bytes piece (λ taken. HasTold step m taken written written')
+abbrev pub Halted : Steps → List ℕ → List ℕ → Option (List ℕ) → Option (List ℕ) → Reading → Halt → Type 0
+Halted steps bytes piece written written' script halts.Refused = Within bytes piece (λ taken. HasRefused steps taken written written' script)
+Halted steps bytes piece written written' script halts.WriteFault = Within bytes piece (λ taken. HasBroken steps taken written written')
+Halted steps bytes piece written written' script halts.SinkMemory = Within bytes piece (λ taken. HasBroken steps taken written written')
+Halted steps bytes piece written written' script halts.NoMemory = Within bytes piece (λ taken. HasTold steps taken written written')
 
 -- a run goes on: it has consumed and taken these bytes
-pub record GoesOn {S : Type 0} (step : Node S → NodeEvent → Outcome S) (m : Meaning S) (bytes : List ℕ) (left left' written written' : Option (List ℕ)) (line : List ℕ) (script : Reading S) : Type 0 where
+pub record GoesOn (steps : Steps) (bytes : List ℕ) (left left' written written' : Option (List ℕ)) (line : List ℕ) (script : Reading) : Type 0 where
   pub consumed : Consumes left left' bytes
-  pub taken : HasTaken step m bytes written written' line script
+  pub taken : HasTaken steps bytes written written' line script
 
 -- a run goes on behind these bytes and more
-pub record GoesOnBehind {S : Type 0} (step : Node S → NodeEvent → Outcome S) (m : Meaning S) (bytes : List ℕ) (left left' written written' : Option (List ℕ)) (line : List ℕ) (script : Reading S) : Type 0 where
+pub record GoesOnBehind (steps : Steps) (bytes : List ℕ) (left left' written written' : Option (List ℕ)) (line : List ℕ) (script : Reading) : Type 0 where
   pub more : List ℕ
   pub some : 0 < length more
-  pub going : GoesOn step m (bytes ++ more) left left' written written' line script
+  pub going : GoesOn steps (bytes ++ more) left left' written written' line script
 
 -- how a halt ends a run
-abbrev pub halt_end : {S : Type 0} → Reading S → Halt → Status
+abbrev pub halt_end : Reading → Halt → Status
 halt_end r halts.Refused = end_of r
 halt_end r halts.WriteFault = ends.WriteFault
 halt_end r halts.SinkMemory = ends.NoMemory

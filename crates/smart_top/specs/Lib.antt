@@ -1,3 +1,4 @@
+pub mod Apps
 pub mod Readings
 pub mod Feeds
 pub mod Runs

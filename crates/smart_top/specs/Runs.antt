@@ -4,13 +4,20 @@ use Rattle.std.specs.Prelude.{Bool, false, ◌∷◌, codes, ℕ, ◌≡◌, Lis
 use Rattle.std.specs.Io.KnownBytes.{Appends, Consumes, IsAtEnd}
 use Rattle.faults.specs.Counts.{Rose}
 use Rattle.smart_service.specs.Services.{Meaning}
+use Rattle.app_count.specs.Counts.{counting}
+use Rattle.app_kv.specs.Snapshots.{keeping}
 use Rattle.node_rules.specs.Steps.{step_of}
 use Rattle.world_rules.specs.Worlds.{begun}
 use Rattle.world_rules.specs.Plays.{Play, world_after, lines_told}
 use Rattle.world_rules.specs.Promises.{OneListThroughout}
 use Rattle.world_rules.specs.Texts.{header_line, text_of}
+use Rattle.world_rules.specs.declared.line.App.{App}
+use Rattle.world_rules.specs.declared.line.App.TheVariants as apps
 use Rattle.world_rules.specs.declared.line.OutLine.{OutLine}
+use Rattle.smart_top.specs.Apps.{node_steps}
 use Rattle.smart_top.specs.Readings.{unread, whole_lines, script_lines, reading_after, told_after, script_read, end_of, transcript}
+use Rattle.smart_top.specs.declared.app.AppPlay.{AppPlay}
+use Rattle.smart_top.specs.declared.app.AppPlay.TheVariants as plays
 use Rattle.smart_top.specs.declared.status.Status.{Status}
 use Rattle.smart_top.specs.declared.status.Status.TheVariants as ends
 
@@ -24,65 +31,78 @@ pub record OneListOf {S : Type 0} (m : Meaning S) (p : Play S) : Type 0 where
   pub stands : p.world ≡ world_after (step_of m) (begun m p.group) p.lines
   pub throughout : OneListThroughout m p.group p.lines
 
--- one list holds of what was played, once the header is whole
-abbrev pub OneListHolds : {S : Type 0} → Meaning S → Option (Play S) → Type 0
-OneListHolds m None = Unit {0}
-OneListHolds m (Some p) = OneListOf m p
+-- one list holds of a play, over its service
+abbrev pub OneListIn : AppPlay → Type 0
+OneListIn (plays.Count p) = OneListOf counting p
+OneListIn (plays.Kv p) = OneListOf keeping p
 
--- what a play tells, once the header is whole: the header's line, and then what the lines that were played tell
-abbrev pub play_told : {S : Type 0} → Meaning S → Option (Play S) → List OutLine
-play_told m None = []
-play_told m (Some p) = header_line p.group ∷ lines_told (step_of m) (begun m p.group) p.lines
+-- one list holds of what was played, once the header is whole
+abbrev pub OneListHolds : Option AppPlay → Type 0
+OneListHolds None = Unit {0}
+OneListHolds (Some p) = OneListIn p
+
+-- what a play of a service tells: the header's line, and then what the lines that were played tell
+abbrev pub play_told : {S : Type 0} → App → Meaning S → Play S → List OutLine
+play_told app m p = header_line p.group app ∷ lines_told (step_of m) (begun m p.group) p.lines
+
+abbrev pub app_told : AppPlay → List OutLine
+app_told (plays.Count p) = play_told apps.Count counting p
+app_told (plays.Kv p) = play_told apps.Kv keeping p
+
+-- what was played tells, once the header is whole
+abbrev pub all_told : Option AppPlay → List OutLine
+all_told None = []
+all_told (Some p) = app_told p
 
 -- lines of a script tell what their play tells, and one list holds of it
-pub record ArePlayed {S : Type 0} (m : Meaning S) (lines : List (List ℕ)) : Type 0 where
-  pub tell : told_after (step_of m) m unread lines ≡ play_told m (reading_after (step_of m) m unread lines).play
-  pub one_list : OneListHolds m (reading_after (step_of m) m unread lines).play
+pub record ArePlayed (lines : List (List ℕ)) : Type 0 where
+  pub tell : told_after node_steps unread lines ≡ all_told (reading_after node_steps unread lines).play
+  pub one_list : OneListHolds (reading_after node_steps unread lines).play
 
 -- a run that the input has ended: its status is the one that this input has, and it has written the input's transcript
-pub record Ends {S : Type 0} (m : Meaning S) (left written written' : Option (List ℕ)) (status : Status) : Type 0 where
+pub record Ends (left written written' : Option (List ℕ)) (status : Status) : Type 0 where
   pub input : List ℕ
   pub is_left : IsLeft left input
-  pub status_is : status ≡ end_of (script_read (step_of m) m input)
-  pub text : Appends written written' (text_of (transcript (step_of m) m input))
-  pub played : ArePlayed m (script_lines input)
+  pub status_is : status ≡ end_of (script_read node_steps input)
+  pub text : Appends written written' (text_of (transcript node_steps input))
+  pub played : ArePlayed (script_lines input)
 
 -- a run that has written the transcript of the whole lines that it has read, of which none was refused
-pub record WroteAllRead {S : Type 0} (m : Meaning S) (left left' written written' : Option (List ℕ)) : Type 0 where
+pub record WroteAllRead (left left' written written' : Option (List ℕ)) : Type 0 where
   pub read : List ℕ
   pub consumed : Consumes left left' read
-  pub going : (reading_after (step_of m) m unread (whole_lines [] read)).refused ≡ None
-  pub text : Appends written written' (text_of (told_after (step_of m) m unread (whole_lines [] read)))
-  pub played : ArePlayed m (whole_lines [] read)
+  pub going : (reading_after node_steps unread (whole_lines [] read)).refused ≡ None
+  pub text : Appends written written' (text_of (told_after node_steps unread (whole_lines [] read)))
+  pub played : ArePlayed (whole_lines [] read)
 
 -- a run that has written the transcript of the first lines of its input
-pub record WroteLines {S : Type 0} (m : Meaning S) (left written written' : Option (List ℕ)) : Type 0 where
+pub record WroteLines (left written written' : Option (List ℕ)) : Type 0 where
   pub input : List ℕ
   pub is_left : IsLeft left input
   pub front : List (List ℕ)
   pub rest : List (List ℕ)
   pub split : script_lines input ≡ front ++ rest
-  pub text : Appends written written' (text_of (told_after (step_of m) m unread front))
-  pub played : ArePlayed m front
+  pub text : Appends written written' (text_of (told_after node_steps unread front))
+  pub played : ArePlayed front
 
 -- a run that has written a front of its input's transcript
-pub record WroteFront {S : Type 0} (m : Meaning S) (left written written' : Option (List ℕ)) : Type 0 where
+pub record WroteFront (left written written' : Option (List ℕ)) : Type 0 where
   pub input : List ℕ
   pub is_left : IsLeft left input
   pub count : ℕ
-  pub text : Appends written written' (take count (text_of (transcript (step_of m) m input)))
-  pub played : ArePlayed m (script_lines input)
+  pub text : Appends written written' (take count (text_of (transcript node_steps input)))
+  pub played : ArePlayed (script_lines input)
 
 -- what a run has read and written, by its status. Where memory ran out it has written whole lines, or the sink wanted memory
-abbrev pub RunEnd : {S : Type 0} → Meaning S → Option (List ℕ) → Option (List ℕ) → Option (List ℕ) → Option (List ℕ) → ℕ → ℕ → Status → Type 0
-RunEnd m left left' written written' wants wants' ends.Ok = Ends m left written written' ends.Ok × IsAtEnd left'
-RunEnd m left left' written written' wants wants' ends.Words = ⊥
-RunEnd m left left' written written' wants wants' (ends.Script line kind) = Ends m left written written' (ends.Script line kind)
-RunEnd m left left' written written' wants wants' ends.ReadFault = WroteAllRead m left left' written written'
-RunEnd m left left' written written' wants wants' ends.WriteFault = WroteFront m left written written'
-RunEnd m left left' written written' wants wants' (ends.Premise line which) = Ends m left written written' (ends.Premise line which)
-RunEnd m left left' written written' wants wants' (ends.Limit line) = Ends m left written written' (ends.Limit line)
-RunEnd m left left' written written' wants wants' ends.NoMemory = WroteLines m left written written' ⊎ (Rose wants wants' × WroteFront m left written written')
+abbrev pub RunEnd : Option (List ℕ) → Option (List ℕ) → Option (List ℕ) → Option (List ℕ) → ℕ → ℕ → Status → Type 0
+RunEnd left left' written written' wants wants' ends.Ok = Ends left written written' ends.Ok × IsAtEnd left'
+RunEnd left left' written written' wants wants' ends.Words = ⊥
+RunEnd left left' written written' wants wants' (ends.Script line kind) = Ends left written written' (ends.Script line kind)
+RunEnd left left' written written' wants wants' ends.ReadFault = WroteAllRead left left' written written'
+RunEnd left left' written written' wants wants' ends.WriteFault = WroteFront left written written'
+RunEnd left left' written written' wants wants' (ends.Premise line which) = Ends left written written' (ends.Premise line which)
+RunEnd left left' written written' wants wants' (ends.Limit line) = Ends left written written' (ends.Limit line)
+RunEnd left left' written written' wants wants' ends.NoMemory = WroteLines left written written' ⊎ (Rose wants wants' × WroteFront left written written')
 
 -- words are a command where they are the one word `world`
 abbrev pub is_command : List (List ℕ) → Bool

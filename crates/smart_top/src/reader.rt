@@ -3,7 +3,7 @@
 ghost use Rattle.std.specs.Prelude.{◌≡◌, ◌≤◌, ◌++◌, [], ◌∷◌, List, ℕ, None, IfOk, IfErr, OnOk, OnErr, IsErrOf, Option, take};
 ghost use Rattle.std.specs.Io.KnownBytes.{Appends};
 ghost use Rattle.faults.specs.Counts.{Rose, HasCause, HasWant};
-ghost use Rattle.kept_arrivals.specs.Kept.{core_step};
+ghost use Rattle.smart_top.specs.Apps.{core_steps};
 ghost use Rattle.world_rules.specs.Texts.{text_of};
 ghost use Rattle.smart_top.specs.Feeds.{HasTaken, Halted};
 
@@ -11,7 +11,6 @@ use crate::script::Script;
 use faults::Fault;
 use smart_base::sequence::{Bytes, Sequence};
 use smart_io::stream::{Sink, write_all};
-use smart_service::service::Service;
 use std::alloc::{AllocError, Global};
 use world_rules::line::OutLine;
 use world_script::text::text_of;
@@ -45,9 +44,9 @@ impl From<AllocError> for Halt {
 
 /// A script, and the line that has begun.
 #[derive(Drop)]
-pub struct Reader<S: Service> {
+pub struct Reader {
     pub alloc: Global,
-    pub script: Script<S>,
+    pub script: Script,
     pub line: Bytes,
 }
 
@@ -86,11 +85,11 @@ pub fn write_lines<O: Sink>(alloc: Global, output: &mut O, lines: &[OutLine]) ->
 }
 
 /// Ends the line that has begun: it is played, and what it tells is written.
-pub fn end_line<S: Service, O: Sink>(reader: &mut Reader<S>, output: &mut O) -> Result<(), Halt>
+pub fn end_line<O: Sink>(reader: &mut Reader, output: &mut O) -> Result<(), Halt>
     requires { reader.old.script.refused ≡ None }
-    ensures ok { OnOk result ((bytes : List ℕ) (written : Option (List ℕ)) → HasTaken (core_step S.meaning) S.meaning bytes written (O.written output.old) reader.old.line reader.old.script → HasTaken (core_step S.meaning) S.meaning (bytes ++ 10 ∷ []) written (O.written output.new) reader.new.line reader.new.script) }
+    ensures ok { OnOk result ((bytes : List ℕ) (written : Option (List ℕ)) → HasTaken core_steps bytes written (O.written output.old) reader.old.line reader.old.script → HasTaken core_steps (bytes ++ 10 ∷ []) written (O.written output.new) reader.new.line reader.new.script) }
     ensures going { OnOk result (reader.new.script.refused ≡ None) }
-    ensures halted { IfErr result (λ halt. (bytes : List ℕ) (written : Option (List ℕ)) → HasTaken (core_step S.meaning) S.meaning bytes written (O.written output.old) reader.old.line reader.old.script → Halted (core_step S.meaning) S.meaning bytes (10 ∷ []) written (O.written output.new) reader.new.script halt) }
+    ensures halted { IfErr result (λ halt. (bytes : List ℕ) (written : Option (List ℕ)) → HasTaken core_steps bytes written (O.written output.old) reader.old.line reader.old.script → Halted core_steps bytes (10 ∷ []) written (O.written output.new) reader.new.script halt) }
     ensures write { IsErrOf result Halt.WriteFault → Rose (O.faults output.old) (O.faults output.new) }
     ensures want { IsErrOf result Halt.SinkMemory → Rose (O.wants output.old) (O.wants output.new) }
     ensures later { (O.faults output.old ≤ O.faults output.new) × (O.wants output.old ≤ O.wants output.new) }
@@ -108,15 +107,11 @@ pub fn end_line<S: Service, O: Sink>(reader: &mut Reader<S>, output: &mut O) -> 
 
 /// Takes a byte: a line feed ends the line, any other comes to it. A line that gets too long is
 /// refused at once, since what follows changes nothing.
-pub fn take_byte<S: Service, O: Sink>(
-    reader: &mut Reader<S>,
-    output: &mut O,
-    byte: u8,
-) -> Result<(), Halt>
+pub fn take_byte<O: Sink>(reader: &mut Reader, output: &mut O, byte: u8) -> Result<(), Halt>
     requires { reader.old.script.refused ≡ None }
-    ensures ok { OnOk result ((bytes : List ℕ) (written : Option (List ℕ)) → HasTaken (core_step S.meaning) S.meaning bytes written (O.written output.old) reader.old.line reader.old.script → HasTaken (core_step S.meaning) S.meaning (bytes ++ byte ∷ []) written (O.written output.new) reader.new.line reader.new.script) }
+    ensures ok { OnOk result ((bytes : List ℕ) (written : Option (List ℕ)) → HasTaken core_steps bytes written (O.written output.old) reader.old.line reader.old.script → HasTaken core_steps (bytes ++ byte ∷ []) written (O.written output.new) reader.new.line reader.new.script) }
     ensures going { OnOk result (reader.new.script.refused ≡ None) }
-    ensures halted { IfErr result (λ halt. (bytes : List ℕ) (written : Option (List ℕ)) → HasTaken (core_step S.meaning) S.meaning bytes written (O.written output.old) reader.old.line reader.old.script → Halted (core_step S.meaning) S.meaning bytes (byte ∷ []) written (O.written output.new) reader.new.script halt) }
+    ensures halted { IfErr result (λ halt. (bytes : List ℕ) (written : Option (List ℕ)) → HasTaken core_steps bytes written (O.written output.old) reader.old.line reader.old.script → Halted core_steps bytes (byte ∷ []) written (O.written output.new) reader.new.script halt) }
     ensures write { IsErrOf result Halt.WriteFault → Rose (O.faults output.old) (O.faults output.new) }
     ensures want { IsErrOf result Halt.SinkMemory → Rose (O.wants output.old) (O.wants output.new) }
     ensures later { (O.faults output.old ≤ O.faults output.new) × (O.wants output.old ≤ O.wants output.new) }
@@ -133,15 +128,11 @@ pub fn take_byte<S: Service, O: Sink>(
 }
 
 /// Takes the bytes of a piece, in order.
-pub fn feed<S: Service, O: Sink>(
-    reader: &mut Reader<S>,
-    output: &mut O,
-    piece: &[u8],
-) -> Result<(), Halt>
+pub fn feed<O: Sink>(reader: &mut Reader, output: &mut O, piece: &[u8]) -> Result<(), Halt>
     requires { reader.old.script.refused ≡ None }
-    ensures ok { OnOk result ((bytes : List ℕ) (written : Option (List ℕ)) → HasTaken (core_step S.meaning) S.meaning bytes written (O.written output.old) reader.old.line reader.old.script → HasTaken (core_step S.meaning) S.meaning (bytes ++ piece.now) written (O.written output.new) reader.new.line reader.new.script) }
+    ensures ok { OnOk result ((bytes : List ℕ) (written : Option (List ℕ)) → HasTaken core_steps bytes written (O.written output.old) reader.old.line reader.old.script → HasTaken core_steps (bytes ++ piece.now) written (O.written output.new) reader.new.line reader.new.script) }
     ensures going { OnOk result (reader.new.script.refused ≡ None) }
-    ensures halted { IfErr result (λ halt. (bytes : List ℕ) (written : Option (List ℕ)) → HasTaken (core_step S.meaning) S.meaning bytes written (O.written output.old) reader.old.line reader.old.script → Halted (core_step S.meaning) S.meaning bytes piece.now written (O.written output.new) reader.new.script halt) }
+    ensures halted { IfErr result (λ halt. (bytes : List ℕ) (written : Option (List ℕ)) → HasTaken core_steps bytes written (O.written output.old) reader.old.line reader.old.script → Halted core_steps bytes piece.now written (O.written output.new) reader.new.script halt) }
     ensures write { IsErrOf result Halt.WriteFault → Rose (O.faults output.old) (O.faults output.new) }
     ensures want { IsErrOf result Halt.SinkMemory → Rose (O.wants output.old) (O.wants output.new) }
     ensures later { (O.faults output.old ≤ O.faults output.new) × (O.wants output.old ≤ O.wants output.new) }

@@ -1,45 +1,46 @@
 //! A script that is read line by line, each line played as it is read.
-ghost use Rattle.std.specs.Prelude.{◌≡◌, ◌+◌, ◌<◌, ◌≤◌, ◌^◌, false, None, Some, Ok, IfOk, OnOk};
-ghost use Rattle.kept_arrivals.specs.Kept.{core_step};
-ghost use Rattle.smart_top.specs.Readings.{unread, line_done, told_done, line_taken, line_told, taken_at, told_at, end_at, end_told};
+ghost use Rattle.std.specs.Prelude.{◌≡◌, ◌+◌, ◌<◌, ◌≤◌, ◌^◌, [], false, None, Some, Ok, IfOk, OnOk};
+ghost use Rattle.world_rules.specs.Scripts.{app_line};
+ghost use Rattle.smart_top.specs.Apps.{core_steps, is_over};
+ghost use Rattle.smart_top.specs.Readings.{unread, refusing, group_taken, app_taken, app_line_told, header_taken, header_told, line_done, told_done, line_taken, line_told, taken_at, told_at, end_at, end_told};
 
+use crate::app::AppPlay;
 use crate::status::{Refusal, Status};
 use smart_base::duplicate::Duplicate;
 use smart_base::sequence::Sequence;
 use smart_base::view::View;
-use smart_service::service::Service;
 use std::alloc::{AllocError, Global};
 use std::marker::Model;
-use world_core::world::{World, WorldEnd};
 use world_rules::line::{Kind, Line, OutLine};
-use world_script::reading::{group_line, is_app_line, is_nothing, is_printed, is_short, line_of};
+use world_script::reading::{app_line, group_line, is_nothing, is_printed, is_short, line_of};
 
 /// The greatest number of lines.
 const LINES: u64 = 1 << 20;
 
 /// A script as far as it was read.
 #[derive(Drop)]
-pub struct Script<S: Service> {
+pub struct Script {
     alloc: Global,
     group: Option<View>,
-    world: Option<World<S>>,
+    play: Option<AppPlay>,
     count: u64,
     refused: Option<Refusal>,
 }
 
-impl<S: Service> Model for Script<S> {
+impl Model for Script {
     ghost use Rattle.std.specs.Prelude.{◌≡◌, ◌≤◌, ◌^◌, false, None, Some};
-    ghost use Rattle.world_rules.specs.Plays.{Play};
+    ghost use Rattle.smart_top.specs.Apps.{is_over};
     ghost use Rattle.smart_top.specs.Readings.{Reading};
+    ghost use Rattle.smart_top.specs.declared.app.AppPlay.{AppPlay};
 
-    ghost Value = { Reading S };
+    ghost Value = { Reading };
 
-    ghost view = { λ s. record { group = s.group; play = s.world; count = s.count; refused = s.refused } };
+    ghost view = { λ s. record { group = s.group; play = s.play; count = s.count; refused = s.refused } };
 
-    ghost invariant = { λ s. (s.count ≤ 2 ^ 20) × (s.refused ≡ None → (p : Play S) → s.world ≡ Some p → p.over ≡ false) };
+    ghost invariant = { λ s. (s.count ≤ 2 ^ 20) × (s.refused ≡ None → (p : AppPlay) → s.play ≡ Some p → is_over p ≡ false) };
 }
 
-impl<S: Service> Script<S> {
+impl Script {
     /// A script of which nothing was read.
     pub fn new(alloc: Global) -> Self
         ensures { result ≡ unread }
@@ -47,9 +48,80 @@ impl<S: Service> Script<S> {
         Script {
             alloc,
             group: None,
-            world: None,
+            play: None,
             count: 0,
             refused: None,
+        }
+    }
+
+    /// Refuses the next line, which tells nothing.
+    fn refuse(&mut self, why: Refusal) -> Sequence<OutLine>
+        ensures told { result ≡ [] }
+        ensures refused { self.new ≡ refusing self.old why }
+    {
+        self.refused = Some(why);
+        Sequence::new(self.alloc)
+    }
+
+    /// The line `group N F`.
+    fn take_group(&mut self, view: Option<View>) -> Sequence<OutLine>
+        requires open { self.old.refused ≡ None }
+        requires room { self.old.count < 2 ^ 20 }
+        requires start { self.old.play ≡ None }
+        ensures told { result ≡ [] }
+        ensures taken { self.new ≡ group_taken self.old view }
+    {
+        match view {
+            None => self.refuse(Refusal::Script(Kind::Header)),
+            Some(view) => {
+                self.group = Some(view);
+                self.count += 1;
+                Sequence::new(self.alloc)
+            }
+        }
+    }
+
+    /// The line that names the service, behind which its play begins.
+    fn take_app(&mut self, view: &View, bytes: &[u8]) -> Result<Sequence<OutLine>, AllocError>
+        requires open { self.old.refused ≡ None }
+        requires room { self.old.count < 2 ^ 20 }
+        requires start { self.old.play ≡ None }
+        ensures told { IfOk result (λ told. told ≡ app_line_told view.now (app_line bytes.now)) }
+        ensures taken { OnOk result (self.new ≡ app_taken self.old view.now (app_line bytes.now)) }
+    {
+        let Some(app) = app_line(bytes) else {
+            return Ok(self.refuse(Refusal::Script(Kind::Header)));
+        };
+        let mut told = Sequence::new(self.alloc);
+        told.push(OutLine::Group {
+            members: view.members().len() as u64,
+            faulty: view.f(),
+            app,
+        })?;
+        let play = AppPlay::begin(self.alloc, app, view.duplicate(self.alloc)?)?;
+        self.play = Some(play);
+        self.count += 1;
+        Ok(told)
+    }
+
+    /// A line of the header that is no comment.
+    fn take_header_words(&mut self, bytes: &[u8]) -> Result<Sequence<OutLine>, AllocError>
+        requires open { self.old.refused ≡ None }
+        requires room { self.old.count < 2 ^ 20 }
+        requires start { self.old.play ≡ None }
+        ensures told { IfOk result (λ told. told ≡ header_told bytes.now self.old.group) }
+        ensures taken { OnOk result (self.new ≡ header_taken self.old bytes.now self.old.group) }
+    {
+        match self.group.take() {
+            None => {
+                let view = group_line(self.alloc, bytes)?;
+                Ok(self.take_group(view))
+            }
+            Some(view) => {
+                let told = self.take_app(&view, bytes)?;
+                self.group = Some(view);
+                Ok(told)
+            }
         }
     }
 
@@ -58,134 +130,77 @@ impl<S: Service> Script<S> {
         requires open { self.old.refused ≡ None }
         requires room { self.old.count < 2 ^ 20 }
         requires start { self.old.play ≡ None }
-        ensures told { IfOk result (λ told. told ≡ told_at (core_step S.meaning) self.old bytes.now None) }
-        ensures taken { OnOk result (self.new ≡ taken_at (core_step S.meaning) S.meaning self.old bytes.now None) }
+        ensures told { IfOk result (λ told. told ≡ told_at core_steps self.old bytes.now None) }
+        ensures taken { OnOk result (self.new ≡ taken_at core_steps self.old bytes.now None) }
     {
-        let mut told = Sequence::new(self.alloc);
         if !is_printed(bytes) {
-            self.refused = Some(Refusal::Script(Kind::Byte));
-            return Ok(told);
+            return Ok(self.refuse(Refusal::Script(Kind::Byte)));
         }
         if !is_short(bytes) {
-            self.refused = Some(Refusal::Script(Kind::Long));
-            return Ok(told);
+            return Ok(self.refuse(Refusal::Script(Kind::Long)));
         }
         if is_nothing(bytes) {
             self.count += 1;
-            return Ok(told);
+            return Ok(Sequence::new(self.alloc));
         }
-        match self.group.take() {
-            None => match group_line(self.alloc, bytes)? {
-                None => self.refused = Some(Refusal::Script(Kind::Header)),
-                Some(view) => {
-                    self.group = Some(view);
-                    self.count += 1;
-                }
-            },
-            Some(view) => {
-                if is_app_line(bytes) {
-                    told.push(OutLine::Group {
-                        members: view.members().len() as u64,
-                        faulty: view.f(),
-                    })?;
-                    let world = World::begin(self.alloc, view.duplicate(self.alloc)?)?;
-                    self.world = Some(world);
-                    self.count += 1;
-                } else {
-                    self.refused = Some(Refusal::Script(Kind::Header));
-                }
-                self.group = Some(view);
-            }
-        }
-        Ok(told)
+        self.take_header_words(bytes)
     }
 
-    /// A line that has a meaning. The world is put back unless it is over.
-    fn take_meant(
-        &mut self,
-        mut world: World<S>,
-        line: Line,
-    ) -> Result<Sequence<OutLine>, AllocError>
+    /// A line that has a meaning.
+    fn take_meant(&mut self, mut play: AppPlay, line: Line) -> Result<Sequence<OutLine>, AllocError>
         requires open { self.old.refused ≡ None }
         requires room { self.old.count < 2 ^ 20 }
-        requires going { world.over ≡ false }
-        ensures told { IfOk result (λ told. told ≡ told_done (core_step S.meaning) world (Ok line)) }
-        ensures refused { OnOk result (self.new.refused ≡ (line_done (core_step S.meaning) (record self.old { play = Some world }) world (Ok line)).refused) }
-        ensures count { OnOk result (self.new.count ≡ (line_done (core_step S.meaning) (record self.old { play = Some world }) world (Ok line)).count) }
-        ensures whole { OnOk result ((line_done (core_step S.meaning) self.old world (Ok line)).refused ≡ None → self.new ≡ line_done (core_step S.meaning) (record self.old { play = Some world }) world (Ok line)) }
+        requires going { is_over play ≡ false }
+        ensures told { IfOk result (λ told. told ≡ told_done core_steps play (Ok line)) }
+        ensures refused { OnOk result (self.new.refused ≡ (line_done core_steps (record self.old { play = Some play }) play (Ok line)).refused) }
+        ensures count { OnOk result (self.new.count ≡ (line_done core_steps (record self.old { play = Some play }) play (Ok line)).count) }
+        ensures whole { OnOk result ((line_done core_steps (record self.old { play = Some play }) play (Ok line)).refused ≡ None → self.new ≡ line_done core_steps (record self.old { play = Some play }) play (Ok line)) }
     {
-        match world.play(line) {
-            Err(WorldEnd::NoMemory) => Err(AllocError),
-            Err(WorldEnd::Refer) => {
-                self.world = Some(world);
-                self.refused = Some(Refusal::Script(Kind::Refer));
-                Ok(Sequence::new(self.alloc))
-            }
-            Err(WorldEnd::Premise(which)) => {
-                self.refused = Some(Refusal::Premise(which));
-                Ok(Sequence::new(self.alloc))
-            }
-            Err(WorldEnd::Limit) => {
-                self.refused = Some(Refusal::Limit);
-                Ok(Sequence::new(self.alloc))
-            }
+        match play.play(line)? {
+            Err(why) => Ok(self.refuse(why)),
             Ok(told) => {
-                self.world = Some(world);
+                self.play = Some(play);
                 self.count += 1;
                 Ok(told)
             }
         }
     }
 
-    /// A line behind the header. The world is put back unless it is over.
+    /// A line behind the header.
     fn take_play_line(
         &mut self,
-        world: World<S>,
+        play: AppPlay,
         bytes: &[u8],
     ) -> Result<Sequence<OutLine>, AllocError>
         requires open { self.old.refused ≡ None }
         requires room { self.old.count < 2 ^ 20 }
-        requires going { world.over ≡ false }
-        ensures told { IfOk result (λ told. told ≡ told_at (core_step S.meaning) self.old bytes.now (Some world)) }
-        ensures refused { OnOk result (self.new.refused ≡ (taken_at (core_step S.meaning) S.meaning (record self.old { play = Some world }) bytes.now (Some world)).refused) }
-        ensures count { OnOk result (self.new.count ≡ (taken_at (core_step S.meaning) S.meaning (record self.old { play = Some world }) bytes.now (Some world)).count) }
-        ensures whole { OnOk result ((taken_at (core_step S.meaning) S.meaning self.old bytes.now (Some world)).refused ≡ None → self.new ≡ taken_at (core_step S.meaning) S.meaning (record self.old { play = Some world }) bytes.now (Some world)) }
+        requires going { is_over play ≡ false }
+        ensures told { IfOk result (λ told. told ≡ told_at core_steps self.old bytes.now (Some play)) }
+        ensures refused { OnOk result (self.new.refused ≡ (taken_at core_steps (record self.old { play = Some play }) bytes.now (Some play)).refused) }
+        ensures count { OnOk result (self.new.count ≡ (taken_at core_steps (record self.old { play = Some play }) bytes.now (Some play)).count) }
+        ensures whole { OnOk result ((taken_at core_steps (record self.old { play = Some play }) bytes.now (Some play)).refused ≡ None → self.new ≡ taken_at core_steps (record self.old { play = Some play }) bytes.now (Some play)) }
     {
         match line_of(self.alloc, bytes)? {
-            Err(kind) => {
-                self.world = Some(world);
-                self.refused = Some(Refusal::Script(kind));
-                Ok(Sequence::new(self.alloc))
-            }
-            Ok(line) => {
-                let told = self.take_meant(world, line)?;
-                Ok(told)
-            }
+            Err(kind) => Ok(self.refuse(Refusal::Script(kind))),
+            Ok(line) => self.take_meant(play, line),
         }
     }
 
-    /// Takes the next line, and gives what it tells.
+    /// Takes the next line, and gives what it tells. A play in which a line is refused is gone.
     #[tactic(auto, unfolding(crate::specs::Readings::line_taken, crate::specs::Readings::line_told))]
     pub fn take_line(&mut self, bytes: &[u8]) -> Result<Sequence<OutLine>, AllocError>
         requires { self.old.refused ≡ None }
-        ensures told { IfOk result (λ told. told ≡ line_told (core_step S.meaning) self.old bytes.now) }
-        ensures refused { OnOk result (self.new.refused ≡ (line_taken (core_step S.meaning) S.meaning self.old bytes.now).refused) }
-        ensures count { OnOk result (self.new.count ≡ (line_taken (core_step S.meaning) S.meaning self.old bytes.now).count) }
-        ensures whole { OnOk result ((line_taken (core_step S.meaning) S.meaning self.old bytes.now).refused ≡ None → self.new ≡ line_taken (core_step S.meaning) S.meaning self.old bytes.now) }
+        ensures told { IfOk result (λ told. told ≡ line_told core_steps self.old bytes.now) }
+        ensures refused { OnOk result (self.new.refused ≡ (line_taken core_steps self.old bytes.now).refused) }
+        ensures count { OnOk result (self.new.count ≡ (line_taken core_steps self.old bytes.now).count) }
+        ensures whole { OnOk result ((line_taken core_steps self.old bytes.now).refused ≡ None → self.new ≡ line_taken core_steps self.old bytes.now) }
     {
         if self.count >= LINES {
-            self.refused = Some(Refusal::Limit);
-            return Ok(Sequence::new(self.alloc));
+            return Ok(self.refuse(Refusal::Limit));
         }
-        match self.world.take() {
-            None => {
-                let told = self.take_header_line(bytes)?;
-                Ok(told)
-            }
-            Some(world) => {
-                let told = self.take_play_line(world, bytes)?;
-                Ok(told)
-            }
+        match self.play.take() {
+            None => self.take_header_line(bytes),
+            Some(play) => self.take_play_line(play, bytes),
         }
     }
 
@@ -209,10 +224,10 @@ impl<S: Service> Script<S> {
         ensures { IfOk result (λ told. told ≡ end_told self.now.count self.now.play) }
     {
         let mut told = Sequence::new(self.alloc);
-        if let Some(world) = &self.world {
+        if let Some(play) = &self.play {
             told.push(OutLine::End {
                 lines: self.count,
-                messages: world.sent().len() as u64,
+                messages: play.sent_count(),
             })?;
         }
         Ok(told)
@@ -222,7 +237,7 @@ impl<S: Service> Script<S> {
     pub fn end(&self) -> Status
         ensures { result ≡ end_at self.now.count self.now.play }
     {
-        if self.world.is_some() {
+        if self.play.is_some() {
             Status::Ok
         } else {
             Status::Script {

@@ -2,8 +2,7 @@
 ghost use Rattle.std.specs.Prelude.{◌≡◌, ◌<◌, ◌≤◌, ◌++◌, ◌↔◌, length, List, ℕ, IsTrue, IsErrOf, IfErr, IfOk, Option, None, [], true, false, map, string_bytes};
 ghost use Rattle.std.specs.Io.KnownBytes.{IsAtEnd};
 ghost use Rattle.faults.specs.Counts.{Rose};
-ghost use Rattle.app_count.specs.Counts.{counting};
-ghost use Rattle.kept_arrivals.specs.Kept.{core_step};
+ghost use Rattle.smart_top.specs.Apps.{core_steps};
 ghost use Rattle.smart_top.specs.Readings.{end_of, script_lines, whole_lines};
 ghost use Rattle.smart_top.specs.Feeds.{HasTaken, GoesOn, GoesOnBehind, halt_end};
 ghost use Rattle.smart_top.specs.Runs.{IsLeft, RunEnd, is_command};
@@ -11,12 +10,10 @@ ghost use Rattle.smart_top.specs.Runs.{IsLeft, RunEnd, is_command};
 use crate::reader::{Halt, Reader, end_line, feed, write_lines};
 use crate::script::Script;
 use crate::status::{Refusal, Status, report};
-use app_count::Count;
 use faults::Fault;
 use smart_base::equality::same_bytes;
 use smart_base::sequence::Sequence;
 use smart_io::stream::{Sink, Source};
-use smart_service::service::Service;
 use std::alloc::Global;
 
 /// How many bytes are read at a time.
@@ -26,7 +23,7 @@ const PIECE: usize = 4096;
 const READS: u64 = 1 << 37;
 
 /// The status of a script a line of which was refused, or that has ended.
-fn script_end<S: Service>(script: &Script<S>) -> Status
+fn script_end(script: &Script) -> Status
     ensures { result ≡ end_of script.now }
 {
     match script.refused() {
@@ -45,7 +42,7 @@ fn script_end<S: Service>(script: &Script<S>) -> Status
     }
 }
 
-fn halt_end<S: Service>(script: &Script<S>, halt: Halt) -> Status
+fn halt_end(script: &Script, halt: Halt) -> Status
     ensures { result ≡ halt_end script.now halt }
 {
     match halt {
@@ -66,10 +63,10 @@ pub fn is_command(words: &[String]) -> bool
 }
 
 /// Ends a script whose lines were all taken: the end is told and written.
-fn close<S: Service, O: Sink>(reader: &Reader<S>, output: &mut O) -> Status
+fn close<O: Sink>(reader: &Reader, output: &mut O) -> Status
     ensures ended { (bytes input : List ℕ) (left left' written : Option (List ℕ)) (wants : ℕ) → script_lines input ≡ whole_lines [] bytes → IsLeft left input → IsAtEnd left'
-        → HasTaken (core_step S.meaning) S.meaning bytes written (O.written output.old) reader.now.line reader.now.script → wants ≤ O.wants output.old
-        → RunEnd S.meaning left left' written (O.written output.new) wants (O.wants output.new) result }
+        → HasTaken core_steps bytes written (O.written output.old) reader.now.line reader.now.script → wants ≤ O.wants output.old
+        → RunEnd left left' written (O.written output.new) wants (O.wants output.new) result }
     ensures read { result ≡ Status.ReadFault → ⊥ }
     ensures write { result ≡ Status.WriteFault → Rose (O.faults output.old) (O.faults output.new) }
     ensures later { O.faults output.old ≤ O.faults output.new }
@@ -85,11 +82,11 @@ fn close<S: Service, O: Sink>(reader: &Reader<S>, output: &mut O) -> Status
 }
 
 /// Ends a script where its input ends. The last line may lack its line feed.
-fn finish<S: Service, O: Sink>(reader: &mut Reader<S>, output: &mut O) -> Status
+fn finish<O: Sink>(reader: &mut Reader, output: &mut O) -> Status
     requires { reader.old.script.refused ≡ None }
     ensures ended { (bytes : List ℕ) (left left' written : Option (List ℕ)) (wants : ℕ) → IsLeft left bytes → IsAtEnd left'
-        → HasTaken (core_step S.meaning) S.meaning bytes written (O.written output.old) reader.old.line reader.old.script → wants ≤ O.wants output.old
-        → RunEnd S.meaning left left' written (O.written output.new) wants (O.wants output.new) result }
+        → HasTaken core_steps bytes written (O.written output.old) reader.old.line reader.old.script → wants ≤ O.wants output.old
+        → RunEnd left left' written (O.written output.new) wants (O.wants output.new) result }
     ensures read { result ≡ Status.ReadFault → ⊥ }
     ensures write { result ≡ Status.WriteFault → Rose (O.faults output.old) (O.faults output.new) }
 {
@@ -104,17 +101,17 @@ fn finish<S: Service, O: Sink>(reader: &mut Reader<S>, output: &mut O) -> Status
 
 /// Reads a piece of the input and takes its bytes. Answers whether there was one: the input ends
 /// where there was none.
-fn take_piece<S: Service, I: Source, O: Sink>(
-    reader: &mut Reader<S>,
+fn take_piece<I: Source, O: Sink>(
+    reader: &mut Reader,
     input: &mut I,
     output: &mut O,
     buffer: &mut [u8],
 ) -> Result<bool, Status>
     requires room { 0 < length buffer.old }
     requires going { reader.old.script.refused ≡ None }
-    ensures more { IfOk result (λ more. more ≡ true → reader.new.script.refused ≡ None × ((bytes : List ℕ) (left written : Option (List ℕ)) → GoesOn (core_step S.meaning) S.meaning bytes left (I.left input.old) written (O.written output.old) reader.old.line reader.old.script → GoesOnBehind (core_step S.meaning) S.meaning bytes left (I.left input.new) written (O.written output.new) reader.new.line reader.new.script)) }
-    ensures none { IfOk result (λ more. more ≡ false → IsAtEnd (I.left input.new) × (reader.new ≡ reader.old) × (output.new ≡ output.old) × ((bytes : List ℕ) (left written : Option (List ℕ)) → GoesOn (core_step S.meaning) S.meaning bytes left (I.left input.old) written (O.written output.old) reader.old.line reader.old.script → GoesOn (core_step S.meaning) S.meaning bytes left (I.left input.new) written (O.written output.new) reader.new.line reader.new.script)) }
-    ensures ended { IfErr result (λ status. (bytes : List ℕ) (left written : Option (List ℕ)) (wants : ℕ) → GoesOn (core_step S.meaning) S.meaning bytes left (I.left input.old) written (O.written output.old) reader.old.line reader.old.script → wants ≤ O.wants output.old → RunEnd S.meaning left (I.left input.new) written (O.written output.new) wants (O.wants output.new) status) }
+    ensures more { IfOk result (λ more. more ≡ true → reader.new.script.refused ≡ None × ((bytes : List ℕ) (left written : Option (List ℕ)) → GoesOn core_steps bytes left (I.left input.old) written (O.written output.old) reader.old.line reader.old.script → GoesOnBehind core_steps bytes left (I.left input.new) written (O.written output.new) reader.new.line reader.new.script)) }
+    ensures none { IfOk result (λ more. more ≡ false → IsAtEnd (I.left input.new) × (reader.new ≡ reader.old) × (output.new ≡ output.old) × ((bytes : List ℕ) (left written : Option (List ℕ)) → GoesOn core_steps bytes left (I.left input.old) written (O.written output.old) reader.old.line reader.old.script → GoesOn core_steps bytes left (I.left input.new) written (O.written output.new) reader.new.line reader.new.script)) }
+    ensures ended { IfErr result (λ status. (bytes : List ℕ) (left written : Option (List ℕ)) (wants : ℕ) → GoesOn core_steps bytes left (I.left input.old) written (O.written output.old) reader.old.line reader.old.script → wants ≤ O.wants output.old → RunEnd left (I.left input.new) written (O.written output.new) wants (O.wants output.new) status) }
     ensures read { IsErrOf result Status.ReadFault → Rose (I.faults input.old) (I.faults input.new) }
     ensures write { IsErrOf result Status.WriteFault → Rose (O.faults output.old) (O.faults output.new) }
     ensures later { (I.faults input.old ≤ I.faults input.new) × (O.faults output.old ≤ O.faults output.new) × (O.wants output.old ≤ O.wants output.new) }
@@ -134,18 +131,14 @@ fn take_piece<S: Service, I: Source, O: Sink>(
     }
 }
 
-/// Plays the script of an input over a service, and writes its transcript: each line's as it is
+/// Plays the script of an input over the service that its header names, and writes its transcript: each line's as it is
 /// played. Neither the input nor the transcript is kept.
-pub fn play_script<S: Service, I: Source, O: Sink>(
-    alloc: Global,
-    input: &mut I,
-    output: &mut O,
-) -> Status
-    ensures ended { RunEnd S.meaning (I.left input.old) (I.left input.new) (O.written output.old) (O.written output.new) (O.wants output.old) (O.wants output.new) result }
+pub fn play_script<I: Source, O: Sink>(alloc: Global, input: &mut I, output: &mut O) -> Status
+    ensures ended { RunEnd (I.left input.old) (I.left input.new) (O.written output.old) (O.written output.new) (O.wants output.old) (O.wants output.new) result }
     ensures read { result ≡ Status.ReadFault → Rose (I.faults input.old) (I.faults input.new) }
     ensures write { result ≡ Status.WriteFault → Rose (O.faults output.old) (O.faults output.new) }
 {
-    let mut reader: Reader<S> = Reader {
+    let mut reader = Reader {
         alloc,
         script: Script::new(alloc),
         line: Sequence::new(alloc),
@@ -175,13 +168,13 @@ pub fn run<H, I: Source, O: Sink, E: Sink>(
     ensures words { (result ≡ Status.Words) ↔ (is_command (map string_bytes words.now) ≡ false) }
     ensures untouched { result ≡ Status.Words → (input.new ≡ input.old) × (output.new ≡ output.old) }
     // What was read and written, by the status; one list holds of it.
-    ensures ended { is_command (map string_bytes words.now) ≡ true → RunEnd counting (I.left input.old) (I.left input.new) (O.written output.old) (O.written output.new) (O.wants output.old) (O.wants output.new) result }
+    ensures ended { is_command (map string_bytes words.now) ≡ true → RunEnd (I.left input.old) (I.left input.new) (O.written output.old) (O.written output.new) (O.wants output.old) (O.wants output.new) result }
     // Faults come only where their count rose.
     ensures read { result ≡ Status.ReadFault → Rose (I.faults input.old) (I.faults input.new) }
     ensures write { result ≡ Status.WriteFault → Rose (O.faults output.old) (O.faults output.new) }
 {
     let status = if is_command(words) {
-        play_script::<Count, _, _>(alloc, input, output)
+        play_script(alloc, input, output)
     } else {
         Status::Words
     };

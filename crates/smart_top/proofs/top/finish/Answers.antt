@@ -11,7 +11,7 @@ pub returns-in-Err-clause-ended : goal.returns-in-Err-clause-ended
 returns-in-Err-clause-ended g c = λ bytes left left' written wants is_left end taken le.
     let e = c.in-Err.ensures in
     rw c.halt_end.ensures
-    (last-halted g.S.Service.meaning g.met.S.Service.brief left left' written _ wants _ bytes c.end_line.new.reader.script c.in-Err.halt
+    (last-halted left left' written _ wants _ bytes c.end_line.new.reader.script c.in-Err.halt
     (λ none. not_empty c.args.reader.now.line (sym c.is_empty.ensures ∙ c.if-is_empty.false) (taken.line_is ∙ none)) is_left
     (λ is. rose-later wants _ _ le (e.want (ap (λ halt. Err halt) is))) (e.halted bytes written taken))
 

@@ -1,0 +1,92 @@
+-- The play of a script over the service that its header names.
+use Rattle.std.specs.Prelude.{ℕ, Bool, false, List, [], ◌∷◌, ◌++◌, length, if◌then◌else◌, Option, Some, None, Result, Ok, Err}
+use Rattle.smart_base.specs.Views.{View}
+use Rattle.smart_messages.specs.declared.entry.NodeEvent.{NodeEvent}
+use Rattle.smart_service.specs.Services.{Meaning}
+use Rattle.app_count.specs.declared.Count.{Count}
+use Rattle.app_count.specs.Counts.{counting}
+use Rattle.app_kv.specs.declared.store.Entry.{Entry}
+use Rattle.app_kv.specs.Snapshots.{keeping}
+use Rattle.node_rules.specs.Nodes.{Node}
+use Rattle.node_rules.specs.Steps.{Outcome, step_of}
+use Rattle.kept_arrivals.specs.Kept.{core_step}
+use Rattle.world_rules.specs.Worlds.{World, begun}
+use Rattle.world_rules.specs.Plays.{Play, is_there, line_played, rested}
+use Rattle.world_rules.specs.declared.message.Ending.{Ending}
+use Rattle.world_rules.specs.declared.message.Ending.TheVariants as endings
+use Rattle.world_rules.specs.declared.line.App.{App}
+use Rattle.world_rules.specs.declared.line.App.TheVariants as apps
+use Rattle.world_rules.specs.declared.line.Line.{Line}
+use Rattle.world_rules.specs.declared.line.OutLine.{OutLine}
+use Rattle.world_rules.specs.declared.line.Kind.TheVariants as kinds
+use Rattle.smart_top.specs.declared.app.AppPlay.{AppPlay}
+use Rattle.smart_top.specs.declared.app.AppPlay.TheVariants as plays
+use Rattle.smart_top.specs.declared.status.Refusal.{Refusal}
+use Rattle.smart_top.specs.declared.status.Refusal.TheVariants as refusals
+
+-- how the nodes of each service take an event
+pub record Steps : Type 0 where
+  pub count : Node Count → NodeEvent → Outcome Count
+  pub kv : Node (List Entry) → NodeEvent → Outcome (List Entry)
+
+-- as the nodes do that keep all arrivals
+abbrev pub node_steps : Steps
+node_steps = record { count = step_of counting; kv = step_of keeping }
+
+-- as their cores do
+abbrev pub core_steps : Steps
+core_steps = record { count = core_step counting; kv = core_step keeping }
+
+-- a play of one service
+
+-- the play at the end of the header
+abbrev pub play_begun : {S : Type 0} → Meaning S → View → Play S
+play_begun m view = record { group = view; lines = []; world = begun m view; over = false }
+
+-- the play behind one more line
+abbrev pub play_after : {S : Type 0} → (Node S → NodeEvent → Outcome S) → Play S → Line → Play S
+play_after step p line = record { group = p.group; lines = p.lines ++ line ∷ []; world = rested (line_played step p.world line); over = false }
+
+-- why a line is refused by which the world has ended
+abbrev pub refusal_of : Ending → Refusal
+refusal_of (endings.Premise which) = refusals.Premise which
+refusal_of endings.Limit = refusals.Limit
+
+-- what the line told by which the world came to be, unless the world has ended there
+abbrev pub answer_until : {S : Type 0} → World S → Option Ending → Result (List OutLine) Refusal
+answer_until w None = Ok w.told
+answer_until w (Some ending) = Err (refusal_of ending)
+
+abbrev pub answer_in : {S : Type 0} → World S → Result (List OutLine) Refusal
+answer_in w = answer_until w w.ending
+
+-- what a line tells, or why it is refused. It is played where all that it names is there
+abbrev pub play_answer : {S : Type 0} → (Node S → NodeEvent → Outcome S) → Play S → Line → Result (List OutLine) Refusal
+play_answer step p line = if is_there p.world line then answer_in (line_played step p.world line) else Err (refusals.Script kinds.Refer)
+
+-- the play of the service that the header names
+
+-- at the end of the header
+abbrev pub app_begun : App → View → AppPlay
+app_begun apps.Count view = plays.Count (play_begun counting view)
+app_begun apps.Kv view = plays.Kv (play_begun keeping view)
+
+-- behind one more line
+abbrev pub app_after : Steps → AppPlay → Line → AppPlay
+app_after steps (plays.Count p) line = plays.Count (play_after steps.count p line)
+app_after steps (plays.Kv p) line = plays.Kv (play_after steps.kv p line)
+
+-- what a line tells, or why it is refused
+abbrev pub app_answer : Steps → AppPlay → Line → Result (List OutLine) Refusal
+app_answer steps (plays.Count p) line = play_answer steps.count p line
+app_answer steps (plays.Kv p) line = play_answer steps.kv p line
+
+-- whether it is over
+abbrev pub is_over : AppPlay → Bool
+is_over (plays.Count p) = p.over
+is_over (plays.Kv p) = p.over
+
+-- how many messages left
+abbrev pub sent_count : AppPlay → ℕ
+sent_count (plays.Count p) = length p.world.sent
+sent_count (plays.Kv p) = length p.world.sent
