@@ -1,22 +1,32 @@
 #!/bin/sh
-# How long an ask takes. Plays a script of N asks by 8 clients with a flow after every 8, and then one of 2N.
-# usage: bench/asks.sh [N [PROGRAM]]
-# Without N it is 400, and without PROGRAM the proved program that ./prove makes. Of three runs the fastest counts.
-# The last line is the ratio of the seconds an ask: near 1 where an ask's cost does not grow with the run.
+# What an ask costs. Plays a script of N asks by so many clients with a flow after each has asked, and then one of 2N: the
+# seconds of a run and of an ask, the peak memory of a run, and the bytes of memory that an ask adds.
+# usage: bench/asks.sh [N [CLIENTS [PROGRAM]]]
+# Without N it is 2000, without CLIENTS 8, and without PROGRAM the proved program that ./prove makes. With 1000 clients most
+# batches have 64 requests. Of three runs the fastest counts, and
+# the least peak. A line of ratios follows, of the run of 2N to that of N: near 2 where the work grows with the asks alone.
+# The status is 1 where the seconds' ratio is 2.3 or more. Memory is measured where there is a GNU time.
 top=$(CDPATH= cd -- "$(dirname -- "$0")/.." && pwd) || exit 1
-n=${1:-400}
-program=${2:-$top/out/smart}
-case $n in
-'' | 0* | *[!0-9]*)
-    echo "usage: bench/asks.sh [N [PROGRAM]]" >&2
+n=${1:-2000}
+clients=${2:-8}
+program=${3:-$top/out/smart}
+for number in "$n" "$clients"; do
+    case $number in
+    '' | 0* | *[!0-9]*)
+        echo "usage: bench/asks.sh [N [CLIENTS [PROGRAM]]]" >&2
+        exit 2
+        ;;
+    esac
+done
+if [ "$clients" -gt 1024 ]; then
+    echo "there are at most 1024 clients" >&2
     exit 2
-    ;;
-esac
+fi
 if [ ! -x "$program" ]; then
     echo "there is no program at $program: ./prove makes one" >&2
     exit 1
 fi
-if [ $# -lt 2 ] && ! "$top/prove" stands; then
+if [ $# -lt 3 ] && ! "$top/prove" stands; then
     echo "(the sources have changed since $program was proved)" >&2
 fi
 folder=$(mktemp -d) || exit 1
@@ -24,12 +34,12 @@ trap 'rm -rf "$folder"' EXIT
 
 # A script of so many asks.
 script() {
-    awk -v asks="$1" 'BEGIN {
+    awk -v asks="$1" -v clients="$clients" 'BEGIN {
         print "group 4 1"
         print "app count"
         for (i = 1; i <= asks; i++) {
-            print "ask", (i - 1) % 8 + 1, i
-            if (i % 8 == 0 || i == asks) print "flow"
+            print "ask", (i - 1) % clients + 1, i
+            if (i % clients == 0 || i == asks) print "flow"
         }
     }'
 }
@@ -41,37 +51,53 @@ seconds() {
     awk -v start="$start" -v end="$(date +%s.%N)" 'BEGIN { printf "%.6f\n", end - start }'
 }
 
-# The peak memory of one run in KiB, where there is a GNU time.
+# The peak memory of one run in bytes, or `-`.
 memory() {
     if /usr/bin/time -f %M -o "$folder/memory" true 2>/dev/null; then
-        /usr/bin/time -f %M -o "$folder/memory" "$program" world <"$folder/script" >/dev/null
-        cat "$folder/memory"
+        /usr/bin/time -f %M -o "$folder/memory" "$program" world <"$folder/script" >/dev/null || return 1
+        awk '{ printf "%.0f\n", $1 * 1024 }' "$folder/memory"
     else
         echo -
     fi
 }
 
-# Plays so many asks, prints a line, and leaves the seconds an ask in the file `each`.
+# The least of the numbers of three calls.
+least_of_three() {
+    : >"$folder/numbers"
+    for run in 1 2 3; do
+        "$1" >>"$folder/numbers" || return 1
+    done
+    sort -n "$folder/numbers" | head -n 1
+}
+
+# Plays so many asks, prints a line, and leaves asks, seconds and bytes in the file `measured`.
 play() {
     script "$1" >"$folder/script"
-    : >"$folder/runs"
-    for run in 1 2 3; do
-        if ! seconds >>"$folder/runs"; then
-            echo "the program did not play $1 asks to their end" >&2
-            exit 1
-        fi
-    done
+    if ! fastest=$(least_of_three seconds) || ! peak=$(least_of_three memory); then
+        echo "the program did not play $1 asks to their end" >&2
+        exit 1
+    fi
     accepted=$(grep -c '^accepted ' "$folder/transcript")
     if [ "$accepted" -ne "$1" ]; then
         echo "of $1 asks $accepted were answered" >&2
         exit 1
     fi
-    fastest=$(sort -n "$folder/runs" | head -n 1)
-    awk -v asks="$1" -v fastest="$fastest" 'BEGIN { printf "%.9f\n", fastest / asks }' >"$folder/each"
-    echo "$1 asks: $fastest s, $(cat "$folder/each") s an ask, peak memory $(memory) KiB"
+    echo "$1 $fastest $peak" >"$folder/measured"
+    awk '{ printf "%d asks: %.3f s, %.6f s an ask, peak memory %s bytes\n", $1, $2, $2 / $1, $3 }' "$folder/measured"
 }
 
 play "$n"
-first=$(cat "$folder/each")
+once=$(cat "$folder/measured")
 play "$((2 * n))"
-awk -v first="$first" -v second="$(cat "$folder/each")" 'BEGIN { printf "ratio of the seconds an ask: %.2f\n", second / first }'
+awk -v once="$once" -v twice="$(cat "$folder/measured")" 'BEGIN {
+    split(once, a, " ")
+    split(twice, b, " ")
+    ratio = b[2] / a[2]
+    printf "ratios: seconds %.2f, seconds an ask %.2f", ratio, ratio * a[1] / b[1]
+    if (a[3] != "-") printf ", peak memory %.2f; %.0f bytes of memory an ask", b[3] / a[3], (b[3] - a[3]) / (b[1] - a[1])
+    printf "\n"
+    if (ratio >= 2.3) {
+        print "the seconds grow faster than the asks: their ratio has to be below 2.3" > "/dev/stderr"
+        exit 1
+    }
+}'
