@@ -22,8 +22,8 @@ use Rattle.consensus_instance.specs.declared.rule.Rule.{Rule}
 use Rattle.consensus_instance.specs.declared.rule.Rule.TheVariants as rules
 use Rattle.consensus_instance.specs.declared.rule.Rule.TheVariants.{Write, Accept, Decide}
 use Rattle.consensus_instance.specs.Instances as instances
-use Rattle.consensus_instance.specs.Instances.{Instance, due_by, moved_on}
-use Rattle.consensus_instance.specs.Locks.{same_instance, lock_in, is_locked_in, NoLater}
+use Rattle.consensus_instance.specs.Instances.{Instance, locked, due_by, moved_on}
+use Rattle.consensus_instance.specs.Locks.{same_instance, lock_in, lock_of, is_locked_in, NoLater}
 use Rattle.consensus_instance.specs.Nodes.{UpTo, IsInstance, HasInstance, due_at}
 use Rattle.consensus_instance.proofs.Lists.{each_more, each_as}
 use Rattle.consensus_instance.proofs.Locks.{lock_passed, lock_made, no_lock, locked_of}
@@ -75,8 +75,8 @@ none_any p (x ∷ xs) all = rw all.0 (none_any p xs all.1)
 
 -- TRANSITIONS
 
-pub opened_instance : (id view : ℕ) → IsInstance id view 0 None [] (Opened ∷ []) (record { id = id; place = 0; decided = false; arrivals = []; wrote = false; lock = None })
-opened_instance id view = record { id_same = refl; place_same = refl; decided_same = refl; arrivals_same = refl; wrote_same = refl; lock_same = refl; none_later = (tt, tt) }
+pub opened_instance : (id view : ℕ) → IsInstance id view 0 None [] (Opened ∷ []) (record { id = id; place = 0; decided = false; arrivals = []; wrote = false; accept = None })
+opened_instance id view = record { id_same = refl; place_same = refl; decided_same = refl; arrivals_same = refl; wrote_same = refl; accept_same = refl; none_later = (tt, tt) }
 
 pub keeping_instance : (id view place : ℕ) (waiting : Option Batch) (old new : List Message) (entries : List LogEntry) (i : Instance) → IsInstance id view place waiting old entries i
     → IsInstance id view place waiting new entries (record i { arrivals = new })
@@ -86,7 +86,7 @@ keeping_instance id view place waiting old new entries i is = record {
   decided_same = is.decided_same;
   arrivals_same = refl;
   wrote_same = is.wrote_same;
-  lock_same = is.lock_same;
+  accept_same = is.accept_same;
   none_later = is.none_later;
 }
 
@@ -118,13 +118,13 @@ wrote_instance id view place waiting arrivals entries i digest is =
       decided_same = is.decided_same;
       arrivals_same = is.arrivals_same;
       wrote_same = sym (any_end (is_wrote slot) entries e true (same_self slot) ∙ or_true (list_any (is_wrote slot) entries));
-      lock_same = is.lock_same ∙ sym (lock_passed slot entries e refl);
+      accept_same = is.accept_same ∙ sym (lock_passed slot entries e refl);
       none_later = each_more (UpTo slot) entries e is.none_later (omega arith, omega arith);
     }
 
 pub accepted_instance : (id view place : ℕ) (waiting : Option Batch) (arrivals : List Message) (entries : List LogEntry) (i : Instance) (voters digest : List ℕ) (batch : Batch) → digest ≡ digest_of batch
     → IsInstance id view place waiting arrivals entries i
-    → IsInstance id view place waiting arrivals (entries ++ Accepted (slot_at view (place + 1)) voters batch ∷ []) (record i { lock = Some (record { regency = 0; digest = digest }) })
+    → IsInstance id view place waiting arrivals (entries ++ Accepted (slot_at view (place + 1)) voters batch ∷ []) (record i { accept = Some (record { regency = 0; digest = digest }) })
 accepted_instance id view place waiting arrivals entries i voters digest batch same is =
     let slot = slot_at view (place + 1) in
     let e = Accepted slot voters batch in
@@ -136,7 +136,7 @@ accepted_instance id view place waiting arrivals entries i voters digest batch s
       decided_same = is.decided_same;
       arrivals_same = is.arrivals_same;
       wrote_same = is.wrote_same ∙ sym (any_end (is_wrote slot) entries e false refl ∙ or_false (list_any (is_wrote slot) entries));
-      lock_same = sym (lock_made slot entries e lock made (no_later-all slot entries is.none_later));
+      accept_same = sym (lock_made slot entries e lock made (no_later-all slot entries is.none_later));
       none_later = each_more (UpTo slot) entries e is.none_later (omega arith, omega arith);
     }
 
@@ -152,7 +152,7 @@ decided_instance id view place waiting arrivals entries i voters batch decided i
       decided_same = refl;
       arrivals_same = is.arrivals_same;
       wrote_same = is.wrote_same ∙ sym (any_end (is_wrote slot) entries e false refl ∙ or_false (list_any (is_wrote slot) entries));
-      lock_same = is.lock_same ∙ sym (lock_passed slot entries e refl);
+      accept_same = is.accept_same ∙ sym (lock_passed slot entries e refl);
       none_later = each_more (UpTo slot) entries e is.none_later (omega arith, omega arith);
     }
 
@@ -169,9 +169,24 @@ delivered_instance id view later place waiting arrivals entries i is =
       decided_same = refl;
       arrivals_same = is.arrivals_same;
       wrote_same = sym (none_any (is_wrote next) entries (each_as (UpTo slot) (λ e. is_wrote next e ≡ false) (λ e up. earlier_wrote slot next lt e up) entries is.none_later));
-      lock_same = sym (no_lock next entries (each_as (UpTo slot) (λ e. lock_in next e ≡ None) (λ e up. earlier_lock slot next lt e up) entries is.none_later));
+      accept_same = sym (no_lock next entries (each_as (UpTo slot) (λ e. lock_in next e ≡ None) (λ e up. earlier_lock slot next lt e up) entries is.none_later));
       none_later = each_as (UpTo slot) (UpTo next) (λ e up. earlier_up slot next lt (omega arith) e up) entries is.none_later;
     }
+
+-- THE LOCK
+
+lock_at : (waits : Bool) (view place : ℕ) (entries : List LogEntry) (accept : Option Lock) → accept ≡ lock_of (slot_at view (place + 1)) entries → Each (UpTo (slot_at view (place + 1))) entries
+    → cond waits None accept ≡ lock_of (slot_at view (cond waits (place + 1) place + 1)) entries
+lock_at true view place entries accept same all =
+    let slot = slot_at view (place + 1) in
+    let next = slot_at view (place + 1 + 1) in
+    let lt : slot.place < next.place = omega arith in
+    sym (no_lock next entries (each_as (UpTo slot) (λ e. lock_in next e ≡ None) (λ e up. earlier_lock slot next lt e up) entries all))
+lock_at false view place entries accept same all = same
+
+pub lock_same : (id view place : ℕ) (waiting : Option Batch) (arrivals : List Message) (entries : List LogEntry) (i : Instance) → IsInstance id view place waiting arrivals entries i
+    → locked i ≡ lock_of (slot_at view (cond (is_some waiting) (place + 1) place + 1)) entries
+lock_same id view place waiting arrivals entries i is = rw is.decided_same (lock_at (is_some waiting) view place entries i.accept is.accept_same is.none_later)
 
 -- WHAT IS DUE
 
@@ -189,8 +204,8 @@ pub due_write : {S : Type 0} (n : Node S) (i : Instance) → HasInstance n i →
 unfolding due_by writing
 due_write n i has = rw (same_open n i has, has.wrote_same, has.arrivals_same, has.place_same) refl
 
-has_accepted : {S : Type 0} (n : Node S) (i : Instance) → HasInstance n i → is_locked_in 0 i.lock ≡ list_any (is_accepted (open_slot n)) n.entries
-has_accepted n i has = ap (λ l. is_locked_in 0 l) has.lock_same ∙ locked_of (open_slot n) n.entries (no_later-all (open_slot n) n.entries has.none_later)
+has_accepted : {S : Type 0} (n : Node S) (i : Instance) → HasInstance n i → is_locked_in 0 i.accept ≡ list_any (is_accepted (open_slot n)) n.entries
+has_accepted n i has = ap (λ l. is_locked_in 0 l) has.accept_same ∙ locked_of (open_slot n) n.entries (no_later-all (open_slot n) n.entries has.none_later)
 
 same_backed : {S : Type 0} (n : Node S) (i : Instance) → HasInstance n i → (kind : VoteKind) (batch : Option Batch) → instances.backed (view_of n) i kind batch ≡ backed n kind batch
 same_backed n i has kind None = refl

@@ -25,8 +25,8 @@ pub record Instance : Type 0 where
   pub arrivals : List Message
   -- the member has written in the open slot
   pub wrote : Bool
-  -- the batch that the member accepted at the next place, in the greatest regency
-  pub lock : Option Lock
+  -- the batch that the member accepted at the place behind the last delivered one, in the greatest regency
+  pub accept : Option Lock
 
 -- the regency in force
 abbrev pub regency_of : Instance → ℕ
@@ -48,6 +48,11 @@ open_slot view i = record { view = view.number; place = i.place + 1; regency = r
 abbrev pub is_open : View → Instance → Bool
 is_open view i = is_member view i.id && is_free i
 
+-- the batch on which the member is locked: the one that it accepted at the place behind the last one that is delivered or decided. While a
+-- decided batch waits, nothing was accepted behind it
+abbrev pub locked : Instance → Option Lock
+locked i = if i.decided then None else i.accept
+
 -- a batch with a quorum of votes in the open slot
 abbrev pub backed : View → Instance → VoteKind → Option Batch → Option Batch
 backed view i kind None = None
@@ -58,7 +63,7 @@ backed view i kind (Some batch) = if has_quorum i.arrivals view kind (open_slot 
 unfoldable pub due_by : Rule → View → Instance → Option Batch
 due_by Write view i = if is_open view i && not i.wrote then proposal_of i.arrivals (open_slot view i) else None
 due_by Accept view i =
-    if is_open view i && not (is_locked_in (regency_of i) i.lock) then backed view i kinds.Write (proposal_of i.arrivals (open_slot view i)) else None
+    if is_open view i && not (is_locked_in (regency_of i) i.accept) then backed view i kinds.Write (proposal_of i.arrivals (open_slot view i)) else None
 due_by Decide view i = if is_free i then backed view i kinds.Accept (proposal_of i.arrivals (open_slot view i)) else None
 
 -- the instance that keeps only what is still needed in a view of a number
@@ -67,4 +72,4 @@ trimmed view i = record i { arrivals = filter (is_needed view (decided_place i) 
 
 -- the instance of the next place
 abbrev pub moved_on : Instance → Instance
-moved_on i = record { id = i.id; place = i.place + 1; decided = false; arrivals = i.arrivals; wrote = false; lock = None }
+moved_on i = record { id = i.id; place = i.place + 1; decided = false; arrivals = i.arrivals; wrote = false; accept = None }

@@ -9,7 +9,8 @@ use Rattle.smart_messages.specs.declared.message.Message.TheVariants.{Ask, Propo
 use Rattle.smart_messages.specs.declared.entry.LogEntry.{LogEntry}
 use Rattle.smart_messages.specs.declared.entry.LogEntry.TheVariants.{Opened, Wrote, Accepted, Decided}
 use Rattle.node_rules.specs.Seals.{digest_of}
-use Rattle.node_rules.specs.Nodes.{Node, view_of, is_wrote}
+use Rattle.node_rules.specs.Nodes as nodes
+use Rattle.node_rules.specs.Nodes.{Node, view_of, decided_place, is_wrote}
 use Rattle.node_rules.specs.Rules.{writing, accepting, deciding}
 use Rattle.consensus_instance.specs.declared.rule.Rule.{Rule}
 use Rattle.consensus_instance.specs.declared.rule.Rule.TheVariants.{Write, Accept, Decide}
@@ -38,14 +39,18 @@ pub record IsInstance (id view place : ℕ) (waiting : Option Batch) (arrivals :
   pub arrivals_same : i.arrivals ≡ arrivals
   -- the book has a write for the open slot
   pub wrote_same : i.wrote ≡ list_any (is_wrote (record { view = view; place = place + 1; regency = regency_of i })) entries
-  -- the lock is the accept of the greatest regency in the book, in this view and at the next place
-  pub lock_same : i.lock ≡ lock_of (record { view = view; place = place + 1; regency = regency_of i }) entries
+  -- what is accepted in the open slot's instance is the accept of the greatest regency in the book
+  pub accept_same : i.accept ≡ lock_of (record { view = view; place = place + 1; regency = regency_of i }) entries
   -- the book has nothing of later places or regencies
   pub none_later : Each (UpTo (record { view = view; place = place + 1; regency = regency_of i })) entries
 
 -- A node has an instance.
 abbrev pub HasInstance : {S : Type 0} → Node S → Instance → Type 0
 HasInstance n i = IsInstance n.id (view_of n).number n.replica.place n.waiting n.arrivals n.entries i
+
+-- the slot behind the last place that is delivered or decided, of which a node's lock is
+abbrev pub lock_slot : {S : Type 0} → Node S → Slot
+lock_slot n = record { view = (view_of n).number; place = decided_place n + 1; regency = nodes.regency_of n }
 
 -- the batch for which a rule is due at a node
 abbrev pub due_at : {S : Type 0} → Rule → Node S → Option Batch

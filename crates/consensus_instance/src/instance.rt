@@ -7,7 +7,7 @@ ghost use Rattle.smart_messages.specs.declared.message.Proposed.{Proposed};
 ghost use Rattle.node_rules.specs.Nodes.{certificate, proposal_of};
 ghost use Rattle.node_rules.specs.Seals.{digest_of};
 ghost use Rattle.node_rules.specs.Arrivals.{is_same_proposal, is_same_vote};
-ghost use Rattle.consensus_instance.specs.Instances.{Instance, regency_of, decided_place, is_free, is_open, open_slot, backed, due_by, trimmed, moved_on};
+ghost use Rattle.consensus_instance.specs.Instances.{Instance, regency_of, decided_place, is_free, is_open, open_slot, locked, backed, due_by, trimmed, moved_on};
 ghost use Rattle.consensus_instance.specs.Locks.{is_locked_in};
 
 use crate::find::{certificate, has_quorum, proposal_of, repeats_proposal, repeats_vote};
@@ -41,7 +41,9 @@ pub struct Instance {
     arrivals: Vec<Message>,
     /// Whether the member has written in the open slot.
     wrote: bool,
-    lock: Option<Lock>,
+    /// What the member has accepted at the place behind the last one delivered, in the greatest
+    /// regency.
+    accept: Option<Lock>,
 }
 
 impl Model for Instance {
@@ -58,7 +60,7 @@ impl Model for Instance {
       decided = i.decided;
       arrivals = i.arrivals.items;
       wrote = i.wrote;
-      lock = i.lock;
+      accept = i.accept;
     } };
 
     ghost invariant = { λ i. (i.decided ≡ true → i.place + 1 < 2 ^ 63) × Each Bears i.arrivals.items };
@@ -67,7 +69,7 @@ impl Model for Instance {
 impl Instance {
     /// The instance of the first place. It takes no memory.
     pub fn begin(alloc: Global, id: MemberId) -> Self
-        ensures { result ≡ record { id = id; place = 0; decided = false; arrivals = []; wrote = false; lock = None } }
+        ensures { result ≡ record { id = id; place = 0; decided = false; arrivals = []; wrote = false; accept = None } }
     {
         Instance {
             id,
@@ -75,7 +77,7 @@ impl Instance {
             decided: false,
             arrivals: Vec::new(alloc),
             wrote: false,
-            lock: None,
+            accept: None,
         }
     }
 
@@ -130,12 +132,13 @@ impl Instance {
         }
     }
 
-    /// The batch that the member accepted at the next place in the greatest regency, if it
-    /// accepted one.
+    /// The batch that the member accepted, in the greatest regency, at the place behind the last one
+    /// that is delivered or decided, if it accepted one (Mod-SMaRt, EDCC 2012). While a decided batch
+    /// waits for its delivery there is none: nothing was accepted behind it.
     pub fn lock(&self) -> Option<Lock>
-        ensures { result ≡ self.now.lock }
+        ensures { result ≡ locked self.now }
     {
-        self.lock
+        if self.decided { None } else { self.accept }
     }
 
     /// Keeps a proposal that states its batch's digest. Without memory nothing is kept.
@@ -219,9 +222,9 @@ impl Instance {
 
     /// The member has accepted the batch of a digest in the open slot.
     pub fn accepted(&mut self, digest: Digest32)
-        ensures { self.new ≡ record self.old { lock = Some (record { regency = regency_of self.old; digest = digest }) } }
+        ensures { self.new ≡ record self.old { accept = Some (record { regency = regency_of self.old; digest = digest }) } }
     {
-        self.lock = Some(Lock {
+        self.accept = Some(Lock {
             regency: self.regency(),
             digest,
         });
@@ -243,7 +246,7 @@ impl Instance {
         self.place = self.place.next();
         self.decided = false;
         self.wrote = false;
-        self.lock = None;
+        self.accept = None;
     }
 
     /// Drops the proposals and votes that are not needed any more in a view.
@@ -258,11 +261,11 @@ impl Instance {
 
     /// Whether the member has accepted in the open slot.
     fn has_accepted(&self) -> bool
-        ensures { result ≡ is_locked_in (regency_of self.now) self.now.lock }
+        ensures { result ≡ is_locked_in (regency_of self.now) self.now.accept }
     {
-        match self.lock {
+        match self.accept {
             None => false,
-            Some(lock) => lock.regency == self.regency(),
+            Some(accept) => accept.regency == self.regency(),
         }
     }
 

@@ -2,7 +2,7 @@
 use smart_base::bytes::Digest32;
 use smart_base::number::Regency;
 
-/// A batch that a member has accepted at the next place, by its digest, and the regency in which it
+/// A batch that a member has accepted at a place, by its digest, and the regency in which it
 /// did: the write that a change of leaders has to heed (Mod-SMaRt, EDCC 2012).
 #[derive(Clone, Copy, Debug, PartialEq, Eq)]
 pub struct Lock {

@@ -174,6 +174,7 @@ fn a_quorum_of_accepts_decides_and_the_next_place_begins(rt: HostRuntime) -> Res
     let alloc = rt.alloc();
     let view = view(alloc)?;
     let (mut instance, digest) = proposed(alloc)?;
+    instance.accepted(digest);
     hear(alloc, &mut instance, VoteKind::Accept, 3, digest)?;
     assert!(rt; is_due(&instance, &view, Rule::Decide));
     let again = vote(alloc, VoteKind::Accept, 3, digest)?;
@@ -182,6 +183,7 @@ fn a_quorum_of_accepts_decides_and_the_next_place_begins(rt: HostRuntime) -> Res
         instance.decided();
         assert!(rt; !is_due(&instance, &view, Rule::Decide));
         assert_eq!(rt; instance.decided_place().get(), 1);
+        assert_eq!(rt; instance.lock(), None);
         instance.delivered();
     }
     assert_eq!(rt; instance.place().get(), 1);

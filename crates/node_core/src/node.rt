@@ -3,6 +3,7 @@ ghost use Rattle.std.specs.Prelude.{◌≡◌, ◌+◌, ◌^◌, ◌<◌, ◌≤
 ghost use Rattle.std.specs.Option.{option_copied};
 ghost use Rattle.node_rules.specs.Nodes.{view_of, regency_of, decided_place, open_slot, is_free, is_open, holding};
 ghost use Rattle.consensus_instance.specs.Locks.{lock_of};
+ghost use Rattle.consensus_instance.specs.Nodes.{lock_slot};
 ghost use Rattle.kept_arrivals.specs.Kept.{trimmed, core_step};
 ghost use Rattle.smart_messages.specs.Messages.{decoded};
 ghost use Rattle.node_rules.specs.Steps.{step_of, outcome_from, reading_outcome, first_leaving, after_first, leaving, released, opened};
@@ -283,10 +284,11 @@ impl<S: Service> NodeCore<S> {
         self.instance.regency()
     }
 
-    /// The batch that the node accepted at its next place in the greatest regency, if it accepted
-    /// one in this view.
+    /// The batch that the node accepted in this view, in the greatest regency, at the place behind the
+    /// last one that is delivered or decided, if it accepted one. While a decided batch waits for its
+    /// delivery there is none.
     pub fn lock(&self) -> Option<Lock>
-        ensures { result ≡ lock_of (open_slot self.now) self.now.entries }
+        ensures { result ≡ lock_of (lock_slot self.now) self.now.entries }
     {
         self.instance.lock()
     }
