@@ -12,7 +12,7 @@ loop-id-preserved g c =
     let left : i < length items = omega (arith, c.loop-id-test.true) in
     let one_more : suc i ≡ i + 1 = omega arith in
     let e : drop i items ≡ c.id-item.result ∷ drop (i + 1) items =
-        drop-cons items i c.id-item.result left
-        ∙ (ap (λ next. get_or items i c.id-item.result ∷ drop next items) one_more ∙ ap (λ id. id ∷ drop (i + 1) items) (sym c.id-item.is)) in
+    drop-cons items i c.id-item.result left
+    ∙ (ap (λ next. get_or items i c.id-item.result ∷ drop next items) one_more ∙ ap (λ id. id ∷ drop (i + 1) items) (sym c.id-item.is)) in
     rw (c.in_ok-push.ensures.items, c.in_ok-first_host.ensures)
     (append_assoc c.loop-id.hosts.items _ _ ∙ (ap (λ ids. c.loop-id.hosts.items ++ hosts_from m view ids) (sym e) ∙ c.loop-id.invariant))
