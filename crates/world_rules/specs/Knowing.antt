@@ -16,6 +16,7 @@ place_told client (outs.Dropped member why) = 0
 place_told client (outs.Counted c have need) = 0
 place_told client (outs.Ignored c why) = 0
 place_told client (outs.Busy c seq) = 0
+place_told client (outs.Absent member) = 0
 place_told client (outs.Idle member) = 0
 place_told client (outs.IdleClient c) = 0
 place_told client (outs.Stands member place number regency) = 0

@@ -1,5 +1,6 @@
 pub mod Secrets
 pub mod Premises
+pub mod Injections
 pub mod Clients
 pub mod Repeats
 pub mod Worlds

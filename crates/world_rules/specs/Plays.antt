@@ -8,7 +8,8 @@ use Rattle.node_rules.specs.Nodes.{Node}
 use Rattle.node_rules.specs.Steps.{Outcome}
 use Rattle.smart_base.specs.declared.party.Party.{Party}
 use Rattle.smart_base.specs.declared.party.Party.TheVariants as parties
-use Rattle.world_rules.specs.Worlds.{World, asks, repeats, tells, settle, settle_all, flows, host_index, at_member, give_number, deliver_each, shows, begun}
+use Rattle.world_rules.specs.Worlds.{World, asks, repeats, tells, settle, settle_all, flows, host_index, at_member, give_number, deliver_each, shows, declares_faulty, declares_rogue, injects, begun}
+use Rattle.world_rules.specs.Injections.{injected_bytes}
 use Rattle.world_rules.specs.declared.line.Line.{Line}
 use Rattle.world_rules.specs.declared.line.Line.TheVariants as lines
 use Rattle.world_rules.specs.declared.line.OutLine.{OutLine}
@@ -34,6 +35,9 @@ is_there w (lines.Deliver members) = list_all (has_member w) members
 is_there w (lines.Settle member) = has_member w member
 is_there w lines.SettleAll = true
 is_there w lines.Show = true
+is_there w (lines.Faulty member) = has_member w member
+is_there w (lines.Rogue client) = true
+is_there w (lines.Inject form) = is_some (injected_bytes w.sent form)
 
 -- the world after a line, with what the line told
 unfoldable pub line_played : {S : Type 0} → (Node S → NodeEvent → Outcome S) → World S → Line → World S
@@ -47,6 +51,9 @@ line_played step w (lines.Deliver members) = deliver_each step members w
 line_played step w (lines.Settle member) = at_member (settle step) member w
 line_played step w lines.SettleAll = settle_all step [] w
 line_played step w lines.Show = shows w
+line_played step w (lines.Faulty member) = declares_faulty member w
+line_played step w (lines.Rogue client) = declares_rogue client w
+line_played step w (lines.Inject form) = injects form w
 
 -- the world between two lines
 abbrev pub rested : {S : Type 0} → World S → World S

@@ -1,12 +1,88 @@
--- What a play takes for granted, and checks as messages get their numbers: no two different batches that it meets have one digest.
-use Rattle.std.specs.Prelude.{Bool, not, ◌&&◌, List, [], ◌∷◌}
+-- What a play takes for granted, and checks as members are declared faulty and as messages get their numbers.
+use Rattle.std.specs.Prelude.{ℕ, ◌==◌, nat_lt, Bool, false, not, ◌&&◌, List, [], ◌∷◌, ◌++◌, length, filter, if◌then◌else◌}
 use Rattle.std.specs.List.{flat_map, list_any}
 use Rattle.smart_base.specs.Lists.{same_bytes}
-use Rattle.smart_messages.specs.Messages.{Batch, batch_text}
+use Rattle.smart_base.specs.Views.{View}
+use Rattle.smart_base.specs.declared.party.Party.{Party}
+use Rattle.smart_base.specs.declared.party.Party.TheVariants as parties
+use Rattle.smart_messages.specs.Forms.{Form, SignedBy, party_of}
+use Rattle.smart_messages.specs.Kinds.{requests, proposals, ballots, answers}
+use Rattle.smart_messages.specs.Messages.{Batch, batch_text, spelling}
 use Rattle.smart_messages.specs.declared.message.Message.{Message}
 use Rattle.smart_messages.specs.declared.message.Message.TheVariants.{Ask, Propose, Vote, Reply}
-use Rattle.node_rules.specs.Seals.{digest_of}
+use Rattle.node_rules.specs.Seals.{digest_of, is_verified}
+use Rattle.world_rules.specs.Secrets.{group_secret}
+use Rattle.world_rules.specs.declared.message.Content.{Content}
+use Rattle.world_rules.specs.declared.message.Content.TheVariants as contents
+use Rattle.world_rules.specs.declared.message.Origin.{Origin}
+use Rattle.world_rules.specs.declared.message.Origin.TheVariants as origins
 use Rattle.world_rules.specs.declared.message.Sent.{Sent}
+
+-- few are faulty
+
+abbrev pub is_among : List ℕ → ℕ → Bool
+is_among ids id = list_any (λ x. x == id) ids
+
+-- more than f members of a view are faulty
+abbrev pub too_many : View → List ℕ → Bool
+too_many view faulty = nat_lt view.f (length (filter (is_among faulty) view.members))
+
+-- nothing is forged
+
+-- a statement: who signed it, and its bytes
+pub record Claim : Type 0 where
+  pub signer : Party
+  pub bytes : List ℕ
+
+-- a statement whose tag verifies. Any other is none
+abbrev pub claims_of : {A : Type 0} → Form A → SignedBy A → List Claim
+claims_of form s =
+    if is_verified form group_secret s
+    then record { signer = party_of form.kind s.signer; bytes = form.spell s.statement } ∷ []
+    else []
+
+-- the statements that stand in a message
+abbrev pub claims_in : Message → List Claim
+claims_in (Ask q) = claims_of requests q
+claims_in (Propose p) = claims_of proposals p.head ++ flat_map (claims_of requests) p.batch
+claims_in (Vote b) = claims_of ballots b
+claims_in (Reply a) = claims_of answers a
+
+abbrev pub claims : Content → List Claim
+claims (contents.Message m) = claims_in m
+claims (contents.Raw bytes) = []
+
+abbrev pub same_party : Party → Party → Bool
+same_party (parties.Member a) (parties.Member b) = a == b
+same_party (parties.Member a) (parties.Client b) = false
+same_party (parties.Client a) (parties.Member b) = false
+same_party (parties.Client a) (parties.Client b) = a == b
+
+abbrev pub same_claim : Claim → Claim → Bool
+same_claim a b = same_party a.signer b.signer && same_bytes a.bytes b.bytes
+
+abbrev pub is_from : Party → Origin → Bool
+is_from party (origins.Node id) = same_party party (parties.Member id)
+is_from party (origins.Client id) = same_party party (parties.Client id)
+is_from party origins.Script = false
+
+-- a statement stands in a message that its signer has sent
+abbrev pub is_stated : List Sent → Claim → Bool
+is_stated sent c = list_any (λ s. is_from c.signer s.origin && list_any (same_claim c) (claims s.content)) sent
+
+-- who signed is declared faulty, or rogue
+abbrev pub is_excused : List ℕ → List ℕ → Party → Bool
+is_excused faulty rogue (parties.Member id) = is_among faulty id
+is_excused faulty rogue (parties.Client id) = is_among rogue id
+
+abbrev pub is_forgery : List ℕ → List ℕ → List Sent → Claim → Bool
+is_forgery faulty rogue sent c = not (is_excused faulty rogue c.signer) && not (is_stated sent c)
+
+-- a content has a statement that its signer, who is not excused, has not sent
+unfoldable pub is_forged : List ℕ → List ℕ → List Sent → Content → Bool
+is_forged faulty rogue sent content = list_any (is_forgery faulty rogue sent) (claims content)
+
+-- no two different batches have one digest
 
 -- the batches in a message
 abbrev pub batches_in : Message → List Batch
@@ -15,14 +91,23 @@ batches_in (Propose p) = p.batch ∷ []
 batches_in (Vote b) = []
 batches_in (Reply a) = []
 
+abbrev pub batches : Content → List Batch
+batches (contents.Message m) = batches_in m
+batches (contents.Raw bytes) = []
+
 -- the batches in all messages that were sent
 abbrev pub met : List Sent → List Batch
-met sent = flat_map (λ s. batches_in s.message) sent
+met sent = flat_map (λ s. batches s.content) sent
 
 -- two different batches with one digest
 abbrev pub clash : Batch → Batch → Bool
 clash a b = same_bytes (digest_of a) (digest_of b) && not (same_bytes (batch_text a) (batch_text b))
 
--- a message holds a batch that clashes with one met before
-unfoldable pub collides : List Sent → Message → Bool
-collides sent message = list_any (λ batch. list_any (clash batch) (met sent)) (batches_in message)
+-- a content holds a batch that clashes with one met before
+unfoldable pub collides : List Sent → Content → Bool
+collides sent content = list_any (λ batch. list_any (clash batch) (met sent)) (batches content)
+
+-- what arrives where a content is given
+abbrev pub bytes_of : Content → List ℕ
+bytes_of (contents.Message m) = spelling m
+bytes_of (contents.Raw bytes) = bytes

@@ -1,5 +1,5 @@
 -- What is promised of a play: one list.
-use Rattle.std.specs.Prelude.{ℕ, ◌+◌, ◌≡◌, ◌<◌, ◌≤◌, ◌⊎◌, List, [], ◌∷◌, length, take, Some}
+use Rattle.std.specs.Prelude.{ℕ, true, ◌+◌, ◌≡◌, ◌<◌, ◌≤◌, ◌⊎◌, List, [], ◌∷◌, length, take, Option, Some, None}
 use Rattle.smart_base.specs.Lists.{Each}
 use Rattle.smart_base.specs.Views.{View}
 use Rattle.smart_messages.specs.Kinds.{requests}
@@ -9,10 +9,13 @@ use Rattle.smart_messages.specs.declared.message.Message.TheVariants.{Ask}
 use Rattle.smart_service.specs.Services.{Meaning}
 use Rattle.node_rules.specs.Replicas.{state, answer, place_of, batch_at, request_at, view_at}
 use Rattle.node_rules.specs.Seals.{signed}
+use Rattle.node_rules.specs.Nodes.{next_place}
 use Rattle.node_rules.specs.Steps.{step_of}
 use Rattle.node_rules.specs.declared.node.Target.TheVariants as targets
 use Rattle.node_rules.specs.declared.node.Delivery.{Delivery}
 use Rattle.world_rules.specs.Secrets.{group_secret}
+use Rattle.world_rules.specs.Premises.{is_among}
+use Rattle.world_rules.specs.declared.message.Content.TheVariants as contents
 use Rattle.world_rules.specs.Worlds.{Host, World, begun}
 use Rattle.world_rules.specs.Plays.{world_after, lines_told}
 use Rattle.world_rules.specs.Knowing.{known_by}
@@ -28,19 +31,26 @@ abbrev pub AtPlaces : ℕ → List Delivery → Type 0
 AtPlaces place [] = Unit {0}
 AtPlaces place (d ∷ ds) = (d.place ≡ place) × AtPlaces (place + 1) ds
 
+-- a batch that waits for its delivery is the list's at its place
+abbrev pub IsNext : List Batch → ℕ → Option Batch → Type 0
+IsNext chosen place None = Unit {0}
+IsNext chosen place (Some batch) = batch_at chosen place ≡ Some batch
+
 -- a host has delivered a front of the list: its replica is the state of that front, it has delivered one batch at each place of it, in
--- order, and that batch is the list's there
+-- order, and that batch is the list's there. So is the batch that it has decided and not delivered
 pub record IsPrefix {S : Type 0} (m : Meaning S) (view : View) (chosen : List Batch) (h : Host S) : Type 0 where
   pub within : h.node.replica.place ≤ length chosen
   pub replica : h.node.replica ≡ state m view (take h.node.replica.place chosen)
   pub count : length h.delivered ≡ h.node.replica.place
   pub places : AtPlaces 1 h.delivered
   pub delivered : Each (λ d. batch_at chosen d.place ≡ Some d.batch) h.delivered
+  pub waiting : IsNext chosen (next_place h.node) h.node.waiting
 
 -- the client that a request names has signed and sent it
 abbrev pub HasAsked : List Sent → Request → Type 0
 HasAsked [] q = ⊥
-HasAsked (s ∷ sent) q = (s ≡ record { origin = origins.Client q.client; to = targets.View; message = Ask (signed requests group_secret q.client q) }) ⊎ HasAsked sent q
+HasAsked (s ∷ sent) q =
+    (s ≡ record { origin = origins.Client q.client; to = Some targets.View; content = contents.Message (Ask (signed requests group_secret q.client q)) }) ⊎ HasAsked sent q
 
 -- a reply that was accepted names the one place of its request in the list, the request there is the one that the client asked, the
 -- reply is the service's answer there, it states the view in force there, and the place is above the one that the request states: the
@@ -58,30 +68,37 @@ abbrev pub Rises : List Acceptance → Type 0
 Rises [] = Unit {0}
 Rises (a ∷ later) = Each (λ b. b.request.client ≡ a.request.client → a.place ≤ b.request.after) later × Rises later
 
--- all nodes deliver fronts of one list, and each reply that a client accepted is the service's answer at its request's one place there,
--- past the place that its request states
+-- a client was declared rogue
+abbrev pub IsRogue : List ℕ → ℕ → Type 0
+IsRogue rogue client = is_among rogue client ≡ true
+
+-- all nodes, those that are gone too, have delivered fronts of one list, and each reply that a client that is not rogue accepted is the
+-- service's answer at its request's one place there, past the place that its request states
 pub record OneList {S : Type 0} (m : Meaning S) (w : World S) : Type 0 where
   pub hosts : Each (IsPrefix m w.view w.chosen) w.hosts
-  pub accepted : Each (IsRight m w.view w.sent w.chosen) w.accepted
+  pub accepted : Each (λ a. IsRogue w.rogue a.request.client ⊎ IsRight m w.view w.sent w.chosen a) w.accepted
   pub rising : Rises w.accepted
 
--- a transcript line that tells of an accepted reply names the one place of its request in the list, and tells the service's answer there
-abbrev pub IsAnswered : {S : Type 0} → Meaning S → View → List Batch → OutLine → Type 0
-IsAnswered m view chosen (outs.Accepted client seq place index reply) = (place_of m view chosen client seq ≡ Some (place, index)) × (answer m view chosen place index ≡ Some reply)
-IsAnswered m view chosen (outs.Group members faulty app) = Unit {0}
-IsAnswered m view chosen (outs.Sent number origin summary) = Unit {0}
-IsAnswered m view chosen (outs.Decided member place) = Unit {0}
-IsAnswered m view chosen (outs.Delivered member place executed) = Unit {0}
-IsAnswered m view chosen (outs.Dropped member why) = Unit {0}
-IsAnswered m view chosen (outs.Counted client have need) = Unit {0}
-IsAnswered m view chosen (outs.Ignored client why) = Unit {0}
-IsAnswered m view chosen (outs.Busy client seq) = Unit {0}
-IsAnswered m view chosen (outs.Idle member) = Unit {0}
-IsAnswered m view chosen (outs.IdleClient client) = Unit {0}
-IsAnswered m view chosen (outs.Learned client place) = Unit {0}
-IsAnswered m view chosen (outs.Stands member place number regency) = Unit {0}
-IsAnswered m view chosen (outs.Seen client place) = Unit {0}
-IsAnswered m view chosen (outs.End lines messages) = Unit {0}
+-- a transcript line that tells of a reply that a client that is not rogue accepted names the one place of its request in the list, and
+-- tells the service's answer there
+abbrev pub IsAnswered : {S : Type 0} → Meaning S → View → List ℕ → List Batch → OutLine → Type 0
+IsAnswered m view rogue chosen (outs.Accepted client seq place index reply) =
+    IsRogue rogue client ⊎ ((place_of m view chosen client seq ≡ Some (place, index)) × (answer m view chosen place index ≡ Some reply))
+IsAnswered m view rogue chosen (outs.Group members faulty app) = Unit {0}
+IsAnswered m view rogue chosen (outs.Sent number origin summary) = Unit {0}
+IsAnswered m view rogue chosen (outs.Decided member place) = Unit {0}
+IsAnswered m view rogue chosen (outs.Delivered member place executed) = Unit {0}
+IsAnswered m view rogue chosen (outs.Dropped member why) = Unit {0}
+IsAnswered m view rogue chosen (outs.Counted client have need) = Unit {0}
+IsAnswered m view rogue chosen (outs.Ignored client why) = Unit {0}
+IsAnswered m view rogue chosen (outs.Busy client seq) = Unit {0}
+IsAnswered m view rogue chosen (outs.Absent member) = Unit {0}
+IsAnswered m view rogue chosen (outs.Idle member) = Unit {0}
+IsAnswered m view rogue chosen (outs.IdleClient client) = Unit {0}
+IsAnswered m view rogue chosen (outs.Learned client place) = Unit {0}
+IsAnswered m view rogue chosen (outs.Stands member place number regency) = Unit {0}
+IsAnswered m view rogue chosen (outs.Seen client place) = Unit {0}
+IsAnswered m view rogue chosen (outs.End lines messages) = Unit {0}
 
 -- a request was among those sent, or it states a place no less than each one that the transcript told its client
 abbrev pub IsPast : List Sent → List OutLine → Request → Type 0
@@ -98,5 +115,5 @@ world_at m view ls k = world_after (step_of m) (begun m view) (take k ls)
 pub record OneListThroughout {S : Type 0} (m : Meaning S) (view : View) (ls : List Line) : Type 0 where
   pub one_list : (k : ℕ) → OneList m (world_at m view ls k)
   pub grows : (j k : ℕ) → j ≤ k → take (length (world_at m view ls j).chosen) (world_at m view ls k).chosen ≡ (world_at m view ls j).chosen
-  pub told : (k : ℕ) → Each (IsAnswered m view (world_at m view ls k).chosen) (lines_told (step_of m) (begun m view) (take k ls))
+  pub told : (k : ℕ) → Each (IsAnswered m view (world_at m view ls k).rogue (world_at m view ls k).chosen) (lines_told (step_of m) (begun m view) (take k ls))
   pub past_known : (j k : ℕ) → Each (λ a. IsPast (world_at m view ls j).sent (lines_told (step_of m) (begun m view) (take j ls)) a.request) (world_at m view ls k).accepted

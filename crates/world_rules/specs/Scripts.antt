@@ -1,5 +1,5 @@
 -- What the lines of a script mean, or what is wrong with them.
-use Rattle.std.specs.Prelude.{ℕ, zero, suc, ◌+◌, ◌*◌, ◌^◌, ◌==◌, nat_le, Bool, true, not, ◌&&◌, List, [], ◌∷◌, length, take, if◌then◌else◌, Option, Some, None, Result, Ok, Err, codes}
+use Rattle.std.specs.Prelude.{ℕ, zero, suc, ◌+◌, ◌-◌, ◌*◌, ◌^◌, get_or, drop, replicate, ◌++◌, ◌==◌, nat_le, Bool, true, not, ◌&&◌, List, [], ◌∷◌, length, take, if◌then◌else◌, Option, Some, None, Result, Ok, Err, codes}
 use Rattle.std.specs.List.{list_all}
 use Rattle.smart_base.specs.Decimals.{number_of}
 use Rattle.smart_base.specs.Lists.{same_bytes}
@@ -8,6 +8,12 @@ use Rattle.smart_base.specs.declared.party.Party.{Party}
 use Rattle.smart_base.specs.declared.party.Party.TheVariants as parties
 use Rattle.world_rules.specs.declared.line.App.{App}
 use Rattle.world_rules.specs.declared.line.App.TheVariants as apps
+use Rattle.smart_messages.specs.declared.statement.Slot.{Slot}
+use Rattle.smart_messages.specs.declared.statement.Answer.{Answer}
+use Rattle.smart_messages.specs.declared.statement.VoteKind.{VoteKind}
+use Rattle.smart_messages.specs.declared.statement.VoteKind.TheVariants.{Write, Accept}
+use Rattle.world_rules.specs.declared.line.Injection.{Injection}
+use Rattle.world_rules.specs.declared.line.Injection.TheVariants as forms
 use Rattle.world_rules.specs.declared.line.Line.{Line}
 use Rattle.world_rules.specs.declared.line.Line.TheVariants as lines
 use Rattle.world_rules.specs.declared.line.Kind.{Kind}
@@ -40,7 +46,7 @@ abbrev pub words_in : List ℕ → List (List ℕ)
 words_in [] = [] ∷ []
 words_in (b ∷ bs) = if b == 32 then [] ∷ words_in bs else with_byte b (words_in bs)
 
--- what stands behind the first two spaces
+-- what stands behind the first space
 abbrev pub behind_space : List ℕ → List ℕ
 behind_space [] = []
 behind_space (b ∷ bs) = if b == 32 then bs else behind_space bs
@@ -141,6 +147,151 @@ abbrev pub show_line : List (List ℕ) → Result Line Kind
 show_line [] = Ok lines.Show
 show_line (word ∷ words) = Err kinds.Count
 
+-- a member, or a client, that breaks the rules
+
+abbrev pub faulty_line : List (List ℕ) → Result Line Kind
+faulty_line [] = Err kinds.Count
+faulty_line (member ∷ []) = or_number lines.Faulty (member_of member)
+faulty_line (member ∷ next ∷ more) = Err kinds.Count
+
+abbrev pub rogue_line : List (List ℕ) → Result Line Kind
+rogue_line [] = Err kinds.Count
+rogue_line (client ∷ []) = or_number lines.Rogue (client_of client)
+rogue_line (client ∷ next ∷ more) = Err kinds.Count
+
+-- what is injected. The numbers of a form have their ranges, one after the other
+
+-- the least and the greatest of numbers
+pub record Range : Type 0 where
+  pub least : ℕ
+  pub most : ℕ
+
+abbrev pub range : ℕ → ℕ → Range
+range least most = record { least = least; most = most }
+
+-- as many numbers as there are ranges, each in its own
+abbrev pub numbers_in : List Range → List (List ℕ) → Option (List ℕ)
+numbers_in [] words = Some []
+numbers_in (r ∷ ranges) [] = None
+numbers_in (r ∷ ranges) (word ∷ words) = with_value (number_in r.least r.most word) (numbers_in ranges words)
+
+abbrev pub members : Range
+members = range 1 65535
+
+abbrev pub small_numbers : Range
+small_numbers = range 0 (2 ^ 32 - 1)
+
+-- places, and the numbers of requests
+abbrev pub places : Range
+places = range 1 (2 ^ 63 - 1)
+
+abbrev pub numbers_of_messages : Range
+numbers_of_messages = range 1 (2 ^ 24)
+
+-- S V K R
+abbrev pub of_slot : List Range
+of_slot = members ∷ small_numbers ∷ places ∷ small_numbers ∷ []
+
+abbrev pub nth : List ℕ → ℕ → ℕ
+nth numbers i = get_or numbers i 0
+
+-- the slot that V K R name, behind S
+abbrev pub slot_in : List ℕ → Slot
+slot_in numbers = record { view = nth numbers 1; place = nth numbers 2; regency = nth numbers 3 }
+
+-- numbers, or they are wrong
+abbrev pub form_of : (List ℕ → Result Injection Kind) → Option (List ℕ) → Result Injection Kind
+form_of make None = Err kinds.Number
+form_of make (Some numbers) = make numbers
+
+-- what stands behind some spaces
+abbrev pub behind_spaces : ℕ → List ℕ → List ℕ
+behind_spaces zero bytes = bytes
+behind_spaces (suc n) bytes = behind_spaces n (behind_space bytes)
+
+-- an operation or a reply has at most 4,096 bytes
+abbrev pub with_text : (List ℕ → Injection) → List ℕ → Result Injection Kind
+with_text make text = if nat_le (length text) 4096 then Ok (make text) else Err kinds.Form
+
+-- ask C SEQ AFTER OP: the operation is the rest of the line
+abbrev pub ask_form : List ℕ → List (List ℕ) → Result Injection Kind
+ask_form bytes words =
+    if nat_le 4 (length words)
+    then form_of (λ ns. with_text (forms.Ask (nth ns 0) (nth ns 1) (nth ns 2)) (behind_spaces 5 bytes))
+    (numbers_in (range 1 1024 ∷ places ∷ range 0 (2 ^ 64 - 1) ∷ []) words)
+    else Err kinds.Count
+
+-- propose S V K R NUM..: 1 to 64 requests
+abbrev pub propose_form : List (List ℕ) → Result Injection Kind
+propose_form words =
+    if nat_le 5 (length words) && nat_le (length words) 68
+    then form_of (λ ns. Ok (forms.Propose (nth ns 0) (slot_in ns) (drop 4 ns)))
+    (numbers_in (of_slot ++ replicate (length words - 4) numbers_of_messages) words)
+    else Err kinds.Count
+
+-- write or accept S V K R NUM
+abbrev pub vote_form : VoteKind → List (List ℕ) → Result Injection Kind
+vote_form kind words =
+    if length words == 5
+    then form_of (λ ns. Ok (forms.Vote kind (nth ns 0) (slot_in ns) (nth ns 4))) (numbers_in (of_slot ++ numbers_of_messages ∷ []) words)
+    else Err kinds.Count
+
+-- reply S V K I C SEQ TEXT: the text is the rest of the line
+abbrev pub answer_in : List ℕ → List ℕ → Answer
+answer_in ns text = record { view = nth ns 1; place = nth ns 2; index = nth ns 3; client = nth ns 4; seq = nth ns 5; reply = text }
+
+abbrev pub reply_form : List ℕ → List (List ℕ) → Result Injection Kind
+reply_form bytes words =
+    if nat_le 7 (length words)
+    then form_of (λ ns. with_text (λ text. forms.Reply (nth ns 0) (answer_in ns text)) (behind_spaces 8 bytes))
+    (numbers_in (members ∷ small_numbers ∷ places ∷ range 0 65535 ∷ range 1 1024 ∷ places ∷ []) words)
+    else Err kinds.Count
+
+-- the number of a digit from 0 to 9 or from a to f
+abbrev pub hex_value : ℕ → Option ℕ
+hex_value b =
+    if nat_le 48 b && nat_le b 57 then Some (b - 48)
+    else if nat_le 97 b && nat_le b 102 then Some (b - 87)
+    else None
+
+abbrev pub byte_by : Option ℕ → Option ℕ → Option ℕ
+byte_by None low = None
+byte_by (Some high) None = None
+byte_by (Some high) (Some low) = Some (16 * high + low)
+
+-- the bytes that pairs of digits are
+abbrev pub hex_bytes : List ℕ → Option (List ℕ)
+hex_bytes [] = Some []
+hex_bytes (high ∷ []) = None
+hex_bytes (high ∷ low ∷ digits) = with_value (byte_by (hex_value high) (hex_value low)) (hex_bytes digits)
+
+-- raw HEX: one byte or more
+abbrev pub raw_by : Option (List ℕ) → Result Injection Kind
+raw_by None = Err kinds.Form
+raw_by (Some []) = Err kinds.Form
+raw_by (Some (b ∷ bs)) = Ok (forms.Raw (b ∷ bs))
+
+abbrev pub raw_form : List (List ℕ) → Result Injection Kind
+raw_form [] = Err kinds.Count
+raw_form (word ∷ []) = raw_by (hex_bytes word)
+raw_form (word ∷ next ∷ more) = Err kinds.Count
+
+-- a form by its first word
+abbrev pub form_by : List ℕ → List (List ℕ) → Result Injection Kind
+form_by bytes [] = Err kinds.Count
+form_by bytes (word ∷ words) =
+    if same_bytes word (codes "ask") then ask_form bytes words
+    else if same_bytes word (codes "propose") then propose_form words
+    else if same_bytes word (codes "write") then vote_form Write words
+    else if same_bytes word (codes "accept") then vote_form Accept words
+    else if same_bytes word (codes "reply") then reply_form bytes words
+    else if same_bytes word (codes "raw") then raw_form words
+    else Err kinds.Word
+
+abbrev pub injecting : Result Injection Kind → Result Line Kind
+injecting (Ok form) = Ok (lines.Inject form)
+injecting (Err kind) = Err kind
+
 abbrev pub line_by : List ℕ → List (List ℕ) → Result Line Kind
 line_by bytes [] = Err kinds.Word
 line_by bytes (word ∷ words) =
@@ -152,6 +303,9 @@ line_by bytes (word ∷ words) =
     else if same_bytes word (codes "deliver") then deliver_line words
     else if same_bytes word (codes "settle") then settle_line words
     else if same_bytes word (codes "show") then show_line words
+    else if same_bytes word (codes "faulty") then faulty_line words
+    else if same_bytes word (codes "rogue") then rogue_line words
+    else if same_bytes word (codes "inject") then injecting (form_by bytes words)
     else Err kinds.Word
 
 -- a line behind the header, or the first kind of what is wrong with it

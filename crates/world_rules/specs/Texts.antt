@@ -48,6 +48,7 @@ after_space n = 32 ∷ decimal n
 abbrev pub origin_text : Origin → List ℕ
 origin_text (origins.Node id) = 110 ∷ decimal id
 origin_text (origins.Client id) = 99 ∷ decimal id
+origin_text origins.Script = codes "x"
 
 abbrev pub summary_text : Summary → List ℕ
 summary_text (summaries.Ask c s after) = codes "ask" ++ (after_space c ++ (after_space s ++ after_space after))
@@ -55,6 +56,7 @@ summary_text (summaries.Propose v k r count) = codes "propose" ++ (after_space v
 summary_text (summaries.Write v k r) = codes "write" ++ (after_space v ++ (after_space k ++ after_space r))
 summary_text (summaries.Accept v k r) = codes "accept" ++ (after_space v ++ (after_space k ++ after_space r))
 summary_text (summaries.Reply c s k i) = codes "reply" ++ (after_space c ++ (after_space s ++ (after_space k ++ after_space i)))
+summary_text summaries.Raw = codes "raw"
 
 abbrev pub app_text : App → List ℕ
 app_text apps.Count = codes "count"
@@ -77,6 +79,7 @@ words_of (outs.Counted id have need) = codes "counted c" ++ (decimal id ++ (afte
 words_of (outs.Accepted id s k i text) = codes "accepted c" ++ (decimal id ++ (after_space s ++ (after_space k ++ (after_space i ++ (32 ∷ flat_map shown text)))))
 words_of (outs.Ignored id why) = codes "ignored c" ++ (decimal id ++ (32 ∷ ignored_text why))
 words_of (outs.Busy id s) = codes "busy c" ++ (decimal id ++ after_space s)
+words_of (outs.Absent id) = codes "absent n" ++ decimal id
 words_of (outs.Idle id) = codes "idle n" ++ decimal id
 words_of (outs.IdleClient id) = codes "idle c" ++ decimal id
 words_of (outs.Learned id k) = codes "told c" ++ (decimal id ++ after_space k)

@@ -1,13 +1,13 @@
 -- The world: all hosts and clients, each message that was ever sent, and the list of batches that was chosen. What happens in it is a
 -- function from world to world. The step of a node is an argument.
-use Rattle.std.specs.Prelude.{ℕ, zero, suc, ◌+◌, ◌^◌, ◌==◌, nat_lt, List, [], ◌∷◌, ◌++◌, length, if◌then◌else◌, Option, Some, None, is_some, slice_get, slice_set, Result, Ok, Err, nat_le, ◌&&◌, ◌-◌, Bool, true, map}
+use Rattle.std.specs.Prelude.{ℕ, zero, suc, ◌+◌, ◌^◌, ◌==◌, nat_lt, List, [], ◌∷◌, ◌++◌, length, if◌then◌else◌, Option, Some, None, is_some, slice_get, slice_set, Result, Ok, Err, nat_le, ◌&&◌, ◌-◌, Bool, true}
 use Rattle.std.specs.List.{flat_map, list_any, position}
 use Rattle.std.specs.Option.{option_and_then}
 use Rattle.smart_base.specs.Lists.{or_else}
 use Rattle.smart_base.specs.Views.{View}
 use Rattle.smart_messages.specs.Forms.{SignedBy}
 use Rattle.smart_messages.specs.Kinds.{requests}
-use Rattle.smart_messages.specs.Messages.{Batch, spelling, decoded}
+use Rattle.smart_messages.specs.Messages.{Batch, decoded}
 use Rattle.smart_messages.specs.declared.statement.Request.{Request}
 use Rattle.smart_messages.specs.declared.statement.VoteKind.{VoteKind}
 use Rattle.smart_messages.specs.declared.statement.VoteKind.TheVariants.{Write, Accept}
@@ -32,7 +32,8 @@ use Rattle.node_rules.specs.declared.node.Fired.{Fired}
 use Rattle.node_rules.specs.declared.node.Fired.TheVariants as fires
 use Rattle.world_rules.specs.Repeats.{until_rest, each_from}
 use Rattle.world_rules.specs.Secrets.{group_secret}
-use Rattle.world_rules.specs.Premises.{collides}
+use Rattle.world_rules.specs.Premises.{is_among, too_many, is_forged, collides, bytes_of}
+use Rattle.world_rules.specs.Injections.{injected}
 use Rattle.client_quorum.specs.Clients.{fresh, request_of, asking, learning, after_heard}
 use Rattle.world_rules.specs.Clients.{heard}
 use Rattle.client_quorum.specs.declared.client.Client.{Client}
@@ -45,7 +46,10 @@ use Rattle.world_rules.specs.declared.message.Origin.TheVariants as origins
 use Rattle.world_rules.specs.declared.message.Sent.{Sent}
 use Rattle.world_rules.specs.declared.message.Ending.{Ending}
 use Rattle.world_rules.specs.declared.message.Ending.TheVariants.{Limit, Premise}
-use Rattle.world_rules.specs.declared.message.Premise.TheVariants.{Collision}
+use Rattle.world_rules.specs.declared.message.Premise.TheVariants.{TooManyFaulty, Forged, Collision}
+use Rattle.world_rules.specs.declared.message.Content.{Content}
+use Rattle.world_rules.specs.declared.message.Content.TheVariants as contents
+use Rattle.world_rules.specs.declared.line.Injection.{Injection}
 use Rattle.world_rules.specs.declared.line.Summary.{Summary}
 use Rattle.world_rules.specs.declared.line.Summary.TheVariants as summaries
 use Rattle.world_rules.specs.declared.line.OutLine.{OutLine}
@@ -73,6 +77,9 @@ pub record World (S : Type 0) : Type 0 where
   pub accepted : List Acceptance
   -- the transcript of the present script line
   pub told : List OutLine
+  -- the members that were ever declared faulty, and the clients that were declared rogue
+  pub faulty : List ℕ
+  pub rogue : List ℕ
   -- what has ended the play
   pub ending : Option Ending
 
@@ -91,17 +98,25 @@ summary_of (Reply a) = summaries.Reply a.statement.client a.statement.seq a.stat
 abbrev pub telling : {S : Type 0} → World S → OutLine → World S
 telling w line = record w { told = w.told ++ line ∷ [] }
 
--- a message leaves and takes the next number, if there is one. A batch in it that clashes with one met before ends the play, be there a
--- number or not
-unfoldable pub sends : {S : Type 0} → World S → Origin → Target → Message → World S
-sends w origin to message =
-    if collides w.sent message then record w { ending = Some (Premise Collision) }
+abbrev pub summary : Content → Summary
+summary (contents.Message m) = summary_of m
+summary (contents.Raw bytes) = summaries.Raw
+
+-- what is sent takes the next number, if there is one. A batch in it that clashes with one met before ends the play, be there a number
+-- or not
+unfoldable pub posts : {S : Type 0} → World S → Sent → World S
+posts w s =
+    if collides w.sent s.content then record w { ending = Some (Premise Collision) }
     else if nat_lt (length w.sent) (2 ^ 24)
     then record w {
-      sent = w.sent ++ record { origin = origin; to = to; message = message } ∷ [];
-      told = w.told ++ outs.Sent (length w.sent + 1) origin (summary_of message) ∷ [];
+      sent = w.sent ++ s ∷ [];
+      told = w.told ++ outs.Sent (length w.sent + 1) s.origin (summary s.content) ∷ [];
     }
     else record w { ending = or_else w.ending (Some Limit) }
+
+-- a message leaves
+abbrev pub sends : {S : Type 0} → World S → Origin → Target → Message → World S
+sends w origin to message = posts w (record { origin = origin; to = Some to; content = contents.Message message })
 
 abbrev pub sends_all : {S : Type 0} → ℕ → World S → List Held → World S
 sends_all id w [] = w
@@ -148,9 +163,17 @@ stepped w i h o =
     })
     (leaving o.node.firm o.node.held)
 
+-- the node of a faulty member is gone
+abbrev pub is_gone : {S : Type 0} → World S → ℕ → Bool
+is_gone w member = is_among w.faulty member
+
+abbrev pub is_rogue : {S : Type 0} → World S → ℕ → Bool
+is_rogue w client = is_among w.rogue client
+
+-- nothing happens any more at a node that is gone
 abbrev pub host_takes : {S : Type 0} → (Node S → NodeEvent → Outcome S) → ℕ → NodeEvent → World S → Option (Host S) → World S
 host_takes step i event w None = w
-host_takes step i event w (Some h) = stepped w i h (step h.node event)
+host_takes step i event w (Some h) = if is_gone w h.node.id then w else stepped w i h (step h.node event)
 
 -- the node at an index takes an event; nothing happens any more in a world that has ended
 unfoldable pub node_takes : {S : Type 0} → (Node S → NodeEvent → Outcome S) → ℕ → NodeEvent → World S → World S
@@ -192,9 +215,22 @@ at_listed members f i w = where_listed members f i w (slice_get w.hosts i)
 abbrev pub each_listed : {S : Type 0} → List ℕ → (ℕ → World S → World S) → World S → World S
 each_listed members f w = each_from (at_listed members f) (length w.hosts) 0 w
 
+-- what a line tells of a member whose node is gone: that it is absent, if it names the member
+abbrev pub told_absent : List ℕ → ℕ → List OutLine
+told_absent [] member = []
+told_absent (m ∷ ms) member = outs.Absent member ∷ []
+
+abbrev pub telling_all : {S : Type 0} → World S → List OutLine → World S
+telling_all w lines = record w { told = w.told ++ lines }
+
+abbrev pub settle_present : {S : Type 0} → (Node S → NodeEvent → Outcome S) → List ℕ → ℕ → World S → Option (Host S) → World S
+settle_present step members i w None = w
+settle_present step members i w (Some h) =
+    if is_gone w h.node.id then telling_all w (told_absent members h.node.id) else settle step i w
+
 -- each listed node settles, ascending
 abbrev pub settle_all : {S : Type 0} → (Node S → NodeEvent → Outcome S) → List ℕ → World S → World S
-settle_all step members w = each_listed members (settle step) w
+settle_all step members w = each_listed members (λ i v. settle_present step members i v (slice_get v.hosts i)) w
 
 -- the node at an index takes the bytes of a message and settles
 unfoldable pub gives : {S : Type 0} → (Node S → NodeEvent → Outcome S) → List ℕ → ℕ → World S → World S
@@ -249,9 +285,10 @@ client_asks w i c op None =
     (Ask (signed requests group_secret c.id (request_of c op)))
     else w
 
+-- a rogue client does nothing that it is told to
 abbrev pub ask_found : {S : Type 0} → World S → ℕ → List ℕ → Option Client → World S
 ask_found w i op None = w
-ask_found w i op (Some c) = client_asks w i c op c.waiting
+ask_found w i op (Some c) = if is_rogue w c.id then telling w (outs.IdleClient c.id) else client_asks w i c op c.waiting
 
 unfoldable pub asks : {S : Type 0} → ℕ → List ℕ → World S → World S
 asks i op w = if is_some w.ending then w else ask_found w i op (slice_get w.clients i)
@@ -263,7 +300,7 @@ client_repeats w c (Some q) = sends w (origins.Client c.id) targets.View (Ask (s
 
 abbrev pub repeat_found : {S : Type 0} → World S → Option Client → World S
 repeat_found w None = w
-repeat_found w (Some c) = client_repeats w c c.waiting
+repeat_found w (Some c) = if is_rogue w c.id then telling w (outs.IdleClient c.id) else client_repeats w c c.waiting
 
 unfoldable pub repeats : {S : Type 0} → ℕ → World S → World S
 repeats i w = if is_some w.ending then w else repeat_found w (slice_get w.clients i)
@@ -275,7 +312,7 @@ learns w place i (Some c) = telling (record w { clients = slice_set w.clients i 
 
 abbrev pub learns_from : {S : Type 0} → World S → Option Client → ℕ → World S
 learns_from w None i = w
-learns_from w (Some c) i = learns w c.seen i (slice_get w.clients i)
+learns_from w (Some c) i = if is_rogue w c.id then telling w (outs.IdleClient c.id) else learns w c.seen i (slice_get w.clients i)
 
 -- a client is told of the greatest place that another knows
 unfoldable pub tells : {S : Type 0} → ℕ → ℕ → World S → World S
@@ -283,13 +320,15 @@ tells from to w = if is_some w.ending then w else learns_from w (slice_get w.cli
 
 -- flow
 
-abbrev pub goes : {S : Type 0} → (Node S → NodeEvent → Outcome S) → List ℕ → World S → List ℕ → Target → World S
-goes step members w bytes targets.View = give_all step members bytes w
-goes step members w bytes (targets.Client id) = client_takes id bytes w
+-- what is for nobody is passed over
+abbrev pub goes : {S : Type 0} → (Node S → NodeEvent → Outcome S) → List ℕ → World S → List ℕ → Option Target → World S
+goes step members w bytes None = w
+goes step members w bytes (Some targets.View) = give_all step members bytes w
+goes step members w bytes (Some (targets.Client id)) = client_takes id bytes w
 
 abbrev pub flow_sent : {S : Type 0} → (Node S → NodeEvent → Outcome S) → List ℕ → World S → Option Sent → World S
 flow_sent step members w None = w
-flow_sent step members w (Some s) = goes step members (record w { mark = w.mark + 1 }) (spelling s.message) s.to
+flow_sent step members w (Some s) = goes step members (record w { mark = w.mark + 1 }) (bytes_of s.content) s.to
 
 -- the next message behind the mark is given to those of the listed that it is for, or to its client
 unfoldable pub flow_once : {S : Type 0} → (Node S → NodeEvent → Outcome S) → List ℕ → World S → World S
@@ -309,9 +348,9 @@ abbrev pub at_index : {S : Type 0} → (ℕ → World S → World S) → World S
 at_index f w None = w
 at_index f w (Some i) = f i w
 
--- what happens at a member's host
+-- what happens at a member's host, unless its node is gone
 abbrev pub at_member : {S : Type 0} → (ℕ → World S → World S) → ℕ → World S → World S
-at_member f member w = at_index f w (host_index w.hosts member)
+at_member f member w = if is_gone w member then telling w (outs.Absent member) else at_index f w (host_index w.hosts member)
 
 -- bytes arrive at a member's node or at a client
 abbrev pub arrives : {S : Type 0} → (Node S → NodeEvent → Outcome S) → List ℕ → Party → World S → World S
@@ -324,7 +363,7 @@ arrives_at step bytes (to ∷ tos) w = arrives_at step bytes tos (arrives step b
 
 abbrev pub sent_arrives : {S : Type 0} → (Node S → NodeEvent → Outcome S) → List Party → World S → Option Sent → World S
 sent_arrives step to w None = w
-sent_arrives step to w (Some s) = arrives_at step (spelling s.message) to w
+sent_arrives step to w (Some s) = arrives_at step (bytes_of s.content) to w
 
 -- the message of a number arrives at each of some, in order
 abbrev pub give_number : {S : Type 0} → (Node S → NodeEvent → Outcome S) → ℕ → List Party → World S → World S
@@ -335,12 +374,10 @@ abbrev pub told_idle : ℕ → List Fired → List OutLine
 told_idle id [] = outs.Idle id ∷ []
 told_idle id (rule ∷ rules) = []
 
-abbrev pub telling_all : {S : Type 0} → World S → List OutLine → World S
-telling_all w lines = record w { told = w.told ++ lines }
-
 abbrev pub host_delivers : {S : Type 0} → (Node S → NodeEvent → Outcome S) → ℕ → World S → Option (Host S) → World S
 host_delivers step i w None = w
-host_delivers step i w (Some h) = telling_all (stepped w i h (step h.node Deliver)) (told_idle h.node.id (step h.node Deliver).fired)
+host_delivers step i w (Some h) =
+    if is_gone w h.node.id then w else telling_all (stepped w i h (step h.node Deliver)) (told_idle h.node.id (step h.node Deliver).fired)
 
 -- the node at an index delivers the batch that waits
 unfoldable pub deliver_at : {S : Type 0} → (Node S → NodeEvent → Outcome S) → ℕ → World S → World S
@@ -353,15 +390,46 @@ deliver_each step (m ∷ ms) w = deliver_each step ms (at_member (deliver_at ste
 
 -- what is shown
 
-abbrev pub shown_host : {S : Type 0} → Host S → OutLine
-shown_host h = outs.Stands h.node.id h.node.replica.place (view_of h.node).number (regency_of h.node)
+-- a node that is not gone
+abbrev pub shown_host : {S : Type 0} → List ℕ → Host S → List OutLine
+shown_host faulty h =
+    if is_among faulty h.node.id then [] else outs.Stands h.node.id h.node.replica.place (view_of h.node).number (regency_of h.node) ∷ []
 
 -- a client that has asked
 abbrev pub shown_client : Client → List OutLine
 shown_client c = if nat_lt 0 c.last then outs.Seen c.id c.seen ∷ [] else []
 
 abbrev pub shows : {S : Type 0} → World S → World S
-shows w = telling_all w (map shown_host w.hosts ++ flat_map shown_client w.clients)
+shows w = telling_all w (flat_map (shown_host w.faulty) w.hosts ++ flat_map shown_client w.clients)
+
+-- who breaks the rules
+
+-- a member is faulty from now on, unless that would be too many
+abbrev pub with_faulty : {S : Type 0} → World S → List ℕ → World S
+with_faulty w faulty = if too_many w.view faulty then record w { ending = Some (Premise TooManyFaulty) } else record w { faulty = faulty }
+
+abbrev pub turns_faulty : {S : Type 0} → World S → ℕ → World S
+turns_faulty w member = if is_gone w member then w else with_faulty w (w.faulty ++ member ∷ [])
+
+unfoldable pub declares_faulty : {S : Type 0} → ℕ → World S → World S
+declares_faulty member w = if is_some w.ending then w else turns_faulty w member
+
+-- a client is rogue from now on
+abbrev pub turns_rogue : {S : Type 0} → World S → ℕ → World S
+turns_rogue w client = if is_rogue w client then w else record w { rogue = w.rogue ++ client ∷ [] }
+
+unfoldable pub declares_rogue : {S : Type 0} → ℕ → World S → World S
+declares_rogue client w = if is_some w.ending then w else turns_rogue w client
+
+-- what the script injects takes a number, and is for nobody
+abbrev pub injects_content : {S : Type 0} → World S → Option Content → World S
+injects_content w None = w
+injects_content w (Some content) =
+    if is_forged w.faulty w.rogue w.sent content then record w { ending = Some (Premise Forged) }
+    else posts w (record { origin = origins.Script; to = None; content = content })
+
+unfoldable pub injects : {S : Type 0} → Injection → World S → World S
+injects form w = if is_some w.ending then w else injects_content w (injected w.sent form)
 
 -- the host of a member, if it is one
 abbrev pub host_of : {S : Type 0} → List (Host S) → ℕ → Option (Host S)
@@ -390,5 +458,7 @@ begun m view =
       chosen = [];
       accepted = [];
       told = [];
+      faulty = [];
+      rogue = [];
       ending = None;
     }

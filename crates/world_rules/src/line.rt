@@ -6,7 +6,8 @@ use smart_base::bytes::Payload;
 use smart_base::name::{ClientId, MemberId};
 use smart_base::number::{Place, Regency, ViewNo};
 use smart_base::party::Party;
-use smart_base::sequence::Sequence;
+use smart_base::sequence::{Bytes, Sequence};
+use smart_messages::statement::{Answer, Slot, VoteKind};
 
 /// The service that a script's header names.
 #[derive(Clone, Copy, Debug, PartialEq, Eq)]
@@ -41,6 +42,46 @@ pub enum Line {
     SettleAll,
     /// `show`: where all members stand, and what all clients that asked have seen.
     Show,
+    /// `faulty M`: the member is faulty from now on, and its node is gone.
+    Faulty { member: MemberId },
+    /// `rogue C`: the client is rogue from now on.
+    Rogue { client: ClientId },
+    /// `inject FORM`: a numbered message that is for nobody.
+    Inject(Injection),
+}
+
+/// A message that a script makes up. It is signed by the signer that it names.
+#[derive(Drop)]
+pub enum Injection {
+    /// `ask C SEQ AFTER OP`.
+    Ask {
+        client: ClientId,
+        seq: u64,
+        after: u64,
+        op: Payload,
+    },
+    /// `propose S V K R NUM..`: a proposal of the requests of these messages.
+    Propose {
+        signer: MemberId,
+        slot: Slot,
+        asks: Sequence<u64>,
+    },
+    /// `write S V K R NUM` or `accept S V K R NUM`: a vote for the batch of a proposal.
+    Vote {
+        kind: VoteKind,
+        signer: MemberId,
+        slot: Slot,
+        proposal: u64,
+    },
+    /// `reply S V K I C SEQ TEXT`.
+    Reply {
+        signer: MemberId,
+        answer: Answer,
+    },
+    /// `raw HEX`: these bytes.
+    Raw {
+        bytes: Bytes,
+    },
 }
 
 /// What is wrong with a script line: of several kinds that apply, the first of these.
@@ -54,15 +95,16 @@ pub enum Kind {
     Long,
     /// A line of the header that is not what has to stand there.
     Header,
-    /// An unknown first word.
+    /// An unknown first word, or an unknown form behind `inject`.
     Word,
-    /// Too few words, or too many.
+    /// Too few words, or too many; in `inject` also a list that is too short or too long.
     Count,
     /// A word that is not the number that has to stand there.
     Number,
     /// Any other wrong word.
     Form,
-    /// A message, a member or a client that is not there.
+    /// A message, a member or a client that is not there or not of that kind, or an injection whose
+    /// batch passes its limit.
     Refer,
 }
 
@@ -96,6 +138,8 @@ pub enum Summary {
         place: Place,
         index: u16,
     },
+    /// Bytes that are no message.
+    Raw,
 }
 
 /// A line of the transcript.
@@ -153,11 +197,15 @@ pub enum OutLine {
         client: ClientId,
         seq: u64,
     },
+    /// A line names a member whose node is gone.
+    Absent {
+        member: MemberId,
+    },
     /// A node had nothing to do.
     Idle {
         member: MemberId,
     },
-    /// A client had nothing to send.
+    /// A client had nothing to send, or is rogue.
     IdleClient {
         client: ClientId,
     },

@@ -1,6 +1,7 @@
 //! Messages that were sent.
 use node_rules::node::Target;
 use smart_base::name::{ClientId, MemberId};
+use smart_base::sequence::Bytes;
 use smart_messages::message::Message;
 
 /// Who sent a message.
@@ -8,19 +9,35 @@ use smart_messages::message::Message;
 pub enum Origin {
     Node(MemberId),
     Client(ClientId),
+    /// The script, in the name of whoever signed it.
+    Script,
 }
 
-/// A message that was sent. Messages are numbered from 1, in the order in which they left.
+/// What is sent.
+#[derive(Drop)]
+pub enum Content {
+    Message(Message),
+    /// Bytes that are no message.
+    Raw(Bytes),
+}
+
+/// A message that was sent, and whom it is for: for nobody where the script injected it. Messages
+/// are numbered from 1, in the order in which they left.
 #[derive(Drop)]
 pub struct Sent {
     pub origin: Origin,
-    pub to: Target,
-    pub message: Message,
+    pub to: Option<Target>,
+    pub content: Content,
 }
 
 /// What a play takes for granted.
 #[derive(Clone, Copy, Debug, PartialEq, Eq)]
 pub enum Premise {
+    /// At most f members of each view were ever declared faulty.
+    TooManyFaulty,
+    /// Each statement in an injected message whose tag verifies, and whose signer is not declared
+    /// faulty (a client: rogue), stands in a message that this signer has sent.
+    Forged,
     /// No two different batches that are met have one digest.
     Collision,
 }
