@@ -1,0 +1,5 @@
+pub mod Statements
+pub mod Books
+pub mod Certificates
+pub mod Law
+pub mod Example
