@@ -1,10 +1,11 @@
 -- Where the first space of a line stands.
-use Rattle.std.proofs.Common.{◌≡◌, ℕ, ◌+◌, ◌<◌, ◌≤◌, suc, List, [], ◌∷◌, take, drop, length, Bool, true, false, Option, Some, None, cond, refl, ◌∙◌, add-one, arith}
+use Rattle.std.proofs.Common.{◌≡◌, ℕ, ◌+◌, ◌-◌, ◌<◌, ◌≤◌, suc, List, [], ◌∷◌, take, drop, length, Bool, true, false, Option, Some, None, cond, refl, ◌∙◌, ap, add-one, arith}
 use Rattle.std.specs.Prelude.{◌==◌, not, nat_lt, position}
-use Rattle.std.specs.List.{prefix_len}
+use Rattle.std.specs.List.{prefix_len, count_by}
 use Rattle.std.proofs.lemmas.List.{drop_all}
+use Rattle.std.proofs.lemmas.List.Sums.{sum_by-cons}
 use Rattle.std.proofs.lemmas.Bool.Decides.{nat_tests}
-use Rattle.world_rules.specs.Scripts.{words_in, behind_space}
+use Rattle.world_rules.specs.Scripts.{words_in, with_byte, behind_space, behind_spaces}
 
 -- how many bytes stand in front of it
 abbrev gap : List ℕ → ℕ
@@ -78,3 +79,36 @@ pub behind_none : (bytes : List ℕ) → place bytes ≡ None → behind_space b
 behind_none bytes e =
     let le : length bytes ≤ suc (gap bytes) = omega (arith, not_before (gap bytes) (length bytes) (found_none (nat_lt (gap bytes) (length bytes)) (gap bytes) e)) in
     behind_at bytes ∙ drop_all (suc (gap bytes)) bytes le
+
+abbrev spaces : List ℕ → ℕ
+spaces bytes = count_by (λ b. b == 32) bytes
+
+length-with_byte : (b : ℕ) (words : List (List ℕ)) → 0 < length words → length (with_byte b words) ≡ length words
+length-with_byte b [] some = absurd (omega arith)
+length-with_byte b (word ∷ words) some = refl
+
+word_ends : (b : ℕ) (bs : List ℕ) → (b == 32) ≡ true → length (words_in (b ∷ bs)) ≡ suc (length (words_in bs))
+word_ends b bs e = rw e refl
+
+word_goes_on : (b : ℕ) (bs : List ℕ) → (b == 32) ≡ false → words_in (b ∷ bs) ≡ with_byte b (words_in bs)
+word_goes_on b bs e = rw e refl
+
+spaces_more : (b : ℕ) (bs : List ℕ) (t : Bool) → (b == 32) ≡ t → spaces (b ∷ bs) ≡ cond t 1 0 + spaces bs
+spaces_more b bs t e = sum_by-cons (λ x. cond (x == 32) 1 0) b bs ∙ ap (λ v. cond v 1 0 + spaces bs) e
+
+count_step : (b : ℕ) (bs : List ℕ) (t : Bool) → (b == 32) ≡ t → length (words_in bs) ≡ spaces bs + 1 → length (words_in (b ∷ bs)) ≡ spaces (b ∷ bs) + 1
+count_step b bs true e more = omega (arith, more, word_ends b bs e, spaces_more b bs true e)
+count_step b bs false e more =
+    ap length (word_goes_on b bs e) ∙ omega (arith, more, length-with_byte b (words_in bs) (omega (arith, more)), spaces_more b bs false e)
+
+-- each space has a word in front of it, and one stands behind the last
+pub words_counted : (bytes : List ℕ) → length (words_in bytes) ≡ spaces bytes + 1
+words_counted [] = refl
+words_counted (b ∷ bs) = count_step b bs (b == 32) refl (words_counted bs)
+
+-- one space less is left
+pub spaces_left : (count i : ℕ) (bytes : List ℕ) → i < count → behind_spaces (count - i) bytes ≡ behind_spaces (count - (i + 1)) (behind_space bytes)
+spaces_left count i bytes lt = let e : count - i ≡ suc (count - (i + 1)) = omega arith in rw e refl
+
+pub none_left : (count i : ℕ) (bytes : List ℕ) → count ≤ i → behind_spaces (count - i) bytes ≡ bytes
+none_left count i bytes le = let e : count - i ≡ 0 = omega arith in rw e refl

@@ -1,6 +1,8 @@
 //! The lines of a script, read, and those of its transcript, written.
 #![tactic(auto)]
 
+pub mod forms;
+pub mod numbers;
 pub mod reading;
 #[cfg(test)]
 mod tests;

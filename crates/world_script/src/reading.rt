@@ -1,10 +1,11 @@
 //! What the lines of a script mean.
 ghost use Rattle.std.specs.Prelude.{◌≡◌, ◌&&◌, ◌<◌, ◌≤◌, nat_le, IfOk, IfSome, take};
 ghost use Rattle.std.specs.List.{list_all};
-ghost use Rattle.world_rules.specs.Scripts.{is_printed, is_short, is_nothing, number_in, member_of, client_of, each_word, party_of_word, ask_line, again_line, tell_with, told_line, flow_line, give_line, deliver_line, settle_line, show_line, line_by, line_of, members_from, view_for, group_words, group_line, app_line};
+ghost use Rattle.world_rules.specs.Scripts.{is_printed, is_short, is_nothing, number_in, member_of, client_of, each_word, party_of_word, ask_line, again_line, told_line, flow_line, give_line, deliver_line, settle_line, show_line, faulty_line, rogue_line, form_by, injecting, line_by, line_of, members_from, view_for, group_words, group_line, app_line};
 
-use crate::words::{Words, behind_space, words_in};
-use smart_base::bytes::{PAYLOAD_BYTES, Payload};
+use crate::forms::form_by;
+use crate::numbers::{CLIENTS, MEMBERS, MESSAGES, number_in};
+use crate::words::{Words, behind_spaces, payload_of, words_in};
 use smart_base::decimal::number_of;
 use smart_base::equality::same_bytes;
 use smart_base::name::{ClientId, MemberId};
@@ -72,30 +73,17 @@ pub fn app_line(bytes: &[u8]) -> Option<App>
     }
 }
 
-/// A number from a least to a greatest one.
-fn number_in(least: u64, most: u64, word: &[u8]) -> Option<u64>
-    ensures number { result ≡ number_in least most word.now }
-    ensures most { IfSome result (λ n. n ≤ most) }
-{
-    let n = number_of(word)?;
-    if least <= n && n <= most {
-        Some(n)
-    } else {
-        None
-    }
-}
-
 fn member_of(word: &[u8]) -> Option<MemberId>
     ensures { result ≡ member_of word.now }
 {
-    let n = number_in(1, 65535, word)?;
+    let n = number_in(&MEMBERS, word)?;
     Some(MemberId::new(n as u16))
 }
 
 fn client_of(word: &[u8]) -> Option<ClientId>
     ensures { result ≡ client_of word.now }
 {
-    let n = number_in(1, 1024, word)?;
+    let n = number_in(&CLIENTS, word)?;
     Some(ClientId::new(n as u16))
 }
 
@@ -152,11 +140,9 @@ fn ask_line(alloc: Global, bytes: &[u8], words: Words<'_>) -> Result<Result<Line
     let Some(client) = client_of(client) else {
         return Ok(Err(Kind::Number));
     };
-    let op = behind_space(behind_space(bytes));
-    if op.len() > PAYLOAD_BYTES {
+    let Some(op) = payload_of(alloc, behind_spaces(2, bytes))? else {
         return Ok(Err(Kind::Form));
-    }
-    let op = Payload::from_slice(alloc, op)?;
+    };
     Ok(Ok(Line::Ask { client, op }))
 }
 
@@ -164,44 +150,23 @@ fn ask_line(alloc: Global, bytes: &[u8], words: Words<'_>) -> Result<Result<Line
 fn again_line(words: Words<'_>) -> Result<Line, Kind>
     ensures { result ≡ again_line words.entry }
 {
-    let Some((word, more)) = words.split_first() else {
-        return Err(Kind::Count);
-    };
-    let None = more.split_first() else {
-        return Err(Kind::Count);
-    };
-    let Some(client) = client_of(word) else {
-        return Err(Kind::Number);
-    };
+    let word = words.only().ok_or(Kind::Count)?;
+    let client = client_of(word).ok_or(Kind::Number)?;
     Ok(Line::Again { client })
-}
-
-fn tell_with(from: Option<ClientId>, to: Option<ClientId>) -> Result<Line, Kind>
-    ensures { result ≡ tell_with from to }
-{
-    let Some(from) = from else {
-        return Err(Kind::Number);
-    };
-    let Some(to) = to else {
-        return Err(Kind::Number);
-    };
-    Ok(Line::Tell { from, to })
 }
 
 /// The numbers of two clients.
 fn told_line(words: Words<'_>) -> Result<Line, Kind>
     ensures { result ≡ told_line words.entry }
 {
-    let Some((from, more)) = words.split_first() else {
-        return Err(Kind::Count);
-    };
-    let Some((to, more)) = more.split_first() else {
-        return Err(Kind::Count);
-    };
+    let (from, more) = words.split_first().ok_or(Kind::Count)?;
+    let (to, more) = more.split_first().ok_or(Kind::Count)?;
     let None = more.split_first() else {
         return Err(Kind::Count);
     };
-    tell_with(client_of(from), client_of(to))
+    let from = client_of(from).ok_or(Kind::Number)?;
+    let to = client_of(to).ok_or(Kind::Number)?;
+    Ok(Line::Tell { from, to })
 }
 
 fn flow_line(alloc: Global, words: Words<'_>) -> Result<Result<Line, Kind>, AllocError>
@@ -223,7 +188,7 @@ fn give_line(alloc: Global, words: Words<'_>) -> Result<Result<Line, Kind>, Allo
     let Some(_) = more.split_first() else {
         return Ok(Err(Kind::Count));
     };
-    let Some(number) = number_in(1, 1 << 24, number) else {
+    let Some(number) = number_in(&MESSAGES, number) else {
         return Ok(Err(Kind::Number));
     };
     let Some(to) = parties_of(alloc, more)? else {
@@ -248,18 +213,11 @@ fn deliver_line(alloc: Global, words: Words<'_>) -> Result<Result<Line, Kind>, A
 fn settle_line(words: Words<'_>) -> Result<Line, Kind>
     ensures { result ≡ settle_line words.entry }
 {
-    let Some((word, more)) = words.split_first() else {
-        return Err(Kind::Count);
-    };
-    let None = more.split_first() else {
-        return Err(Kind::Count);
-    };
+    let word = words.only().ok_or(Kind::Count)?;
     if same_bytes(word, b"all") {
         return Ok(Line::SettleAll);
     }
-    let Some(member) = member_of(word) else {
-        return Err(Kind::Number);
-    };
+    let member = member_of(word).ok_or(Kind::Number)?;
     Ok(Line::Settle { member })
 }
 
@@ -269,6 +227,38 @@ fn show_line(words: Words<'_>) -> Result<Line, Kind>
     match words.split_first() {
         None => Ok(Line::Show),
         Some(_) => Err(Kind::Count),
+    }
+}
+
+/// One member's number.
+fn faulty_line(words: Words<'_>) -> Result<Line, Kind>
+    ensures { result ≡ faulty_line words.entry }
+{
+    let word = words.only().ok_or(Kind::Count)?;
+    let member = member_of(word).ok_or(Kind::Number)?;
+    Ok(Line::Faulty { member })
+}
+
+/// One client's number.
+fn rogue_line(words: Words<'_>) -> Result<Line, Kind>
+    ensures { result ≡ rogue_line words.entry }
+{
+    let word = words.only().ok_or(Kind::Count)?;
+    let client = client_of(word).ok_or(Kind::Number)?;
+    Ok(Line::Rogue { client })
+}
+
+/// A form of what is injected.
+fn inject_line(
+    alloc: Global,
+    bytes: &[u8],
+    words: Words<'_>,
+) -> Result<Result<Line, Kind>, AllocError>
+    ensures { IfOk result (λ line. line ≡ injecting (form_by bytes.now words.entry)) }
+{
+    match form_by(alloc, bytes, words)? {
+        Ok(form) => Ok(Ok(Line::Inject(form))),
+        Err(kind) => Ok(Err(kind)),
     }
 }
 
@@ -294,6 +284,12 @@ fn line_by(alloc: Global, bytes: &[u8], words: Words<'_>) -> Result<Result<Line,
         Ok(settle_line(words))
     } else if same_bytes(word, b"show") {
         Ok(show_line(words))
+    } else if same_bytes(word, b"faulty") {
+        Ok(faulty_line(words))
+    } else if same_bytes(word, b"rogue") {
+        Ok(rogue_line(words))
+    } else if same_bytes(word, b"inject") {
+        inject_line(alloc, bytes, words)
     } else {
         Ok(Err(Kind::Word))
     }
@@ -315,6 +311,7 @@ pub fn line_of(alloc: Global, bytes: &[u8]) -> Result<Result<Line, Kind>, AllocE
     }
     line_by(alloc, bytes, words_in(bytes))
 }
+
 /// Members 1 to count.
 #[tactic(auto, using(crate::proofs::Members::members_more, crate::proofs::Members::members_none))]
 fn first_members(alloc: Global, count: u16) -> Result<Sequence<MemberId>, AllocError>

@@ -1,9 +1,13 @@
 use crate::reading::{app_line, line_of};
-use crate::text::app_text;
+use crate::text::{app_text, text_of};
+use smart_base::name::{ClientId, MemberId};
+use smart_messages::statement::{Slot, VoteKind};
 use std::alloc::{AllocError, Global};
+use std::fmt::Write;
 use std::process::Abort;
 use std::test::Fail;
-use world_rules::line::{Kind, Line};
+use world_rules::line::{Injection, Kind, Line, OutLine, Summary};
+use world_rules::message::Origin;
 
 fn kind_name(kind: Kind) -> &'static str {
     match kind {
@@ -31,6 +35,9 @@ fn line_name(line: &Line) -> &'static str {
         Line::Settle { .. } => "settle",
         Line::SettleAll => "settle all",
         Line::Show => "show",
+        Line::Faulty { .. } => "faulty",
+        Line::Rogue { .. } => "rogue",
+        Line::Inject(_) => "inject",
     }
 }
 
@@ -42,14 +49,6 @@ fn name_of(alloc: Global, bytes: &[u8]) -> Result<&'static str, AllocError> {
     }
 }
 
-fn are_told(rt: &impl Abort, alloc: Global, rows: &[(&str, &str)]) -> Result<(), AllocError> {
-    for (text, name) in rows {
-        let told = name_of(alloc, text.as_bytes())?;
-        assert!(rt; told == *name, "`{text}` is {told}");
-    }
-    Ok(())
-}
-
 /// Bytes behind others.
 fn filled(alloc: Global, start: &[u8], count: usize) -> Result<Vec<u8>, AllocError> {
     let mut line = Vec::from_slice(alloc, start)?;
@@ -57,77 +56,6 @@ fn filled(alloc: Global, start: &[u8], count: usize) -> Result<Vec<u8>, AllocErr
         line.push(b'5')?;
     }
     Ok(line)
-}
-
-#[test]
-fn lines_are_told(rt: HostRuntime) -> Result<(), Fail> {
-    let rows = [
-        ("", "nothing"),
-        ("# x", "nothing"),
-        ("ask 1 5", "ask"),
-        ("ask 1 ", "ask"),
-        ("ask 1024  5 # 5", "ask"),
-        ("ask 1", "Count"),
-        ("ask", "Count"),
-        ("ask x", "Count"),
-        ("ask 0 5", "Number"),
-        ("ask 01 5", "Number"),
-        ("ask 1025 5", "Number"),
-        ("ask  1 5", "Number"),
-        ("flow", "flow"),
-        ("flow 1 2", "flow"),
-        ("flow x", "Number"),
-        ("flow ", "Number"),
-        ("give 1", "Count"),
-        ("give x", "Count"),
-        ("give 1 c1", "give"),
-        ("give 16777216 65535 c1024", "give"),
-        ("give 0 1", "Number"),
-        ("give 16777217 1", "Number"),
-        ("give 1 c0", "Number"),
-        ("give 1 c", "Number"),
-        ("give 1 65536", "Number"),
-    ];
-    are_told(&rt, rt.alloc(), rows.as_slice())?;
-    Ok(())
-}
-
-#[test]
-fn other_lines_are_told(rt: HostRuntime) -> Result<(), Fail> {
-    let rows = [
-        ("again", "Count"),
-        ("again 1", "again"),
-        ("again 0", "Number"),
-        ("again 1 2", "Count"),
-        ("told 1", "Count"),
-        ("told 1 1024", "told"),
-        ("told 1 1025", "Number"),
-        ("told x 1 2", "Count"),
-        ("told 1 ", "Number"),
-        ("deliver", "Count"),
-        ("deliver 1 1", "deliver"),
-        ("deliver 1 ", "Number"),
-        ("settle", "Count"),
-        ("settle all", "settle all"),
-        ("settle 2", "settle"),
-        ("settle 2 3", "Count"),
-        ("settle all 1", "Count"),
-        ("settle x", "Number"),
-        ("show", "show"),
-        ("show 1", "Count"),
-        ("show ", "Count"),
-        (" show", "Word"),
-        (" ", "Word"),
-        ("SHOW", "Word"),
-        ("tick 1", "Word"),
-        ("period 4", "Word"),
-        ("show\x7f", "Byte"),
-        ("# \x7f", "Byte"),
-        ("# \t", "Byte"),
-        ("ask 1 \t", "Byte"),
-    ];
-    are_told(&rt, rt.alloc(), rows.as_slice())?;
-    Ok(())
 }
 
 #[test]
@@ -154,6 +82,12 @@ fn long_lines_are_told(rt: HostRuntime) -> Result<(), Fail> {
         ("ask 1 ", 4096, "ask"),
         ("ask 1 ", 4097, "Form"),
         ("ask x ", 4097, "Number"),
+        ("inject ask 1 2 3 ", 4096, "inject"),
+        ("inject ask 1 2 3 ", 4097, "Form"),
+        ("inject ask 1 2 x ", 4097, "Number"),
+        ("inject reply 1 2 3 4 5 6 ", 4096, "inject"),
+        ("inject reply 1 2 3 4 5 6 ", 4097, "Form"),
+        ("inject reply 1 2 3 4 5 x ", 4097, "Number"),
         ("#", 65535, "nothing"),
         ("#", 65536, "Long"),
         ("#\t", 65535, "Byte"),
@@ -174,6 +108,296 @@ fn long_lines_are_told(rt: HostRuntime) -> Result<(), Fail> {
         name_of(alloc, line.as_slice())?,
         "Long",
         "past its last byte"
+    );
+    Ok(())
+}
+
+fn push_bytes(out: &mut String, bytes: &[u8]) -> Result<(), AllocError> {
+    for byte in bytes {
+        out.push(*byte as char)?;
+    }
+    Ok(())
+}
+
+fn push_numbers(out: &mut String, numbers: &[u64]) -> Result<(), AllocError> {
+    for number in numbers {
+        write!(out, " {number}")?;
+    }
+    Ok(())
+}
+
+fn push_slot(out: &mut String, signer: MemberId, slot: Slot) -> Result<(), AllocError> {
+    let signer = signer.get();
+    let (view, place, regency) = (slot.view.get(), slot.place.get(), slot.regency.get());
+    write!(out, " n{signer} v{view} k{place} r{regency}")
+}
+
+fn push_vote(out: &mut String, kind: VoteKind) -> Result<(), AllocError> {
+    match kind {
+        VoteKind::Write => out.push_str("write"),
+        VoteKind::Accept => out.push_str("accept"),
+    }
+}
+
+/// All that a form tells.
+fn push_form(out: &mut String, form: &Injection) -> Result<(), AllocError> {
+    match form {
+        Injection::Ask {
+            client,
+            seq,
+            after,
+            op,
+        } => {
+            let client = client.get();
+            write!(out, "ask c{client} {seq} after {after} `")?;
+            push_bytes(out, op.as_slice())
+        }
+        Injection::Propose { signer, slot, asks } => {
+            out.push_str("propose")?;
+            push_slot(out, *signer, *slot)?;
+            push_numbers(out, asks.as_slice())
+        }
+        Injection::Vote {
+            kind,
+            signer,
+            slot,
+            proposal,
+        } => {
+            push_vote(out, *kind)?;
+            push_slot(out, *signer, *slot)?;
+            write!(out, " {proposal}")
+        }
+        Injection::Reply { signer, answer } => {
+            let (signer, client) = (signer.get(), answer.client.get());
+            let (view, place, index) = (answer.view.get(), answer.place.get(), answer.index);
+            let seq = answer.seq;
+            write!(out, "reply n{signer} v{view} k{place} i{index} ")?;
+            write!(out, "c{client} {seq} `")?;
+            push_bytes(out, answer.reply.as_slice())
+        }
+        Injection::Raw { bytes } => {
+            out.push_str("raw")?;
+            for byte in bytes.as_slice() {
+                write!(out, " {byte}")?;
+            }
+            Ok(())
+        }
+    }
+}
+
+/// What a line tells: all of it where it is a breaker's.
+fn push_line(out: &mut String, line: &Line) -> Result<(), AllocError> {
+    match line {
+        Line::Faulty { member } => {
+            let member = member.get();
+            write!(out, "n{member} is faulty")
+        }
+        Line::Rogue { client } => {
+            let client = client.get();
+            write!(out, "c{client} is rogue")
+        }
+        Line::Inject(form) => push_form(out, form),
+        _ => out.push_str(line_name(line)),
+    }
+}
+
+/// What a line tells, or what is wrong with it.
+fn told_of(alloc: Global, bytes: &[u8]) -> Result<String, AllocError> {
+    let mut out = String::new(alloc);
+    match line_of(alloc, bytes)? {
+        Ok(line) => push_line(&mut out, &line)?,
+        Err(kind) => out.push_str(kind_name(kind))?,
+    }
+    Ok(out)
+}
+
+/// Lines, and what they tell or what is wrong with them.
+const LINES: &str = " => nothing\n\
+# x => nothing\n\
+ask 1 5 => ask\n\
+ask 1  => ask\n\
+ask 1024  5 # 5 => ask\n\
+ask 1 => Count\n\
+ask => Count\n\
+ask x => Count\n\
+ask 0 5 => Number\n\
+ask 01 5 => Number\n\
+ask 1025 5 => Number\n\
+ask  1 5 => Number\n\
+flow => flow\n\
+flow 1 2 => flow\n\
+flow x => Number\n\
+flow  => Number\n\
+give 1 => Count\n\
+give x => Count\n\
+give 1 c1 => give\n\
+give 16777216 65535 c1024 => give\n\
+give 0 1 => Number\n\
+give 16777217 1 => Number\n\
+give 1 c0 => Number\n\
+give 1 c => Number\n\
+give 1 65536 => Number\n\
+again => Count\n\
+again 1 => again\n\
+again 0 => Number\n\
+again 1 2 => Count\n\
+told 1 => Count\n\
+told 1 1024 => told\n\
+told 1 1025 => Number\n\
+told x 1 2 => Count\n\
+told 1  => Number\n\
+deliver => Count\n\
+deliver 1 1 => deliver\n\
+deliver 1  => Number\n\
+settle => Count\n\
+settle all => settle all\n\
+settle 2 => settle\n\
+settle 2 3 => Count\n\
+settle all 1 => Count\n\
+settle x => Number\n\
+show => show\n\
+show 1 => Count\n\
+show  => Count\n\
+\x20show => Word\n\
+\x20 => Word\n\
+SHOW => Word\n\
+tick 1 => Word\n\
+period 4 => Word\n\
+show\x7f => Byte\n\
+# \x7f => Byte\n\
+# \t => Byte\n\
+ask 1 \t => Byte\n\
+faulty 1 => n1 is faulty\n\
+faulty 65535 => n65535 is faulty\n\
+faulty 65536 => Number\n\
+faulty 0 => Number\n\
+faulty all => Number\n\
+faulty  => Number\n\
+faulty => Count\n\
+faulty x 2 => Count\n\
+rogue 1 => c1 is rogue\n\
+rogue 1024 => c1024 is rogue\n\
+rogue 1025 => Number\n\
+rogue 0 => Number\n\
+rogue c1 => Number\n\
+rogue => Count\n\
+rogue x 2 => Count\n\
+inject => Count\n\
+inject  => Word\n\
+inject  raw 00 => Word\n\
+inject stop 1 0 1 => Word\n\
+inject ask 1 2 3 = 4 => ask c1 2 after 3 `= 4\n\
+inject ask 1 2 3  => ask c1 2 after 3 `\n\
+inject ask 1 2 3  4  => ask c1 2 after 3 ` 4 \n\
+inject ask 1024 9223372036854775807 18446744073709551615 # => ask c1024 9223372036854775807 after 18446744073709551615 `#\n\
+inject ask 1 1 0 x => ask c1 1 after 0 `x\n\
+inject ask 1025 1 0 x => Number\n\
+inject ask 0 1 0 x => Number\n\
+inject ask 1 0 0 x => Number\n\
+inject ask 1 9223372036854775808 0 x => Number\n\
+inject ask 1 1 18446744073709551616 x => Number\n\
+inject ask 1 1 00 x => Number\n\
+inject ask 1  1 0 x => Number\n\
+inject ask x 2 3 => Count\n\
+inject propose 1 2 3 4 5 => propose n1 v2 k3 r4 5\n\
+inject propose 1 2 3 4 5 5 6 => propose n1 v2 k3 r4 5 5 6\n\
+inject propose 65535 4294967295 9223372036854775807 4294967295 1 16777216 => propose n65535 v4294967295 k9223372036854775807 r4294967295 1 16777216\n\
+inject propose 1 0 1 0 1 => propose n1 v0 k1 r0 1\n\
+inject propose 65536 0 1 0 1 => Number\n\
+inject propose 0 0 1 0 1 => Number\n\
+inject propose 1 4294967296 1 0 1 => Number\n\
+inject propose 1 0 0 0 1 => Number\n\
+inject propose 1 0 9223372036854775808 0 1 => Number\n\
+inject propose 1 0 1 4294967296 1 => Number\n\
+inject propose 1 0 1 0 0 => Number\n\
+inject propose 1 0 1 0 1 16777217 => Number\n\
+inject propose 1 0 1 0 1  => Number\n\
+inject propose x 0 1 0 => Count\n\
+inject write 1 2 3 4 5 => write n1 v2 k3 r4 5\n\
+inject accept 6 5 4 3 2 => accept n6 v5 k4 r3 2\n\
+inject accept 1 0 1 0 16777216 => accept n1 v0 k1 r0 16777216\n\
+inject write 1 0 1 0 16777217 => Number\n\
+inject write 1 0 1 0 0 => Number\n\
+inject accept 1 0 1 4294967296 1 => Number\n\
+inject accept 0 0 1 0 1 => Number\n\
+inject write x 0 1 0 => Count\n\
+inject accept x 0 1 0 1 1 => Count\n\
+inject reply 1 2 3 4 5 6 = 7 => reply n1 v2 k3 i4 c5 6 `= 7\n\
+inject reply 1 0 1 0 1 1  => reply n1 v0 k1 i0 c1 1 `\n\
+inject reply 65535 4294967295 9223372036854775807 65535 1024 9223372036854775807 x => reply n65535 v4294967295 k9223372036854775807 i65535 c1024 9223372036854775807 `x\n\
+inject reply 1 0 1 65536 1 1 x => Number\n\
+inject reply 1 0 1 0 1025 1 x => Number\n\
+inject reply 1 0 1 0 0 1 x => Number\n\
+inject reply 1 0 1 0 1 0 x => Number\n\
+inject reply 1 0 0 0 1 1 x => Number\n\
+inject reply x 0 1 0 1 1 => Count\n\
+inject raw 00ff1a => raw 0 255 26\n\
+inject raw 9f => raw 159\n\
+inject raw 9 => Form\n\
+inject raw 9f0 => Form\n\
+inject raw 9F => Form\n\
+inject raw g0 => Form\n\
+inject raw 0` => Form\n\
+inject raw 0: => Form\n\
+inject raw /0 => Form\n\
+inject raw  => Form\n\
+inject raw => Count\n\
+inject raw 9 f => Count";
+
+#[test]
+fn lines_are_told(rt: HostRuntime) -> Result<(), Fail> {
+    let alloc = rt.alloc();
+    for row in LINES.lines() {
+        let (text, wanted) = row.split_once(" => ").unwrap_or((row, ""));
+        let told = told_of(alloc, text.as_bytes())?;
+        assert!(rt; told.as_str() == wanted, "`{text}` is {told}");
+    }
+    Ok(())
+}
+
+#[test]
+fn proposals_have_1_to_64_requests(rt: HostRuntime) -> Result<(), Fail> {
+    let alloc = rt.alloc();
+    for (count, wanted) in [(0, "Count"), (1, "inject"), (64, "inject"), (65, "Count")] {
+        let mut line = String::new(alloc);
+        line.push_str("inject propose 1 0 1 0")?;
+        for _ in 0..count {
+            line.push_str(" 7")?;
+        }
+        assert_eq!(rt;
+            name_of(alloc, line.as_bytes())?,
+            wanted,
+            "{count} requests"
+        );
+    }
+    Ok(())
+}
+
+#[test]
+fn breakers_are_written(rt: HostRuntime) -> Result<(), Fail> {
+    let lines = [
+        OutLine::Absent {
+            member: MemberId::new(4),
+        },
+        OutLine::Sent {
+            number: 12,
+            origin: Origin::Script,
+            summary: Summary::Raw,
+        },
+        OutLine::Sent {
+            number: 13,
+            origin: Origin::Script,
+            summary: Summary::Ask {
+                client: ClientId::new(5),
+                seq: 6,
+                after: 7,
+            },
+        },
+    ];
+    let text = text_of(rt.alloc(), lines.as_slice())?;
+    assert_eq!(rt;
+        text.as_str(),
+        "absent n4\nsent 12 x raw\nsent 13 x ask 5 6 7\n"
     );
     Ok(())
 }

@@ -69,6 +69,7 @@ fn push_origin(out: &mut String, origin: Origin) -> Result<(), AllocError>
             let id = id.get();
             write!(out, "c{id}")
         }
+        Origin::Script => out.push_str("x"),
     }
 }
 
@@ -114,6 +115,7 @@ fn push_summary(out: &mut String, summary: Summary) -> Result<(), AllocError>
             let (client, place) = (client.get(), place.get());
             write!(out, "reply {client} {seq} {place} {index}")
         }
+        Summary::Raw => out.push_str("raw"),
     }
 }
 
@@ -221,6 +223,10 @@ fn push_words(out: &mut String, line: &OutLine) -> Result<(), AllocError>
         OutLine::Busy { client, seq } => {
             let id = client.get();
             write!(out, "busy c{id} {seq}")
+        }
+        OutLine::Absent { member } => {
+            let id = member.get();
+            write!(out, "absent n{id}")
         }
         OutLine::Idle { member } => {
             let id = member.get();

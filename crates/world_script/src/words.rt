@@ -1,8 +1,11 @@
 //! The words of a line.
-ghost use Rattle.std.specs.Prelude.{◌≡◌, ◌==◌, ◌∷◌, ◌<◌, [], IfSome, length, position};
+ghost use Rattle.std.specs.Prelude.{◌≡◌, ◌==◌, ◌∷◌, ◌⊎◌, ◌<◌, ◌≤◌, [], IfOk, IfSome, if◌then◌else◌, nat_le, count_by, length, position};
 ghost use Rattle.std.specs.Option.{MatchOption};
-ghost use Rattle.world_rules.specs.Scripts.{words_in, behind_space};
+ghost use Rattle.world_rules.specs.Scripts.{words_in, behind_space, behind_spaces};
+ghost use Rattle.world_script.specs.Words.{Several};
 
+use smart_base::bytes::{PAYLOAD_BYTES, Payload};
+use std::alloc::{AllocError, Global};
 use std::marker::Model;
 
 /// The words that are left of a line.
@@ -28,6 +31,13 @@ fn space_in(bytes: &[u8]) -> Option<usize>
     bytes.iter().position(|b| *b == b' ')
 }
 
+fn spaces_in(bytes: &[u8]) -> usize
+    ensures count { result ≡ count_by (λ b. b == 32) bytes.now }
+    ensures within { result ≤ length bytes.now }
+{
+    bytes.iter().filter(|b| **b == b' ').count()
+}
+
 /// What stands in front of the first space, and what behind it.
 fn parts(bytes: &[u8]) -> Option<(&[u8], &[u8])>
     ensures words { MatchOption result (words_in bytes.now ≡ bytes.now ∷ []) (λ parts. words_in bytes.now ≡ parts.0.now ∷ words_in parts.1.now) }
@@ -49,6 +59,27 @@ pub fn behind_space(bytes: &[u8]) -> &[u8]
         None => &[],
         Some((_, rest)) => rest,
     }
+}
+
+/// What stands behind the first spaces, so many as `count`.
+pub fn behind_spaces(count: u64, bytes: &[u8]) -> &[u8]
+    ensures { result.now ≡ behind_spaces count bytes.now }
+{
+    let mut rest = bytes;
+    for _ in 0..count {
+        rest = behind_space(rest);
+    }
+    rest
+}
+
+/// An operation or a reply, if the bytes are few enough to be one.
+pub fn payload_of(alloc: Global, bytes: &[u8]) -> Result<Option<Payload>, AllocError>
+    ensures { IfOk result (λ p. p ≡ (if nat_le (length bytes.now) 4096 then Some bytes.now else None)) }
+{
+    if bytes.len() > PAYLOAD_BYTES {
+        return Ok(None);
+    }
+    Ok(Some(Payload::from_slice(alloc, bytes)?))
 }
 
 /// The words that single spaces part.
@@ -78,6 +109,27 @@ impl<'a> Words<'a> {
                 },
             )),
             Some((word, left)) => Some((word, Words { more: true, left })),
+        }
+    }
+    /// The word that is left alone. With no word and with several there is none.
+    pub fn only(&self) -> Option<&'a [u8]>
+        ensures { MatchOption result ((self.now ≡ []) ⊎ Several self.now) (λ word. self.now ≡ word.now ∷ []) }
+    {
+        let (word, more) = self.split_first()?;
+        match more.split_first() {
+            None => Some(word),
+            Some(_) => None,
+        }
+    }
+
+    /// How many words are left.
+    pub fn count(&self) -> usize
+        ensures { result ≡ length self.now }
+    {
+        if self.more {
+            spaces_in(self.left) + 1
+        } else {
+            0
         }
     }
 }

@@ -1,0 +1,218 @@
+//! The forms of what a script injects.
+ghost use Rattle.std.specs.Prelude.{◌≡◌, ◌<◌, ◌^◌, IfOk, IfSome};
+ghost use Rattle.world_rules.specs.Scripts.{ask_form, propose_form, vote_form, reply_form, hex_value, byte_by, hex_bytes, raw_form, form_by};
+
+use crate::numbers::{
+    CLIENTS, INDICES, MEMBERS, MESSAGES, NUMBERS, PLACES, SMALL_NUMBERS, messages_in, numbers_in,
+};
+use crate::words::{Words, behind_spaces, payload_of};
+use smart_base::equality::same_bytes;
+use smart_base::name::{ClientId, MemberId};
+use smart_base::number::{Place, Regency, ViewNo};
+use smart_base::sequence::Bytes;
+use smart_messages::batch::BATCH_REQUESTS;
+use smart_messages::statement::{Answer, Slot, VoteKind};
+use std::alloc::{AllocError, Global};
+use world_rules::line::{Injection, Kind};
+
+/// The words in front of a proposal's requests: S V K R.
+const SLOT_WORDS: usize = 4;
+
+fn slot_of(view: u64, place: u64, regency: u64) -> Slot
+    requires view { view < 2 ^ 32 }
+    requires place { place < 2 ^ 63 }
+    requires regency { regency < 2 ^ 32 }
+    ensures { result ≡ record { view = view; place = place; regency = regency } }
+{
+    Slot {
+        view: ViewNo::new(view as u32),
+        place: Place::new(place),
+        regency: Regency::new(regency as u32),
+    }
+}
+
+/// `C SEQ AFTER OP`: the operation is the rest of the line.
+fn ask_form(
+    alloc: Global,
+    bytes: &[u8],
+    mut words: Words<'_>,
+) -> Result<Result<Injection, Kind>, AllocError>
+    ensures { IfOk result (λ form. form ≡ ask_form bytes.now words.entry) }
+{
+    if words.count() < 4 {
+        return Ok(Err(Kind::Count));
+    }
+    let Some(numbers) = numbers_in(&[CLIENTS, PLACES, NUMBERS], &mut words) else {
+        return Ok(Err(Kind::Number));
+    };
+    let [client, seq, after] = numbers;
+    let Some(op) = payload_of(alloc, behind_spaces(5, bytes))? else {
+        return Ok(Err(Kind::Form));
+    };
+    let client = ClientId::new(client as u16);
+    Ok(Ok(Injection::Ask {
+        client,
+        seq,
+        after,
+        op,
+    }))
+}
+
+/// `S V K R NUM..`: 1 to 64 requests.
+fn propose_form(alloc: Global, mut words: Words<'_>) -> Result<Result<Injection, Kind>, AllocError>
+    ensures { IfOk result (λ form. form ≡ propose_form words.entry) }
+{
+    let count = words.count();
+    if count <= SLOT_WORDS || SLOT_WORDS + (BATCH_REQUESTS as usize) < count {
+        return Ok(Err(Kind::Count));
+    }
+    let Some(numbers) = numbers_in(&[MEMBERS, SMALL_NUMBERS, PLACES, SMALL_NUMBERS], &mut words)
+    else {
+        return Ok(Err(Kind::Number));
+    };
+    let [signer, view, place, regency] = numbers;
+    let Some(asks) = messages_in(alloc, words)? else {
+        return Ok(Err(Kind::Number));
+    };
+    let signer = MemberId::new(signer as u16);
+    let slot = slot_of(view, place, regency);
+    Ok(Ok(Injection::Propose { signer, slot, asks }))
+}
+
+/// `S V K R NUM`.
+fn vote_form(kind: VoteKind, mut words: Words<'_>) -> Result<Injection, Kind>
+    ensures { result ≡ vote_form kind words.entry }
+{
+    if words.count() != 5 {
+        return Err(Kind::Count);
+    }
+    let numbers = numbers_in(
+        &[MEMBERS, SMALL_NUMBERS, PLACES, SMALL_NUMBERS, MESSAGES],
+        &mut words,
+    )
+    .ok_or(Kind::Number)?;
+    let [signer, view, place, regency, proposal] = numbers;
+    let signer = MemberId::new(signer as u16);
+    let slot = slot_of(view, place, regency);
+    Ok(Injection::Vote {
+        kind,
+        signer,
+        slot,
+        proposal,
+    })
+}
+
+/// `S V K I C SEQ TEXT`: the text is the rest of the line.
+fn reply_form(
+    alloc: Global,
+    bytes: &[u8],
+    mut words: Words<'_>,
+) -> Result<Result<Injection, Kind>, AllocError>
+    ensures { IfOk result (λ form. form ≡ reply_form bytes.now words.entry) }
+{
+    if words.count() < 7 {
+        return Ok(Err(Kind::Count));
+    }
+    let Some(numbers) = numbers_in(
+        &[MEMBERS, SMALL_NUMBERS, PLACES, INDICES, CLIENTS, PLACES],
+        &mut words,
+    ) else {
+        return Ok(Err(Kind::Number));
+    };
+    let [signer, view, place, index, client, seq] = numbers;
+    let Some(reply) = payload_of(alloc, behind_spaces(8, bytes))? else {
+        return Ok(Err(Kind::Form));
+    };
+    let signer = MemberId::new(signer as u16);
+    let answer = Answer {
+        view: ViewNo::new(view as u32),
+        place: Place::new(place),
+        index: index as u16,
+        client: ClientId::new(client as u16),
+        seq,
+        reply,
+    };
+    Ok(Ok(Injection::Reply { signer, answer }))
+}
+
+/// The number of a digit from 0 to 9 or from a to f.
+fn hex_value(digit: u8) -> Option<u8>
+    ensures value { result ≡ hex_value digit }
+    ensures small { IfSome result (λ n. n < 16) }
+{
+    match digit {
+        b'0'..=b'9' => Some(digit - b'0'),
+        b'a'..=b'f' => Some(digit - b'a' + 10),
+        _ => None,
+    }
+}
+
+fn byte_by(high: u8, low: u8) -> Option<u8>
+    ensures { result ≡ byte_by (hex_value high) (hex_value low) }
+{
+    let high = hex_value(high)?;
+    let low = hex_value(low)?;
+    Some(16 * high + low)
+}
+
+/// The bytes that pairs of digits are.
+fn hex_bytes(alloc: Global, mut digits: &[u8]) -> Result<Option<Bytes>, AllocError>
+    ensures { IfOk result (λ bytes. bytes ≡ hex_bytes digits.entry.now) }
+{
+    let mut bytes = Bytes::new(alloc);
+    while let Some((high, rest)) = digits.split_first() {
+        let Some((low, rest)) = rest.split_first() else {
+            return Ok(None);
+        };
+        let Some(byte) = byte_by(*high, *low) else {
+            return Ok(None);
+        };
+        bytes.push(byte)?;
+        digits = rest;
+    }
+    Ok(Some(bytes))
+}
+
+/// `HEX`: one byte or more.
+fn raw_form(alloc: Global, words: Words<'_>) -> Result<Result<Injection, Kind>, AllocError>
+    ensures { IfOk result (λ form. form ≡ raw_form words.entry) }
+{
+    let Some(word) = words.only() else {
+        return Ok(Err(Kind::Count));
+    };
+    let Some(bytes) = hex_bytes(alloc, word)? else {
+        return Ok(Err(Kind::Form));
+    };
+    if bytes.is_empty() {
+        return Ok(Err(Kind::Form));
+    }
+    Ok(Ok(Injection::Raw { bytes }))
+}
+
+/// What a script injects, by the words behind `inject`, or what is wrong with them.
+pub fn form_by(
+    alloc: Global,
+    bytes: &[u8],
+    words: Words<'_>,
+) -> Result<Result<Injection, Kind>, AllocError>
+    ensures { IfOk result (λ form. form ≡ form_by bytes.now words.entry) }
+{
+    let Some((word, words)) = words.split_first() else {
+        return Ok(Err(Kind::Count));
+    };
+    if same_bytes(word, b"ask") {
+        ask_form(alloc, bytes, words)
+    } else if same_bytes(word, b"propose") {
+        propose_form(alloc, words)
+    } else if same_bytes(word, b"write") {
+        Ok(vote_form(VoteKind::Write, words))
+    } else if same_bytes(word, b"accept") {
+        Ok(vote_form(VoteKind::Accept, words))
+    } else if same_bytes(word, b"reply") {
+        reply_form(alloc, bytes, words)
+    } else if same_bytes(word, b"raw") {
+        raw_form(alloc, words)
+    } else {
+        Ok(Err(Kind::Word))
+    }
+}

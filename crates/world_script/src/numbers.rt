@@ -1,0 +1,104 @@
+//! Words that are numbers.
+ghost use Rattle.std.specs.Prelude.{◌≡◌, ◌≤◌, ◌^◌, ℕ, IfSome, IfOk, OnSome, drop};
+ghost use Rattle.world_rules.specs.Scripts.{number_in, numbers_in, each_word};
+ghost use Rattle.world_script.specs.Words.{Within};
+
+use crate::words::Words;
+use smart_base::decimal::number_of;
+use smart_base::sequence::Sequence;
+use std::alloc::{AllocError, Global};
+use std::marker::Model;
+
+/// The least and the greatest of numbers.
+#[derive(Drop)]
+pub struct Range {
+    least: u64,
+    most: u64,
+}
+
+impl Model for Range {
+    ghost use Rattle.world_rules.specs.Scripts.{Range as Numbers};
+
+    ghost Value = { Numbers };
+
+    ghost view = { λ r. record { least = r.least; most = r.most } };
+}
+
+/// The numbers of members.
+pub const MEMBERS: Range = Range {
+    least: 1,
+    most: 65_535,
+};
+/// The numbers of clients.
+pub const CLIENTS: Range = Range {
+    least: 1,
+    most: 1024,
+};
+/// The numbers of messages in lines.
+pub const MESSAGES: Range = Range {
+    least: 1,
+    most: 1 << 24,
+};
+/// The numbers of views and of regencies.
+pub const SMALL_NUMBERS: Range = Range {
+    least: 0,
+    most: 0xffff_ffff,
+};
+/// Places, and the numbers of requests.
+pub const PLACES: Range = Range {
+    least: 1,
+    most: 0x7fff_ffff_ffff_ffff,
+};
+/// The indices of requests in a batch.
+pub const INDICES: Range = Range {
+    least: 0,
+    most: 65_535,
+};
+/// All numbers that have 64 bits.
+pub const NUMBERS: Range = Range {
+    least: 0,
+    most: u64::MAX,
+};
+
+/// A number of a range.
+pub fn number_in(range: &Range, word: &[u8]) -> Option<u64>
+    ensures number { result ≡ number_in range.now.least range.now.most word.now }
+    ensures most { IfSome result (λ n. n ≤ range.now.most) }
+{
+    let n = number_of(word)?;
+    if range.least <= n && n <= range.most {
+        Some(n)
+    } else {
+        None
+    }
+}
+
+/// As many numbers as there are ranges, each in its own. They are taken from the words.
+pub fn numbers_in<const N: usize>(ranges: &[Range; N], words: &mut Words<'_>) -> Option<[u64; N]>
+    ensures numbers { result ≡ numbers_in ranges.now words.old }
+    ensures within { IfSome result (λ ns. Within ranges.now ns) }
+    ensures rest { OnSome result (words.new ≡ drop N words.old) }
+{
+    let mut numbers = [0; N];
+    for i in 0..N {
+        let (word, more) = words.split_first()?;
+        numbers[i] = number_in(&ranges[i], word)?;
+        *words = more;
+    }
+    Some(numbers)
+}
+
+/// The numbers of messages that the words are.
+pub fn messages_in(alloc: Global, mut words: Words<'_>) -> Result<Option<Sequence<u64>>, AllocError>
+    ensures { IfOk result (λ numbers. numbers ≡ each_word (number_in 1 (2 ^ 24)) words.entry) }
+{
+    let mut numbers = Sequence::new(alloc);
+    while let Some((word, more)) = words.split_first() {
+        let Some(number) = number_in(&MESSAGES, word) else {
+            return Ok(None);
+        };
+        numbers.push(number)?;
+        words = more;
+    }
+    Ok(Some(numbers))
+}
