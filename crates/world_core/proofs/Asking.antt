@@ -1,17 +1,12 @@
 -- What a client sends again, by whether a request waits.
-use Rattle.std.proofs.Common.{◌≡◌, ℕ, List, Option, Some, None, refl}
+use Rattle.std.proofs.Common.{◌≡◌, Option, Some, None, refl}
 use Rattle.std.specs.Prelude.{option_map}
-use Rattle.smart_messages.specs.Forms.{SignedBy}
 use Rattle.smart_messages.specs.Kinds.{requests}
 use Rattle.smart_messages.specs.declared.statement.Request.{Request}
-use Rattle.smart_messages.specs.declared.message.Message.TheVariants.{Ask}
 use Rattle.node_rules.specs.Seals.{signed}
-use Rattle.node_rules.specs.declared.node.Target.TheVariants as targets
 use Rattle.client_quorum.specs.declared.client.Client.{Client}
 use Rattle.world_rules.specs.Secrets.{group_secret}
 use Rattle.world_rules.specs.Worlds.{World, client_repeats}
-use Rattle.world_rules.specs.declared.line.OutLine.TheVariants as outs
-use Rattle.world_rules.specs.declared.message.Origin.TheVariants as origins
 use Rattle.world_core.specs.Asking.{repeats_by}
 
 -- a client that sends the request that waits

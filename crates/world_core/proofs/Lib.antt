@@ -1,5 +1,4 @@
 pub mod Counting
-pub mod LedgerLaws
 pub mod Turns
 pub mod Played
 pub mod Hearing

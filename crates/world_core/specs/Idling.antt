@@ -1,12 +1,17 @@
--- Nodes that have nothing to do.
+-- Nodes that take a step, and have nothing to do.
 use Rattle.std.specs.Prelude.{ℕ, Bool, true, false, List, [], ◌∷◌, Option, Some, None}
 use Rattle.smart_messages.specs.declared.entry.NodeEvent.{NodeEvent}
 use Rattle.node_rules.specs.Nodes.{Node}
 use Rattle.node_rules.specs.Steps.{Outcome}
 use Rattle.node_rules.specs.declared.node.Fired.{Fired}
-use Rattle.world_rules.specs.Worlds.{Host}
+use Rattle.world_rules.specs.Worlds.{Host, World, stepped}
 use Rattle.world_rules.specs.declared.line.OutLine.{OutLine}
 use Rattle.world_rules.specs.declared.line.OutLine.TheVariants as outs
+
+-- the step of a node that is not gone
+abbrev pub steps : {S : Type 0} → (Node S → NodeEvent → Outcome S) → ℕ → NodeEvent → World S → Option (Host S) → World S
+steps step i event w None = w
+steps step i event w (Some h) = stepped w i h (step h.node event)
 
 -- no rule fired
 abbrev pub is_idle : List Fired → Bool

@@ -1,4 +1,4 @@
-pub mod Ledgers
 pub mod Replies
 pub mod Idling
 pub mod Asking
+pub mod Standing

@@ -6,7 +6,9 @@ ghost use Rattle.node_rules.specs.Nodes.{next_place};
 ghost use Rattle.kept_arrivals.specs.Kept.{core_step};
 ghost use Rattle.node_rules.specs.Steps.{leaving, released, opened};
 ghost use Rattle.world_rules.specs.Worlds.{due, told_drop, told_fired, delivery_in, chosen_with, host_after, host_index, shown_host};
+ghost use Rattle.world_rules.specs.Premises.{is_among};
 ghost use Rattle.world_core.specs.Idling.{is_idle};
+ghost use Rattle.world_core.specs.Standing.{stands};
 
 use node_core::node::NodeCore;
 use node_rules::node::{Delivery, Fired, Held, Why};
@@ -171,7 +173,7 @@ impl<S: Service> Host<S> {
 
     /// Where the node stands.
     pub fn shown(&self) -> OutLine
-        ensures { result ≡ shown_host self.now }
+        ensures { result ≡ stands self.now }
     {
         OutLine::Stands {
             member: self.node.id(),
@@ -189,12 +191,37 @@ pub fn host_index<S: Service>(hosts: &[Host<S>], member: MemberId) -> Option<usi
     hosts.iter().position(|host| host.id() == member)
 }
 
-/// Tells where all nodes stand.
-pub fn show_hosts<S: Service>(told: &mut Vec<OutLine>, hosts: &[Host<S>]) -> Result<(), AllocError>
-    ensures { OnOk result (told.new.items ≡ told.old.items ++ map shown_host hosts.now) }
+/// Whether a list has a member.
+pub fn is_among(members: &[MemberId], member: MemberId) -> bool
+    ensures { result ≡ is_among members.now member }
+{
+    members.iter().any(|x| *x == member)
+}
+
+/// Tells where a node stands, unless it is gone.
+fn show_host<S: Service>(
+    told: &mut Vec<OutLine>,
+    faulty: &[MemberId],
+    host: &Host<S>,
+) -> Result<(), AllocError>
+    ensures { OnOk result (told.new.items ≡ told.old.items ++ shown_host faulty.now host.now) }
+{
+    if !is_among(faulty, host.id()) {
+        told.push(host.shown())?;
+    }
+    Ok(())
+}
+
+/// Tells where all nodes stand that are not gone.
+pub fn show_hosts<S: Service>(
+    told: &mut Vec<OutLine>,
+    faulty: &[MemberId],
+    hosts: &[Host<S>],
+) -> Result<(), AllocError>
+    ensures { OnOk result (told.new.items ≡ told.old.items ++ flat_map (shown_host faulty.now) hosts.now) }
 {
     for host in hosts {
-        told.push(host.shown())?;
+        show_host(told, faulty, host)?;
     }
     Ok(())
 }

@@ -2,9 +2,12 @@
 //! batches that was chosen.
 #![tactic(auto)]
 
+pub mod byzantine;
+pub mod clients;
+pub mod deliveries;
+pub mod events;
+pub mod flow;
 pub mod host;
-pub mod ledger;
-pub mod message;
-pub mod secret;
+pub mod lines;
 pub mod state;
 pub mod world;

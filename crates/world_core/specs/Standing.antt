@@ -1,0 +1,9 @@
+-- Where nodes stand.
+use Rattle.world_rules.specs.Worlds.{Host}
+use Rattle.node_rules.specs.Nodes.{view_of, regency_of}
+use Rattle.world_rules.specs.declared.line.OutLine.{OutLine}
+use Rattle.world_rules.specs.declared.line.OutLine.TheVariants as outs
+
+-- the line that tells where a node stands
+abbrev pub stands : {S : Type 0} → Host S → OutLine
+stands h = outs.Stands h.node.id h.node.replica.place (view_of h.node).number (regency_of h.node)

@@ -1,0 +1,176 @@
+//! Events of nodes: what is due at them, and what is given to those that a line lists.
+ghost use Rattle.std.specs.Prelude.{◌≡◌, ◌<◌, IfOk, OnOk, length, slice_get, false};
+ghost use Rattle.kept_arrivals.specs.Kept.{core_step};
+ghost use Rattle.world_rules.specs.Worlds.{told_absent, settle_present, node_takes, settle_once, settle, settle_all, give_all, is_listed, at_listed, telling_all};
+ghost use Rattle.world_core.specs.Idling.{steps, is_idle_at};
+
+use crate::host::{is_among, step_host};
+use crate::state::WorldState;
+use smart_base::name::MemberId;
+use smart_base::sequence::Bytes;
+use smart_messages::entry::NodeEvent;
+use smart_service::service::Service;
+use std::alloc::AllocError;
+use world_rules::line::OutLine;
+
+/// Whether a list has a member: all where it is empty.
+fn is_listed(members: &[MemberId], member: MemberId) -> bool
+    ensures { result ≡ is_listed members.now member }
+{
+    members.is_empty() || is_among(members, member)
+}
+
+impl<S: Service> WorldState<S> {
+    /// The step of the node at an index, which is not gone. Whether no rule fired is given.
+    #[tactic(auto, unfolding(world_rules::specs::Worlds::stepped))]
+    pub(crate) fn step_at(&mut self, i: usize, event: &NodeEvent) -> Result<bool, AllocError>
+        requires { i < length self.old.hosts }
+        ensures world { OnOk result (self.new ≡ steps (core_step S.meaning) i event.now self.old (slice_get self.old.hosts i)) }
+        ensures idle { IfOk result (λ idle. idle ≡ is_idle_at (core_step S.meaning) event.now (slice_get self.old.hosts i)) }
+    {
+        let id = self.hosts[i].id();
+        let left = step_host(
+            self.alloc,
+            &mut self.hosts[i],
+            &mut self.chosen,
+            &mut self.told,
+            event,
+        )?;
+        self.send_all(id, left.messages)?;
+        Ok(left.idle)
+    }
+
+    /// The node at an index takes an event, unless it is gone.
+    #[tactic(auto, unfolding(world_rules::specs::Worlds::node_takes))]
+    pub(crate) fn node_takes(&mut self, i: usize, event: &NodeEvent) -> Result<(), AllocError>
+        ensures { OnOk result (self.new ≡ node_takes (core_step S.meaning) i event.now self.old) }
+    {
+        if self.ending.is_some() || i >= self.hosts.len() {
+            return Ok(());
+        }
+        let id = self.hosts[i].id();
+        if !self.is_gone(id) {
+            let _ = self.step_at(i, event)?;
+        }
+        Ok(())
+    }
+
+    /// The node at an index takes what is due, if anything is. Nothing is at a node that is gone.
+    #[tactic(auto, unfolding(world_rules::specs::Worlds::settle_once, world_rules::specs::Worlds::node_takes))]
+    fn settle_once(&mut self, i: usize) -> Result<bool, AllocError>
+        ensures world { OnOk result (self.new ≡ settle_once (core_step S.meaning) i self.old) }
+        ensures idle { IfOk result (λ more. more ≡ false → self.new ≡ self.old) }
+    {
+        if self.ending.is_some() || i >= self.hosts.len() {
+            return Ok(false);
+        }
+        if self.is_gone(self.hosts[i].id()) {
+            return Ok(false);
+        }
+        match self.hosts[i].due() {
+            None => Ok(false),
+            Some(event) => {
+                self.node_takes(i, &event)?;
+                Ok(true)
+            }
+        }
+    }
+
+    /// The node at an index takes what is due until nothing is.
+    #[tactic(auto, using(crate::proofs::Turns::rest_begins, crate::proofs::Turns::rest_more, crate::proofs::Turns::rest_done, crate::proofs::Turns::rest_idle))]
+    pub(crate) fn settle(&mut self, i: usize) -> Result<(), AllocError>
+        ensures { OnOk result (self.new ≡ settle (core_step S.meaning) i self.old) }
+    {
+        for turn in 0..u64::MAX {
+            if !self.settle_once(i)? {
+                return Ok(());
+            }
+        }
+        Ok(())
+    }
+
+    /// Tells of a member whose node is gone, if a line lists members.
+    fn tell_absent(&mut self, members: &[MemberId], member: MemberId) -> Result<(), AllocError>
+        ensures { OnOk result (self.new ≡ telling_all self.old (told_absent members.now member)) }
+    {
+        if !members.is_empty() {
+            self.told.push(OutLine::Absent { member })?;
+        }
+        Ok(())
+    }
+
+    /// The node at an index settles, unless it is gone.
+    fn settle_present(&mut self, members: &[MemberId], i: usize) -> Result<(), AllocError>
+        ensures { OnOk result (self.new ≡ settle_present (core_step S.meaning) members.now i self.old (slice_get self.old.hosts i)) }
+    {
+        if i >= self.hosts.len() {
+            return Ok(());
+        }
+        let id = self.hosts[i].id();
+        if self.is_gone(id) {
+            self.tell_absent(members, id)?;
+        } else {
+            self.settle(i)?;
+        }
+        Ok(())
+    }
+
+    /// The node at an index settles, if its member is listed.
+    fn settle_listed(&mut self, members: &[MemberId], i: usize) -> Result<(), AllocError>
+        ensures { OnOk result (self.new ≡ at_listed members.now (λ i w. settle_present (core_step S.meaning) members.now i w (slice_get w.hosts i)) i self.old) }
+    {
+        if i < self.hosts.len() && is_listed(members, self.hosts[i].id()) {
+            self.settle_present(members, i)?;
+        }
+        Ok(())
+    }
+
+    /// Each listed node settles, ascending.
+    #[tactic(auto, using(crate::proofs::Turns::each_more, crate::proofs::Turns::each_done))]
+    pub(crate) fn settle_all(&mut self, members: &[MemberId]) -> Result<(), AllocError>
+        ensures { OnOk result (self.new ≡ settle_all (core_step S.meaning) members.now self.old) }
+    {
+        let count = self.hosts.len();
+        for i in 0..count {
+            self.settle_listed(members, i)?;
+        }
+        Ok(())
+    }
+
+    /// The node at an index takes an event, and settles.
+    fn give(&mut self, i: usize, event: &NodeEvent) -> Result<(), AllocError>
+        ensures { OnOk result (self.new ≡ settle (core_step S.meaning) i (node_takes (core_step S.meaning) i event.now self.old)) }
+    {
+        self.node_takes(i, event)?;
+        self.settle(i)?;
+        Ok(())
+    }
+
+    /// The node at an index takes an event and settles, if its member is listed.
+    fn give_listed(
+        &mut self,
+        members: &[MemberId],
+        i: usize,
+        event: &NodeEvent,
+    ) -> Result<(), AllocError>
+        ensures { OnOk result (self.new ≡ at_listed members.now (λ i w. settle (core_step S.meaning) i (node_takes (core_step S.meaning) i event.now w)) i self.old) }
+    {
+        if i < self.hosts.len() && is_listed(members, self.hosts[i].id()) {
+            self.give(i, event)?;
+        }
+        Ok(())
+    }
+
+    /// Each listed node takes the bytes of a message and settles, ascending.
+    #[tactic(auto, using(crate::proofs::Turns::each_more, crate::proofs::Turns::each_done), unfolding(world_rules::specs::Worlds::gives))]
+    pub(crate) fn give_all(&mut self, members: &[MemberId], bytes: Bytes) -> Result<(), AllocError>
+        ensures { OnOk result (self.new ≡ give_all (core_step S.meaning) members.now bytes self.old) }
+    {
+        let count = self.hosts.len();
+        let arrival = NodeEvent::Arrive(bytes);
+        for i in 0..count {
+            self.give_listed(members, i, &arrival)?;
+        }
+        Ok(())
+    }
+}

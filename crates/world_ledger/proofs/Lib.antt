@@ -1,0 +1,3 @@
+pub mod LedgerLaws
+pub mod StatedLaws
+pub mod InjectionLaws

@@ -1,0 +1,189 @@
+//! The statements that their signers have sent, so that one is found without a walk over the
+//! messages.
+ghost use Rattle.std.specs.Prelude.{◌≡◌, ◌≤◌, ◌||◌, ◌++◌, IfOk, OnOk, map, filter, vec_len};
+ghost use Rattle.std.specs.HashSet.{contains, spare};
+ghost use Rattle.std.specs.List.{list_any, flat_map};
+ghost use Rattle.smart_messages.specs.Forms.{Form, party_of};
+ghost use Rattle.smart_messages.specs.Kinds.{requests};
+ghost use Rattle.world_rules.specs.Secrets.{group_secret};
+ghost use Rattle.world_rules.specs.Premises.{claims_of, claims_in, claims, is_from, is_among, is_excused};
+ghost use Rattle.world_ledger.specs.declared.stated.Stated.{Stated};
+ghost use Rattle.world_ledger.specs.Statements.{claim_of, same_stated, is_own};
+
+use smart_base::name::{ClientId, MemberId};
+use smart_base::party::Party;
+use smart_keys::ring::Ring;
+use smart_messages::message::Message;
+use smart_messages::signed::{MEMBER, Signed, Statement};
+use smart_messages::statement::Request;
+use std::alloc::{AllocError, Global};
+use std::collections::HashSet;
+use world_rules::message::{Content, Origin, Sent};
+
+/// A statement that its signer has sent: who signed it, and its bytes.
+#[derive(PartialEq, Eq, Hash, Drop)]
+pub struct Stated {
+    is_member: bool,
+    number: u16,
+    bytes: Vec<u8>,
+}
+
+/// The statements that their signers have sent.
+pub type StatedIndex = HashSet<Stated>;
+
+impl Stated {
+    fn new(alloc: Global, signer: Party, bytes: &[u8]) -> Result<Stated, AllocError>
+        ensures { IfOk result (λ s. claim_of s ≡ record { signer = signer; bytes = bytes.now }) }
+    {
+        let (is_member, number) = match signer {
+            Party::Member(id) => (true, id.get()),
+            Party::Client(id) => (false, id.get()),
+        };
+        Ok(Stated {
+            is_member,
+            number,
+            bytes: Vec::from_slice(alloc, bytes)?,
+        })
+    }
+
+    /// A signed statement.
+    pub fn from_signed<S: Statement>(
+        alloc: Global,
+        signed: &Signed<S>,
+    ) -> Result<Stated, AllocError>
+        ensures { IfOk result (λ s. claim_of s ≡ record { signer = party_of (Form.kind S.form) signed.now.signer; bytes = Form.spell S.form signed.now.statement }) }
+    {
+        Stated::new(alloc, signer_of(signed), signed.bytes())
+    }
+}
+
+/// The party of a kind and a number.
+pub fn party_of(kind: u8, number: u16) -> Party
+    ensures { result ≡ party_of kind number }
+{
+    if kind == MEMBER {
+        Party::Member(MemberId::new(number))
+    } else {
+        Party::Client(ClientId::new(number))
+    }
+}
+
+/// Who signed.
+pub fn signer_of<S: Statement>(signed: &Signed<S>) -> Party
+    ensures { result ≡ party_of (Form.kind S.form) signed.now.signer }
+{
+    party_of(S::kind(), signed.signer())
+}
+
+fn is_from(party: Party, origin: &Origin) -> bool
+    ensures { result ≡ is_from party origin.now }
+{
+    match party {
+        Party::Member(member) => match *origin {
+            Origin::Node(id) => member == id,
+            Origin::Client(_) | Origin::Script => false,
+        },
+        Party::Client(client) => match *origin {
+            Origin::Client(id) => client == id,
+            Origin::Node(_) | Origin::Script => false,
+        },
+    }
+}
+
+/// Adds a statement, if its sender has signed it.
+fn keep_own<S: Statement>(
+    alloc: Global,
+    ring: &Ring,
+    origin: &Origin,
+    signed: &Signed<S>,
+    own: &mut Vec<Stated>,
+) -> Result<(), AllocError>
+    requires { ring.now ≡ group_secret }
+    ensures { OnOk result (map claim_of own.new.items ≡ map claim_of own.old.items ++ filter (is_own origin.now) (claims_of S.form signed.now)) }
+{
+    if is_from(signer_of(signed), origin) && signed.verifies(ring) {
+        own.push(Stated::from_signed(alloc, signed)?)?;
+    }
+    Ok(())
+}
+
+fn keep_own_requests(
+    alloc: Global,
+    ring: &Ring,
+    origin: &Origin,
+    batch: &[Signed<Request>],
+    own: &mut Vec<Stated>,
+) -> Result<(), AllocError>
+    requires { ring.now ≡ group_secret }
+    ensures { OnOk result (map claim_of own.new.items ≡ map claim_of own.old.items ++ filter (is_own origin.now) (flat_map (claims_of requests) batch.now)) }
+{
+    for request in batch {
+        keep_own(alloc, ring, origin, request, own)?;
+    }
+    Ok(())
+}
+
+fn own_in(
+    alloc: Global,
+    ring: &Ring,
+    origin: &Origin,
+    message: &Message,
+) -> Result<Vec<Stated>, AllocError>
+    requires { ring.now ≡ group_secret }
+    ensures { IfOk result (λ own. map claim_of own.items ≡ filter (is_own origin.now) (claims_in message.now)) }
+{
+    let mut own = Vec::new(alloc);
+    match message {
+        Message::Ask(request) => keep_own(alloc, ring, origin, request, &mut own)?,
+        Message::Propose(proposed) => {
+            keep_own(alloc, ring, origin, &proposed.head, &mut own)?;
+            keep_own_requests(alloc, ring, origin, proposed.batch.as_slice(), &mut own)?;
+        }
+        Message::Vote(ballot) => keep_own(alloc, ring, origin, ballot, &mut own)?,
+        Message::Reply(answer) => keep_own(alloc, ring, origin, answer, &mut own)?,
+    }
+    Ok(own)
+}
+
+/// The statements in a message that its sender has signed.
+pub fn own_statements(alloc: Global, ring: &Ring, sent: &Sent) -> Result<Vec<Stated>, AllocError>
+    requires { ring.now ≡ group_secret }
+    ensures { IfOk result (λ own. map claim_of own.items ≡ filter (is_own sent.now.origin) (claims sent.now.content)) }
+{
+    match &sent.content {
+        Content::Message(message) => Ok(own_in(alloc, ring, &sent.origin, message)?),
+        Content::Raw(_) => Ok(Vec::new(alloc)),
+    }
+}
+
+/// Puts statements into an index that has room for them.
+pub fn put_all(index: &mut StatedIndex, own: Vec<Stated>)
+    requires { vec_len own ≤ spare index.old }
+    ensures { (s : Stated) → contains same_stated index.new s ≡ (list_any (λ o. same_stated o s) own.items || contains same_stated index.old s) }
+{
+    for stated in own {
+        let _ = index.insert(stated);
+    }
+}
+
+fn has_member(members: &[MemberId], id: MemberId) -> bool
+    ensures { result ≡ is_among members.now id }
+{
+    members.iter().any(|member| *member == id)
+}
+
+fn has_client(clients: &[ClientId], id: ClientId) -> bool
+    ensures { result ≡ is_among clients.now id }
+{
+    clients.iter().any(|client| *client == id)
+}
+
+/// Whether who signed is declared faulty, or rogue.
+pub fn is_excused(faulty: &[MemberId], rogue: &[ClientId], signer: Party) -> bool
+    ensures { result ≡ is_excused faulty.now rogue.now signer }
+{
+    match signer {
+        Party::Member(id) => has_member(faulty, id),
+        Party::Client(id) => has_client(rogue, id),
+    }
+}
