@@ -1,41 +1,48 @@
 -- Each reply that a client accepted is the right one: the service's answer at its request's one place in the list.
-use Rattle.std.proofs.Common.{◌≡◌, ℕ, ◌+◌, ◌<◌, ◌==◌, ◌++◌, List, [], ◌∷◌, length, refl, ap, ◌∙◌, sym, Option, Some, None, subst, append-nil}
+use Rattle.std.proofs.Common.{◌≤◌, ◌&&◌, Bool, true, false, filter, eqb-true, inl, inr, ◌≡◌, ℕ, ◌+◌, ◌<◌, ◌==◌, ◌++◌, List, [], ◌∷◌, length, refl, ap, ◌∙◌, sym, Option, Some, None, subst, append-nil, ◌⊎◌}
 use Rattle.smart_base.specs.Lists.{Each}
 use Rattle.smart_base.specs.Views.{View}
 use Rattle.smart_messages.specs.Forms.{SignedBy}
 use Rattle.smart_messages.specs.Messages.{Batch}
 use Rattle.smart_messages.specs.declared.statement.Request.{Request}
 use Rattle.smart_messages.specs.declared.statement.Answer.{Answer}
-use Rattle.smart_messages.specs.declared.message.Message.{Message}
 use Rattle.smart_messages.specs.declared.message.Message.TheVariants.{Reply}
 use Rattle.smart_service.specs.Services.{Meaning}
 use Rattle.smart_service.specs.declared.table.TableLine.{TableLine}
 use Rattle.node_rules.specs.Replicas.{executions}
 use Rattle.node_rules.specs.Nodes.{next_place}
 use Rattle.node_rules.specs.Steps.{Outcome, step_of, leaving}
-use Rattle.node_rules.specs.declared.node.Held.{Held}
-use Rattle.node_rules.specs.declared.node.Target.{Target}
-use Rattle.node_rules.specs.declared.node.Target.TheVariants as targets
 use Rattle.client_quorum.specs.Clients.{acceptance}
 use Rattle.world_rules.specs.Clients.{heard}
-use Rattle.world_rules.specs.Promises.{HasAsked, IsRight}
-use Rattle.world_rules.specs.Worlds.{Host, World, sends, sends_all, chosen_with, stepped, acceptance_in, hearing, begun}
+use Rattle.world_rules.specs.Promises.{HasAsked, IsRight, IsRogue}
+use Rattle.world_rules.specs.Worlds.{Host, World, posts, chosen_with, stepped, acceptance_in, hearing, begun}
 use Rattle.client_quorum.specs.declared.client.Client.{Client}
 use Rattle.client_quorum.specs.declared.client.Acceptance.{Acceptance}
 use Rattle.client_quorum.specs.declared.client.Heard.{Heard}
 use Rattle.client_quorum.specs.declared.client.Heard.TheVariants as hears
-use Rattle.world_rules.specs.declared.message.Origin.{Origin}
-use Rattle.world_rules.specs.declared.message.Origin.TheVariants as origins
 use Rattle.world_laws.specs.Lines.{HasLine}
-use Rattle.world_laws.proofs.Lists.{either, each_end, each_weaker, each_both}
-use Rattle.world_laws.proofs.Keeps.{ask_of, asked_by, by-sends, Keeps, ReadsSent, reply_has, signed_by}
-use Rattle.world_laws.proofs.Aligned.{IsExecuted}
+use Rattle.world_laws.proofs.Lists.{and_true, either, each_end, each_weaker, each_both, each_get, or_true}
+use Rattle.world_laws.proofs.Equal.{same_bytes-equal}
+use Rattle.std.proofs.lemmas.Bool.{leb-true}
+use Rattle.std.specs.Prelude.{slice_get}
+use Rattle.smart_base.specs.Views.{quorum}
+use Rattle.smart_base.specs.Lists.{same_bytes}
+use Rattle.smart_messages.specs.Kinds.{answers}
+use Rattle.node_rules.specs.Seals.{is_verified}
+use Rattle.client_quorum.specs.Clients.{same_answer, has_answer, have, is_waited_for}
+use Rattle.world_rules.specs.Secrets.{group_secret}
+use Rattle.world_rules.specs.Premises.{is_among}
+use Rattle.agreement_laws.proofs.Groups.{quorums_share}
+use Rattle.world_laws.proofs.Keeps.{HasMessage, ask_of, asked_by, by-posts, keeps-sends_all, Keeps, ReadsSent, read_has, signed_by, from_node, from_client, from_script}
+use Rattle.world_laws.proofs.Aligned.{line_told, IsExecuted}
 use Rattle.world_laws.proofs.OnePlace.{place_of-line, answer-line}
 use Rattle.world_laws.proofs.Executions.{executions-more, IsOfRequest, request-line, view-line}
-use Rattle.world_laws.proofs.Replies.{RepliesRight, reply_sent}
+use Rattle.world_laws.proofs.Given.{IsKept, ClientKeeps, kept_last}
+use Rattle.world_laws.proofs.Replied.{WasSent}
 use Rattle.world_laws.proofs.Asked.{RequestsAsked, StandsRight, stands_right}
 use Rattle.world_laws.proofs.Hearing.{Accepts, accepts_waiting}
 use Rattle.world_laws.proofs.Asking.{ClientsRight}
+use Rattle.world_rules.specs.declared.message.Sent.{Sent}
 
 -- the line of the execution that an accepted reply tells
 abbrev pub line_accepted : Acceptance → TableLine
@@ -49,20 +56,19 @@ IsTold m view chosen a = HasLine (executions m view chosen) (line_accepted a)
 pub record AcceptedTold {S : Type 0} (m : Meaning S) (w : World S) : Type 0 where
   pub all : Each (IsTold m w.view w.chosen) w.accepted
 
--- all accepted replies are right
+-- an accepted reply is right, unless its client is rogue
+abbrev pub RightUnlessRogue : {S : Type 0} → Meaning S → View → List ℕ → List Sent → List Batch → Acceptance → Type 0
+RightUnlessRogue m view rogue sent chosen a = IsRogue rogue a.request.client ⊎ IsRight m view sent chosen a
+
+-- all accepted replies are right, but for those of rogue clients
 pub record AcceptedRight {S : Type 0} (m : Meaning S) (w : World S) : Type 0 where
-  pub all : Each (IsRight m w.view w.sent w.chosen) w.accepted
+  pub all : Each (RightUnlessRogue m w.view w.rogue w.sent w.chosen) w.accepted
 
 -- messages that leave
 
 -- what was accepted stays where a message leaves
-told-sends : {S : Type 0} (m : Meaning S) (w : World S) (origin : Origin) (to : Target) (message : Message) → AcceptedTold m w → AcceptedTold m (sends w origin to message)
-told-sends {S = S} m w origin to message told = by-sends (λ (v : World S). AcceptedTold m v) w origin to message (λ ending. record { all = told.all }) (λ free room. record { all = told.all })
-
--- and where many leave
-told-sends_all : {S : Type 0} (m : Meaning S) (id : ℕ) (w : World S) (held : List Held) → AcceptedTold m w → AcceptedTold m (sends_all id w held)
-told-sends_all m id w [] told = told
-told-sends_all m id w (h ∷ hs) told = told-sends_all m id (sends w (origins.Node id) h.to h.message) hs (told-sends m w (origins.Node id) h.to h.message told)
+told-posts : {S : Type 0} (m : Meaning S) (w : World S) (s : Sent) → AcceptedTold m w → AcceptedTold m (posts w s)
+told-posts {S = S} m w s told = by-posts (λ (v : World S). AcceptedTold m v) w s (λ ending. record { all = told.all }) (λ free room. record { all = told.all })
 
 -- a node's step
 
@@ -78,48 +84,99 @@ told-stepped : {S : Type 0} (m : Meaning S) (w : World S) (i : ℕ) (h : Host S)
 unfolding stepped
 told-stepped m w i h o told =
     let more : List Batch = chosen_with w.chosen (next_place o.node) o.node.waiting in
-    told-sends_all m h.node.id _ (leaving o.node.firm o.node.held)
+    keeps-sends_all (AcceptedTold m) h.node.id (λ v held is. told-posts m v (from_node h.node.id held) is) _ (leaving o.node.firm o.node.held)
     (record { all = each_weaker (IsTold m w.view w.chosen) (IsTold m w.view more) (told-chosen m w.view w.chosen (next_place o.node) o.node.waiting) w.accepted told.all })
 
 -- a client hears
 
--- a reply tells of the request that it is accepted for
-told-acceptance : {S : Type 0} (m : Meaning S) (v : View) (chosen : List Batch) (q : Request) (a : Answer) → q.client ≡ a.client → q.seq ≡ a.seq → IsExecuted m v chosen a
+-- what is known of replies: a client keeps those that were sent, at most f members are faulty, and what others state tells an execution
+pub record Telling {S : Type 0} (m : Meaning S) (w : World S) : Type 0 where
+  pub reads : ReadsSent w
+  pub keeps : Each (ClientKeeps (WasSent w.sent)) w.clients
+  pub few : length (filter (is_among w.faulty) w.view.members) ≤ w.view.f
+  pub executed : (r : SignedBy Answer) → HasMessage w.sent (Reply r) → is_verified answers group_secret r ≡ true → is_among w.faulty r.signer ≡ false → IsExecuted m w.view w.chosen r.statement
+
+-- lines of the same numbers are one
+lines_one : (a b : TableLine) → a.client ≡ b.client → a.seq ≡ b.seq → a.place ≡ b.place → a.index ≡ b.index → a.view ≡ b.view → a.reply ≡ b.reply → a ≡ b
+lines_one a b client seq place index view reply =
+    let make : ℕ → ℕ → ℕ → ℕ → ℕ → List ℕ → TableLine = λ c s p i v r. record { client = c; seq = s; place = p; index = i; view = v; reply = r } in
+    ap (λ c. make c a.seq a.place a.index a.view a.reply) client
+    ∙ (ap (λ s. make b.client s a.place a.index a.view a.reply) seq
+    ∙ (ap (λ p. make b.client b.seq p a.index a.view a.reply) place
+    ∙ (ap (λ i. make b.client b.seq b.place i a.view a.reply) index
+    ∙ (ap (λ v. make b.client b.seq b.place b.index v a.reply) view ∙ ap (λ r. make b.client b.seq b.place b.index b.view r) reply))))
+
+-- a reply that is the same as another tells of the request that the other is accepted for
+told_same : {S : Type 0} (m : Meaning S) (v : View) (chosen : List Batch) (q : Request) (r a : Answer) → is_waited_for (Some q) r ≡ true → same_answer r a ≡ true → IsExecuted m v chosen r
     → IsTold m v chosen (acceptance q a)
-told-acceptance m v chosen q a client seq executed =
-    let make : ℕ → ℕ → TableLine = λ c s. record { client = c; seq = s; place = a.place; index = a.index; view = a.view; reply = a.reply } in
-    subst (HasLine (executions m v chosen)) (sym (ap (λ c. make c q.seq) client ∙ ap (make a.client) seq)) executed
+told_same m v chosen q r a waited same executed =
+    let own = and_true (q.client == r.client) (q.seq == r.seq) waited in
+    let three = and_true ((r.view == a.view) && (r.place == a.place) && (r.index == a.index)) (same_bytes r.reply a.reply) same in
+    let two = and_true ((r.view == a.view) && (r.place == a.place)) (r.index == a.index) three.0 in
+    let one = and_true (r.view == a.view) (r.place == a.place) two.0 in
+    subst (HasLine (executions m v chosen))
+    (lines_one (line_told r) (line_accepted (acceptance q a)) (sym (eqb-true q.client r.client own.0)) (sym (eqb-true q.seq r.seq own.1)) (eqb-true r.place a.place one.1)
+    (eqb-true r.index a.index two.1) (eqb-true r.view a.view one.0) (same_bytes-equal r.reply a.reply three.1)) executed
 
--- what a client makes of a reply that tells an execution
-told-heard : {S : Type 0} (m : Meaning S) (v : View) (chosen : List Batch) (accepted : List Acceptance) (c : Client) (a : SignedBy Answer) (h : Heard)
-    → heard v c a ≡ h → IsExecuted m v chosen a.statement → Each (IsTold m v chosen) accepted → Each (IsTold m v chosen) (accepted ++ acceptance_in h)
-told-heard m v chosen accepted c a (hears.Counted count need) is executed told = rw append-nil told
-told-heard m v chosen accepted c a (hears.Ignored why) is executed told = rw append-nil told
-told-heard m v chosen accepted c a (hears.Accepted acc) is executed told =
-    let taken : Accepts v c a acc = accepts_waiting v c a acc is in
-    each_end (IsTold m v chosen) accepted acc told
-    (subst (IsTold m v chosen) (sym taken.is) (told-acceptance m v chosen taken.request a.statement taken.counts.client taken.counts.seq executed))
+-- where a member that is not faulty gave a reply, the reply tells an execution
+told_given : {S : Type 0} (m : Meaning S) (w : World S) (q : Request) (a : Answer) (member : ℕ) (replies : List (SignedBy Answer)) → Telling m w → is_among w.faulty member ≡ false
+    → Each (IsKept (WasSent w.sent) (Some q)) replies → has_answer replies a member ≡ true → IsTold m w.view w.chosen (acceptance q a)
+told_given m w q a member [] known correct kept is = absurd (cc)
+told_given {S = S} m w q a member (r ∷ rs) known correct kept is =
+    elim (or_true ((r.signer == member) && same_answer r.statement a) (has_answer rs a member) is) [
+      | inl here ↦
+          let parts = and_true (r.signer == member) (same_answer r.statement a) here in
+          told_same m w.view w.chosen q r.statement a kept.0.waited_for parts.1
+          (known.executed r kept.0.given kept.0.tagged (subst (λ (k : ℕ). is_among w.faulty k ≡ false) (sym (eqb-true r.signer member parts.0)) correct))
+      | inr later ↦ told_given m w q a member rs known correct kept.1 later
+    ]
 
--- a client hears a reply that tells an execution
-told-hearing : {S : Type 0} (m : Meaning S) (w : World S) (i : ℕ) (c : Client) (a : SignedBy Answer) → IsExecuted m w.view w.chosen a.statement → AcceptedTold m w → AcceptedTold m (hearing w i c a (heard w.view c a))
+-- of the members that gave the reply that a client accepts, one is not faulty
+told_accepted : {S : Type 0} (m : Meaning S) (w : World S) (c : Client) (a : SignedBy Answer) (acc : Acceptance) → Telling m w → HasMessage w.sent (Reply a) → ClientKeeps (WasSent w.sent) c
+    → Accepts w.view c a acc → IsTold m w.view w.chosen acc
+told_accepted {S = S} m w c a acc known has kept taken =
+    let q : Request = taken.request in
+    let replies : List (SignedBy Answer) = c.replies ++ a ∷ [] in
+    let last : IsKept (WasSent w.sent) c.waiting a = kept_last (WasSent w.sent) w.view c a q has taken.counts in
+    let all : Each (IsKept (WasSent w.sent) (Some q)) replies =
+    subst (λ (waiting : Option Request). Each (IsKept (WasSent w.sent) waiting) replies) taken.counts.waits (each_end (IsKept (WasSent w.sent) c.waiting) c.replies a kept last) in
+    let gave : ℕ → Bool = has_answer replies a.statement in
+    let enough : quorum w.view ≤ length (filter gave w.view.members) = leb-true (quorum w.view) (have w.view replies a.statement) taken.enough in
+    let met = quorums_share gave gave (is_among w.faulty) w.view known.few enough enough in
+    subst (IsTold m w.view w.chosen) (sym taken.is) (told_given m w q a.statement met.member replies known met.is.correct all met.left)
+
+-- what a client makes of a reply
+told-heard : {S : Type 0} (m : Meaning S) (w : World S) (c : Client) (a : SignedBy Answer) (h : Heard) → heard w.view c a ≡ h → Telling m w → HasMessage w.sent (Reply a) → ClientKeeps (WasSent w.sent) c
+    → Each (IsTold m w.view w.chosen) w.accepted → Each (IsTold m w.view w.chosen) (w.accepted ++ acceptance_in h)
+told-heard m w c a (hears.Counted count need) is known has kept told = rw append-nil told
+told-heard m w c a (hears.Ignored why) is known has kept told = rw append-nil told
+told-heard m w c a (hears.Accepted acc) is known has kept told =
+    each_end (IsTold m w.view w.chosen) w.accepted acc told (told_accepted m w c a acc known has kept (accepts_waiting w.view c a acc is))
+
+-- a client hears a reply
+told-hearing : {S : Type 0} (m : Meaning S) (w : World S) (i : ℕ) (c : Client) (a : SignedBy Answer) → slice_get w.clients i ≡ Some c → Telling m w → HasMessage w.sent (Reply a) → AcceptedTold m w
+    → AcceptedTold m (hearing w i c a (heard w.view c a))
 unfolding hearing
-told-hearing m w i c a executed told = record { all = told-heard m w.view w.chosen w.accepted c a (heard w.view c a) refl executed told.all }
+told-hearing m w i c a at known has told =
+    record { all = told-heard m w c a (heard w.view c a) refl known has (each_get (ClientKeeps (WasSent w.sent)) w.clients i c known.keeps at) told.all }
 
--- where all replies tell executions and what was sent is read, each event keeps that the accepted ones do
-pub keeps-told : {S : Type 0} (m : Meaning S) (P : World S → Type 0) → ((w : World S) → P w → ReadsSent w) → Keeps (step_of m) (λ w. P w × RepliesRight m w) → Keeps (step_of m) (λ w. (P w × RepliesRight m w) × AcceptedTold m w)
-keeps-told m P reads k =
+-- where that is known of replies, each event keeps that the accepted ones tell executions
+pub keeps-told : {S : Type 0} (m : Meaning S) (P : World S → Type 0) → ((w : World S) → P w → Telling m w) → Keeps (step_of m) P → Keeps (step_of m) (λ w. P w × AcceptedTold m w)
+keeps-told m P telling k =
     record {
-      event = λ w i h event at may p. (k.event w i h event at may p.0, told-stepped m w i h (step_of m h.node event) p.1);
+      event = λ w i h event there at may p. (k.event w i h event there at may p.0, told-stepped m w i h (step_of m h.node event) p.1);
       hear = λ w i c x a at has read p. (
         k.hear w i c x a at has read p.0,
-        told-hearing m w i c a (reply_sent m P w a p.0 (reply_has w.sent x (Reply a) (reads w p.0.0 x has) read has)) p.1,
+        (let known = telling w p.0 in told-hearing m w i c a at known (read_has w x (Reply a) known.reads has read) p.1),
       );
       ask = λ w i c op at free few brief p. (
         k.ask w i c op at free few brief p.0,
-        told-sends m (asked_by w i c op) (origins.Client c.id) targets.View (ask_of c op) (record { all = p.1.all }),
+        told-posts m (asked_by w i c op) (from_client c (ask_of c op)) (record { all = p.1.all }),
       );
-      again = λ w i c q at waits p. (k.again w i c q at waits p.0, told-sends m w (origins.Client c.id) targets.View (signed_by c q) p.1);
+      again = λ w i c q at waits p. (k.again w i c q at waits p.0, told-posts m w (from_client c (signed_by c q)) p.1);
       learn = λ w i j c d at other p. (k.learn w i j c d at other p.0, record { all = p.1.all });
+      inject = λ w x read fine p. (k.inject w x read fine p.0, told-posts m w (from_script x) p.1);
+      declare = λ w faulty rogue ending how p. (k.declare w faulty rogue ending how p.0, record { all = p.1.all });
       same = λ w mark told p. (k.same w mark told p.0, record { all = p.1.all });
     }
 
@@ -129,24 +186,30 @@ told-begun m view = record { all = tt }
 
 -- what follows
 
--- an accepted reply that tells an execution is right: the request that stands there is the one that the client asked, for a client asks one request of a number
-is_right : {S : Type 0} (m : Meaning S) (w : World S) (a : Acceptance) → RequestsAsked w → ClientsRight w → IsTold m w.view w.chosen a → HasAsked w.sent a.request → IsRight m w.view w.sent w.chosen a
-is_right m w a requests clients told asked =
+-- an accepted reply that tells an execution is right, unless its client is rogue: the request that stands there is the one that the client asked, for a client asks one request of a number
+is_right : {S : Type 0} (m : Meaning S) (w : World S) (a : Acceptance) → RequestsAsked w → ClientsRight w → IsTold m w.view w.chosen a → HasAsked w.sent a.request
+    → RightUnlessRogue m w.view w.rogue w.sent w.chosen a
+is_right {S = S} m w a requests clients told asked =
     let q : IsOfRequest w.chosen (line_accepted a) = request-line m w.view w.chosen (line_accepted a) told in
-    let stands : StandsRight w.sent a.place q.request = stands_right w a.place a.index q.request requests q.there in
-    let same : q.request ≡ a.request = clients.all.one q.request a.request stands.asked asked q.client q.seq in
-    record {
-      asked = asked;
-      place_is = place_of-line m w.view w.chosen (line_accepted a) told;
-      request_is = q.there ∙ ap (λ (r : Request). Some r) same;
-      reply_is = answer-line m w.view w.chosen (line_accepted a) told;
-      view_is = view-line m w.view w.chosen (line_accepted a) told;
-      above = subst (λ (r : Request). r.after < a.place) same stands.below;
-    }
+    let stands : StandsRight w.rogue w.sent a.place q.request = stands_right w a.place a.index q.request requests q.there in
+    elim stands.asked [
+      | inl breaks ↦ inl (subst (IsRogue w.rogue) q.client breaks)
+      | inr sent ↦
+          let same : q.request ≡ a.request = clients.all.one q.request a.request sent asked q.client q.seq in
+          inr (record {
+            asked = asked;
+            place_is = place_of-line m w.view w.chosen (line_accepted a) told;
+            request_is = q.there ∙ ap (λ (r : Request). Some r) same;
+            reply_is = answer-line m w.view w.chosen (line_accepted a) told;
+            view_is = view-line m w.view w.chosen (line_accepted a) told;
+            above = subst (λ (r : Request). r.after < a.place) same stands.below;
+          })
+    ]
 
--- all accepted replies are right
+-- all accepted replies are right, but for those of rogue clients
 pub accepted-right : {S : Type 0} (m : Meaning S) (w : World S) → RequestsAsked w → ClientsRight w → AcceptedTold m w → AcceptedRight m w
 accepted-right m w requests clients told =
     record {
-      all = each_both (IsTold m w.view w.chosen) (λ a. HasAsked w.sent a.request) (IsRight m w.view w.sent w.chosen) (λ a is asked. is_right m w a requests clients is asked) w.accepted told.all clients.all.asked;
+      all = each_both (IsTold m w.view w.chosen) (λ a. HasAsked w.sent a.request) (RightUnlessRogue m w.view w.rogue w.sent w.chosen) (λ a is asked. is_right m w a requests clients is asked) w.accepted
+          told.all clients.all.asked;
     }

@@ -4,24 +4,18 @@ use Rattle.std.specs.Prelude.{slice_get, slice_set}
 use Rattle.smart_base.specs.Lists.{Each}
 use Rattle.smart_base.specs.Views.{View}
 use Rattle.smart_messages.specs.Forms.{SignedBy}
-use Rattle.smart_messages.specs.Kinds.{requests}
 use Rattle.smart_messages.specs.declared.statement.Request.{Request}
 use Rattle.smart_messages.specs.declared.statement.Answer.{Answer}
-use Rattle.smart_messages.specs.declared.message.Message.{Message}
 use Rattle.smart_messages.specs.declared.message.Message.TheVariants.{Ask, Propose, Vote, Reply}
 use Rattle.smart_messages.specs.declared.entry.NodeEvent.{NodeEvent}
 use Rattle.smart_service.specs.Services.{Meaning}
-use Rattle.node_rules.specs.Seals.{signed}
 use Rattle.node_rules.specs.Nodes.{Node}
 use Rattle.node_rules.specs.Steps.{Outcome, leaving}
 use Rattle.node_rules.specs.declared.node.Held.{Held}
-use Rattle.node_rules.specs.declared.node.Target.{Target}
-use Rattle.node_rules.specs.declared.node.Target.TheVariants as targets
-use Rattle.world_rules.specs.Secrets.{group_secret}
 use Rattle.client_quorum.specs.Clients.{fresh, request_of, asking, learning, acceptance, after_heard}
 use Rattle.world_rules.specs.Clients.{heard}
 use Rattle.world_rules.specs.Promises.{HasAsked, Rises}
-use Rattle.world_rules.specs.Worlds.{Host, World, sends, sends_all, stepped, acceptance_in, hearing, clients_from, begun}
+use Rattle.world_rules.specs.Worlds.{Host, World, posts, stepped, acceptance_in, hearing, clients_from, begun}
 use Rattle.world_rules.specs.Plays.{rested, world_after}
 use Rattle.client_quorum.specs.declared.client.Client.{Client}
 use Rattle.world_rules.specs.declared.line.Line.{Line}
@@ -29,14 +23,15 @@ use Rattle.client_quorum.specs.declared.client.Acceptance.{Acceptance}
 use Rattle.client_quorum.specs.declared.client.Heard.{Heard}
 use Rattle.client_quorum.specs.declared.client.Heard.TheVariants as hears
 use Rattle.world_rules.specs.declared.message.Ending.{Ending}
-use Rattle.world_rules.specs.declared.message.Origin.{Origin}
 use Rattle.world_rules.specs.declared.message.Origin.TheVariants as origins
 use Rattle.world_rules.specs.declared.message.Sent.{Sent}
 use Rattle.world_laws.proofs.Lists.{some-equal, each_end, each_weaker}
 use Rattle.world_laws.proofs.Numbered.{EachAt, each_at_get, each_at_weaker, each_at_set}
-use Rattle.world_laws.proofs.Keeps.{ask_of, asked_by, by-sends-ended, KeepsLive, live-world_after, signed_by}
-use Rattle.world_laws.proofs.Asked.{asked_end, asked_now}
+use Rattle.world_laws.proofs.Keeps.{ask_of, asked_by, by-posts-ended, KeepsLive, live-world_after, signed_by, from_node, from_client, from_script, keeps-sends_all}
+use Rattle.world_laws.proofs.Asked.{asked_end, asked_now, sent_ask}
 use Rattle.world_laws.proofs.Hearing.{Accepts, accepts_waiting}
+use Rattle.world_rules.specs.declared.message.Content.{Content}
+use Rattle.world_rules.specs.declared.message.Content.TheVariants as contents
 
 -- a request that waits is its client's last, states no place below those of all that the client accepted, and was asked, unless its message
 -- had no number any more
@@ -63,36 +58,47 @@ pub record Right (sent : List Sent) (ending : Option Ending) (clients : List Cli
 pub record ClientsRight {S : Type 0} (w : World S) : Type 0 where
   pub all : Right w.sent w.ending w.clients w.accepted
 
--- nodes ask nothing
+-- who asks
 
--- what a client asked, it asked before a node sent
-node_asks_nothing : (sent : List Sent) (id : ℕ) (to : Target) (message : Message) (q : Request) → HasAsked (sent ++ record { origin = origins.Node id; to = to; message = message } ∷ []) q → HasAsked sent q
-node_asks_nothing [] id to message q asked = elim asked [ inl here ↦ absurd (other (ap (λ (s : Sent). s.origin) here)) | inr later ↦ absurd later ]
+-- what was asked with one more sent, was asked before, or it is sent now
+asks_one : (sent : List Sent) (s : Sent) (q : Request) → HasAsked (sent ++ s ∷ []) q → HasAsked sent q ⊎ (s ≡ sent_ask q)
+asks_one [] s q asked = elim asked [ inl here ↦ inr here | inr later ↦ absurd later ]
+asks_one (t ∷ sent) s q asked = elim asked [ inl here ↦ inl (inl here) | inr later ↦ elim (asks_one sent s q later) [ inl before ↦ inl (inr before) | inr now ↦ inr now ] ]
+
+-- what is sent asks nothing
+abbrev IsQuiet : Sent → Type 0
+IsQuiet s = (q : Request) → s ≡ sent_ask q → ⊥
+
+-- what a node sends
+node_quiet : (id : ℕ) (h : Held) → IsQuiet (from_node id h)
+node_quiet id h q same = other (ap (λ (s : Sent). s.origin) same)
   where
     other : origins.Node id ≡ origins.Client q.client → ⊥
-    other same = cc
-node_asks_nothing (t ∷ sent) id to message q asked = elim asked [ inl here ↦ inl here | inr later ↦ inr (node_asks_nothing sent id to message q later) ]
+    other is = cc
 
--- the message of a request
-abbrev signed_ask : ℕ → Request → Message
-signed_ask id q = Ask (signed requests group_secret id q)
-
--- what a client asks, it asked before or asks now
-asks_one : (sent : List Sent) (origin : Origin) (to : Target) (id : ℕ) (new q : Request) → HasAsked (sent ++ record { origin = origin; to = to; message = signed_ask id new } ∷ []) q → HasAsked sent q ⊎ (q ≡ new)
-asks_one [] origin to id new q asked = elim asked [ inl here ↦ inr (same_request (ap (λ (s : Sent). s.message) here)) | inr later ↦ absurd later ]
+-- and what a script injects
+script_quiet : (x : Content) → IsQuiet (from_script x)
+script_quiet x q same = other (ap (λ (s : Sent). s.origin) same)
   where
-    statement : Message → Request → Request
-    statement (Ask a) r = a.statement
-    statement (Propose p) r = r
-    statement (Vote v) r = r
-    statement (Reply a) r = r
+    other : origins.Script ≡ origins.Client q.client → ⊥
+    other is = cc
 
-    same_request : signed_ask id new ≡ signed_ask q.client q → q ≡ new
-    same_request same = sym (ap (λ (x : Message). statement x new) same)
-asks_one (t ∷ sent) origin to id new q asked =
-    elim asked [ inl here ↦ inl (inl here) | inr later ↦ elim (asks_one sent origin to id new q later) [ inl before ↦ inl (inr before) | inr now ↦ inr now ] ]
+-- so what was asked then, was asked before
+quiet_asks : (sent : List Sent) (s : Sent) → IsQuiet s → (q : Request) → HasAsked (sent ++ s ∷ []) q → HasAsked sent q
+quiet_asks sent s quiet q asked = elim (asks_one sent s q asked) [ inl before ↦ before | inr now ↦ absurd (quiet q now) ]
 
--- a message of a node leaves
+-- a client asks the request that it sends
+client_asks_one : (sent : List Sent) (c : Client) (new q : Request) → HasAsked (sent ++ from_client c (signed_by c new) ∷ []) q → HasAsked sent q ⊎ (q ≡ new)
+client_asks_one sent c new q asked = elim (asks_one sent (from_client c (signed_by c new)) q asked) [ inl before ↦ inl before | inr now ↦ inr (sym (ap (λ (s : Sent). statement s.content new) now)) ]
+  where
+    statement : Content → Request → Request
+    statement (contents.Message (Ask a)) r = a.statement
+    statement (contents.Message (Propose p)) r = r
+    statement (contents.Message (Vote v)) r = r
+    statement (contents.Message (Reply a)) r = r
+    statement (contents.Raw bytes) r = r
+
+-- messages leave
 
 -- clients stay right where messages leave that ask nothing
 right-sent : (sent sent' : List Sent) (ending ending' : Option Ending) (clients : List Client) (accepted : List Acceptance) → ((q : Request) → HasAsked sent q → HasAsked sent' q) → ((q : Request) → HasAsked sent' q → HasAsked sent q)
@@ -112,23 +118,18 @@ right-sent sent sent' ending ending' clients accepted forth back on is =
       rising = is.rising;
     }
 
--- a message of a node leaves
-right-node_sends : {S : Type 0} (w : World S) (id : ℕ) (to : Target) (message : Message) → ClientsRight w → ClientsRight (sends w (origins.Node id) to message)
-right-node_sends {S = S} w id to message is =
-    let s : Sent = record { origin = origins.Node id; to = to; message = message } in
-    by-sends-ended (λ (v : World S). ClientsRight v) w (origins.Node id) to message
+-- what asks nothing leaves
+right-posts : {S : Type 0} (w : World S) (s : Sent) → IsQuiet s → ClientsRight w → ClientsRight (posts w s)
+right-posts {S = S} w s quiet is =
+    by-posts-ended (λ (v : World S). ClientsRight v) w s
     (λ ending ended. record { all = right-sent w.sent w.sent w.ending ending w.clients w.accepted (λ q asked. asked) (λ q asked. asked) (λ on. absurd (ended on)) is.all })
-    (λ free room. record { all = right-sent w.sent (w.sent ++ s ∷ []) w.ending w.ending w.clients w.accepted (asked_end w.sent s) (node_asks_nothing w.sent id to message) (λ on. on) is.all })
-
--- messages of a node leave
-right-sends_all : {S : Type 0} (id : ℕ) (w : World S) (held : List Held) → ClientsRight w → ClientsRight (sends_all id w held)
-right-sends_all id w [] is = is
-right-sends_all id w (h ∷ hs) is = right-sends_all id (sends w (origins.Node id) h.to h.message) hs (right-node_sends w id h.to h.message is)
+    (λ free room. record { all = right-sent w.sent (w.sent ++ s ∷ []) w.ending w.ending w.clients w.accepted (asked_end w.sent s) (quiet_asks w.sent s quiet) (λ on. on) is.all })
 
 -- a node takes an event
 right-stepped : {S : Type 0} (w : World S) (i : ℕ) (h : Host S) (o : Outcome S) → ClientsRight w → ClientsRight (stepped w i h o)
 unfolding stepped
-right-stepped w i h o is = right-sends_all h.node.id _ (leaving o.node.firm o.node.held) (record { all = is.all })
+right-stepped w i h o is =
+    keeps-sends_all ClientsRight h.node.id (λ v held right. right-posts v (from_node h.node.id held) (node_quiet h.node.id held) right) _ (leaving o.node.firm o.node.held) (record { all = is.all })
 
 -- a client asks
 
@@ -181,15 +182,15 @@ right-ask sent sent' ending ending' clients accepted i c op at forth back now on
 
 -- a client asks
 right-asks : {S : Type 0} (w : World S) (i : ℕ) (c : Client) (op : List ℕ) → slice_get w.clients i ≡ Some c → ClientsRight w
-    → ClientsRight (sends (asked_by w i c op) (origins.Client c.id) targets.View (ask_of c op))
+    → ClientsRight (posts (asked_by w i c op) (from_client c (ask_of c op)))
 right-asks {S = S} w i c op at is =
-    let s : Sent = record { origin = origins.Client c.id; to = targets.View; message = ask_of c op } in
-    by-sends-ended (λ (v : World S). ClientsRight v) (asked_by w i c op) (origins.Client c.id) targets.View (ask_of c op)
+    let s : Sent = from_client c (ask_of c op) in
+    by-posts-ended (λ (v : World S). ClientsRight v) (asked_by w i c op) s
     (λ ending ended. record {
       all = right-ask w.sent w.sent w.ending ending w.clients w.accepted i c op at (λ q asked. asked) (λ q asked. inl asked) (λ on. absurd (ended on)) (λ on. absurd (ended on)) is.all;
     })
     (λ free room. record {
-      all = right-ask w.sent (w.sent ++ s ∷ []) w.ending w.ending w.clients w.accepted i c op at (asked_end w.sent s) (asks_one w.sent (origins.Client c.id) targets.View c.id (request_of c op))
+      all = right-ask w.sent (w.sent ++ s ∷ []) w.ending w.ending w.clients w.accepted i c op at (asked_end w.sent s) (client_asks_one w.sent c (request_of c op))
           (λ on. asked_now w.sent (request_of c op)) (λ on. on) is.all;
     })
 
@@ -276,16 +277,16 @@ right-heard sent ending clients accepted v i c a (hears.Accepted acc) at on is_h
 
 -- clients stay right where one sends once more what it asked
 right-again : {S : Type 0} (w : World S) (i : ℕ) (c : Client) (q : Request) → w.ending ≡ None → slice_get w.clients i ≡ Some c → c.waiting ≡ Some q → ClientsRight w
-    → ClientsRight (sends w (origins.Client c.id) targets.View (signed_by c q))
+    → ClientsRight (posts w (from_client c (signed_by c q)))
 right-again {S = S} w i c q on at waits is =
-    let s : Sent = record { origin = origins.Client c.id; to = targets.View; message = signed_by c q } in
+    let s : Sent = from_client c (signed_by c q) in
     let own : ClientRight w.sent w.ending w.accepted i c = each_at_get (ClientRight w.sent w.ending w.accepted) w.clients i c is.all.each at in
     let before : HasAsked w.sent q = (own.waits q waits).asked on in
-    by-sends-ended (λ (v : World S). ClientsRight v) w (origins.Client c.id) targets.View (signed_by c q)
+    by-posts-ended (λ (v : World S). ClientsRight v) w s
     (λ ending ended. record { all = right-sent w.sent w.sent w.ending ending w.clients w.accepted (λ r asked. asked) (λ r asked. asked) (λ on. absurd (ended on)) is.all })
     (λ free room. record {
       all = right-sent w.sent (w.sent ++ s ∷ []) w.ending w.ending w.clients w.accepted (asked_end w.sent s)
-          (λ r asked. elim (asks_one w.sent (origins.Client c.id) targets.View c.id q r asked) [ inl old ↦ old | inr new ↦ subst (HasAsked w.sent) (sym new) before ])
+          (λ r asked. elim (client_asks_one w.sent c q r asked) [ inl old ↦ old | inr new ↦ subst (HasAsked w.sent) (sym new) before ])
           (λ on. on) is.all;
     })
 
@@ -318,11 +319,13 @@ pub keeps-right : {S : Type 0} (step : Node S → NodeEvent → Outcome S) → K
 unfolding hearing
 keeps-right step =
     record {
-      event = λ w i h event on at may is. right-stepped w i h (step h.node event) is;
+      event = λ w i h event on there at may is. right-stepped w i h (step h.node event) is;
       hear = λ w i c x a on at has read is. record { all = right-heard w.sent w.ending w.clients w.accepted w.view i c a (heard w.view c a) at on refl is.all };
       ask = λ w i c op on at free few brief is. right-asks w i c op at is;
       again = λ w i c q on at waits is. right-again w i c q on at waits is;
       learn = λ w i j c d on at other is. record { all = right-learn w.sent w.ending w.clients w.accepted i c d.seen at is.all };
+      inject = λ w x on read fine is. right-posts w (from_script x) (script_quiet x) is;
+      declare = λ w faulty rogue ending on how is. record { all = right-sent w.sent w.sent w.ending ending w.clients w.accepted (λ q asked. asked) (λ q asked. asked) how.over is.all };
       mark = λ w s on at is. record { all = is.all };
       tell = λ w line beside is. record { all = is.all };
     }

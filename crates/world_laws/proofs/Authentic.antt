@@ -4,7 +4,7 @@ use Rattle.std.specs.List.{list_any, list_all}
 use Rattle.smart_base.specs.Lists.{Each, or_else, same_bytes}
 use Rattle.smart_base.specs.Views.{leader, is_member}
 use Rattle.smart_messages.specs.Forms.{SignedBy}
-use Rattle.smart_messages.specs.Kinds.{proposals}
+use Rattle.smart_messages.specs.Kinds.{proposals, requests}
 use Rattle.smart_messages.specs.Messages.{Batch, decoded}
 use Rattle.smart_messages.specs.Equality.{same_slot}
 use Rattle.smart_messages.specs.declared.statement.Request.{Request}
@@ -22,7 +22,7 @@ use Rattle.smart_service.specs.declared.table.TableLine.{TableLine}
 use Rattle.node_rules.specs.Replicas.{is_next, delivered}
 use Rattle.node_rules.specs.Seals.{signed, is_verified, digest_of, request_fits, is_managers, fits}
 use Rattle.node_rules.specs.Nodes.{Node, view_of, next_place, open_slot, is_free, holding, recording, has_quorum, proposal_in, proposal_of}
-use Rattle.node_rules.specs.Arrivals.{slot_why, signer_why, is_valid, why_propose, why_dropped, kept, noted}
+use Rattle.node_rules.specs.Arrivals.{slot_why, signer_why, is_valid, why_propose, why_dropped, kept, noted, why_ask}
 use Rattle.node_rules.specs.Pools.{offered, settled, is_within, filled, batch_of, gathered}
 use Rattle.node_rules.specs.Rules.{reply_of, replying, lines_to_answer, deliver_batch, delivers, proposing, propose_batch, proposes, ballot, writing, write_batch, writes, backed, backers, accepting, accept_batch, accepts, deciding, decide_batch, decides, answering, answer_line, answers_again}
 use Rattle.node_rules.specs.Steps.{votes, passes, arrival_outcome, reading_outcome, step_of, staying, leaving, released}
@@ -162,6 +162,11 @@ third-none false false x y rest none = absurd (cc)
 pub verified_where_signed : {S : Type 0} (n : Node S) (verified : Bool) (signer : ℕ) → signer_why n verified signer ≡ None → verified ≡ true
 unfolding signer_why
 verified_where_signed n verified signer none = third-none (not (is_member (view_of n) n.id)) verified NotMember BadTag _ none
+
+-- nor is a request
+pub verified_where_asked : {S : Type 0} (n : Node S) (q : SignedBy Request) → why_ask n q ≡ None → is_verified requests n.secret q ≡ true
+unfolding why_ask
+verified_where_asked n q none = third-none (not (is_member (view_of n) n.id)) (is_verified requests n.secret q) NotMember BadTag _ none
 
 -- a proposal that is not dropped has a batch that it may have
 pub valid_where_kept : {S : Type 0} (n : Node S) (p : Proposed) → why_propose n p ≡ None → is_valid n.secret p ≡ true

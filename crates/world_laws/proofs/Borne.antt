@@ -4,7 +4,6 @@ use Rattle.std.specs.Prelude.{slice_get, slice_set}
 use Rattle.std.specs.List.{list_any}
 use Rattle.smart_base.specs.Lists.{Each}
 use Rattle.smart_base.specs.Views.{View}
-use Rattle.smart_messages.specs.declared.message.Message.{Message}
 use Rattle.smart_messages.specs.declared.entry.LogEntry.{LogEntry}
 use Rattle.smart_messages.specs.declared.entry.NodeEvent.{NodeEvent}
 use Rattle.smart_messages.specs.declared.entry.NodeEvent.TheVariants.{Arrive, Tick, Deliver, Firm}
@@ -12,25 +11,23 @@ use Rattle.smart_service.specs.Services.{Meaning}
 use Rattle.node_rules.specs.Nodes.{Node}
 use Rattle.node_rules.specs.Steps.{Outcome, step_of, leaving}
 use Rattle.node_rules.specs.declared.node.Held.{Held}
-use Rattle.node_rules.specs.declared.node.Target.{Target}
-use Rattle.node_rules.specs.declared.node.Target.TheVariants as targets
 use Rattle.world_rules.specs.Repeats.{repeated}
 use Rattle.world_rules.specs.Secrets.{group_secret}
-use Rattle.world_rules.specs.Worlds.{Host, World, sends, sends_all, host_after, stepped, host_takes, node_takes, settle_once, settle, settle_all, gives, hearing, flow_once, hosts_from, begun, at_listed}
+use Rattle.world_rules.specs.Worlds.{Host, World, posts, sends_all, host_after, stepped, host_takes, node_takes, settle_once, settle_all, gives, hearing, flow_once, hosts_from, begun, at_listed, is_gone}
 use Rattle.world_rules.specs.Plays.{world_after}
 use Rattle.world_rules.specs.declared.line.Line.{Line}
 use Rattle.world_rules.specs.declared.message.Origin.{Origin}
 use Rattle.world_rules.specs.declared.message.Origin.TheVariants as origins
 use Rattle.world_rules.specs.declared.message.Sent.{Sent}
-use Rattle.world_laws.specs.Sending.{IsOwn, rests_on, IsBorne, SentFirm}
-use Rattle.world_laws.specs.Settling.{flow_begins, flow_goes, message_goes, node_goes}
-use Rattle.world_laws.proofs.Lists.{and_true, either, some-equal, each_end, each_weaker, each_set, each_get, repeated_keeps, each_from_keeps}
+use Rattle.world_laws.specs.Sending.{IsOwn, rests_on, IsBorne, SentFirm, IsOwnSent, is_rested}
+use Rattle.world_laws.specs.Settling.{flow_begins, flow_goes, message_goes, node_goes, settles_present}
+use Rattle.world_laws.proofs.Lists.{and_true, either, some-equal, each_end, each_weaker, each_set, each_get, repeated_keeps, each_from_keeps, or_left, or_right, or_true}
 use Rattle.world_laws.proofs.Equal.{and_intro}
-use Rattle.world_laws.proofs.Keeps.{MayCome, ask_of, asked_by, by-sends, Keeps, KeepsLive, live, keeps-world_after, live-settle_once, live-settle, live-settle_all, live-flow_once, at_listed-keeps, signed_by}
-use Rattle.world_laws.proofs.Says.{or_left, or_right}
-use Rattle.world_laws.proofs.Said.{or_true}
+use Rattle.world_laws.proofs.Keeps.{MayCome, ask_of, asked_by, by-posts, Keeps, KeepsLive, live, keeps-world_after, live-settle_once, live-settle, live-settle_all, live-flow_once, at_listed-keeps, signed_by, from_node, from_client, from_script, live-settles_present}
 use Rattle.world_laws.proofs.Leaving.{leaving_rest}
 use Rattle.world_laws.proofs.Onward.{Includes, includes-take, includes-longer, rests-more, NodeRests, Onward, onward-step, rests-released, rests-opened}
+use Rattle.world_rules.specs.declared.message.Content.{Content}
+use Rattle.world_rules.specs.declared.message.Content.TheVariants as contents
 
 -- worlds
 
@@ -45,32 +42,34 @@ pub record Borne {S : Type 0} (w : World S) : Type 0 where
   pub sent : SentFirm w
 
 -- a message leaves
-borne-sends : {S : Type 0} (w : World S) (origin : Origin) (to : Target) (message : Message) → IsOwn origin to message → IsBorne w.hosts origin message → Borne w → Borne (sends w origin to message)
-borne-sends {S = S} w origin to message own borne is =
-    let s : Sent = record { origin = origin; to = to; message = message } in
-    by-sends (λ (v : World S). Borne v) w origin to message
+borne-posts : {S : Type 0} (w : World S) (s : Sent) → IsOwnSent s.origin s.to s.content → IsBorne w.hosts s.origin s.content → Borne w → Borne (posts w s)
+borne-posts {S = S} w s own borne is =
+    by-posts (λ (v : World S). Borne v) w s
     (λ ending. record { hosts = is.hosts; sent = record { own = is.sent.own; borne = is.sent.borne } })
     (λ free room. record {
       hosts = is.hosts;
       sent = record {
-        own = each_end (λ (t : Sent). IsOwn t.origin t.to t.message) w.sent s is.sent.own own;
-        borne = each_end (λ (t : Sent). IsBorne w.hosts t.origin t.message) w.sent s is.sent.borne borne;
+        own = each_end (λ (t : Sent). IsOwnSent t.origin t.to t.content) w.sent s is.sent.own own;
+        borne = each_end (λ (t : Sent). IsBorne w.hosts t.origin t.content) w.sent s is.sent.borne borne;
       };
     })
 
 -- what is borne stays so where a message leaves
-borne-stays : {S : Type 0} (w : World S) (origin : Origin) (to : Target) (message : Message) (o : Origin) (x : Message) → IsBorne w.hosts o x → IsBorne (sends w origin to message).hosts o x
-borne-stays {S = S} w origin to message o x borne = by-sends (λ (v : World S). IsBorne v.hosts o x) w origin to message (λ ending. borne) (λ free room. borne)
+borne-stays : {S : Type 0} (w : World S) (s : Sent) (o : Origin) (x : Content) → IsBorne w.hosts o x → IsBorne (posts w s).hosts o x
+borne-stays {S = S} w s o x borne = by-posts (λ (v : World S). IsBorne v.hosts o x) w s (λ ending. borne) (λ free room. borne)
+
+-- what a node lets go is its own and borne
+abbrev LeavesRight : {S : Type 0} → ℕ → List (Host S) → Held → Type 0
+LeavesRight id hosts h = IsOwn (origins.Node id) h.to h.message × IsBorne hosts (origins.Node id) (contents.Message h.message)
 
 -- messages of a node leave
-borne-sends_all : {S : Type 0} (id : ℕ) (w : World S) (held : List Held) → Each (λ h. IsOwn (origins.Node id) h.to h.message × IsBorne w.hosts (origins.Node id) h.message) held → Borne w → Borne (sends_all id w held)
+borne-sends_all : {S : Type 0} (id : ℕ) (w : World S) (held : List Held) → Each (LeavesRight id w.hosts) held → Borne w → Borne (sends_all id w held)
 borne-sends_all id w [] each is = is
 borne-sends_all {S = S} id w (h ∷ hs) each is =
-    let next : World S = sends w (origins.Node id) h.to h.message in
+    let next : World S = posts w (from_node id h) in
     borne-sends_all id next hs
-    (each_weaker (λ (x : Held). IsOwn (origins.Node id) x.to x.message × IsBorne w.hosts (origins.Node id) x.message) (λ (x : Held). IsOwn (origins.Node id) x.to x.message × IsBorne next.hosts (origins.Node id) x.message)
-    (λ x right. (right.0, borne-stays w (origins.Node id) h.to h.message (origins.Node id) x.message right.1)) hs each.1)
-    (borne-sends w (origins.Node id) h.to h.message each.0.0 each.0.1 is)
+    (each_weaker (LeavesRight id w.hosts) (LeavesRight id next.hosts) (λ x right. (right.0, borne-stays w (from_node id h) (origins.Node id) (contents.Message x.message) right.1)) hs each.1)
+    (borne-posts w (from_node id h) each.0.0 each.0.1 is)
 
 -- a host in another's place
 
@@ -101,16 +100,22 @@ record Later {S : Type 0} (n n' : Node S) : Type 0 where
   low : n'.firm ≤ length n'.entries
   rests : NodeRests n'
 
+-- what rests on a book rests on a longer one
+rested-more : (xs ys : List LogEntry) → Includes xs ys → (x : Content) → is_rested xs x ≡ true → is_rested ys x ≡ true
+rested-more xs ys more (contents.Message message) rests = rests-more xs ys more message rests
+rested-more xs ys more (contents.Raw bytes) rests = absurd (cc)
+
 -- what is borne stays so with a later host in its place
 borne-set : {S : Type 0} (hs : List (Host S)) (i : ℕ) (h h' : Host S) → slice_get hs i ≡ Some h → h'.node.id ≡ h.node.id → Includes (take h.node.firm h.node.entries) (take h'.node.firm h'.node.entries)
-    → (origin : Origin) (x : Message) → IsBorne hs origin x → IsBorne (slice_set hs i h') origin x
+    → (origin : Origin) (x : Content) → IsBorne hs origin x → IsBorne (slice_set hs i h') origin x
+borne-set hs i h h' at same more origins.Script x borne = tt
 borne-set hs i h h' at same more (origins.Client id) x borne = tt
 borne-set {S = S} hs i h h' at same more (origins.Node id) x borne =
-    any_set (λ (g : Host S). (g.node.id == id) && rests_on (take g.node.firm g.node.entries) x) hs i h h' at
-    (λ is. let parts = and_true (h.node.id == id) (rests_on (take h.node.firm h.node.entries) x) is in
-    and_intro (h'.node.id == id) (rests_on (take h'.node.firm h'.node.entries) x)
+    any_set (λ (g : Host S). (g.node.id == id) && is_rested (take g.node.firm g.node.entries) x) hs i h h' at
+    (λ is. let parts = and_true (h.node.id == id) (is_rested (take h.node.firm h.node.entries) x) is in
+    and_intro (h'.node.id == id) (is_rested (take h'.node.firm h'.node.entries) x)
     (eq-eqb h'.node.id id (same ∙ eqb-true h.node.id id parts.0))
-    (rests-more (take h.node.firm h.node.entries) (take h'.node.firm h'.node.entries) more x parts.1)) borne
+    (rested-more (take h.node.firm h.node.entries) (take h'.node.firm h'.node.entries) more x parts.1)) borne
 
 -- what may come of firmness: that all entries are firm
 abbrev FirmAll : {S : Type 0} → Node S → NodeEvent → Type 0
@@ -147,7 +152,7 @@ borne-stepped {S = S} w i h o at later is =
     let h' : Host S = host_after h o in
     borne-sends_all h.node.id _ (leaving o.node.firm o.node.held)
     (each_weaker (λ (x : Held). IsOwn (origins.Node o.node.id) x.to x.message × (rests_on (take o.node.firm o.node.entries) x.message ≡ true))
-    (λ (x : Held). IsOwn (origins.Node h.node.id) x.to x.message × IsBorne (slice_set w.hosts i h') (origins.Node h.node.id) x.message)
+    (LeavesRight h.node.id (slice_set w.hosts i h'))
     (λ x right. (
       subst (λ (k : ℕ). IsOwn (origins.Node k) x.to x.message) later.id right.0,
       any_here (λ (g : Host S). (g.node.id == h.node.id) && rests_on (take g.node.firm g.node.entries) x.message) w.hosts i h h' at
@@ -158,8 +163,8 @@ borne-stepped {S = S} w i h o at later is =
       hosts = each_set HostRests w.hosts i h' is.hosts (record { rests = rests-released o.node later.rests; low = later.low });
       sent = record {
         own = is.sent.own;
-        borne = each_weaker (λ (s : Sent). IsBorne w.hosts s.origin s.message) (λ (s : Sent). IsBorne (slice_set w.hosts i h') s.origin s.message)
-            (λ s borne. borne-set w.hosts i h h' at later.id later.firm s.origin s.message borne) w.sent is.sent.borne;
+        borne = each_weaker (λ (s : Sent). IsBorne w.hosts s.origin s.content) (λ (s : Sent). IsBorne (slice_set w.hosts i h') s.origin s.content)
+            (λ s borne. borne-set w.hosts i h h' at later.id later.firm s.origin s.content borne) w.sent is.sent.borne;
       };
     })
 
@@ -175,17 +180,19 @@ may-firm w h Deliver may = tt
 may-firm w h (Firm count) may = may
 
 -- each event keeps that
-keeps-borne : {S : Type 0} (m : Meaning S) → Keeps (step_of m) Borne
+pub keeps-borne : {S : Type 0} (m : Meaning S) → Keeps (step_of m) Borne
 unfolding hearing
 keeps-borne m =
     record {
-      event = λ w i h event at may is. borne-event m w i h event at (may-firm w h event may) is;
+      event = λ w i h event there at may is. borne-event m w i h event at (may-firm w h event may) is;
       hear = λ w i c x a at has read is. record { hosts = is.hosts; sent = record { own = is.sent.own; borne = is.sent.borne } };
       ask = λ w i c op at free few brief is.
-          borne-sends (asked_by w i c op) (origins.Client c.id) targets.View (ask_of c op) refl tt
+          borne-posts (asked_by w i c op) (from_client c (ask_of c op)) refl tt
           (record { hosts = is.hosts; sent = record { own = is.sent.own; borne = is.sent.borne } });
-      again = λ w i c q at waits is. borne-sends w (origins.Client c.id) targets.View (signed_by c q) refl tt is;
+      again = λ w i c q at waits is. borne-posts w (from_client c (signed_by c q)) refl tt is;
       learn = λ w i j c d at other is. record { hosts = is.hosts; sent = record { own = is.sent.own; borne = is.sent.borne } };
+      inject = λ w x read fine is. borne-posts w (from_script x) refl tt is;
+      declare = λ w faulty rogue ending how is. record { hosts = is.hosts; sent = record { own = is.sent.own; borne = is.sent.borne } };
       same = λ w mark told is. record { hosts = is.hosts; sent = record { own = is.sent.own; borne = is.sent.borne } };
     }
 
@@ -199,15 +206,18 @@ hosts_rest : {S : Type 0} (m : Meaning S) (view : View) (ids : List ℕ) → Eac
 hosts_rest m view [] = tt
 hosts_rest m view (id ∷ ids) = (record { rests = rests-opened m group_secret id view; low = omega arith }, hosts_rest m view ids)
 
+-- at the beginning
+pub borne-begun : {S : Type 0} (m : Meaning S) (view : View) → Borne (begun m view)
+borne-begun m view = record { hosts = hosts_rest m view view.members; sent = record { own = tt; borne = tt } }
+
 -- after any lines
 borne-after : {S : Type 0} (m : Meaning S) (view : View) (ls : List Line) → Borne (world_after (step_of m) (begun m view) ls)
-borne-after m view ls =
-    keeps-world_after (step_of m) Borne (keeps-borne m) (begun m view) ls (record { hosts = hosts_rest m view view.members; sent = record { own = tt; borne = tt } })
+borne-after m view ls = keeps-world_after (step_of m) Borne (keeps-borne m) (begun m view) ls (borne-begun m view)
 
 -- a host that is found takes bytes
 borne-host_takes : {S : Type 0} (m : Meaning S) (i : ℕ) (bytes : List ℕ) (w : World S) (found : Option (Host S)) → slice_get w.hosts i ≡ found → Borne w → Borne (host_takes (step_of m) i (Arrive bytes) w found)
 borne-host_takes m i bytes w None at is = is
-borne-host_takes m i bytes w (Some h) at is = borne-event m w i h (Arrive bytes) at tt is
+borne-host_takes {S = S} m i bytes w (Some h) at is = either (λ (v : World S). Borne v) (is_gone w h.node.id) w _ is (borne-event m w i h (Arrive bytes) at tt is)
 
 -- a node takes bytes
 borne-node_takes : {S : Type 0} (m : Meaning S) (i : ℕ) (bytes : List ℕ) (w : World S) → Borne w → Borne (node_takes (step_of m) i (Arrive bytes) w)
@@ -228,7 +238,7 @@ pub firm-first : {S : Type 0} (m : Meaning S) (view : View) (ls : List Line) (me
     → SentFirm (repeated (settle_once (step_of m) i) k (flow_begins m view ls members nodes))
 firm-first m view ls members nodes i k =
     (borne-turns m i k (flow_begins m view ls members nodes)
-    (each_from_keeps Borne (at_listed members (settle (step_of m))) (at_listed-keeps Borne members (settle (step_of m)) (live-settle (step_of m) Borne (borne-live m))) nodes 0 (world_after (step_of m) (begun m view) ls) (borne-after m view ls))).sent
+    (each_from_keeps Borne (at_listed members (settles_present m members)) (at_listed-keeps Borne members (settles_present m members) (live-settles_present (step_of m) Borne (borne-live m) members)) nodes 0 (world_after (step_of m) (begun m view) ls) (borne-after m view ls))).sent
 
 -- after some turns of it
 borne-flow : {S : Type 0} (m : Meaning S) (view : View) (ls : List Line) (members : List ℕ) (turn : ℕ) → Borne (flow_goes m view ls members turn)

@@ -5,24 +5,18 @@ use Rattle.std.proofs.lemmas.Option.{slice_get_within}
 use Rattle.std.proofs.lemmas.List.{length-append}
 use Rattle.std.specs.Prelude.{slice_get}
 use Rattle.smart_base.specs.Views.{View}
-use Rattle.smart_messages.specs.declared.message.Message.{Message}
 use Rattle.smart_messages.specs.declared.entry.NodeEvent.{NodeEvent}
 use Rattle.smart_service.specs.Services.{Meaning}
 use Rattle.node_rules.specs.Nodes.{Node}
 use Rattle.node_rules.specs.Steps.{Outcome, leaving}
-use Rattle.node_rules.specs.declared.node.Held.{Held}
-use Rattle.node_rules.specs.declared.node.Target.{Target}
-use Rattle.node_rules.specs.declared.node.Target.TheVariants as targets
 use Rattle.world_rules.specs.Repeats.{repeated, turns, until_rest}
-use Rattle.world_rules.specs.Worlds.{Host, World, sends, sends_all, stepped, hearing, flow_sent, flow_once, settle_all, begun}
+use Rattle.world_rules.specs.Worlds.{Host, World, posts, stepped, hearing, flow_sent, flow_once, settle_all, begun}
 use Rattle.world_rules.specs.Plays.{line_played, world_after}
 use Rattle.world_rules.specs.declared.line.Line.{Line}
 use Rattle.world_rules.specs.declared.line.Line.TheVariants as lines
-use Rattle.world_rules.specs.declared.message.Origin.{Origin}
-use Rattle.world_rules.specs.declared.message.Origin.TheVariants as origins
 use Rattle.world_rules.specs.declared.message.Sent.{Sent}
 use Rattle.world_laws.proofs.Lists.{either}
-use Rattle.world_laws.proofs.Keeps.{asked_by, ask_of, KeepsLive, by-sends, has_at, live-goes, live-settle_all, live-world_after, signed_by}
+use Rattle.world_laws.proofs.Keeps.{asked_by, ask_of, KeepsLive, by-posts, has_at, live-goes, live-settle_all, live-world_after, signed_by, from_node, from_client, from_script, keeps-sends_all}
 use Rattle.world_laws.proofs.Rests.{rests_still}
 
 -- the mark has come to a number, no mark passes the messages, and all messages have numbers
@@ -37,37 +31,34 @@ pub record BoundedWorld {S : Type 0} (w : World S) : Type 0 where
   pub sent : length w.sent ≤ 2 ^ 24
 
 -- a message leaves if it has a number
-passed-sends : {S : Type 0} (low : ℕ) (w : World S) (origin : Origin) (to : Target) (message : Message) → Passed low w → Passed low (sends w origin to message)
-passed-sends {S = S} low w origin to message is =
-    let s : Sent = record { origin = origin; to = to; message = message } in
+passed-posts : {S : Type 0} (low : ℕ) (w : World S) (s : Sent) → Passed low w → Passed low (posts w s)
+passed-posts {S = S} low w s is =
     let longer : length (w.sent ++ s ∷ []) ≡ length w.sent + 1 = length-append w.sent (s ∷ []) in
-    by-sends (λ (v : World S). Passed low v) w origin to message
+    by-posts (λ (v : World S). Passed low v) w s
     (λ ending. record { past = is.past; mark = is.mark; sent = is.sent })
     (λ free room. let below : length w.sent < 2 ^ 24 = ltb-true (length w.sent) (2 ^ 24) room in
     record { past = is.past; mark = omega (arith, is.mark, longer); sent = omega (arith, below, longer) })
 
--- messages of a node leave
-passed-sends_all : {S : Type 0} (low id : ℕ) (w : World S) (held : List Held) → Passed low w → Passed low (sends_all id w held)
-passed-sends_all low id w [] is = is
-passed-sends_all low id w (h ∷ hs) is = passed-sends_all low id (sends w (origins.Node id) h.to h.message) hs (passed-sends low w (origins.Node id) h.to h.message is)
-
 -- a node takes an event
 passed-stepped : {S : Type 0} (low : ℕ) (w : World S) (i : ℕ) (h : Host S) (o : Outcome S) → Passed low w → Passed low (stepped w i h o)
 unfolding stepped
-passed-stepped low w i h o is = passed-sends_all low h.node.id _ (leaving o.node.firm o.node.held) (record { past = is.past; mark = is.mark; sent = is.sent })
+passed-stepped {S = S} low w i h o is =
+    keeps-sends_all (λ (v : World S). Passed low v) h.node.id (λ v held passed. passed-posts low v (from_node h.node.id held) passed) _ (leaving o.node.firm o.node.held) (record { past = is.past; mark = is.mark; sent = is.sent })
 
 -- the mark stays past a number and within the messages
 pub keeps-passed : {S : Type 0} (step : Node S → NodeEvent → Outcome S) (low : ℕ) → KeepsLive step (Passed low)
 unfolding hearing
 keeps-passed step low =
     record {
-      event = λ w i h event on at may is. passed-stepped low w i h (step h.node event) is;
+      event = λ w i h event on there at may is. passed-stepped low w i h (step h.node event) is;
       hear = λ w i c x a on at has read is. record { past = is.past; mark = is.mark; sent = is.sent };
       ask = λ w i c op on at free few brief is.
-          passed-sends low (asked_by w i c op) (origins.Client c.id) targets.View (ask_of c op)
+          passed-posts low (asked_by w i c op) (from_client c (ask_of c op))
           (record { past = is.past; mark = is.mark; sent = is.sent });
-      again = λ w i c q on at waits is. passed-sends low w (origins.Client c.id) targets.View (signed_by c q) is;
+      again = λ w i c q on at waits is. passed-posts low w (from_client c (signed_by c q)) is;
       learn = λ w i j c d on at other is. record { past = is.past; mark = is.mark; sent = is.sent };
+      inject = λ w x on read fine is. passed-posts low w (from_script x) is;
+      declare = λ w faulty rogue ending on how is. record { past = is.past; mark = is.mark; sent = is.sent };
       mark = λ w s on at is. record { past = omega (arith, is.past); mark = omega (arith, slice_get_within w.sent w.mark s at); sent = is.sent };
       tell = λ w line beside is. record { past = is.past; mark = is.mark; sent = is.sent };
     }
@@ -77,11 +68,13 @@ pub keeps-bounded : {S : Type 0} (step : Node S → NodeEvent → Outcome S) →
 keeps-bounded step =
     let k = keeps-passed step 0 in
     record {
-      event = λ w i h event on at may is. bounded (k.event w i h event on at may (passed is));
+      event = λ w i h event on there at may is. bounded (k.event w i h event on there at may (passed is));
       hear = λ w i c x a on at has read is. bounded (k.hear w i c x a on at has read (passed is));
       ask = λ w i c op on at free few brief is. bounded (k.ask w i c op on at free few brief (passed is));
       again = λ w i c q on at waits is. bounded (k.again w i c q on at waits (passed is));
       learn = λ w i j c d on at other is. bounded (k.learn w i j c d on at other (passed is));
+      inject = λ w x on read fine is. bounded (k.inject w x on read fine (passed is));
+      declare = λ w faulty rogue ending on how is. bounded (k.declare w faulty rogue ending on how (passed is));
       mark = λ w s on at is. bounded (k.mark w s on at (passed is));
       tell = λ w line beside is. bounded (k.tell w line beside (passed is));
     }
@@ -108,7 +101,7 @@ raises_sent {S = S} step members w (Some s) at is =
     let within : w.mark < length w.sent = slice_get_within w.sent w.mark s at in
     inr (
       omega (arith, is.sent),
-      live-goes step (Passed (w.mark + 1)) (keeps-passed step (w.mark + 1)) members (record w { mark = w.mark + 1 }) s.message s.to (has_at w.sent w.mark s at)
+      live-goes step (Passed (w.mark + 1)) (keeps-passed step (w.mark + 1)) members (record w { mark = w.mark + 1 }) s.content s.to (has_at w.sent w.mark s at)
           (record { past = omega arith; mark = omega arith; sent = is.sent }),
     )
 

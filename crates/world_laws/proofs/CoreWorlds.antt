@@ -4,15 +4,13 @@ use Rattle.std.specs.Prelude.{slice_get, slice_set, option_map}
 use Rattle.std.specs.List.{flat_map, list_all, position_or_len}
 use Rattle.std.specs.Option.{option_and_then}
 use Rattle.smart_base.specs.Views.{View}
-use Rattle.smart_messages.specs.Kinds.{requests}
-use Rattle.smart_messages.specs.Messages.{spelling, decoded}
+use Rattle.smart_messages.specs.Messages.{decoded}
 use Rattle.smart_messages.specs.declared.statement.Request.{Request}
 use Rattle.smart_messages.specs.declared.message.Message.{Message}
 use Rattle.smart_messages.specs.declared.message.Message.TheVariants.{Ask, Propose, Vote, Reply}
 use Rattle.smart_messages.specs.declared.entry.NodeEvent.{NodeEvent}
 use Rattle.smart_messages.specs.declared.entry.NodeEvent.TheVariants.{Arrive, Deliver}
 use Rattle.smart_service.specs.Services.{Meaning}
-use Rattle.node_rules.specs.Seals.{signed}
 use Rattle.node_rules.specs.Nodes.{Node, next_place}
 use Rattle.node_rules.specs.Steps.{Outcome, step_of, leaving, opened}
 use Rattle.node_rules.specs.declared.node.Held.{Held}
@@ -22,13 +20,10 @@ use Rattle.kept_arrivals.specs.Kept.{trimmed, core_step}
 use Rattle.kept_arrivals.proofs.Steps.{core_step_trimmed, opened_stands}
 use Rattle.world_rules.specs.Repeats.{repeated, turns, until_rest, each_from}
 use Rattle.world_rules.specs.Secrets.{group_secret}
-use Rattle.world_rules.specs.Premises.{collides}
-use Rattle.client_quorum.specs.Clients.{request_of, asking}
-use Rattle.world_rules.specs.Worlds.{Host, World, sends, sends_all, told_drop, told_fired, chosen_with, host_after, stepped, host_takes, node_takes, due, takes_due, settle_once, settle, settle_all, gives, give_all, hearing, client_hears, hears_bytes, client_takes, client_asks, ask_found, asks, client_repeats, repeat_found, repeats, learns, learns_from, tells, goes, flow_sent, flow_once, flows, hosts_from, begun, is_listed, where_listed, at_listed, each_listed, host_index, at_index, at_member, arrives, arrives_at, sent_arrives, give_number, told_idle, telling_all, host_delivers, deliver_at, deliver_each, shown_host, shown_client, shows}
+use Rattle.world_rules.specs.Premises.{collides, too_many, is_forged, bytes_of}
+use Rattle.world_rules.specs.Worlds.{Host, World, sends_all, told_drop, told_fired, chosen_with, host_after, stepped, host_takes, node_takes, due, takes_due, settle_once, settle, settle_all, gives, give_all, hearing, client_hears, hears_bytes, client_takes, client_asks, ask_found, asks, client_repeats, repeat_found, repeats, learns, learns_from, tells, goes, flow_sent, flow_once, flows, hosts_from, begun, is_listed, where_listed, at_listed, each_listed, host_index, at_index, at_member, arrives, arrives_at, sent_arrives, give_number, told_idle, telling_all, host_delivers, deliver_at, deliver_each, shown_host, shown_client, shows, posts, is_gone, is_rogue, settle_present, declares_faulty, declares_rogue, injects_content, injects}
 use Rattle.world_rules.specs.Plays.{has_member, has_party, is_there, line_played, rested, world_after, lines_told}
 use Rattle.client_quorum.specs.declared.client.Client.{Client}
-use Rattle.world_rules.specs.declared.message.Origin.{Origin}
-use Rattle.world_rules.specs.declared.message.Origin.TheVariants as origins
 use Rattle.world_rules.specs.declared.message.Sent.{Sent}
 use Rattle.world_rules.specs.declared.line.Line.{Line}
 use Rattle.world_rules.specs.declared.line.Line.TheVariants as lines
@@ -36,6 +31,10 @@ use Rattle.world_laws.specs.Cores.{trimmed_host, trimmed_world}
 use Rattle.smart_base.specs.declared.party.Party.{Party}
 use Rattle.smart_base.specs.declared.party.Party.TheVariants as parties
 use Rattle.world_rules.specs.declared.line.OutLine.{OutLine}
+use Rattle.world_laws.proofs.Keeps.{from_node, from_client, from_script, signed_by, ask_of, asked_by}
+use Rattle.world_rules.specs.Injections.{injected}
+use Rattle.world_rules.specs.declared.line.Injection.{Injection}
+use Rattle.world_rules.specs.declared.message.Content.{Content}
 
 -- lists, choices and repeated steps
 
@@ -80,17 +79,17 @@ each_from_same t f g same (suc k) i x = ap (λ y. each_from f k (i + 1) y) (same
 
 -- what leaves
 
--- a message leaves
-sends_same : {S : Type 0} (w : World S) (origin : Origin) (to : Target) (message : Message) → sends (trimmed_world w) origin to message ≡ trimmed_world (sends w origin to message)
-unfolding sends trimmed_world
-sends_same w origin to message =
-    choice_same trimmed_world (collides w.sent message) _ _ _ _ refl (choice_same trimmed_world (nat_lt (length w.sent) (2 ^ 24)) _ _ _ _ refl refl)
+-- something is sent
+posts_same : {S : Type 0} (w : World S) (s : Sent) → posts (trimmed_world w) s ≡ trimmed_world (posts w s)
+unfolding posts trimmed_world
+posts_same w s =
+    choice_same trimmed_world (collides w.sent s.content) _ _ _ _ refl (choice_same trimmed_world (nat_lt (length w.sent) (2 ^ 24)) _ _ _ _ refl refl)
 
 -- many messages leave
 sends_all_same : {S : Type 0} (id : ℕ) (w : World S) (held : List Held) → sends_all id (trimmed_world w) held ≡ trimmed_world (sends_all id w held)
 sends_all_same id w [] = refl
 sends_all_same id w (h ∷ hs) =
-    ap (λ v. sends_all id v hs) (sends_same w (origins.Node id) h.to h.message) ∙ sends_all_same id (sends w (origins.Node id) h.to h.message) hs
+    ap (λ v. sends_all id v hs) (posts_same w (from_node id h)) ∙ sends_all_same id (posts w (from_node id h)) hs
 
 -- events of a node
 
@@ -126,10 +125,11 @@ stepped_same {S} w i h o =
 -- a host that is found takes an event
 host_takes_same : {S : Type 0} (m : Meaning S) (i : ℕ) (event : NodeEvent) (w : World S) (found : Option (Host S))
     → host_takes (core_step m) i event (trimmed_world w) (option_map trimmed_host found) ≡ trimmed_world (host_takes (step_of m) i event w found)
-unfolding trimmed_host
+unfolding trimmed_host trimmed_world trimmed
 host_takes_same m i event w None = refl
 host_takes_same m i event w (Some h) =
-    ap (λ o. stepped (trimmed_world w) i (trimmed_host h) o) (core_step_same m h.node event) ∙ stepped_same w i h (step_of m h.node event)
+    choice_same trimmed_world (is_gone w h.node.id) _ _ _ _ refl
+    (ap (λ o. stepped (trimmed_world w) i (trimmed_host h) o) (core_step_same m h.node event) ∙ stepped_same w i h (step_of m h.node event))
 
 -- the node at an index takes an event
 node_takes_same : {S : Type 0} (m : Meaning S) (i : ℕ) (event : NodeEvent) (w : World S) → node_takes (core_step m) i event (trimmed_world w) ≡ trimmed_world (node_takes (step_of m) i event w)
@@ -212,11 +212,26 @@ at_index_same f g same w (Some i) = same i w
 at_member_same : {S : Type 0} (f g : ℕ → World S → World S) → Alike f g → (member : ℕ) (w : World S) → at_member f member (trimmed_world w) ≡ trimmed_world (at_member g member w)
 unfolding trimmed_world
 at_member_same f g same member w =
-    ap (λ found. at_index f (trimmed_world w) found) (host_index_same w.hosts member) ∙ at_index_same f g same w (host_index w.hosts member)
+    choice_same trimmed_world (is_gone w member) _ _ _ _ refl
+    (ap (λ found. at_index f (trimmed_world w) found) (host_index_same w.hosts member) ∙ at_index_same f g same w (host_index w.hosts member))
+
+-- a host that is found settles, unless its node is gone
+settle_present_same : {S : Type 0} (m : Meaning S) (members : List ℕ) (i : ℕ) (w : World S) (found : Option (Host S))
+    → settle_present (core_step m) members i (trimmed_world w) (option_map trimmed_host found) ≡ trimmed_world (settle_present (step_of m) members i w found)
+unfolding trimmed_host trimmed_world trimmed
+settle_present_same m members i w None = refl
+settle_present_same m members i w (Some h) = choice_same trimmed_world (is_gone w h.node.id) _ _ _ _ refl (settle_same m i w)
+
+settles_present_same : {S : Type 0} (m : Meaning S) (members : List ℕ) (i : ℕ) (w : World S)
+    → settle_present (core_step m) members i (trimmed_world w) (slice_get (trimmed_world w).hosts i) ≡ trimmed_world (settle_present (step_of m) members i w (slice_get w.hosts i))
+unfolding trimmed_world
+settles_present_same m members i w =
+    ap (λ found. settle_present (core_step m) members i (trimmed_world w) found) (map_get trimmed_host w.hosts i) ∙ settle_present_same m members i w (slice_get w.hosts i)
 
 -- all listed nodes settle
 settle_all_same : {S : Type 0} (m : Meaning S) (members : List ℕ) (w : World S) → settle_all (core_step m) members (trimmed_world w) ≡ trimmed_world (settle_all (step_of m) members w)
-settle_all_same m members w = each_listed_same members (settle (core_step m)) (settle (step_of m)) (settle_same m) w
+settle_all_same m members w =
+    each_listed_same members (λ i v. settle_present (core_step m) members i v (slice_get v.hosts i)) (λ i v. settle_present (step_of m) members i v (slice_get v.hosts i)) (settles_present_same m members) w
 
 -- a node takes bytes and settles
 gives_same : {S : Type 0} (m : Meaning S) (bytes : List ℕ) (i : ℕ) (w : World S) → gives (core_step m) bytes i (trimmed_world w) ≡ trimmed_world (gives (step_of m) bytes i w)
@@ -255,13 +270,13 @@ unfolding trimmed_world
 client_asks_same w i c op (Some q) = refl
 client_asks_same w i c op None =
     choice_same trimmed_world (nat_lt (c.last + 1) (2 ^ 63) && nat_le (length op) 4096) _ _ _ _
-    (sends_same (record w { clients = slice_set w.clients i (asking c (request_of c op)) }) (origins.Client c.id) targets.View
-    (Ask (signed requests group_secret c.id (request_of c op)))) refl
+    (posts_same (asked_by w i c op) (from_client c (ask_of c op))) refl
 
 -- a client that is found asks
 ask_found_same : {S : Type 0} (w : World S) (i : ℕ) (op : List ℕ) (found : Option Client) → ask_found (trimmed_world w) i op found ≡ trimmed_world (ask_found w i op found)
+unfolding trimmed_world
 ask_found_same w i op None = refl
-ask_found_same w i op (Some c) = client_asks_same w i c op c.waiting
+ask_found_same w i op (Some c) = choice_same trimmed_world (is_rogue w c.id) _ _ _ _ refl (client_asks_same w i c op c.waiting)
 
 -- the client at an index asks
 asks_same : {S : Type 0} (i : ℕ) (op : List ℕ) (w : World S) → asks i op (trimmed_world w) ≡ trimmed_world (asks i op w)
@@ -272,12 +287,13 @@ asks_same i op w = choice_same trimmed_world (is_some w.ending) _ _ _ _ refl (as
 client_repeats_same : {S : Type 0} (w : World S) (c : Client) (waiting : Option Request) → client_repeats (trimmed_world w) c waiting ≡ trimmed_world (client_repeats w c waiting)
 unfolding trimmed_world
 client_repeats_same w c None = refl
-client_repeats_same w c (Some q) = sends_same w (origins.Client c.id) targets.View (Ask (signed requests group_secret c.id q))
+client_repeats_same w c (Some q) = posts_same w (from_client c (signed_by c q))
 
 -- a client that is found does
 repeat_found_same : {S : Type 0} (w : World S) (found : Option Client) → repeat_found (trimmed_world w) found ≡ trimmed_world (repeat_found w found)
+unfolding trimmed_world
 repeat_found_same w None = refl
-repeat_found_same w (Some c) = client_repeats_same w c c.waiting
+repeat_found_same w (Some c) = choice_same trimmed_world (is_rogue w c.id) _ _ _ _ refl (client_repeats_same w c c.waiting)
 
 -- the client at an index does
 repeats_same : {S : Type 0} (i : ℕ) (w : World S) → repeats i (trimmed_world w) ≡ trimmed_world (repeats i w)
@@ -294,7 +310,7 @@ learns_same w place i (Some c) = refl
 learns_from_same : {S : Type 0} (w : World S) (found : Option Client) (i : ℕ) → learns_from (trimmed_world w) found i ≡ trimmed_world (learns_from w found i)
 unfolding trimmed_world
 learns_from_same w None i = refl
-learns_from_same w (Some c) i = learns_same w c.seen i (slice_get w.clients i)
+learns_from_same w (Some c) i = choice_same trimmed_world (is_rogue w c.id) _ _ _ _ refl (learns_same w c.seen i (slice_get w.clients i))
 
 -- a client is told of the greatest place that another knows
 tells_same : {S : Type 0} (from to : ℕ) (w : World S) → tells from to (trimmed_world w) ≡ trimmed_world (tells from to w)
@@ -304,15 +320,16 @@ tells_same from to w = choice_same trimmed_world (is_some w.ending) _ _ _ _ refl
 -- flow
 
 -- bytes go to whom they are for
-goes_same : {S : Type 0} (m : Meaning S) (members : List ℕ) (w : World S) (bytes : List ℕ) (to : Target) → goes (core_step m) members (trimmed_world w) bytes to ≡ trimmed_world (goes (step_of m) members w bytes to)
-goes_same m members w bytes targets.View = give_all_same m members bytes w
-goes_same m members w bytes (targets.Client id) = client_takes_same id bytes w
+goes_same : {S : Type 0} (m : Meaning S) (members : List ℕ) (w : World S) (bytes : List ℕ) (to : Option Target) → goes (core_step m) members (trimmed_world w) bytes to ≡ trimmed_world (goes (step_of m) members w bytes to)
+goes_same m members w bytes None = refl
+goes_same m members w bytes (Some targets.View) = give_all_same m members bytes w
+goes_same m members w bytes (Some (targets.Client id)) = client_takes_same id bytes w
 
 -- the message behind the mark goes, if there is one
 flow_sent_same : {S : Type 0} (m : Meaning S) (members : List ℕ) (w : World S) (found : Option Sent) → flow_sent (core_step m) members (trimmed_world w) found ≡ trimmed_world (flow_sent (step_of m) members w found)
 unfolding trimmed_world
 flow_sent_same m members w None = refl
-flow_sent_same m members w (Some s) = goes_same m members (record w { mark = w.mark + 1 }) (spelling s.message) s.to
+flow_sent_same m members w (Some s) = goes_same m members (record w { mark = w.mark + 1 }) (bytes_of s.content) s.to
 
 -- one turn of a flow
 flow_once_same : {S : Type 0} (m : Meaning S) (members : List ℕ) (w : World S) → flow_once (core_step m) members (trimmed_world w) ≡ trimmed_world (flow_once (step_of m) members w)
@@ -339,7 +356,7 @@ arrives_at_same m bytes (to ∷ tos) w = ap (λ v. arrives_at (core_step m) byte
 
 sent_arrives_same : {S : Type 0} (m : Meaning S) (tos : List Party) (w : World S) (found : Option Sent) → sent_arrives (core_step m) tos (trimmed_world w) found ≡ trimmed_world (sent_arrives (step_of m) tos w found)
 sent_arrives_same m tos w None = refl
-sent_arrives_same m tos w (Some s) = arrives_at_same m (spelling s.message) tos w
+sent_arrives_same m tos w (Some s) = arrives_at_same m (bytes_of s.content) tos w
 
 -- the message of a number does
 give_number_same : {S : Type 0} (m : Meaning S) (number : ℕ) (tos : List Party) (w : World S) → give_number (core_step m) number tos (trimmed_world w) ≡ trimmed_world (give_number (step_of m) number tos w)
@@ -353,12 +370,13 @@ telling_all_same w lines = refl
 
 -- a host that is found delivers
 host_delivers_same : {S : Type 0} (m : Meaning S) (i : ℕ) (w : World S) (found : Option (Host S)) → host_delivers (core_step m) i (trimmed_world w) (option_map trimmed_host found) ≡ trimmed_world (host_delivers (step_of m) i w found)
-unfolding trimmed_host trimmed
+unfolding trimmed_host trimmed_world trimmed
 host_delivers_same m i w None = refl
 host_delivers_same {S} m i w (Some h) =
     let o : Outcome S = step_of m h.node Deliver in
-    ap (λ (x : Outcome S). telling_all (stepped (trimmed_world w) i (trimmed_host h) x) (told_idle h.node.id x.fired)) (core_step_same m h.node Deliver)
-    ∙ (ap (λ (v : World S). telling_all v (told_idle h.node.id o.fired)) (stepped_same w i h o) ∙ telling_all_same (stepped w i h o) (told_idle h.node.id o.fired))
+    choice_same trimmed_world (is_gone w h.node.id) _ _ _ _ refl
+    (ap (λ (x : Outcome S). telling_all (stepped (trimmed_world w) i (trimmed_host h) x) (told_idle h.node.id x.fired)) (core_step_same m h.node Deliver)
+    ∙ (ap (λ (v : World S). telling_all v (told_idle h.node.id o.fired)) (stepped_same w i h o) ∙ telling_all_same (stepped w i h o) (told_idle h.node.id o.fired)))
 
 deliver_at_same : {S : Type 0} (m : Meaning S) (i : ℕ) (w : World S) → deliver_at (core_step m) i (trimmed_world w) ≡ trimmed_world (deliver_at (step_of m) i w)
 unfolding deliver_at trimmed_world
@@ -374,16 +392,38 @@ deliver_each_same m (id ∷ ids) w =
     ∙ deliver_each_same m ids (at_member (deliver_at (step_of m)) id w)
 
 -- where hosts stand
-shown_same : {S : Type 0} (hosts : List (Host S)) → map shown_host (map trimmed_host hosts) ≡ map shown_host hosts
+shown_same : {S : Type 0} (faulty : List ℕ) (hosts : List (Host S)) → flat_map (shown_host faulty) (map trimmed_host hosts) ≡ flat_map (shown_host faulty) hosts
 unfolding trimmed_host trimmed
-shown_same [] = refl
-shown_same (h ∷ hs) = ap (λ ls. shown_host h ∷ ls) (shown_same hs)
+shown_same faulty [] = refl
+shown_same faulty (h ∷ hs) = ap (λ ls. shown_host faulty h ++ ls) (shown_same faulty hs)
 
 -- what is shown
 shows_same : {S : Type 0} (w : World S) → shows (trimmed_world w) ≡ trimmed_world (shows w)
 unfolding trimmed_world
 shows_same w =
-    ap (λ ls. telling_all (trimmed_world w) (ls ++ flat_map shown_client w.clients)) (shown_same w.hosts) ∙ telling_all_same w (map shown_host w.hosts ++ flat_map shown_client w.clients)
+    ap (λ ls. telling_all (trimmed_world w) (ls ++ flat_map shown_client w.clients)) (shown_same w.faulty w.hosts) ∙ telling_all_same w (flat_map (shown_host w.faulty) w.hosts ++ flat_map shown_client w.clients)
+
+-- who breaks the rules
+
+declares_faulty_same : {S : Type 0} (member : ℕ) (w : World S) → declares_faulty member (trimmed_world w) ≡ trimmed_world (declares_faulty member w)
+unfolding declares_faulty trimmed_world
+declares_faulty_same member w =
+    choice_same trimmed_world (is_some w.ending) _ _ _ _ refl
+    (choice_same trimmed_world (is_gone w member) _ _ _ _ refl (choice_same trimmed_world (too_many w.view (w.faulty ++ member ∷ [])) _ _ _ _ refl refl))
+
+declares_rogue_same : {S : Type 0} (client : ℕ) (w : World S) → declares_rogue client (trimmed_world w) ≡ trimmed_world (declares_rogue client w)
+unfolding declares_rogue trimmed_world
+declares_rogue_same client w = choice_same trimmed_world (is_some w.ending) _ _ _ _ refl (choice_same trimmed_world (is_rogue w client) _ _ _ _ refl refl)
+
+-- a content that is made is injected, unless it is forged
+injects_content_same : {S : Type 0} (w : World S) (found : Option Content) → injects_content (trimmed_world w) found ≡ trimmed_world (injects_content w found)
+unfolding trimmed_world
+injects_content_same w None = refl
+injects_content_same w (Some x) = choice_same trimmed_world (is_forged w.faulty w.rogue w.sent x) _ _ _ _ refl (posts_same w (from_script x))
+
+injects_same : {S : Type 0} (form : Injection) (w : World S) → injects form (trimmed_world w) ≡ trimmed_world (injects form w)
+unfolding injects trimmed_world
+injects_same form w = choice_same trimmed_world (is_some w.ending) _ _ _ _ refl (injects_content_same w (injected w.sent form))
 
 -- lines
 
@@ -400,6 +440,9 @@ core_line m w (lines.Deliver members) = deliver_each_same m members w
 core_line m w (lines.Settle member) = at_member_same (settle (core_step m)) (settle (step_of m)) (settle_same m) member w
 core_line m w lines.SettleAll = settle_all_same m [] w
 core_line m w lines.Show = shows_same w
+core_line m w (lines.Faulty member) = declares_faulty_same member w
+core_line m w (lines.Rogue client) = declares_rogue_same client w
+core_line m w (lines.Inject form) = injects_same form w
 
 -- all that a line names is there for cores where it is for the nodes
 
@@ -428,6 +471,9 @@ there_same w (lines.Deliver members) = has_each_same (has_member (trimmed_world 
 there_same w (lines.Settle member) = has_member_same w member
 there_same w lines.SettleAll = refl
 there_same w lines.Show = refl
+there_same w (lines.Faulty member) = has_member_same w member
+there_same w (lines.Rogue client) = refl
+there_same w (lines.Inject form) = refl
 
 -- between two lines
 rested_same : {S : Type 0} (w : World S) → rested (trimmed_world w) ≡ trimmed_world (rested w)
@@ -452,12 +498,14 @@ pub record Beside {S : Type 0} (cores w : World S) : Type 0 where
   pub chosen : cores.chosen ≡ w.chosen
   pub accepted : cores.accepted ≡ w.accepted
   pub told : cores.told ≡ w.told
+  pub faulty : cores.faulty ≡ w.faulty
+  pub rogue : cores.rogue ≡ w.rogue
   pub ending : cores.ending ≡ w.ending
 
 -- it is what the world of the nodes has
 pub trimmed_beside : {S : Type 0} (w : World S) → Beside (trimmed_world w) w
 unfolding trimmed_world
-trimmed_beside w = record { view = refl; clients = refl; sent = refl; mark = refl; chosen = refl; accepted = refl; told = refl; ending = refl }
+trimmed_beside w = record { view = refl; clients = refl; sent = refl; mark = refl; chosen = refl; accepted = refl; told = refl; faulty = refl; rogue = refl; ending = refl }
 
 -- what the lines of a script tell
 lines_told_same : {S : Type 0} (m : Meaning S) (w : World S) (ls : List Line) → lines_told (core_step m) (trimmed_world w) ls ≡ lines_told (step_of m) w ls

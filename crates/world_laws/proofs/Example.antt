@@ -37,7 +37,7 @@ use Rattle.client_quorum.specs.Clients as clients
 use Rattle.client_quorum.specs.Clients.{heard_unless}
 use Rattle.world_rules.specs.Clients.{heard}
 use Rattle.world_rules.specs.Repeats.{repeated, turns, until_rest, each_from}
-use Rattle.world_rules.specs.Worlds.{Host, World, begun, clients_from, asks, sends, stepped, host_takes, node_takes, due, takes_due, settle_once, settle, settle_all, gives, hearing, client_hears, hears_bytes, client_takes, flow_sent, flow_once, where_listed, at_listed}
+use Rattle.world_rules.specs.Worlds.{Host, World, begun, clients_from, asks, stepped, host_takes, node_takes, due, takes_due, settle_once, settle, settle_all, gives, hearing, client_hears, hears_bytes, client_takes, flow_sent, flow_once, where_listed, at_listed, posts, is_gone}
 use Rattle.world_rules.specs.Plays.{line_played, rested}
 use Rattle.world_rules.specs.Promises.{world_at}
 use Rattle.client_quorum.specs.declared.client.Client.{Client}
@@ -53,6 +53,7 @@ use Rattle.world_laws.proofs.Genuine.{IsGood, good-genuine, signed-verified, dig
 use Rattle.world_laws.proofs.Rests.{rest_is_reached}
 use Rattle.node_rules.specs.declared.node.Fired.{Fired}
 use Rattle.smart_service.specs.declared.table.TableLine.{TableLine}
+use Rattle.world_rules.specs.declared.message.Content.TheVariants as contents
 
 -- the messages of the play
 
@@ -221,10 +222,10 @@ settled step k w le none = rest_is_reached (settle_once step 0) k w (few k le) (
 
 -- a message that is for the view is given to the one node
 given : {S : Type 0} (m : Meaning S) (k : ℕ) (x : Message) (accepted decided : Option Batch) (origin : Origin) (w : World S) → k ≤ 9 → is_some w.ending ≡ false
-    → slice_get w.sent w.mark ≡ Some (record { origin = origin; to = targets.View; message = x }) → length w.hosts ≡ 1
-    → Takes (host_in m w.hosts).node x accepted decided → option_and_then due (slice_get (turn m k x accepted decided w).hosts 0) ≡ None → flow_once (step_of m) [] w ≡ turn m k x accepted decided w
+    → slice_get w.sent w.mark ≡ Some (record { origin = origin; to = Some targets.View; content = contents.Message x }) → length w.hosts ≡ 1
+    → is_gone w (host_in m w.hosts).node.id ≡ false → Takes (host_in m w.hosts).node x accepted decided → option_and_then due (slice_get (turn m k x accepted decided w).hosts 0) ≡ None → flow_once (step_of m) [] w ≡ turn m k x accepted decided w
 unfolding flow_once turn gives each_from node_takes
-given {S = S} m k x accepted decided origin w le on at one takes none =
+given {S = S} m k x accepted decided origin w le on at one there takes none =
     let next : World S = record w { mark = w.mark + 1 } in
     ap (λ over. cond over w (flow_sent (step_of m) [] w (slice_get w.sent w.mark))) on
     ∙ (ap (flow_sent (step_of m) [] w) at
@@ -232,12 +233,13 @@ given {S = S} m k x accepted decided origin w le on at one takes none =
     ∙ (ap (λ found. where_listed [] (gives (step_of m) (spelling x)) 0 next found) (host_is m w.hosts one)
     ∙ (ap (λ over. settle (step_of m) 0 (cond over next (host_takes (step_of m) 0 (Arrive (spelling x)) next (slice_get w.hosts 0)))) on
     ∙ (ap (λ found. settle (step_of m) 0 (host_takes (step_of m) 0 (Arrive (spelling x)) next found)) (host_is m w.hosts one)
+    ∙ (ap (λ gone. settle (step_of m) 0 (cond gone next (stepped next 0 (host_in m w.hosts) (step_of m (host_in m w.hosts).node (Arrive (spelling x)))))) there
     ∙ (ap (λ o. settle (step_of m) 0 (stepped next 0 (host_in m w.hosts) o)) (step_is m (host_in m w.hosts).node x accepted decided takes)
-    ∙ settled (step_of m) k (stepped next 0 (host_in m w.hosts) (passed (kept (noted (host_in m w.hosts).node x) x) accepted decided)) le none))))))
+    ∙ settled (step_of m) k (stepped next 0 (host_in m w.hosts) (passed (kept (noted (host_in m w.hosts).node x) x) accepted decided)) le none)))))))
 
 -- a reply that is for a client is given to it
 given_back : {S : Type 0} (m : Meaning S) (a : SignedBy Answer) (origin : Origin) (client : ℕ) (c : Client) (h : Heard) (w : World S) → is_some w.ending ≡ false
-    → slice_get w.sent w.mark ≡ Some (record { origin = origin; to = targets.Client client; message = Reply a }) → slice_get w.clients client ≡ Some c
+    → slice_get w.sent w.mark ≡ Some (record { origin = origin; to = Some (targets.Client client); content = contents.Message (Reply a) }) → slice_get w.clients client ≡ Some c
     → decoded (spelling (Reply a)) ≡ Ok (Reply a) → heard w.view c a ≡ h → flow_once (step_of m) [] w ≡ hearing (record w { mark = w.mark + 1 }) client c a h
 unfolding flow_once client_takes
 given_back {S = S} m a origin client c h w on at here read hear =
@@ -290,7 +292,7 @@ answered m = hearing (record (replied m) { mark = (replied m).mark + 1 }) 1 wait
 
 -- what the facts on these worlds unfold to compute them
 unfoldable computed : ⊤
-unfolding asks sends collides clients_from gathered repeated settle_once node_takes stepped step_of votes fired_votes passes fired_pass passed host_in slot_why signer_why why_ask why_propose why_vote noted kept answering execute delivered executed_lines deliver_batch delivery delivers proposing propose_batch proposes writing write_batch writes accepting accept_batch accepts deciding decide_batch decides turn asked begins proposed wrote accepted replied hearing answered
+unfolding asks posts collides clients_from gathered repeated settle_once node_takes stepped step_of votes fired_votes passes fired_pass passed host_in slot_why signer_why why_ask why_propose why_vote noted kept answering execute delivered executed_lines deliver_batch delivery delivers proposing propose_batch proposes writing write_batch writes accepting accept_batch accepts deciding decide_batch decides turn asked begins proposed wrote accepted replied hearing answered
 computed = tt
 
 -- the turns of the play
@@ -304,7 +306,7 @@ turn_begins m = settled (step_of m) 1 (asked m) (omega arith) refl
 turn_proposed : {S : Type 0} (m : Meaning S) → flow_once (step_of m) [] (begins m) ≡ proposed m
 unfolding computed
 turn_proposed m =
-    given m 0 (Ask first_signed) None None (origins.Client 1) (begins m) (omega arith) refl refl refl
+    given m 0 (Ask first_signed) None None (origins.Client 1) (begins m) (omega arith) refl refl refl refl
     (record {
       read = (good-genuine (Ask first_signed) good_ask).read;
       fine = right_tag (is_verified requests group_secret first_signed) good_ask.tagged;
@@ -317,7 +319,7 @@ turn_proposed m =
 turn_wrote : {S : Type 0} (m : Meaning S) → flow_once (step_of m) [] (proposed m) ≡ wrote m
 unfolding computed
 turn_wrote m =
-    given m 1 first_proposal None None (origins.Node 1) (proposed m) (omega arith) refl refl refl
+    given m 1 first_proposal None None (origins.Node 1) (proposed m) (omega arith) refl refl refl refl
     (record {
       read = (good-genuine first_proposal good_proposal).read;
       fine = right_proposal (is_verified proposals group_secret (signed proposals group_secret 1 first_head)) (fits group_secret first_batch 1)
@@ -331,7 +333,7 @@ turn_wrote m =
 turn_accepted : {S : Type 0} (m : Meaning S) → flow_once (step_of m) [] (wrote m) ≡ accepted m
 unfolding computed
 turn_accepted m =
-    given m 1 (first_vote Write) (Some first_batch) None (origins.Node 1) (wrote m) (omega arith) refl refl refl
+    given m 1 (first_vote Write) (Some first_batch) None (origins.Node 1) (wrote m) (omega arith) refl refl refl refl
     (record {
       read = (good-genuine (first_vote Write) (good_vote Write)).read;
       fine = right_vote (is_verified ballots group_secret (signed ballots group_secret 1 (first_ballot Write))) (good_vote Write).tagged;
@@ -344,7 +346,7 @@ turn_accepted m =
 turn_replied : {S : Type 0} (m : Meaning S) → flow_once (step_of m) [] (accepted m) ≡ replied m
 unfolding computed
 turn_replied m =
-    given m 2 (first_vote Accept) None (Some first_batch) (origins.Node 1) (accepted m) (omega arith) refl refl refl
+    given m 2 (first_vote Accept) None (Some first_batch) (origins.Node 1) (accepted m) (omega arith) refl refl refl refl
     (record {
       read = (good-genuine (first_vote Accept) (good_vote Accept)).read;
       fine = right_vote (is_verified ballots group_secret (signed ballots group_secret 1 (first_ballot Accept))) (good_vote Accept).tagged;

@@ -1,5 +1,5 @@
 -- What a node holds and sends has a spelling, and bears its signers' tags: rule by rule.
-use Rattle.std.proofs.Common.{◌≡◌, ℕ, ◌+◌, ◌^◌, ◌<◌, ◌≤◌, ◌++◌, ◌==◌, ◌&&◌, Bool, true, false, not, List, [], ◌∷◌, length, refl, sym, subst, cond, Option, Some, None, Result, Ok, Err, is_none, nat_lt, nat_le, filter, arith}
+use Rattle.std.proofs.Common.{◌≡◌, ℕ, ◌+◌, ◌^◌, ◌<◌, ◌≤◌, ◌++◌, ◌==◌, ◌&&◌, Bool, true, false, not, List, [], ◌∷◌, length, refl, sym, subst, cond, Option, Some, None, Result, Ok, Err, is_none, nat_lt, nat_le, filter, arith, ◌∙◌}
 use Rattle.std.proofs.lemmas.Bool.{ltb-true, leb-true}
 use Rattle.std.specs.List.{list_any, AllByRecursion}
 use Rattle.std.specs.Option.{option_to_list}
@@ -9,7 +9,7 @@ use Rattle.smart_base.specs.Views.{View, is_member, leader, present}
 use Rattle.smart_messages.specs.Equality.{same_slot}
 use Rattle.smart_messages.specs.Forms.{SignedBy}
 use Rattle.smart_messages.specs.Kinds.{requests}
-use Rattle.smart_messages.specs.Messages.{Batch, batch_text, FitsBatch, decoded}
+use Rattle.smart_messages.specs.Messages.{Batch, batch_text, FitsBatch, decoded, Fits}
 use Rattle.smart_messages.specs.Spelling.{FitsSlot, FitsRequest, IsSigner, FitsSigned}
 use Rattle.smart_messages.specs.declared.statement.Request.{Request}
 use Rattle.smart_messages.specs.declared.statement.Slot.{Slot}
@@ -38,9 +38,9 @@ use Rattle.world_rules.specs.Secrets.{group_secret}
 use Rattle.world_laws.proofs.Lists.{and_true, either, either_by, each_end, each_append}
 use Rattle.world_laws.proofs.Executions.{views-execute, views-delivered}
 use Rattle.world_laws.proofs.OnePlace.{place-execute}
-use Rattle.world_laws.proofs.Authentic.{ForBatch, for_batch-weaker, for_batch-or, each_offered, each_filter, each-staying}
+use Rattle.world_laws.proofs.Authentic.{ForBatch, for_batch-weaker, for_batch-or, each_offered, each_filter, each-staying, verified_where_asked}
 use Rattle.world_laws.proofs.Genuine.{IsGood, AreVerified, digest_of-length, vote-good, reply-good, propose-good, single-fits, single-verified, longer-fits, longer-verified}
-use Rattle.world_laws.proofs.Again.{ForLine, answering-each, each-delivered}
+use Rattle.world_laws.proofs.Again.{ForLine, answering-each, each-delivered, why-noted}
 
 -- a proposal's batch has a spelling
 abbrev pub FitsArrival : Message → Type 0
@@ -114,33 +114,33 @@ fit-replying n (l ∷ ls) each is =
 
 -- arrivals
 
--- an arrival is kept
-fit-kept : {S : Type 0} (n : Node S) (message : Message) → IsGood message → FitNode n → FitNode (kept n message)
+-- an arrival that is not dropped is kept
+fit-kept : {S : Type 0} (n : Node S) (message : Message) → why_dropped n message ≡ None → Fits message → FitNode n → FitNode (kept n message)
 unfolding kept
-fit-kept {S = S} n (Ask q) good is =
+fit-kept {S = S} n (Ask q) fine fit is =
     either (λ (x : Node S). FitNode x) (is_next n.replica.table q.statement) (record n { pool = offered n.pool q }) n
     (record {
       named = is.named;
       shared = is.shared;
       view = is.view;
       lines = is.lines;
-      pool = each_offered FitsPool n.pool q is.pool (record { fits = good.fits.content_fits; tagged = good.tagged });
+      pool = each_offered FitsPool n.pool q is.pool (record { fits = fit.content_fits; tagged = subst (λ (s : List ℕ). is_verified requests s q ≡ true) is.shared (verified_where_asked n q fine) });
       arrivals = is.arrivals;
       waiting = is.waiting;
       held = is.held;
     }) is
-fit-kept n (Propose p) good is =
+fit-kept n (Propose p) fine fit is =
     record {
       named = is.named;
       shared = is.shared;
       view = is.view;
       lines = is.lines;
       pool = is.pool;
-      arrivals = each_end FitsArrival n.arrivals (Propose p) is.arrivals good.fits.content_fits.1;
+      arrivals = each_end FitsArrival n.arrivals (Propose p) is.arrivals fit.content_fits.1;
       waiting = is.waiting;
       held = is.held;
     }
-fit-kept n (Vote b) good is =
+fit-kept n (Vote b) fine fit is =
     record {
       named = is.named;
       shared = is.shared;
@@ -151,7 +151,7 @@ fit-kept n (Vote b) good is =
       waiting = is.waiting;
       held = is.held;
     }
-fit-kept n (Reply a) good is = is
+fit-kept n (Reply a) fine fit is = is
 
 -- a node is told that it is behind
 fit-noted : {S : Type 0} (n : Node S) (message : Message) → FitNode n → FitNode (noted n message)
@@ -377,19 +377,19 @@ fit-passes : {S : Type 0} (n : Node S) → FitNode n → FitNode (passes n)
 unfolding passes decides
 fit-passes n is = fit-decide_batch (votes n) (deciding (votes n)) (deciding-fits (votes n) (fit-votes n is)) (fit-votes n is)
 
-fit-arrival : {S : Type 0} (n : Node S) (message : Message) (why : Option Why) → IsGood message → FitNode n → FitNode (arrival_outcome n message why).node
-fit-arrival {S = S} n message None good is =
+fit-arrival : {S : Type 0} (n : Node S) (message : Message) (why : Option Why) → why_dropped n message ≡ why → Fits message → FitNode n → FitNode (arrival_outcome n message why).node
+fit-arrival {S = S} n message None fine fit is =
     let k : Node S = kept (noted n message) message in
-    fit-answers_again (passes k) message (fit-passes k (fit-kept (noted n message) message good (fit-noted n message is)))
-fit-arrival n message (Some why) good is = fit-noted n message is
+    fit-answers_again (passes k) message (fit-passes k (fit-kept (noted n message) message (why-noted n message ∙ fine) fit (fit-noted n message is)))
+fit-arrival n message (Some why) fine fit is = fit-noted n message is
 
-fit-reading : {S : Type 0} (n : Node S) (read : Result Message ℕ) → ((x : Message) → read ≡ Ok x → IsGood x) → FitNode n → FitNode (reading_outcome n read).node
-fit-reading n (Ok x) fit is = fit-arrival n x (why_dropped n x) (fit x refl) is
+fit-reading : {S : Type 0} (n : Node S) (read : Result Message ℕ) → ((x : Message) → read ≡ Ok x → Fits x) → FitNode n → FitNode (reading_outcome n read).node
+fit-reading n (Ok x) fit is = fit-arrival n x (why_dropped n x) refl (fit x refl) is
 fit-reading n (Err at) fit is = is
 
--- what comes has a spelling, and its signers' tags
+-- what comes has a spelling
 abbrev pub FitsEvent : NodeEvent → Type 0
-FitsEvent (Arrive bytes) = (x : Message) → decoded bytes ≡ Ok x → IsGood x
+FitsEvent (Arrive bytes) = (x : Message) → decoded bytes ≡ Ok x → Fits x
 FitsEvent Tick = Unit {0}
 FitsEvent Deliver = Unit {0}
 FitsEvent (Firm count) = Unit {0}

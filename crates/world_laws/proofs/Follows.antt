@@ -1,14 +1,12 @@
--- A node keeps its name, its book grows, and it decides one batch at a time.
+-- A node keeps its name, and decides one batch at a time.
 use Rattle.std.proofs.Common.{◌≡◌, ℕ, ◌+◌, ◌≤◌, ◌++◌, Bool, true, false, List, [], ◌∷◌, length, refl, ap, ◌∙◌, arith, cond, Option, Some, None, length-append, Result, Ok, Err}
 use Rattle.std.specs.List.{flat_map}
 use Rattle.std.proofs.lemmas.Grind.{flat_map-append}
 use Rattle.smart_base.specs.Lists.{Each}
 use Rattle.smart_messages.specs.Messages.{Batch, decoded}
-use Rattle.smart_messages.specs.declared.statement.Slot.{Slot}
 use Rattle.smart_messages.specs.declared.message.Message.{Message}
 use Rattle.smart_messages.specs.declared.message.Message.TheVariants.{Ask, Propose, Vote, Reply}
 use Rattle.smart_messages.specs.declared.statement.VoteKind.TheVariants.{Write, Accept}
-use Rattle.smart_messages.specs.declared.entry.LogEntry.{LogEntry}
 use Rattle.smart_messages.specs.declared.entry.LogEntry.TheVariants.{Wrote, Accepted, Decided}
 use Rattle.smart_messages.specs.declared.entry.NodeEvent.{NodeEvent}
 use Rattle.smart_messages.specs.declared.entry.NodeEvent.TheVariants.{Arrive, Tick, Deliver, Firm}
@@ -16,7 +14,7 @@ use Rattle.smart_service.specs.Services.{Meaning}
 use Rattle.smart_service.specs.declared.table.TableLine.{TableLine}
 use Rattle.node_rules.specs.Replicas.{delivered}
 use Rattle.node_rules.specs.Seals.{digest_of}
-use Rattle.node_rules.specs.Nodes.{Node, next_place, open_slot, holding, recording}
+use Rattle.node_rules.specs.Nodes.{Node, next_place, open_slot, holding}
 use Rattle.node_rules.specs.Arrivals.{why_dropped, kept, noted}
 use Rattle.node_rules.specs.Pools.{settled}
 use Rattle.node_rules.specs.Rules.{reply_of, replying, lines_to_answer, deliver_batch, delivers, delivery, proposing, propose_batch, proposes, writing, write_batch, writes, backers, accepting, accept_batch, accepts, deciding, decide_batch, decides, fired_if, answering, answer_line, answers_again, fired_answer}
@@ -31,99 +29,91 @@ use Rattle.world_laws.specs.Books.{decided_of}
 use Rattle.world_laws.proofs.Lists.{each_append}
 use Rattle.world_laws.proofs.Once.{entries-arrives, entries-delivers, entries-propose_batch}
 use Rattle.world_laws.proofs.InOrder.{decided-append, decided-none}
-use Rattle.world_laws.proofs.Said.{HasAccepted, accepted_grows}
 use Rattle.world_laws.proofs.Again.{entries-noted}
 
--- the same member's node, with a book that has grown
-pub record Follows {S : Type 0} (n n' : Node S) : Type 0 where
-  pub id : n'.id ≡ n.id
-  pub grows : (slot : Slot) (digest : List ℕ) → HasAccepted n.entries slot digest → HasAccepted n'.entries slot digest
+-- the same member's node
+abbrev pub Follows : {S : Type 0} → Node S → Node S → Type 0
+Follows n n' = n'.id ≡ n.id
 
 -- a node follows itself
 follows-same : {S : Type 0} (n : Node S) → Follows n n
-follows-same n = record { id = refl; grows = λ slot digest has. has }
+follows-same n = refl
 
 -- a node that follows a follower follows
 follows-then : {S : Type 0} (a b c : Node S) → Follows a b → Follows b c → Follows a c
-follows-then a b c f g = record { id = g.id ∙ f.id; grows = λ slot digest has. g.grows slot digest (f.grows slot digest has) }
+follows-then a b c f g = g ∙ f
 
--- an entry more
-follows-recording : {S : Type 0} (n : Node S) (e : LogEntry) → Follows n (recording n e)
-follows-recording n e = record { id = refl; grows = λ slot digest has. accepted_grows n.entries e slot digest has }
-
--- held replies change neither name nor book
+-- held replies keep its name
 follows-replying : {S : Type 0} (n : Node S) (lines : List TableLine) → Follows n (replying n lines)
 follows-replying n [] = follows-same n
 follows-replying n (l ∷ ls) =
-    let f = follows-replying (holding n (targets.Client l.client) (reply_of n.secret n.id l)) ls in
-    record { id = f.id; grows = f.grows }
+    follows-replying (holding n (targets.Client l.client) (reply_of n.secret n.id l)) ls
 
 -- both branches follow
 follows-if : {S : Type 0} (b : Bool) (n x y : Node S) → Follows n x → Follows n y → Follows n (cond b x y)
 follows-if true n x y fx fy = fx
 follows-if false n x y fx fy = fy
 
--- an arrival changes neither name nor book
+-- an arrival does
 follows-kept : {S : Type 0} (n : Node S) (message : Message) → Follows n (kept n message)
 unfolding kept
-follows-kept n (Ask q) = follows-if _ n _ n (record { id = refl; grows = λ slot digest has. has }) (follows-same n)
-follows-kept n (Propose p) = record { id = refl; grows = λ slot digest has. has }
-follows-kept n (Vote b) = record { id = refl; grows = λ slot digest has. has }
+follows-kept n (Ask q) = follows-if _ n _ n (refl) (follows-same n)
+follows-kept n (Propose p) = refl
+follows-kept n (Vote b) = refl
 follows-kept n (Reply a) = follows-same n
 
--- nor does what tells that a node is behind
+-- so does what tells that a node is behind
 follows-noted : {S : Type 0} (n : Node S) (message : Message) → Follows n (noted n message)
 unfolding noted
-follows-noted n message = record { id = refl; grows = λ slot digest has. has }
+follows-noted n message = refl
 
--- nor does an answer again
+-- and an answer again
 follows-answer_line : {S : Type 0} (n : Node S) (line : Option TableLine) → Follows n (answer_line n line)
 unfolding answer_line
 follows-answer_line n None = follows-same n
-follows-answer_line n (Some line) = record { id = refl; grows = λ slot digest has. has }
+follows-answer_line n (Some line) = refl
 
 follows-answers_again : {S : Type 0} (n : Node S) (message : Message) → Follows n (answers_again n message)
 unfolding answers_again
 follows-answers_again n message = follows-answer_line n (answering n message)
 
--- nor does a delivery
+-- and a delivery
 follows-deliver_batch : {S : Type 0} (m : Meaning S) (n : Node S) (batch : Option Batch) → Follows n (deliver_batch m n batch)
 unfolding deliver_batch
 follows-deliver_batch m n None = follows-same n
 follows-deliver_batch m n (Some batch) =
-    let f = follows-replying
+    follows-replying
     (record n { replica = delivered m n.replica batch; waiting = None; pool = settled (delivered m n.replica batch).table n.pool })
-    (lines_to_answer m n batch) in
-    record { id = f.id; grows = f.grows }
+    (lines_to_answer m n batch)
 
--- nor does the rule that delivers
+-- and the rule that delivers
 follows-delivers : {S : Type 0} (m : Meaning S) (n : Node S) → Follows n (delivers m n)
 unfolding delivers
 follows-delivers m n = follows-deliver_batch m n n.waiting
 
--- nor does a proposal
+-- and a proposal
 follows-propose_batch : {S : Type 0} (n : Node S) (batch : Option Batch) → Follows n (propose_batch n batch)
 unfolding propose_batch
 follows-propose_batch n None = follows-same n
-follows-propose_batch n (Some batch) = record { id = refl; grows = λ slot digest has. has }
+follows-propose_batch n (Some batch) = refl
 
--- what is written stands at the end of the book
+-- and a batch that is written
 follows-write_batch : {S : Type 0} (n : Node S) (batch : Option Batch) → Follows n (write_batch n batch)
 unfolding write_batch
 follows-write_batch n None = follows-same n
-follows-write_batch n (Some batch) = let f = follows-recording n (Wrote (open_slot n) (digest_of batch)) in record { id = refl; grows = f.grows }
+follows-write_batch n (Some batch) = refl
 
--- so does what is accepted
+-- that is accepted
 follows-accept_batch : {S : Type 0} (n : Node S) (batch : Option Batch) → Follows n (accept_batch n batch)
 unfolding accept_batch
 follows-accept_batch n None = follows-same n
-follows-accept_batch n (Some batch) = let f = follows-recording n (Accepted (open_slot n) (backers n Write batch) batch) in record { id = refl; grows = f.grows }
+follows-accept_batch n (Some batch) = refl
 
--- and what is decided
+-- and that is decided
 follows-decide_batch : {S : Type 0} (n : Node S) (batch : Option Batch) → Follows n (decide_batch n batch)
 unfolding decide_batch
 follows-decide_batch n None = follows-same n
-follows-decide_batch n (Some batch) = let f = follows-recording n (Decided (open_slot n) (backers n Accept batch) batch) in record { id = refl; grows = f.grows }
+follows-decide_batch n (Some batch) = refl
 
 -- the voting rules
 follows-votes : {S : Type 0} (n : Node S) → Follows n (votes n)
@@ -137,7 +127,7 @@ follows-votes n =
 -- a pass of the rules
 follows-passes : {S : Type 0} (n : Node S) → Follows n (passes n)
 unfolding passes decides
-follows-passes n = follows-then n (votes n) _ (follows-votes n) (follows-decide_batch (votes n) (deciding (votes n)))
+follows-passes n = follows-then n (votes n) (decide_batch (votes n) (deciding (votes n))) (follows-votes n) (follows-decide_batch (votes n) (deciding (votes n)))
 
 -- an arrival and its pass
 follows-arrival : {S : Type 0} (n : Node S) (message : Message) (why : Option Why) → Follows n (arrival_outcome n message why).node
@@ -157,8 +147,8 @@ pub follows-step : {S : Type 0} (m : Meaning S) (n : Node S) (event : NodeEvent)
 unfolding step_of
 follows-step m n (Arrive bytes) = follows-reading n (decoded bytes)
 follows-step m n Tick = follows-passes n
-follows-step m n Deliver = follows-then n (delivers m n) _ (follows-delivers m n) (follows-passes (delivers m n))
-follows-step m n (Firm count) = let f = follows-passes (record n { firm = count }) in record { id = f.id; grows = f.grows }
+follows-step m n Deliver = follows-then n (delivers m n) (passes (delivers m n)) (follows-delivers m n) (follows-passes (delivers m n))
+follows-step m n (Firm count) = follows-passes (record n { firm = count })
 
 -- at most one batch more is decided, and then it waits
 pub record DecidesNext {S : Type 0} (n n' : Node S) : Type 0 where
@@ -280,7 +270,7 @@ due-pass n x = due-append n (fired_votes x) _ (due-votes n x) (decided (next_pla
     decided place None = tt
     decided place (Some batch) = tt
 
--- nor does an answer again
+-- and an answer again
 due-answer : {S : Type 0} (n : Node S) (line : Option TableLine) → AllDue n (fired_answer line)
 due-answer n None = tt
 due-answer n (Some line) = tt

@@ -9,7 +9,7 @@ use Rattle.smart_messages.specs.Forms.{Form, SignedBy, party_of}
 use Rattle.smart_messages.specs.Kinds.{requests, proposals, ballots, answers}
 use Rattle.smart_messages.specs.Messages.{Batch, batch_text, spelling, FitsBatch, Fits}
 use Rattle.smart_messages.specs.Spelling as spells
-use Rattle.smart_messages.specs.Spelling.{FitsSlot, FitsProposal, FitsBallot, FitsAnswer, FitsRequest, IsSigner, FitsSigned}
+use Rattle.smart_messages.specs.Spelling.{FitsProposal, FitsBallot, FitsAnswer, FitsRequest, IsSigner, FitsSigned}
 use Rattle.smart_messages.specs.Statements.{request_small, proposal_small, ballot_small, answer_small}
 use Rattle.smart_messages.proofs.Messages.{spelling_is}
 use Rattle.smart_messages.specs.declared.statement.Request.{Request}

@@ -20,10 +20,8 @@ use Rattle.client_quorum.specs.declared.client.Ignored.{Ignored}
 use Rattle.client_quorum.specs.declared.client.Heard.{Heard}
 use Rattle.client_quorum.specs.declared.client.Heard.TheVariants as hears
 use Rattle.world_laws.specs.Sending.{is_reply, has_given, hears_all, IsGiven}
-use Rattle.world_laws.proofs.Lists.{and_true, either, some-equal, each_end, each_weaker}
+use Rattle.world_laws.proofs.Lists.{and_true, either, some-equal, each_end, each_weaker, or_true, or_left, or_right}
 use Rattle.world_laws.proofs.Equal.{and_intro}
-use Rattle.world_laws.proofs.Said.{or_true}
-use Rattle.world_laws.proofs.Says.{or_left, or_right}
 use Rattle.world_laws.proofs.Hearing.{CountsFor, Accepts, counts_where_not_ignored, accepts_waiting}
 
 -- a reply that a client keeps is one that counts as given, with its signer's tag, to the request that waits
@@ -88,7 +86,7 @@ counts_waited v c a q counts =
     (and_intro (q.client == a.statement.client) (q.seq == a.statement.seq) (eq-eqb q.client a.statement.client counts.client) (eq-eqb q.seq a.statement.seq counts.seq))
 
 -- so it is kept
-kept_last : (Given : SignedBy Answer → Type 0) (v : View) (c : Client) (a : SignedBy Answer) (q : Request) → Given a → CountsFor v c a q → IsKept Given c.waiting a
+pub kept_last : (Given : SignedBy Answer → Type 0) (v : View) (c : Client) (a : SignedBy Answer) (q : Request) → Given a → CountsFor v c a q → IsKept Given c.waiting a
 kept_last Given v c a q given counts = record { given = given; tagged = counts.tagged; waited_for = counts_waited v c a q counts }
 
 -- what a client keeps behind a reply

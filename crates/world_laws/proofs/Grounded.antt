@@ -23,23 +23,20 @@ use Rattle.node_rules.specs.Pools.{offered, settled}
 use Rattle.node_rules.specs.Rules.{reply_of, replying, lines_to_answer, deliver_batch, delivers, proposing, propose_batch, proposes, writing, write_batch, writes, backed, backers, accepting, accept_batch, accepts, deciding, decide_batch, decides, answering, answer_line, answers_again}
 use Rattle.node_rules.specs.Steps.{Outcome, votes, passes, arrival_outcome, reading_outcome, step_of, leaving}
 use Rattle.node_rules.specs.declared.node.Why.{Why}
-use Rattle.node_rules.specs.declared.node.Held.{Held}
-use Rattle.node_rules.specs.declared.node.Target.{Target}
 use Rattle.node_rules.specs.declared.node.Target.TheVariants as targets
-use Rattle.world_rules.specs.Premises.{batches_in, met}
-use Rattle.world_rules.specs.Worlds.{Host, World, sends, sends_all, chosen_with, host_after, stepped, hearing, hosts_from, begun}
-use Rattle.world_rules.specs.declared.message.Origin.{Origin}
-use Rattle.world_rules.specs.declared.message.Origin.TheVariants as origins
+use Rattle.world_rules.specs.Premises.{met, batches}
+use Rattle.world_rules.specs.Worlds.{Host, World, posts, chosen_with, host_after, stepped, hearing, hosts_from, begun}
 use Rattle.world_rules.specs.declared.message.Sent.{Sent}
 use Rattle.world_laws.specs.Books.{decided_of}
 use Rattle.world_laws.proofs.Lists.{either, each_end, each_weaker, each_set, each_get}
 use Rattle.world_laws.proofs.InOrder.{decided-append, decided-none}
 use Rattle.world_laws.proofs.Certified.{Exact}
-use Rattle.world_laws.proofs.Keeps.{HasMessage, ask_of, asked_by, Keeps, by-sends, ReadsSent, MayRead, may_read, signed_by}
+use Rattle.world_laws.proofs.Keeps.{HasMessage, ask_of, asked_by, Keeps, by-posts, ReadsSent, MayRead, may_read, signed_by, from_node, from_client, comes-as, keeps-sends_all, from_script}
 use Rattle.world_laws.proofs.Authentic.{ForBatch, for_batch-weaker}
 use Rattle.world_laws.proofs.FitNodes.{IsBrief, proposal_of-if, backed-if}
 use Rattle.world_laws.proofs.Fitting.{AllFit, keeps-fit, fit-reads, fit-begun}
 use Rattle.world_laws.proofs.NoClash.{HasBatch, IsMet, has-left, has-right, met-grows, TextsExact, texts-end, met-exact}
+use Rattle.world_rules.specs.declared.message.Content.{Content}
 
 -- a node
 
@@ -226,10 +223,9 @@ record Met {S : Type 0} (w : World S) : Type 0 where
   chosen : Each (IsMet w.sent) w.chosen
 
 -- a message leaves
-met-sends : {S : Type 0} (w : World S) (origin : Origin) (to : Target) (message : Message) → Met w → Met (sends w origin to message)
-met-sends {S = S} w origin to message is =
-    let s : Sent = record { origin = origin; to = to; message = message } in
-    by-sends (λ (v : World S). Met v) w origin to message
+met-posts : {S : Type 0} (w : World S) (s : Sent) → Met w → Met (posts w s)
+met-posts {S = S} w s is =
+    by-posts (λ (v : World S). Met v) w s
     (λ ending. record { texts = is.texts; hosts = is.hosts; chosen = is.chosen })
     (λ free room. record {
       texts = texts-end w.sent s free is.texts;
@@ -237,11 +233,6 @@ met-sends {S = S} w origin to message is =
           (λ h node. met-weaker (IsMet w.sent) (IsMet (w.sent ++ s ∷ [])) (met-grows w.sent s) h.node node) w.hosts is.hosts;
       chosen = each_weaker (IsMet w.sent) (IsMet (w.sent ++ s ∷ [])) (met-grows w.sent s) w.chosen is.chosen;
     })
-
--- messages of a node leave
-met-sends_all : {S : Type 0} (id : ℕ) (w : World S) (held : List Held) → Met w → Met (sends_all id w held)
-met-sends_all id w [] is = is
-met-sends_all id w (h ∷ hs) is = met-sends_all id (sends w (origins.Node id) h.to h.message) hs (met-sends w (origins.Node id) h.to h.message is)
 
 -- the list with the batch that waits at a node
 chosen_with-met : (M : Batch → Type 0) (chosen : List Batch) (place : ℕ) (waiting : Option Batch) → Each M chosen → ForBatch waiting M → Each M (chosen_with chosen place waiting)
@@ -253,7 +244,7 @@ chosen_with-met M chosen place (Some batch) each met =
 met-stepped : {S : Type 0} (w : World S) (i : ℕ) (h : Host S) (o : Outcome S) → NodeMet (IsMet w.sent) o.node → Met w → Met (stepped w i h o)
 unfolding stepped
 met-stepped {S = S} w i h o met is =
-    met-sends_all h.node.id _ (leaving o.node.firm o.node.held)
+    keeps-sends_all Met h.node.id (λ v held met. met-posts v (from_node h.node.id held) met) _ (leaving o.node.firm o.node.held)
     (record {
       texts = is.texts;
       hosts = each_set (λ (g : Host S). NodeMet (IsMet w.sent) g.node) w.hosts i (host_after h o) is.hosts (record { arrivals = met.arrivals; waiting = met.waiting; decided = met.decided });
@@ -265,8 +256,8 @@ has-met : (sent : List Sent) (p : Proposed) → HasMessage sent (Propose p) → 
 has-met [] p has = absurd has
 has-met (s ∷ sent) p has =
     elim has [
-      | inl here ↦ has-left (batches_in s.message) (met sent) p.batch (subst (λ (y : Message). HasBatch (batches_in y) p.batch) (sym here) (inl refl))
-      | inr later ↦ has-right (batches_in s.message) (met sent) p.batch (has-met sent p later)
+      | inl here ↦ has-left (batches s.content) (met sent) p.batch (subst (λ (y : Content). HasBatch (batches y) p.batch) (sym here) (inl refl))
+      | inr later ↦ has-right (batches s.content) (met sent) p.batch (has-met sent p later)
     ]
 
 message-met : (sent : List Sent) (message : Message) → HasMessage sent message → ProposalMet (IsMet sent) message
@@ -277,7 +268,7 @@ message-met sent (Reply a) has = tt
 
 -- what may come
 event-met : {S : Type 0} (w : World S) (h : Host S) (event : NodeEvent) → MayRead w h event → EventMet (IsMet w.sent) event
-event-met w h (Arrive bytes) may = subst (λ (r : Result Message ℕ). ReadMet (IsMet w.sent) r) (sym may.read) (message-met w.sent may.message may.has)
+event-met w h (Arrive bytes) may = comes-as w.sent bytes (ReadMet (IsMet w.sent)) (message-met w.sent) (λ at. tt) may
 event-met w h Tick may = tt
 event-met w h Deliver may = tt
 event-met w h (Firm count) may = tt
@@ -294,18 +285,20 @@ unfolding hearing
 keeps-grounded {S = S} m brief =
     let k : Keeps (step_of m) AllFit = keeps-fit m brief in
     record {
-      event = λ w i h event at may is.
-          whole (stepped w i h (step_of m h.node event)) (k.event w i h event at may is.fit)
+      event = λ w i h event there at may is.
+          whole (stepped w i h (step_of m h.node event)) (k.event w i h event there at may is.fit)
           (met-stepped w i h (step_of m h.node event)
           (met-step (IsMet w.sent) m h.node event (event-met w h event (may_read w h event (grounded-reads w is) may))
           (each_get (λ (g : Host S). NodeMet (IsMet w.sent) g.node) w.hosts i h is.hosts at)) (part w is));
       hear = λ w i c x a at has read is. record { fit = k.hear w i c x a at has read is.fit; texts = is.texts; hosts = is.hosts; chosen = is.chosen };
       ask = λ w i c op at free few short is.
-          whole (sends (asked_by w i c op) (origins.Client c.id) targets.View (ask_of c op)) (k.ask w i c op at free few short is.fit)
-          (met-sends (asked_by w i c op) (origins.Client c.id) targets.View (ask_of c op) (record { texts = is.texts; hosts = is.hosts; chosen = is.chosen }));
+          whole (posts (asked_by w i c op) (from_client c (ask_of c op))) (k.ask w i c op at free few short is.fit)
+          (met-posts (asked_by w i c op) (from_client c (ask_of c op)) (record { texts = is.texts; hosts = is.hosts; chosen = is.chosen }));
       again = λ w i c q at waits is.
-          whole (sends w (origins.Client c.id) targets.View (signed_by c q)) (k.again w i c q at waits is.fit) (met-sends w (origins.Client c.id) targets.View (signed_by c q) (part w is));
+          whole (posts w (from_client c (signed_by c q))) (k.again w i c q at waits is.fit) (met-posts w (from_client c (signed_by c q)) (part w is));
       learn = λ w i j c d at other is. record { fit = k.learn w i j c d at other is.fit; texts = is.texts; hosts = is.hosts; chosen = is.chosen };
+      inject = λ w x read fine is. whole (posts w (from_script x)) (k.inject w x read fine is.fit) (met-posts w (from_script x) (part w is));
+      declare = λ w faulty rogue ending how is. record { fit = k.declare w faulty rogue ending how is.fit; texts = is.texts; hosts = is.hosts; chosen = is.chosen };
       same = λ w mark told is. record { fit = k.same w mark told is.fit; texts = is.texts; hosts = is.hosts; chosen = is.chosen };
     }
 

@@ -4,46 +4,31 @@ use Rattle.smart_base.specs.Views.{View}
 use Rattle.smart_messages.specs.Forms.{SignedBy}
 use Rattle.smart_messages.specs.Messages.{Batch}
 use Rattle.smart_messages.specs.declared.statement.Answer.{Answer}
-use Rattle.smart_messages.specs.declared.message.Message.{Message}
 use Rattle.smart_messages.specs.declared.entry.NodeEvent.{NodeEvent}
 use Rattle.smart_service.specs.Services.{Meaning}
 use Rattle.node_rules.specs.Nodes.{Node, next_place}
 use Rattle.node_rules.specs.Steps.{Outcome, step_of, leaving}
-use Rattle.node_rules.specs.declared.node.Held.{Held}
-use Rattle.node_rules.specs.declared.node.Target.{Target}
-use Rattle.node_rules.specs.declared.node.Target.TheVariants as targets
 use Rattle.world_rules.specs.Clients.{heard}
-use Rattle.world_rules.specs.Worlds.{Host, World, sends, sends_all, chosen_with, stepped, hearing, begun}
+use Rattle.world_rules.specs.Worlds.{Host, World, posts, chosen_with, stepped, hearing, begun}
 use Rattle.world_rules.specs.Plays.{line_played, rested, world_after}
 use Rattle.world_rules.specs.Promises.{world_at}
 use Rattle.client_quorum.specs.declared.client.Client.{Client}
 use Rattle.client_quorum.specs.declared.client.Heard.{Heard}
 use Rattle.world_rules.specs.declared.line.Line.{Line}
-use Rattle.world_rules.specs.declared.message.Origin.{Origin}
-use Rattle.world_rules.specs.declared.message.Origin.TheVariants as origins
 use Rattle.world_laws.proofs.Lists.{either}
-use Rattle.world_laws.proofs.Keeps.{ask_of, asked_by, by-sends, Keeps, keeps-world_after, signed_by}
+use Rattle.world_laws.proofs.Keeps.{ask_of, asked_by, by-posts, Keeps, keeps-world_after, signed_by, from_node, from_client, from_script, keeps-sends_all}
 use Rattle.world_laws.proofs.Fronts.{IsFront, front-same, front-append}
+use Rattle.world_rules.specs.declared.message.Sent.{Sent}
 
 -- messages that leave change neither the list nor the view
 
 -- a message that leaves keeps the list
-pub chosen-sends : {S : Type 0} (w : World S) (origin : Origin) (to : Target) (message : Message) → (sends w origin to message).chosen ≡ w.chosen
-chosen-sends {S = S} w origin to message = by-sends (λ (v : World S). v.chosen ≡ w.chosen) w origin to message (λ ending. refl) (λ free room. refl)
-
--- so do held messages
-pub chosen-sends_all : {S : Type 0} (id : ℕ) (w : World S) (held : List Held) → (sends_all id w held).chosen ≡ w.chosen
-chosen-sends_all id w [] = refl
-chosen-sends_all id w (h ∷ hs) = chosen-sends_all id (sends w (origins.Node id) h.to h.message) hs ∙ chosen-sends w (origins.Node id) h.to h.message
+pub chosen-posts : {S : Type 0} (w : World S) (s : Sent) → (posts w s).chosen ≡ w.chosen
+chosen-posts {S = S} w s = by-posts (λ (v : World S). v.chosen ≡ w.chosen) w s (λ ending. refl) (λ free room. refl)
 
 -- a message that leaves keeps the view
-pub view-sends : {S : Type 0} (w : World S) (origin : Origin) (to : Target) (message : Message) → (sends w origin to message).view ≡ w.view
-view-sends {S = S} w origin to message = by-sends (λ (v : World S). v.view ≡ w.view) w origin to message (λ ending. refl) (λ free room. refl)
-
--- so do held messages
-pub view-sends_all : {S : Type 0} (id : ℕ) (w : World S) (held : List Held) → (sends_all id w held).view ≡ w.view
-view-sends_all id w [] = refl
-view-sends_all id w (h ∷ hs) = view-sends_all id (sends w (origins.Node id) h.to h.message) hs ∙ view-sends w (origins.Node id) h.to h.message
+pub view-posts : {S : Type 0} (w : World S) (s : Sent) → (posts w s).view ≡ w.view
+view-posts {S = S} w s = by-posts (λ (v : World S). v.view ≡ w.view) w s (λ ending. refl) (λ free room. refl)
 
 -- events
 
@@ -56,12 +41,14 @@ front-chosen_with front chosen place (Some batch) is =
 -- a step adds the batch that waits
 chosen-stepped : {S : Type 0} (w : World S) (i : ℕ) (h : Host S) (o : Outcome S) → (stepped w i h o).chosen ≡ chosen_with w.chosen (next_place o.node) o.node.waiting
 unfolding stepped
-chosen-stepped w i h o = chosen-sends_all h.node.id _ (leaving o.node.firm o.node.held)
+chosen-stepped {S = S} w i h o =
+    keeps-sends_all (λ (v : World S). v.chosen ≡ chosen_with w.chosen (next_place o.node) o.node.waiting) h.node.id (λ v held is. chosen-posts v (from_node h.node.id held) ∙ is) _
+    (leaving o.node.firm o.node.held) refl
 
 -- a step keeps the view
 view-stepped : {S : Type 0} (w : World S) (i : ℕ) (h : Host S) (o : Outcome S) → (stepped w i h o).view ≡ w.view
 unfolding stepped
-view-stepped w i h o = view-sends_all h.node.id _ (leaving o.node.firm o.node.held)
+view-stepped {S = S} w i h o = keeps-sends_all (λ (v : World S). v.view ≡ w.view) h.node.id (λ v held is. view-posts v (from_node h.node.id held) ∙ is) _ (leaving o.node.firm o.node.held) refl
 
 -- a client that hears keeps the list
 chosen-hearing : {S : Type 0} (w : World S) (i : ℕ) (c : Client) (a : SignedBy Answer) (h : Heard) → (hearing w i c a h).chosen ≡ w.chosen
@@ -77,11 +64,13 @@ view-hearing w i c a h = refl
 pub front-kept : {S : Type 0} (step : Node S → NodeEvent → Outcome S) (front : List Batch) → Keeps step (λ w. take (length front) w.chosen ≡ front)
 front-kept step front =
     record {
-      event = λ w i h event at may is. rw chosen-stepped (front-chosen_with front w.chosen (next_place (step h.node event).node) (step h.node event).node.waiting is);
+      event = λ w i h event there at may is. rw chosen-stepped (front-chosen_with front w.chosen (next_place (step h.node event).node) (step h.node event).node.waiting is);
       hear = λ w i c x a at has read is. rw chosen-hearing is;
-      ask = λ w i c op at free few brief is. rw chosen-sends is;
-      again = λ w i c q at waits is. rw chosen-sends is;
+      ask = λ w i c op at free few brief is. rw chosen-posts is;
+      again = λ w i c q at waits is. rw chosen-posts is;
       learn = λ w i j c d at other is. is;
+      inject = λ w x read fine is. rw chosen-posts is;
+      declare = λ w faulty rogue ending how is. is;
       same = λ w mark told is. is;
     }
 
@@ -89,11 +78,13 @@ front-kept step front =
 pub view-kept : {S : Type 0} (step : Node S → NodeEvent → Outcome S) (view : View) → Keeps step (λ w. w.view ≡ view)
 view-kept step view =
     record {
-      event = λ w i h event at may is. view-stepped w i h (step h.node event) ∙ is;
+      event = λ w i h event there at may is. view-stepped w i h (step h.node event) ∙ is;
       hear = λ w i c x a at has read is. view-hearing w i c a (heard w.view c a) ∙ is;
-      ask = λ w i c op at free few brief is. view-sends (asked_by w i c op) (origins.Client c.id) targets.View (ask_of c op) ∙ is;
-      again = λ w i c q at waits is. view-sends w (origins.Client c.id) targets.View (signed_by c q) ∙ is;
+      ask = λ w i c op at free few brief is. view-posts (asked_by w i c op) (from_client c (ask_of c op)) ∙ is;
+      again = λ w i c q at waits is. view-posts w (from_client c (signed_by c q)) ∙ is;
       learn = λ w i j c d at other is. is;
+      inject = λ w x read fine is. view-posts w (from_script x) ∙ is;
+      declare = λ w faulty rogue ending how is. is;
       same = λ w mark told is. is;
     }
 

@@ -1,12 +1,14 @@
 -- What each event of a world keeps, the lines of a script keep.
-use Rattle.std.proofs.Common.{◌≡◌, ℕ, zero, suc, ◌+◌, ◌^◌, ◌<◌, ◌≤◌, ◌++◌, ◌∙◌, ◌&&◌, Bool, true, false, List, [], ◌∷◌, length, refl, ap, cond, Option, Some, None, is_some, nat_lt, nat_le, inl, inr, ◌⊎◌, subst, Result, Ok, Err, ◌-◌, sym, append-nil, append_assoc}
+use Rattle.std.proofs.Common.{◌≡◌, ℕ, zero, suc, ◌+◌, ◌^◌, ◌<◌, ◌≤◌, ◌++◌, ◌∙◌, ◌&&◌, ◌||◌, ◌==◌, arith, Bool, true, false, List, [], ◌∷◌, length, refl, ap, cond, Option, Some, None, is_some, nat_lt, nat_le, inl, inr, ◌⊎◌, subst, Result, Ok, Err, ◌-◌, sym, append-nil, append_assoc}
 use Rattle.std.proofs.lemmas.Bool.{ltb-true, leb-true}
-use Rattle.std.specs.Prelude.{slice_get, slice_set, map}
+use Rattle.std.specs.Prelude.{slice_get, slice_set, get_or}
 use Rattle.std.specs.Option.{option_and_then}
+use Rattle.smart_base.specs.Cuts.{IsBytes}
 use Rattle.smart_base.specs.Lists.{or_else, Each}
 use Rattle.smart_messages.specs.Forms.{SignedBy}
 use Rattle.smart_messages.specs.Kinds.{requests}
-use Rattle.smart_messages.specs.Messages.{spelling, decoded}
+use Rattle.smart_messages.specs.Messages.{Fits, spelling, decoded}
+use Rattle.smart_messages.proofs.Messages.{decoded_is, spelling_is}
 use Rattle.smart_messages.specs.declared.statement.Request.{Request}
 use Rattle.smart_messages.specs.declared.statement.Answer.{Answer}
 use Rattle.smart_messages.specs.declared.message.Message.{Message}
@@ -20,10 +22,11 @@ use Rattle.node_rules.specs.declared.node.Held.{Held}
 use Rattle.node_rules.specs.declared.node.Target.{Target}
 use Rattle.node_rules.specs.declared.node.Target.TheVariants as targets
 use Rattle.world_rules.specs.Secrets.{group_secret}
-use Rattle.world_rules.specs.Premises.{collides}
+use Rattle.world_rules.specs.Premises.{is_among, too_many, is_forged, collides, bytes_of}
+use Rattle.world_rules.specs.Injections.{content_by, content_of, are_bytes, content_from, injected_bytes, injected}
 use Rattle.client_quorum.specs.Clients.{request_of, asking, learning}
 use Rattle.world_rules.specs.Clients.{heard}
-use Rattle.world_rules.specs.Worlds.{Host, World, summary_of, telling, sends, sends_all, told_drop, told_fired, stepped, host_takes, node_takes, due, takes_due, settle_once, settle, settle_all, gives, give_all, hearing, client_hears, hears_bytes, client_takes, client_asks, ask_found, asks, client_repeats, repeat_found, repeats, learns, learns_from, tells, goes, flow_sent, flow_once, is_listed, where_listed, at_listed, each_listed, host_index, at_index, at_member, arrives, arrives_at, sent_arrives, give_number, told_idle, telling_all, host_delivers, deliver_at, deliver_each, shown_host, shown_client, shows}
+use Rattle.world_rules.specs.Worlds.{Host, World, summary, telling, posts, sends_all, told_drop, told_fired, stepped, is_gone, is_rogue, host_takes, node_takes, due, takes_due, settle_once, settle, told_absent, settle_present, settle_all, gives, give_all, hearing, client_hears, hears_bytes, client_takes, client_asks, ask_found, asks, client_repeats, repeat_found, repeats, learns, learns_from, tells, goes, flow_sent, flow_once, is_listed, where_listed, at_listed, each_listed, host_index, at_index, at_member, arrives, arrives_at, sent_arrives, give_number, told_idle, telling_all, host_delivers, deliver_at, deliver_each, shown_host, shown_client, shows, declares_faulty, declares_rogue, injects_content, injects}
 use Rattle.world_rules.specs.Plays.{line_played, rested, world_after}
 use Rattle.client_quorum.specs.declared.client.Client.{Client}
 use Rattle.client_quorum.specs.declared.client.Heard.{Heard}
@@ -31,12 +34,15 @@ use Rattle.world_rules.specs.declared.line.Line.{Line}
 use Rattle.world_rules.specs.declared.line.Line.TheVariants as lines
 use Rattle.world_rules.specs.declared.line.OutLine.{OutLine}
 use Rattle.world_rules.specs.declared.line.OutLine.TheVariants as outs
-use Rattle.world_rules.specs.declared.message.Origin.{Origin}
+use Rattle.world_rules.specs.declared.message.Content.{Content}
+use Rattle.world_rules.specs.declared.message.Content.TheVariants as contents
 use Rattle.world_rules.specs.declared.message.Origin.TheVariants as origins
 use Rattle.world_rules.specs.declared.message.Sent.{Sent}
 use Rattle.world_rules.specs.declared.message.Ending.{Ending}
 use Rattle.world_rules.specs.declared.message.Ending.TheVariants.{Limit, Premise}
-use Rattle.world_rules.specs.declared.message.Premise.TheVariants.{Collision}
+use Rattle.world_rules.specs.declared.message.Premise.TheVariants.{TooManyFaulty, Forged, Collision}
+use Rattle.world_rules.specs.declared.line.Injection.{Injection}
+use Rattle.world_laws.specs.Sending.{IsUnread}
 use Rattle.world_laws.proofs.Lists.{and_true, either_by, until_rest_keeps, each_from_keeps, some-equal, either, each_append}
 use Rattle.std.specs.List.{flat_map}
 use Rattle.smart_base.specs.declared.party.Party.{Party}
@@ -45,23 +51,46 @@ use Rattle.node_rules.specs.declared.node.Fired.{Fired}
 use Rattle.node_rules.specs.declared.node.Fired.TheVariants as fires
 use Rattle.node_rules.specs.declared.node.Why.{Why}
 
+-- what is sent
+
+-- what a node lets go
+abbrev pub from_node : ℕ → Held → Sent
+from_node id h = record { origin = origins.Node id; to = Some h.to; content = contents.Message h.message }
+
+-- what a client sends
+abbrev pub from_client : Client → Message → Sent
+from_client c message = record { origin = origins.Client c.id; to = Some targets.View; content = contents.Message message }
+
+-- what a script injects
+abbrev pub from_script : Content → Sent
+from_script content = record { origin = origins.Script; to = None; content = content }
+
+-- a content was sent
+abbrev pub HasContent : List Sent → Content → Type 0
+HasContent [] content = ⊥
+HasContent (s ∷ sent) content = (s.content ≡ content) ⊎ HasContent sent content
+
 -- a message was sent
 abbrev pub HasMessage : List Sent → Message → Type 0
-HasMessage [] message = ⊥
-HasMessage (s ∷ sent) message = (s.message ≡ message) ⊎ HasMessage sent message
+HasMessage sent message = HasContent sent (contents.Message message)
 
--- bytes are those of a message that was sent
+-- bytes are those of a content that was sent
 pub record IsSent (sent : List Sent) (bytes : List ℕ) : Type 0 where
-  pub message : Message
-  pub spelled : bytes ≡ spelling message
-  pub has : HasMessage sent message
+  pub content : Content
+  pub spelled : bytes ≡ bytes_of content
+  pub has : HasContent sent content
 
--- what may come to a node: the bytes of a message that was sent, and firmness of all its entries
+-- what may come to a node: the bytes of a content that was sent, and firmness of all its entries
 abbrev pub MayCome : {S : Type 0} → World S → Host S → NodeEvent → Type 0
 MayCome w h (Arrive bytes) = IsSent w.sent bytes
 MayCome w h Tick = Unit {0}
 MayCome w h Deliver = Unit {0}
 MayCome w h (Firm count) = count ≡ length h.node.entries
+
+-- how a content is read: a message that has a spelling, from it as itself, and bytes that are none, not at all
+abbrev pub IsRead : Content → Type 0
+IsRead (contents.Message message) = Fits message
+IsRead (contents.Raw bytes) = IsUnread bytes
 
 -- a request of a client, with its tag
 abbrev pub signed_by : Client → Request → Message
@@ -94,6 +123,7 @@ IsBeside (outs.Counted client have need) = Unit {0}
 IsBeside (outs.Accepted client seq place index reply) = ⊥
 IsBeside (outs.Ignored client why) = Unit {0}
 IsBeside (outs.Busy client seq) = Unit {0}
+IsBeside (outs.Absent member) = Unit {0}
 IsBeside (outs.Idle member) = Unit {0}
 IsBeside (outs.IdleClient client) = Unit {0}
 IsBeside (outs.Learned client place) = ⊥
@@ -101,39 +131,55 @@ IsBeside (outs.Stands member place number regency) = Unit {0}
 IsBeside (outs.Seen client place) = Unit {0}
 IsBeside (outs.End lines messages) = Unit {0}
 
+-- who is faulty and who is rogue from now on, and how the play ended: more are, not too many, and what has ended stays so
+pub record Declares {S : Type 0} (w : World S) (faulty rogue : List ℕ) (ending : Option Ending) : Type 0 where
+  pub more_faulty : (member : ℕ) → is_among w.faulty member ≡ true → is_among faulty member ≡ true
+  pub more_rogue : (client : ℕ) → is_among w.rogue client ≡ true → is_among rogue client ≡ true
+  pub few : too_many w.view w.faulty ≡ false → too_many w.view faulty ≡ false
+  pub over : ending ≡ None → w.ending ≡ None
+
 -- a fact on worlds that each event keeps
 pub record Keeps {S : Type 0} (step : Node S → NodeEvent → Outcome S) (P : World S → Type 0) : Type 0 where
-  -- a host's node takes an event
-  pub event : (w : World S) (i : ℕ) (h : Host S) (event : NodeEvent) → slice_get w.hosts i ≡ Some h → MayCome w h event → P w → P (stepped w i h (step h.node event))
-  -- a client hears the bytes of a message that are read as a reply
-  pub hear : (w : World S) (i : ℕ) (c : Client) (x : Message) (a : SignedBy Answer) → slice_get w.clients i ≡ Some c → HasMessage w.sent x → decoded (spelling x) ≡ Ok (Reply a)
+  -- the node of a host takes an event. It is not gone
+  pub event : (w : World S) (i : ℕ) (h : Host S) (event : NodeEvent) → is_among w.faulty h.node.id ≡ false → slice_get w.hosts i ≡ Some h → MayCome w h event → P w → P (stepped w i h (step h.node event))
+  -- a client hears the bytes of a content that are read as a reply
+  pub hear : (w : World S) (i : ℕ) (c : Client) (x : Content) (a : SignedBy Answer) → slice_get w.clients i ≡ Some c → HasContent w.sent x → decoded (bytes_of x) ≡ Ok (Reply a)
       → P w → P (hearing w i c a (heard w.view c a))
   -- a client asks
   pub ask : (w : World S) (i : ℕ) (c : Client) (op : List ℕ) → slice_get w.clients i ≡ Some c → c.waiting ≡ None → c.last + 1 < 2 ^ 63 → length op ≤ 4096 → P w
-      → P (sends (asked_by w i c op) (origins.Client c.id) targets.View (ask_of c op))
+      → P (posts (asked_by w i c op) (from_client c (ask_of c op)))
   -- a client sends the request that waits once more
-  pub again : (w : World S) (i : ℕ) (c : Client) (q : Request) → slice_get w.clients i ≡ Some c → c.waiting ≡ Some q → P w → P (sends w (origins.Client c.id) targets.View (signed_by c q))
+  pub again : (w : World S) (i : ℕ) (c : Client) (q : Request) → slice_get w.clients i ≡ Some c → c.waiting ≡ Some q → P w → P (posts w (from_client c (signed_by c q)))
   -- a client learns of the greatest place that another knows
   pub learn : (w : World S) (i j : ℕ) (c d : Client) → slice_get w.clients i ≡ Some c → slice_get w.clients j ≡ Some d → P w → P (learned_by w i c d.seen)
+  -- a script injects what is not forged
+  pub inject : (w : World S) (x : Content) → IsRead x → is_forged w.faulty w.rogue w.sent x ≡ false → P w → P (posts w (from_script x))
+  -- a member is faulty or a client is rogue from now on, or the play ends
+  pub declare : (w : World S) (faulty rogue : List ℕ) (ending : Option Ending) → Declares w faulty rogue ending → P w → P (record w { faulty = faulty; rogue = rogue; ending = ending })
   -- nothing but the flow's mark and the transcript changes
   pub same : (w : World S) (mark : ℕ) (told : List OutLine) → P w → P (record w { mark = mark; told = told })
 
 -- a fact on worlds that each event keeps, while nothing has ended the play
 pub record KeepsLive {S : Type 0} (step : Node S → NodeEvent → Outcome S) (P : World S → Type 0) : Type 0 where
-  -- a host's node takes an event
-  pub event : (w : World S) (i : ℕ) (h : Host S) (event : NodeEvent) → w.ending ≡ None → slice_get w.hosts i ≡ Some h → MayCome w h event → P w → P (stepped w i h (step h.node event))
-  -- a client hears the bytes of a message that are read as a reply
-  pub hear : (w : World S) (i : ℕ) (c : Client) (x : Message) (a : SignedBy Answer) → w.ending ≡ None → slice_get w.clients i ≡ Some c → HasMessage w.sent x → decoded (spelling x) ≡ Ok (Reply a)
+  -- the node of a host takes an event. It is not gone
+  pub event : (w : World S) (i : ℕ) (h : Host S) (event : NodeEvent) → w.ending ≡ None → is_among w.faulty h.node.id ≡ false → slice_get w.hosts i ≡ Some h → MayCome w h event → P w
+      → P (stepped w i h (step h.node event))
+  -- a client hears the bytes of a content that are read as a reply
+  pub hear : (w : World S) (i : ℕ) (c : Client) (x : Content) (a : SignedBy Answer) → w.ending ≡ None → slice_get w.clients i ≡ Some c → HasContent w.sent x → decoded (bytes_of x) ≡ Ok (Reply a)
       → P w → P (hearing w i c a (heard w.view c a))
   -- a client asks
   pub ask : (w : World S) (i : ℕ) (c : Client) (op : List ℕ) → w.ending ≡ None → slice_get w.clients i ≡ Some c → c.waiting ≡ None → c.last + 1 < 2 ^ 63 → length op ≤ 4096 → P w
-      → P (sends (asked_by w i c op) (origins.Client c.id) targets.View (ask_of c op))
+      → P (posts (asked_by w i c op) (from_client c (ask_of c op)))
   -- a client sends the request that waits once more
-  pub again : (w : World S) (i : ℕ) (c : Client) (q : Request) → w.ending ≡ None → slice_get w.clients i ≡ Some c → c.waiting ≡ Some q → P w
-      → P (sends w (origins.Client c.id) targets.View (signed_by c q))
+  pub again : (w : World S) (i : ℕ) (c : Client) (q : Request) → w.ending ≡ None → slice_get w.clients i ≡ Some c → c.waiting ≡ Some q → P w → P (posts w (from_client c (signed_by c q)))
   -- a client learns of the greatest place that another knows, and tells what it knows then
   pub learn : (w : World S) (i j : ℕ) (c d : Client) → w.ending ≡ None → slice_get w.clients i ≡ Some c → slice_get w.clients j ≡ Some d → P w
       → P (telling (learned_by w i c d.seen) (learned_line c d.seen))
+  -- a script injects what is not forged
+  pub inject : (w : World S) (x : Content) → w.ending ≡ None → IsRead x → is_forged w.faulty w.rogue w.sent x ≡ false → P w → P (posts w (from_script x))
+  -- a member is faulty or a client is rogue from now on, or the play ends
+  pub declare : (w : World S) (faulty rogue : List ℕ) (ending : Option Ending) → w.ending ≡ None → Declares w faulty rogue ending → P w
+      → P (record w { faulty = faulty; rogue = rogue; ending = ending })
   -- a flow goes on to the message behind the mark
   pub mark : (w : World S) (s : Sent) → w.ending ≡ None → slice_get w.sent w.mark ≡ Some s → P w → P (record w { mark = w.mark + 1 })
   -- a line is told that tells of no place that a client knows, and nothing else changes
@@ -143,36 +189,25 @@ pub record KeepsLive {S : Type 0} (step : Node S → NodeEvent → Outcome S) (P
 pub live : {S : Type 0} (step : Node S → NodeEvent → Outcome S) (P : World S → Type 0) → Keeps step P → KeepsLive step P
 live step P k =
     record {
-      event = λ w i h event on at may p. k.event w i h event at may p;
+      event = λ w i h event on there at may p. k.event w i h event there at may p;
       hear = λ w i c x a on at has read p. k.hear w i c x a at has read p;
       ask = λ w i c op on at free low brief p. k.ask w i c op at free low brief p;
       again = λ w i c q on at is p. k.again w i c q at is p;
       learn = λ w i j c d on at other p. k.same (learned_by w i c d.seen) w.mark (w.told ++ learned_line c d.seen ∷ []) (k.learn w i j c d at other p);
+      inject = λ w x on read fine p. k.inject w x read fine p;
+      declare = λ w faulty rogue ending on how p. k.declare w faulty rogue ending how p;
       mark = λ w s on at p. k.same w (w.mark + 1) w.told p;
       tell = λ w line beside p. k.same w w.mark (w.told ++ line ∷ []) p;
-    }
-
--- two facts that are kept, are kept together
-pub live-both : {S : Type 0} (step : Node S → NodeEvent → Outcome S) (P Q : World S → Type 0) → KeepsLive step P → KeepsLive step Q → KeepsLive step (λ w. P w × Q w)
-live-both step P Q k l =
-    record {
-      event = λ w i h event on at may is. (k.event w i h event on at may is.0, l.event w i h event on at may is.1);
-      hear = λ w i c x a on at has read is. (k.hear w i c x a on at has read is.0, l.hear w i c x a on at has read is.1);
-      ask = λ w i c op on at free low brief is. (k.ask w i c op on at free low brief is.0, l.ask w i c op on at free low brief is.1);
-      again = λ w i c q on at waits is. (k.again w i c q on at waits is.0, l.again w i c q on at waits is.1);
-      learn = λ w i j c d on at other is. (k.learn w i j c d on at other is.0, l.learn w i j c d on at other is.1);
-      mark = λ w s on at is. (k.mark w s on at is.0, l.mark w s on at is.1);
-      tell = λ w line beside is. (k.tell w line beside is.0, l.tell w line beside is.1);
     }
 
 -- messages leave
 
 -- the world with one more message
-abbrev pub numbered : {S : Type 0} → World S → Origin → Target → Message → World S
-numbered w origin to message =
+abbrev pub numbered : {S : Type 0} → World S → Sent → World S
+numbered w s =
     record w {
-      sent = w.sent ++ record { origin = origin; to = to; message = message } ∷ [];
-      told = w.told ++ outs.Sent (length w.sent + 1) origin (summary_of message) ∷ [];
+      sent = w.sent ++ s ∷ [];
+      told = w.told ++ outs.Sent (length w.sent + 1) s.origin (summary s.content) ∷ [];
     }
 
 -- one of two is there where the second is
@@ -180,65 +215,69 @@ ended_or : (ending : Option Ending) (e : Ending) → or_else ending (Some e) ≡
 ended_or None e none = cc
 ended_or (Some f) e none = cc
 
--- a message has left, and clashes with none before; or the play has ended, and nothing else has changed
-pub by-sends-ended : {S : Type 0} (P : World S → Type 0) (w : World S) (origin : Origin) (to : Target) (message : Message) → ((ending : Option Ending) → (ending ≡ None → ⊥) → P (record w { ending = ending }))
-    → (collides w.sent message ≡ false → nat_lt (length w.sent) (2 ^ 24) ≡ true → P (numbered w origin to message)) → P (sends w origin to message)
-unfolding sends
-by-sends-ended P w origin to message over on =
-    either_by P (collides w.sent message) _ _ (λ clashes. over (Some (Premise Collision)) (λ none. ended_or None (Premise Collision) none))
+-- what is sent has left, and clashes with none before; or the play has ended, and nothing else has changed
+pub by-posts-ended : {S : Type 0} (P : World S → Type 0) (w : World S) (s : Sent) → ((ending : Option Ending) → (ending ≡ None → ⊥) → P (record w { ending = ending }))
+    → (collides w.sent s.content ≡ false → nat_lt (length w.sent) (2 ^ 24) ≡ true → P (numbered w s)) → P (posts w s)
+unfolding posts
+by-posts-ended P w s over on =
+    either_by P (collides w.sent s.content) _ _ (λ clashes. over (Some (Premise Collision)) (λ none. ended_or None (Premise Collision) none))
     (λ free. either_by P (nat_lt (length w.sent) (2 ^ 24)) _ _ (λ room. on free room) (λ full. over (or_else w.ending (Some Limit)) (λ none. ended_or w.ending Limit none)))
 
 -- the same where it does not matter that the play has ended
-pub by-sends : {S : Type 0} (P : World S → Type 0) (w : World S) (origin : Origin) (to : Target) (message : Message) → ((ending : Option Ending) → P (record w { ending = ending }))
-    → (collides w.sent message ≡ false → nat_lt (length w.sent) (2 ^ 24) ≡ true → P (numbered w origin to message)) → P (sends w origin to message)
-by-sends P w origin to message over on = by-sends-ended P w origin to message (λ ending ended. over ending) on
+pub by-posts : {S : Type 0} (P : World S → Type 0) (w : World S) (s : Sent) → ((ending : Option Ending) → P (record w { ending = ending }))
+    → (collides w.sent s.content ≡ false → nat_lt (length w.sent) (2 ^ 24) ≡ true → P (numbered w s)) → P (posts w s)
+by-posts P w s over on = by-posts-ended P w s (λ ending ended. over ending) on
+
+-- what is kept where a node lets a message go, is kept where it lets many go
+pub keeps-sends_all : {S : Type 0} (P : World S → Type 0) (id : ℕ) → ((w : World S) (h : Held) → P w → P (posts w (from_node id h))) → (w : World S) (held : List Held) → P w → P (sends_all id w held)
+keeps-sends_all P id keeps w [] p = p
+keeps-sends_all P id keeps w (h ∷ hs) p = keeps-sends_all P id keeps (posts w (from_node id h)) hs (keeps w h p)
 
 -- messages stay
 
-pub has_end : (sent : List Sent) (s : Sent) (x : Message) → HasMessage sent x → HasMessage (sent ++ s ∷ []) x
+pub has_end : (sent : List Sent) (s : Sent) (x : Content) → HasContent sent x → HasContent (sent ++ s ∷ []) x
 has_end [] s x has = absurd has
 has_end (t ∷ sent) s x has = elim has [ inl here ↦ inl here | inr later ↦ inr (has_end sent s x later) ]
 
--- a message that was sent stays so where another leaves
-pub has-sends : {S : Type 0} (w : World S) (origin : Origin) (to : Target) (message x : Message) → HasMessage w.sent x → HasMessage (sends w origin to message).sent x
-has-sends {S = S} w origin to message x has = by-sends (λ (v : World S). HasMessage v.sent x) w origin to message (λ ending. has) (λ free room. has_end w.sent _ x has)
-
--- and where many leave
-pub has-sends_all : {S : Type 0} (id : ℕ) (w : World S) (held : List Held) (x : Message) → HasMessage w.sent x → HasMessage (sends_all id w held).sent x
-has-sends_all id w [] x has = has
-has-sends_all id w (h ∷ hs) x has = has-sends_all id (sends w (origins.Node id) h.to h.message) hs x (has-sends w (origins.Node id) h.to h.message x has)
+-- what was sent stays so where more is
+pub has-posts : {S : Type 0} (x : Content) (w : World S) (s : Sent) → HasContent w.sent x → HasContent (posts w s).sent x
+has-posts {S = S} x w s has = by-posts (λ (v : World S). HasContent v.sent x) w s (λ ending. has) (λ free room. has_end w.sent s x has)
 
 -- and where a node has taken an event
-pub has-stepped : {S : Type 0} (w : World S) (i : ℕ) (h : Host S) (o : Outcome S) (x : Message) → HasMessage w.sent x → HasMessage (stepped w i h o).sent x
+pub has-stepped : {S : Type 0} (w : World S) (i : ℕ) (h : Host S) (o : Outcome S) (x : Content) → HasContent w.sent x → HasContent (stepped w i h o).sent x
 unfolding stepped
-has-stepped w i h o x has = has-sends_all h.node.id _ (leaving o.node.firm o.node.held) x has
+has-stepped {S = S} w i h o x has = keeps-sends_all (λ (v : World S). HasContent v.sent x) h.node.id (λ v held. has-posts x v (from_node h.node.id held)) _ (leaving o.node.firm o.node.held) has
 
 -- and where a client has heard a reply
-pub has-hearing : {S : Type 0} (w : World S) (i : ℕ) (c : Client) (a : SignedBy Answer) (h : Heard) (x : Message) → HasMessage w.sent x → HasMessage (hearing w i c a h).sent x
+pub has-hearing : {S : Type 0} (w : World S) (i : ℕ) (c : Client) (a : SignedBy Answer) (h : Heard) (x : Content) → HasContent w.sent x → HasContent (hearing w i c a h).sent x
 unfolding hearing
 has-hearing w i c a h x has = has
 
--- what is kept, is kept beside a message that was sent
-pub carries : {S : Type 0} (step : Node S → NodeEvent → Outcome S) (P : World S → Type 0) (x : Message) → Keeps step P → Keeps step (λ w. P w × HasMessage w.sent x)
+-- what is kept, is kept beside a content that was sent
+pub carries : {S : Type 0} (step : Node S → NodeEvent → Outcome S) (P : World S → Type 0) (x : Content) → Keeps step P → Keeps step (λ w. P w × HasContent w.sent x)
 carries step P x k =
     record {
-      event = λ w i h event at may p. (k.event w i h event at may p.0, has-stepped w i h (step h.node event) x p.1);
+      event = λ w i h event there at may p. (k.event w i h event there at may p.0, has-stepped w i h (step h.node event) x p.1);
       hear = λ w i c y a at has read p. (k.hear w i c y a at has read p.0, has-hearing w i c a (heard w.view c a) x p.1);
-      ask = λ w i c op at free low brief p. (k.ask w i c op at free low brief p.0, has-sends (asked_by w i c op) (origins.Client c.id) targets.View (ask_of c op) x p.1);
-      again = λ w i c q at waits p. (k.again w i c q at waits p.0, has-sends w (origins.Client c.id) targets.View (signed_by c q) x p.1);
+      ask = λ w i c op at free low brief p. (k.ask w i c op at free low brief p.0, has-posts x (asked_by w i c op) (from_client c (ask_of c op)) p.1);
+      again = λ w i c q at waits p. (k.again w i c q at waits p.0, has-posts x w (from_client c (signed_by c q)) p.1);
       learn = λ w i j c d at other p. (k.learn w i j c d at other p.0, p.1);
+      inject = λ w y read fine p. (k.inject w y read fine p.0, has-posts x w (from_script y) p.1);
+      declare = λ w faulty rogue ending how p. (k.declare w faulty rogue ending how p.0, p.1);
       same = λ w mark told p. (k.same w mark told p.0, p.1);
     }
 
 -- the same while nothing has ended the play
-pub live-carries : {S : Type 0} (step : Node S → NodeEvent → Outcome S) (P : World S → Type 0) (x : Message) → KeepsLive step P → KeepsLive step (λ w. P w × HasMessage w.sent x)
+pub live-carries : {S : Type 0} (step : Node S → NodeEvent → Outcome S) (P : World S → Type 0) (x : Content) → KeepsLive step P → KeepsLive step (λ w. P w × HasContent w.sent x)
 live-carries step P x k =
     record {
-      event = λ w i h event on at may p. (k.event w i h event on at may p.0, has-stepped w i h (step h.node event) x p.1);
+      event = λ w i h event on there at may p. (k.event w i h event on there at may p.0, has-stepped w i h (step h.node event) x p.1);
       hear = λ w i c y a on at has read p. (k.hear w i c y a on at has read p.0, has-hearing w i c a (heard w.view c a) x p.1);
-      ask = λ w i c op on at free low brief p. (k.ask w i c op on at free low brief p.0, has-sends (asked_by w i c op) (origins.Client c.id) targets.View (ask_of c op) x p.1);
-      again = λ w i c q on at waits p. (k.again w i c q on at waits p.0, has-sends w (origins.Client c.id) targets.View (signed_by c q) x p.1);
+      ask = λ w i c op on at free low brief p. (k.ask w i c op on at free low brief p.0, has-posts x (asked_by w i c op) (from_client c (ask_of c op)) p.1);
+      again = λ w i c q on at waits p. (k.again w i c q on at waits p.0, has-posts x w (from_client c (signed_by c q)) p.1);
       learn = λ w i j c d on at other p. (k.learn w i j c d on at other p.0, p.1);
+      inject = λ w y on read fine p. (k.inject w y on read fine p.0, has-posts x w (from_script y) p.1);
+      declare = λ w faulty rogue ending on how p. (k.declare w faulty rogue ending on how p.0, p.1);
       mark = λ w s on at p. (k.mark w s on at p.0, p.1);
       tell = λ w line beside p. (k.tell w line beside p.0, p.1);
     }
@@ -254,7 +293,7 @@ none_is (Some x) none = absurd (cc)
 live-host_takes : {S : Type 0} (step : Node S → NodeEvent → Outcome S) (P : World S → Type 0) → KeepsLive step P → (i : ℕ) (event : NodeEvent) (w : World S) (found : Option (Host S))
     → w.ending ≡ None → slice_get w.hosts i ≡ found → ((h : Host S) → found ≡ Some h → MayCome w h event) → P w → P (host_takes step i event w found)
 live-host_takes step P k i event w None on at may p = p
-live-host_takes step P k i event w (Some h) on at may p = k.event w i h event on at (may h refl) p
+live-host_takes step P k i event w (Some h) on at may p = either_by P (is_gone w h.node.id) w _ (λ gone. p) (λ there. k.event w i h event on there at (may h refl) p)
 
 -- the node at an index takes an event
 live-node_takes : {S : Type 0} (step : Node S → NodeEvent → Outcome S) (P : World S → Type 0) → KeepsLive step P → (i : ℕ) (event : NodeEvent) (w : World S)
@@ -320,35 +359,60 @@ at_index-keeps : {S : Type 0} (P : World S → Type 0) (f : ℕ → World S → 
 at_index-keeps P f keeps w None p = p
 at_index-keeps P f keeps w (Some i) p = keeps i w p
 
-pub at_member-keeps : {S : Type 0} (P : World S → Type 0) (f : ℕ → World S → World S) → ((i : ℕ) (w : World S) → P w → P (f i w)) → (member : ℕ) (w : World S) → P w → P (at_member f member w)
-at_member-keeps P f keeps member w p = at_index-keeps P f keeps w (host_index w.hosts member) p
+-- unless its node is gone
+pub at_member-keeps : {S : Type 0} (P : World S → Type 0) (f : ℕ → World S → World S) → ((i : ℕ) (w : World S) → P w → P (f i w)) → ((w : World S) (line : OutLine) → IsBeside line → P w → P (telling w line))
+    → (member : ℕ) (w : World S) → P w → P (at_member f member w)
+at_member-keeps P f keeps tells member w p = either P (is_gone w member) _ _ (tells w (outs.Absent member) tt p) (at_index-keeps P f keeps w (host_index w.hosts member) p)
+
+-- lines that are told
+
+pub live-telling_all : {S : Type 0} (step : Node S → NodeEvent → Outcome S) (P : World S → Type 0) → KeepsLive step P → (w : World S) (lines : List OutLine) → Each IsBeside lines → P w → P (telling_all w lines)
+live-telling_all step P k w [] beside p = subst (λ (told : List OutLine). P (record w { told = told })) (sym (append-nil w.told)) p
+live-telling_all step P k w (l ∷ ls) beside p =
+    subst (λ (told : List OutLine). P (record w { told = told })) (append_assoc w.told (l ∷ []) ls) (live-telling_all step P k (telling w l) ls beside.1 (k.tell w l beside.0 p))
+
+-- who is absent accepts nothing
+absent-beside : (members : List ℕ) (id : ℕ) → Each IsBeside (told_absent members id)
+absent-beside [] id = tt
+absent-beside (m ∷ ms) id = (tt, tt)
+
+-- a node that is found settles, unless it is gone
+live-settle_present : {S : Type 0} (step : Node S → NodeEvent → Outcome S) (P : World S → Type 0) → KeepsLive step P → (members : List ℕ) (i : ℕ) (w : World S) (found : Option (Host S)) → P w
+    → P (settle_present step members i w found)
+live-settle_present step P k members i w None p = p
+live-settle_present step P k members i w (Some h) p =
+    either P (is_gone w h.node.id) _ (settle step i w) (live-telling_all step P k w (told_absent members h.node.id) (absent-beside members h.node.id) p) (live-settle step P k i w p)
+
+pub live-settles_present : {S : Type 0} (step : Node S → NodeEvent → Outcome S) (P : World S → Type 0) → KeepsLive step P → (members : List ℕ) (i : ℕ) (w : World S) → P w
+    → P (settle_present step members i w (slice_get w.hosts i))
+live-settles_present step P k members i w p = live-settle_present step P k members i w (slice_get w.hosts i) p
 
 -- all listed nodes settle
 pub live-settle_all : {S : Type 0} (step : Node S → NodeEvent → Outcome S) (P : World S → Type 0) → KeepsLive step P → (members : List ℕ) (w : World S) → P w → P (settle_all step members w)
-live-settle_all step P k members w p = each_listed-keeps P members (settle step) (live-settle step P k) w p
+live-settle_all step P k members w p = each_listed-keeps P members (λ i v. settle_present step members i v (slice_get v.hosts i)) (live-settles_present step P k members) w p
 
--- the bytes of a message that was sent are given
+-- the bytes of a content that was sent are given
 
--- a node takes the bytes of a message that was sent, and settles
-live-gives : {S : Type 0} (step : Node S → NodeEvent → Outcome S) (P : World S → Type 0) → KeepsLive step P → (x : Message) (i : ℕ) (w : World S)
-    → P w × HasMessage w.sent x → P (gives step (spelling x) i w) × HasMessage (gives step (spelling x) i w).sent x
+-- a node takes the bytes of a content that was sent, and settles
+live-gives : {S : Type 0} (step : Node S → NodeEvent → Outcome S) (P : World S → Type 0) → KeepsLive step P → (x : Content) (i : ℕ) (w : World S)
+    → P w × HasContent w.sent x → P (gives step (bytes_of x) i w) × HasContent (gives step (bytes_of x) i w).sent x
 unfolding gives
 live-gives {S = S} step P k x i w p =
-    let Q : World S → Type 0 = λ v. P v × HasMessage v.sent x in
+    let Q : World S → Type 0 = λ v. P v × HasContent v.sent x in
     let kq : KeepsLive step Q = live-carries step P x k in
-    live-settle step Q kq i (node_takes step i (Arrive (spelling x)) w)
-    (live-node_takes step Q kq i (Arrive (spelling x)) w (λ h at. record { message = x; spelled = refl; has = p.1 }) p)
+    live-settle step Q kq i (node_takes step i (Arrive (bytes_of x)) w)
+    (live-node_takes step Q kq i (Arrive (bytes_of x)) w (λ h at. record { content = x; spelled = refl; has = p.1 }) p)
 
--- all listed nodes take the bytes of a message that was sent
-live-give_all : {S : Type 0} (step : Node S → NodeEvent → Outcome S) (P : World S → Type 0) → KeepsLive step P → (members : List ℕ) (x : Message) (w : World S) → HasMessage w.sent x → P w → P (give_all step members (spelling x) w)
+-- all listed nodes take the bytes of a content that was sent
+live-give_all : {S : Type 0} (step : Node S → NodeEvent → Outcome S) (P : World S → Type 0) → KeepsLive step P → (members : List ℕ) (x : Content) (w : World S) → HasContent w.sent x → P w → P (give_all step members (bytes_of x) w)
 live-give_all {S = S} step P k members x w has p =
-    (each_listed-keeps (λ (v : World S). P v × HasMessage v.sent x) members (gives step (spelling x)) (live-gives step P k x) w (p, has)).0
+    (each_listed-keeps (λ (v : World S). P v × HasContent v.sent x) members (gives step (bytes_of x)) (live-gives step P k x) w (p, has)).0
 
 -- clients
 
 -- a client hears what its bytes are read as
-live-client_hears : {S : Type 0} (step : Node S → NodeEvent → Outcome S) (P : World S → Type 0) → KeepsLive step P → (i : ℕ) (x : Message) (w : World S) (c : Client) (read : Result Message ℕ)
-    → w.ending ≡ None → slice_get w.clients i ≡ Some c → HasMessage w.sent x → decoded (spelling x) ≡ read → P w → P (client_hears w i c read)
+live-client_hears : {S : Type 0} (step : Node S → NodeEvent → Outcome S) (P : World S → Type 0) → KeepsLive step P → (i : ℕ) (x : Content) (w : World S) (c : Client) (read : Result Message ℕ)
+    → w.ending ≡ None → slice_get w.clients i ≡ Some c → HasContent w.sent x → decoded (bytes_of x) ≡ read → P w → P (client_hears w i c read)
 live-client_hears step P k i x w c (Err at) on here has is p = k.tell w _ tt p
 live-client_hears step P k i x w c (Ok (Ask q)) on here has is p = k.tell w _ tt p
 live-client_hears step P k i x w c (Ok (Propose o)) on here has is p = k.tell w _ tt p
@@ -356,13 +420,13 @@ live-client_hears step P k i x w c (Ok (Vote b)) on here has is p = k.tell w _ t
 live-client_hears step P k i x w c (Ok (Reply a)) on here has is p = k.hear w i c x a on here has is p
 
 -- a client that is found hears bytes
-live-hears_bytes : {S : Type 0} (step : Node S → NodeEvent → Outcome S) (P : World S → Type 0) → KeepsLive step P → (i : ℕ) (x : Message) (w : World S) (found : Option Client)
-    → w.ending ≡ None → slice_get w.clients i ≡ found → HasMessage w.sent x → P w → P (hears_bytes w i (spelling x) found)
+live-hears_bytes : {S : Type 0} (step : Node S → NodeEvent → Outcome S) (P : World S → Type 0) → KeepsLive step P → (i : ℕ) (x : Content) (w : World S) (found : Option Client)
+    → w.ending ≡ None → slice_get w.clients i ≡ found → HasContent w.sent x → P w → P (hears_bytes w i (bytes_of x) found)
 live-hears_bytes step P k i x w None on at has p = p
-live-hears_bytes step P k i x w (Some c) on at has p = live-client_hears step P k i x w c (decoded (spelling x)) on at has refl p
+live-hears_bytes step P k i x w (Some c) on at has p = live-client_hears step P k i x w c (decoded (bytes_of x)) on at has refl p
 
 -- the client at an index hears bytes
-live-client_takes : {S : Type 0} (step : Node S → NodeEvent → Outcome S) (P : World S → Type 0) → KeepsLive step P → (i : ℕ) (x : Message) (w : World S) → HasMessage w.sent x → P w → P (client_takes i (spelling x) w)
+live-client_takes : {S : Type 0} (step : Node S → NodeEvent → Outcome S) (P : World S → Type 0) → KeepsLive step P → (i : ℕ) (x : Content) (w : World S) → HasContent w.sent x → P w → P (client_takes i (bytes_of x) w)
 unfolding client_takes
 live-client_takes step P k i x w has p = either_by P (is_some w.ending) w _ (λ over. p) (λ on. live-hears_bytes step P k i x w (slice_get w.clients i) (none_is w.ending on) refl has p)
 
@@ -380,7 +444,7 @@ live-client_asks step P k w i c op None on at is p =
 live-ask_found : {S : Type 0} (step : Node S → NodeEvent → Outcome S) (P : World S → Type 0) → KeepsLive step P → (w : World S) (i : ℕ) (op : List ℕ) (found : Option Client)
     → w.ending ≡ None → slice_get w.clients i ≡ found → P w → P (ask_found w i op found)
 live-ask_found step P k w i op None on at p = p
-live-ask_found step P k w i op (Some c) on at p = live-client_asks step P k w i c op c.waiting on at refl p
+live-ask_found step P k w i op (Some c) on at p = either P (is_rogue w c.id) _ _ (k.tell w (outs.IdleClient c.id) tt p) (live-client_asks step P k w i c op c.waiting on at refl p)
 
 -- the client at an index asks
 live-asks : {S : Type 0} (step : Node S → NodeEvent → Outcome S) (P : World S → Type 0) → KeepsLive step P → (i : ℕ) (op : List ℕ) (w : World S) → P w → P (asks i op w)
@@ -397,7 +461,7 @@ live-client_repeats step P k w i c (Some q) on at is p = k.again w i c q on at i
 live-repeat_found : {S : Type 0} (step : Node S → NodeEvent → Outcome S) (P : World S → Type 0) → KeepsLive step P → (w : World S) (i : ℕ) (found : Option Client)
     → w.ending ≡ None → slice_get w.clients i ≡ found → P w → P (repeat_found w found)
 live-repeat_found step P k w i None on at p = p
-live-repeat_found step P k w i (Some c) on at p = live-client_repeats step P k w i c c.waiting on at refl p
+live-repeat_found step P k w i (Some c) on at p = either P (is_rogue w c.id) _ _ (k.tell w (outs.IdleClient c.id) tt p) (live-client_repeats step P k w i c c.waiting on at refl p)
 
 -- the client at an index does
 live-repeats : {S : Type 0} (step : Node S → NodeEvent → Outcome S) (P : World S → Type 0) → KeepsLive step P → (i : ℕ) (w : World S) → P w → P (repeats i w)
@@ -414,7 +478,7 @@ live-learns step P k w j d i (Some c) on other at p = k.learn w i j c d on at ot
 live-learns_from : {S : Type 0} (step : Node S → NodeEvent → Outcome S) (P : World S → Type 0) → KeepsLive step P → (w : World S) (j : ℕ) (found : Option Client) (i : ℕ)
     → w.ending ≡ None → slice_get w.clients j ≡ found → P w → P (learns_from w found i)
 live-learns_from step P k w j None i on other p = p
-live-learns_from step P k w j (Some d) i on other p = live-learns step P k w j d i (slice_get w.clients i) on other refl p
+live-learns_from step P k w j (Some d) i on other p = either P (is_rogue w d.id) _ _ (k.tell w (outs.IdleClient d.id) tt p) (live-learns step P k w j d i (slice_get w.clients i) on other refl p)
 
 -- a client is told of the greatest place that another knows
 live-tells : {S : Type 0} (step : Node S → NodeEvent → Outcome S) (P : World S → Type 0) → KeepsLive step P → (from to : ℕ) (w : World S) → P w → P (tells from to w)
@@ -423,57 +487,53 @@ live-tells step P k from to w p = either_by P (is_some w.ending) w _ (λ over. p
 
 -- flow
 
--- the message at an index of those that were sent was sent
-pub has_at : (sent : List Sent) (i : ℕ) (s : Sent) → slice_get sent i ≡ Some s → HasMessage sent s.message
+-- the content at an index of those that were sent was sent
+pub has_at : (sent : List Sent) (i : ℕ) (s : Sent) → slice_get sent i ≡ Some s → HasContent sent s.content
 has_at [] i s at = absurd (cc)
-has_at (t ∷ sent) zero s at = inl (ap (λ (x : Sent). x.message) (some-equal t s at))
+has_at (t ∷ sent) zero s at = inl (ap (λ (x : Sent). x.content) (some-equal t s at))
 has_at (t ∷ sent) (suc i) s at = inr (has_at sent i s at)
 
--- a message goes to whom it is for
-pub live-goes : {S : Type 0} (step : Node S → NodeEvent → Outcome S) (P : World S → Type 0) → KeepsLive step P → (members : List ℕ) (w : World S) (x : Message) (to : Target) → HasMessage w.sent x → P w → P (goes step members w (spelling x) to)
-live-goes step P k members w x targets.View has p = live-give_all step P k members x w has p
-live-goes step P k members w x (targets.Client id) has p = live-client_takes step P k id x w has p
+-- a content goes to whom it is for
+pub live-goes : {S : Type 0} (step : Node S → NodeEvent → Outcome S) (P : World S → Type 0) → KeepsLive step P → (members : List ℕ) (w : World S) (x : Content) (to : Option Target) → HasContent w.sent x → P w
+    → P (goes step members w (bytes_of x) to)
+live-goes step P k members w x None has p = p
+live-goes step P k members w x (Some targets.View) has p = live-give_all step P k members x w has p
+live-goes step P k members w x (Some (targets.Client id)) has p = live-client_takes step P k id x w has p
 
 -- the message behind the mark goes, if there is one
 live-flow_sent : {S : Type 0} (step : Node S → NodeEvent → Outcome S) (P : World S → Type 0) → KeepsLive step P → (members : List ℕ) (w : World S) (found : Option Sent) → w.ending ≡ None → slice_get w.sent w.mark ≡ found → P w
     → P (flow_sent step members w found)
 live-flow_sent step P k members w None on at p = p
 live-flow_sent step P k members w (Some s) on at p =
-    live-goes step P k members (record w { mark = w.mark + 1 }) s.message s.to (has_at w.sent w.mark s at) (k.mark w s on at p)
+    live-goes step P k members (record w { mark = w.mark + 1 }) s.content s.to (has_at w.sent w.mark s at) (k.mark w s on at p)
 
 -- one turn of a flow
 pub live-flow_once : {S : Type 0} (step : Node S → NodeEvent → Outcome S) (P : World S → Type 0) → KeepsLive step P → (members : List ℕ) (w : World S) → P w → P (flow_once step members w)
 unfolding flow_once
 live-flow_once step P k members w p = either_by P (is_some w.ending) w _ (λ over. p) (λ on. live-flow_sent step P k members w (slice_get w.sent w.mark) (none_is w.ending on) refl p)
 
--- lines that are told
-
-pub live-telling_all : {S : Type 0} (step : Node S → NodeEvent → Outcome S) (P : World S → Type 0) → KeepsLive step P → (w : World S) (lines : List OutLine) → Each IsBeside lines → P w → P (telling_all w lines)
-live-telling_all step P k w [] beside p = subst (λ (told : List OutLine). P (record w { told = told })) (sym (append-nil w.told)) p
-live-telling_all step P k w (l ∷ ls) beside p =
-    subst (λ (told : List OutLine). P (record w { told = told })) (append_assoc w.told (l ∷ []) ls) (live-telling_all step P k (telling w l) ls beside.1 (k.tell w l beside.0 p))
-
 -- deliveries one by one
 
--- the bytes of a message that was sent arrive at a member or a client
-live-arrives : {S : Type 0} (step : Node S → NodeEvent → Outcome S) (P : World S → Type 0) → KeepsLive step P → (x : Message) (to : Party) (w : World S) → P w × HasMessage w.sent x
-    → P (arrives step (spelling x) to w) × HasMessage (arrives step (spelling x) to w).sent x
+-- the bytes of a content that was sent arrive at a member or a client
+live-arrives : {S : Type 0} (step : Node S → NodeEvent → Outcome S) (P : World S → Type 0) → KeepsLive step P → (x : Content) (to : Party) (w : World S) → P w × HasContent w.sent x
+    → P (arrives step (bytes_of x) to w) × HasContent (arrives step (bytes_of x) to w).sent x
 live-arrives {S = S} step P k x (parties.Member id) w p =
-    let Q : World S → Type 0 = λ v. P v × HasMessage v.sent x in
-    at_member-keeps Q (λ i v. node_takes step i (Arrive (spelling x)) v)
-    (λ i v q. live-node_takes step Q (live-carries step P x k) i (Arrive (spelling x)) v (λ h at. record { message = x; spelled = refl; has = q.1 }) q) id w p
-live-arrives {S = S} step P k x (parties.Client id) w p = live-client_takes step (λ (v : World S). P v × HasMessage v.sent x) (live-carries step P x k) id x w p.1 p
+    let Q : World S → Type 0 = λ v. P v × HasContent v.sent x in
+    let kq : KeepsLive step Q = live-carries step P x k in
+    at_member-keeps Q (λ i v. node_takes step i (Arrive (bytes_of x)) v)
+    (λ i v q. live-node_takes step Q kq i (Arrive (bytes_of x)) v (λ h at. record { content = x; spelled = refl; has = q.1 }) q) kq.tell id w p
+live-arrives {S = S} step P k x (parties.Client id) w p = live-client_takes step (λ (v : World S). P v × HasContent v.sent x) (live-carries step P x k) id x w p.1 p
 
 -- and at each of some
-live-arrives_at : {S : Type 0} (step : Node S → NodeEvent → Outcome S) (P : World S → Type 0) → KeepsLive step P → (x : Message) (tos : List Party) (w : World S) → P w × HasMessage w.sent x
-    → P (arrives_at step (spelling x) tos w)
+live-arrives_at : {S : Type 0} (step : Node S → NodeEvent → Outcome S) (P : World S → Type 0) → KeepsLive step P → (x : Content) (tos : List Party) (w : World S) → P w × HasContent w.sent x
+    → P (arrives_at step (bytes_of x) tos w)
 live-arrives_at step P k x [] w p = p.0
-live-arrives_at step P k x (to ∷ tos) w p = live-arrives_at step P k x tos (arrives step (spelling x) to w) (live-arrives step P k x to w p)
+live-arrives_at step P k x (to ∷ tos) w p = live-arrives_at step P k x tos (arrives step (bytes_of x) to w) (live-arrives step P k x to w p)
 
 live-sent_arrives : {S : Type 0} (step : Node S → NodeEvent → Outcome S) (P : World S → Type 0) → KeepsLive step P → (i : ℕ) (tos : List Party) (w : World S) (found : Option Sent) → slice_get w.sent i ≡ found → P w
     → P (sent_arrives step tos w found)
 live-sent_arrives step P k i tos w None at p = p
-live-sent_arrives step P k i tos w (Some s) at p = live-arrives_at step P k s.message tos w (p, has_at w.sent i s at)
+live-sent_arrives step P k i tos w (Some s) at p = live-arrives_at step P k s.content tos w (p, has_at w.sent i s at)
 
 -- the message of a number does
 live-give_number : {S : Type 0} (step : Node S → NodeEvent → Outcome S) (P : World S → Type 0) → KeepsLive step P → (number : ℕ) (tos : List Party) (w : World S) → P w → P (give_number step number tos w)
@@ -489,7 +549,9 @@ live-host_delivers : {S : Type 0} (step : Node S → NodeEvent → Outcome S) (P
     → P (host_delivers step i w found)
 live-host_delivers step P k i w None on at p = p
 live-host_delivers step P k i w (Some h) on at p =
-    live-telling_all step P k (stepped w i h (step h.node Deliver)) (told_idle h.node.id (step h.node Deliver).fired) (idle-beside h.node.id (step h.node Deliver).fired) (k.event w i h Deliver on at tt p)
+    either_by P (is_gone w h.node.id) w _ (λ gone. p)
+    (λ there. live-telling_all step P k (stepped w i h (step h.node Deliver)) (told_idle h.node.id (step h.node Deliver).fired) (idle-beside h.node.id (step h.node Deliver).fired)
+    (k.event w i h Deliver on there at tt p))
 
 live-deliver_at : {S : Type 0} (step : Node S → NodeEvent → Outcome S) (P : World S → Type 0) → KeepsLive step P → (i : ℕ) (w : World S) → P w → P (deliver_at step i w)
 unfolding deliver_at
@@ -497,7 +559,7 @@ live-deliver_at step P k i w p = either_by P (is_some w.ending) w _ (λ over. p)
 
 live-deliver_each : {S : Type 0} (step : Node S → NodeEvent → Outcome S) (P : World S → Type 0) → KeepsLive step P → (members : List ℕ) (w : World S) → P w → P (deliver_each step members w)
 live-deliver_each step P k [] w p = p
-live-deliver_each step P k (m ∷ ms) w p = live-deliver_each step P k ms (at_member (deliver_at step) m w) (at_member-keeps P (deliver_at step) (live-deliver_at step P k) m w p)
+live-deliver_each step P k (m ∷ ms) w p = live-deliver_each step P k ms (at_member (deliver_at step) m w) (at_member-keeps P (deliver_at step) (live-deliver_at step P k) k.tell m w p)
 
 -- what a node tells
 
@@ -523,9 +585,10 @@ outcome-beside id o = each_append IsBeside (told_drop id o.dropped) (flat_map (t
 
 -- what is shown
 
-pub hosts-beside : {S : Type 0} (hosts : List (Host S)) → Each IsBeside (map shown_host hosts)
-hosts-beside [] = tt
-hosts-beside (h ∷ hs) = (tt, hosts-beside hs)
+pub hosts-beside : {S : Type 0} (faulty : List ℕ) (hosts : List (Host S)) → Each IsBeside (flat_map (shown_host faulty) hosts)
+hosts-beside faulty [] = tt
+hosts-beside faulty (h ∷ hs) =
+    each_append IsBeside (shown_host faulty h) (flat_map (shown_host faulty) hs) (either (λ (lines : List OutLine). Each IsBeside lines) (is_among faulty h.node.id) [] _ tt (tt, tt)) (hosts-beside faulty hs)
 
 pub clients-beside : (clients : List Client) → Each IsBeside (flat_map shown_client clients)
 clients-beside [] = tt
@@ -534,8 +597,82 @@ clients-beside (c ∷ cs) =
 
 live-shows : {S : Type 0} (step : Node S → NodeEvent → Outcome S) (P : World S → Type 0) → KeepsLive step P → (w : World S) → P w → P (shows w)
 live-shows step P k w p =
-    live-telling_all step P k w (map shown_host w.hosts ++ flat_map shown_client w.clients)
-    (each_append IsBeside (map shown_host w.hosts) (flat_map shown_client w.clients) (hosts-beside w.hosts) (clients-beside w.clients)) p
+    live-telling_all step P k w (flat_map (shown_host w.faulty) w.hosts ++ flat_map shown_client w.clients)
+    (each_append IsBeside (flat_map (shown_host w.faulty) w.hosts) (flat_map shown_client w.clients) (hosts-beside w.faulty w.hosts) (clients-beside w.clients)) p
+
+-- who breaks the rules
+
+-- who is among some is among more
+among-end : (ids : List ℕ) (more id : ℕ) → is_among ids id ≡ true → is_among (ids ++ more ∷ []) id ≡ true
+among-end [] more id is = absurd (cc)
+among-end (x ∷ ids) more id is = or_more (x == id) (is_among ids id) (is_among (ids ++ more ∷ []) id) (among-end ids more id) is
+  where
+    or_more : (t a b : Bool) → (a ≡ true → b ≡ true) → (t || a) ≡ true → (t || b) ≡ true
+    or_more true a b more is = refl
+    or_more false a b more is = more is
+
+-- the play ends
+ends : {S : Type 0} (w : World S) (ending : Ending) → Declares w w.faulty w.rogue (Some ending)
+ends w ending = record { more_faulty = λ member is. is; more_rogue = λ client is. is; few = λ is. is; over = λ none. absurd (some_none none) }
+  where
+    some_none : Some ending ≡ None → ⊥
+    some_none same = cc
+
+-- a member is declared faulty, or too many are
+live-declares_faulty : {S : Type 0} (step : Node S → NodeEvent → Outcome S) (P : World S → Type 0) → KeepsLive step P → (member : ℕ) (w : World S) → P w → P (declares_faulty member w)
+unfolding declares_faulty
+live-declares_faulty step P k member w p =
+    let faulty : List ℕ = w.faulty ++ member ∷ [] in
+    either_by P (is_some w.ending) w _ (λ over. p)
+    (λ on. either P (is_gone w member) w _ p
+    (either_by P (too_many w.view faulty) _ _
+    (λ many. k.declare w w.faulty w.rogue (Some (Premise TooManyFaulty)) (none_is w.ending on) (ends w (Premise TooManyFaulty)) p)
+    (λ few. k.declare w faulty w.rogue w.ending (none_is w.ending on)
+    (record { more_faulty = among-end w.faulty member; more_rogue = λ client is. is; few = λ before. few; over = λ is. is }) p)))
+
+-- a client is declared rogue
+live-declares_rogue : {S : Type 0} (step : Node S → NodeEvent → Outcome S) (P : World S → Type 0) → KeepsLive step P → (client : ℕ) (w : World S) → P w → P (declares_rogue client w)
+unfolding declares_rogue
+live-declares_rogue step P k client w p =
+    either_by P (is_some w.ending) w _ (λ over. p)
+    (λ on. either P (is_rogue w client) w _ p
+    (k.declare w w.faulty (w.rogue ++ client ∷ []) w.ending (none_is w.ending on)
+    (record { more_faulty = λ member is. is; more_rogue = among-end w.rogue client; few = λ is. is; over = λ is. is }) p))
+
+-- what is injected is read
+
+are-bytes : (bytes : List ℕ) → are_bytes bytes ≡ true → (i : ℕ) → get_or bytes i 0 < 256
+are-bytes [] are i = omega arith
+are-bytes (b ∷ bs) are zero = ltb-true b 256 (and_true (nat_lt b 256) (are_bytes bs) are).0
+are-bytes (b ∷ bs) are (suc i) = are-bytes bs (and_true (nat_lt b 256) (are_bytes bs) are).1 i
+
+read-content : (bytes : List ℕ) (read : Result Message ℕ) → IsBytes bytes → decoded bytes ≡ read → IsRead (content_by bytes read)
+read-content bytes (Ok message) are is = (decoded_is bytes message are is).0
+read-content bytes (Err at) are is = record { at = at; unread = is }
+
+read-from : (bytes : List ℕ) (t : Bool) (x : Content) → are_bytes bytes ≡ t → cond t (Some (content_of bytes)) None ≡ Some x → IsRead x
+unfolding content_of
+read-from bytes true x are is = subst IsRead (some-equal (content_of bytes) x is) (read-content bytes (decoded bytes) (record { below = are-bytes bytes are }) refl)
+read-from bytes false x are is = absurd (cc)
+
+read-found : (found : Option (List ℕ)) (x : Content) → option_and_then content_from found ≡ Some x → IsRead x
+read-found None x is = absurd (cc)
+read-found (Some bytes) x is = read-from bytes (are_bytes bytes) x refl is
+
+pub injected-read : (sent : List Sent) (form : Injection) (x : Content) → injected sent form ≡ Some x → IsRead x
+injected-read sent form x is = read-found (injected_bytes sent form) x is
+
+-- a content that is made is injected, unless it is forged
+live-injects_content : {S : Type 0} (step : Node S → NodeEvent → Outcome S) (P : World S → Type 0) → KeepsLive step P → (w : World S) (found : Option Content) → w.ending ≡ None
+    → ((x : Content) → found ≡ Some x → IsRead x) → P w → P (injects_content w found)
+live-injects_content step P k w None on read p = p
+live-injects_content step P k w (Some x) on read p =
+    either_by P (is_forged w.faulty w.rogue w.sent x) _ _ (λ forged. k.declare w w.faulty w.rogue (Some (Premise Forged)) on (ends w (Premise Forged)) p) (λ fine. k.inject w x on (read x refl) fine p)
+
+live-injects : {S : Type 0} (step : Node S → NodeEvent → Outcome S) (P : World S → Type 0) → KeepsLive step P → (form : Injection) (w : World S) → P w → P (injects form w)
+unfolding injects
+live-injects step P k form w p =
+    either_by P (is_some w.ending) w _ (λ over. p) (λ on. live-injects_content step P k w (injected w.sent form) (none_is w.ending on) (injected-read w.sent form) p)
 
 -- lines
 
@@ -549,9 +686,12 @@ live-line_played step P k w (lines.Tell from to) p = live-tells step P k from to
 live-line_played step P k w (lines.Flow members) p = until_rest_keeps P (flow_once step members) (live-flow_once step P k members) (settle_all step members w) (live-settle_all step P k members w p)
 live-line_played step P k w (lines.Give number to) p = live-give_number step P k number to w p
 live-line_played step P k w (lines.Deliver members) p = live-deliver_each step P k members w p
-live-line_played step P k w (lines.Settle member) p = at_member-keeps P (settle step) (live-settle step P k) member w p
+live-line_played step P k w (lines.Settle member) p = at_member-keeps P (settle step) (live-settle step P k) k.tell member w p
 live-line_played step P k w lines.SettleAll p = live-settle_all step P k [] w p
 live-line_played step P k w lines.Show p = live-shows step P k w p
+live-line_played step P k w (lines.Faulty member) p = live-declares_faulty step P k member w p
+live-line_played step P k w (lines.Rogue client) p = live-declares_rogue step P k client w p
+live-line_played step P k w (lines.Inject form) p = live-injects step P k form w p
 
 -- all lines of a script
 pub live-world_after : {S : Type 0} (step : Node S → NodeEvent → Outcome S) (P : World S → Type 0) → KeepsLive step P → ((w : World S) → P w → P (rested w)) → (w : World S) (ls : List Line) → P w → P (world_after step w ls)
@@ -561,76 +701,51 @@ live-world_after step P k rests w (l ∷ ls) p =
 
 -- the same of what is kept whatever was said of the ending
 
--- a line of a script
-pub keeps-line_played : {S : Type 0} (step : Node S → NodeEvent → Outcome S) (P : World S → Type 0) → Keeps step P → (w : World S) (line : Line) → P w → P (line_played step w line)
-keeps-line_played step P k w line p = live-line_played step P (live step P k) w line p
-
 -- all lines of a script
 pub keeps-world_after : {S : Type 0} (step : Node S → NodeEvent → Outcome S) (P : World S → Type 0) → Keeps step P → (w : World S) (ls : List Line) → P w → P (world_after step w ls)
 keeps-world_after step P k w ls p = live-world_after step P (live step P k) (λ v p. k.same v v.mark [] p) w ls p
 
--- what holds where each message that was sent is read as itself
+-- what holds where all that was sent is read
 
--- each message that was sent is read from its bytes as itself
+-- each content that was sent is read
 abbrev pub ReadsSent : {S : Type 0} → World S → Type 0
-ReadsSent w = (x : Message) → HasMessage w.sent x → decoded (spelling x) ≡ Ok x
+ReadsSent w = (x : Content) → HasContent w.sent x → IsRead x
 
 -- each request that waits is its client's own
 abbrev pub OwnWaits : {S : Type 0} → World S → Type 0
 OwnWaits w = (i : ℕ) (c : Client) (q : Request) → slice_get w.clients i ≡ Some c → c.waiting ≡ Some q → q.client ≡ c.id
 
--- bytes are read as a message that was sent, whose bytes they are
-pub record Comes (sent : List Sent) (bytes : List ℕ) : Type 0 where
-  pub message : Message
-  pub has : HasMessage sent message
-  pub spelled : bytes ≡ spelling message
-  pub read : decoded bytes ≡ Ok message
+-- what bytes are read as was sent
+abbrev pub Comes : List Sent → List ℕ → Type 0
+Comes sent bytes = (x : Message) → decoded bytes ≡ Ok x → HasMessage sent x
 
--- what may come to a node: bytes that are read as a message that was sent, and firmness of all its entries
+-- what may come to a node: bytes that are read as a message that was sent, or as none, and firmness of all its entries
 abbrev pub MayRead : {S : Type 0} → World S → Host S → NodeEvent → Type 0
 MayRead w h (Arrive bytes) = Comes w.sent bytes
 MayRead w h Tick = Unit {0}
 MayRead w h Deliver = Unit {0}
 MayRead w h (Firm count) = count ≡ length h.node.entries
 
--- a fact on worlds that each event keeps where what was sent is read
-pub record KeepsRead {S : Type 0} (step : Node S → NodeEvent → Outcome S) (P : World S → Type 0) : Type 0 where
-  -- a host's node takes an event
-  pub event : (w : World S) (i : ℕ) (h : Host S) (event : NodeEvent) → slice_get w.hosts i ≡ Some h → MayRead w h event → P w → P (stepped w i h (step h.node event))
-  -- a client hears a reply
-  pub hear : (w : World S) (i : ℕ) (c : Client) (a : SignedBy Answer) → slice_get w.clients i ≡ Some c → HasMessage w.sent (Reply a) → P w → P (hearing w i c a (heard w.view c a))
-  -- a client asks
-  pub ask : (w : World S) (i : ℕ) (c : Client) (op : List ℕ) → slice_get w.clients i ≡ Some c → c.waiting ≡ None → P w
-      → P (sends (asked_by w i c op) (origins.Client c.id) targets.View (ask_of c op))
-  -- a client sends the request that waits once more, which is its own
-  pub again : (w : World S) (i : ℕ) (c : Client) (q : Request) → slice_get w.clients i ≡ Some c → c.waiting ≡ Some q → q.client ≡ c.id → P w
-      → P (sends w (origins.Client c.id) targets.View (signed_by c q))
-  -- a client learns of a place
-  pub learn : (w : World S) (i : ℕ) (c : Client) (place : ℕ) → slice_get w.clients i ≡ Some c → P w → P (learned_by w i c place)
-  -- nothing but the flow's mark and the transcript changes
-  pub same : (w : World S) (mark : ℕ) (told : List OutLine) → P w → P (record w { mark = mark; told = told })
+-- what holds of each message that was sent, holds of what bytes that come are read as
+pub comes-as : (sent : List Sent) (bytes : List ℕ) (R : Result Message ℕ → Type 0) → ((x : Message) → HasMessage sent x → R (Ok x)) → ((at : ℕ) → R (Err at)) → Comes sent bytes → R (decoded bytes)
+comes-as sent bytes R ok err comes = by (decoded bytes) comes
+  where
+    by : (read : Result Message ℕ) → ((x : Message) → read ≡ Ok x → HasMessage sent x) → R read
+    by (Ok x) has = ok x (has x refl)
+    by (Err at) has = err at
+
+-- what the bytes of a content are read as is that content
+pub read_is : (x : Content) (y : Message) → IsRead x → decoded (bytes_of x) ≡ Ok y → x ≡ contents.Message y
+read_is (contents.Message x) y fits read = let own : decoded (spelling x) ≡ Ok x = spelling_is x fits in let same : x ≡ y = cc in ap (λ (z : Message). contents.Message z) same
+read_is (contents.Raw bytes) y is read = let none : decoded bytes ≡ Err is.at = is.unread in absurd (cc)
+
+-- so it was sent where the content was
+pub read_has : {S : Type 0} (w : World S) (x : Content) (y : Message) → ReadsSent w → HasContent w.sent x → decoded (bytes_of x) ≡ Ok y → HasMessage w.sent y
+read_has w x y reads has read = subst (λ (z : Content). HasContent w.sent z) (read_is x y (reads x has) read) has
 
 -- what may come is read where what was sent is
 pub may_read : {S : Type 0} (w : World S) (h : Host S) (event : NodeEvent) → ReadsSent w → MayCome w h event → MayRead w h event
-may_read w h (Arrive bytes) reads may =
-    record { message = may.message; has = may.has; spelled = may.spelled; read = ap (λ b. decoded b) may.spelled ∙ reads may.message may.has }
+may_read w h (Arrive bytes) reads may = λ x read. read_has w may.content x reads may.has (sym (ap (λ b. decoded b) may.spelled) ∙ read)
 may_read w h Tick reads may = tt
 may_read w h Deliver reads may = tt
 may_read w h (Firm count) reads may = may
-
--- and a reply is the message that was sent
-pub reply_has : (sent : List Sent) (x y : Message) → decoded (spelling x) ≡ Ok x → decoded (spelling x) ≡ Ok y → HasMessage sent x → HasMessage sent y
-reply_has sent x y own other has = let same : x ≡ y = cc in subst (λ (z : Message). HasMessage sent z) same has
-
--- beside a fact by which what was sent is read and what waits is its client's own, and which is kept, all is kept that is kept where that is so
-pub keeps-reading : {S : Type 0} (step : Node S → NodeEvent → Outcome S) (R P : World S → Type 0) → Keeps step R → ((w : World S) → R w → ReadsSent w) → ((w : World S) → R w → OwnWaits w) → KeepsRead step P
-    → Keeps step (λ w. R w × P w)
-keeps-reading step R P r reads owns k =
-    record {
-      event = λ w i h event at may is. (r.event w i h event at may is.0, k.event w i h event at (may_read w h event (reads w is.0) may) is.1);
-      hear = λ w i c x a at has read is. (r.hear w i c x a at has read is.0, k.hear w i c a at (reply_has w.sent x (Reply a) (reads w is.0 x has) read has) is.1);
-      ask = λ w i c op at free few brief is. (r.ask w i c op at free few brief is.0, k.ask w i c op at free is.1);
-      again = λ w i c q at waits is. (r.again w i c q at waits is.0, k.again w i c q at waits (owns w is.0 i c q at waits) is.1);
-      learn = λ w i j c d at other is. (r.learn w i j c d at other is.0, k.learn w i c d.seen at is.1);
-      same = λ w mark told is. (r.same w mark told is.0, k.same w mark told is.1);
-    }

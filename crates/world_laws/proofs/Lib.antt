@@ -7,15 +7,12 @@ pub mod OnePlace
 pub mod Executions
 pub mod Replies
 pub mod Equal
-pub mod Quorums
 pub mod Once
 pub mod InOrder
 pub mod Certified
-pub mod Said
 pub mod Sound
 pub mod Follows
 pub mod Counted
-pub mod Says
 pub mod Fronts
 pub mod Chosen
 pub mod ChosenKept
@@ -48,3 +45,7 @@ pub mod FitNodes
 pub mod Fitting
 pub mod NoClash
 pub mod Grounded
+pub mod Booked
+pub mod Stating
+pub mod Unforged
+pub mod Witnessing

@@ -8,22 +8,23 @@ use Rattle.smart_messages.specs.Kinds.{requests}
 use Rattle.smart_messages.specs.Messages.{Batch, batch_text, FitsBatch}
 use Rattle.smart_messages.specs.Reading.{batch_at}
 use Rattle.smart_messages.proofs.Messages.{batch_law}
-use Rattle.smart_messages.specs.declared.message.Message.{Message}
 use Rattle.smart_messages.specs.declared.message.Message.TheVariants.{Ask, Propose, Vote, Reply}
 use Rattle.node_rules.specs.Seals.{digest_of}
-use Rattle.world_rules.specs.Premises.{batches_in, met, clash, collides}
+use Rattle.world_rules.specs.Premises.{met, clash, collides, batches}
 use Rattle.world_rules.specs.declared.message.Sent.{Sent}
 use Rattle.world_laws.proofs.Lists.{or_false}
 use Rattle.world_laws.proofs.Equal.{same_bytes-equal, bytes-itself}
 use Rattle.world_laws.proofs.Certified.{Exact}
-use Rattle.world_laws.proofs.Genuine.{IsGood}
+use Rattle.world_rules.specs.declared.message.Content.{Content}
+use Rattle.world_rules.specs.declared.message.Content.TheVariants as contents
+use Rattle.world_laws.proofs.Keeps.{IsRead}
 
 -- a batch is among batches
 abbrev pub HasBatch : List Batch → Batch → Type 0
 HasBatch [] batch = ⊥
 HasBatch (b ∷ bs) batch = (b ≡ batch) ⊎ HasBatch bs batch
 
--- a batch was in a message that was sent
+-- a batch was in a content that was sent
 abbrev pub IsMet : List Sent → Batch → Type 0
 IsMet sent batch = HasBatch (met sent) batch
 
@@ -44,12 +45,12 @@ has-either (x ∷ xs) ys b has =
 
 -- one more message
 
-met-end : (sent : List Sent) (s : Sent) → met (sent ++ s ∷ []) ≡ met sent ++ batches_in s.message
-met-end sent s = flat_map-append (λ (t : Sent). batches_in t.message) sent (s ∷ []) ∙ ap (λ bs. met sent ++ bs) (append-nil (batches_in s.message))
+met-end : (sent : List Sent) (s : Sent) → met (sent ++ s ∷ []) ≡ met sent ++ batches s.content
+met-end sent s = flat_map-append (λ (t : Sent). batches t.content) sent (s ∷ []) ∙ ap (λ bs. met sent ++ bs) (append-nil (batches s.content))
 
 -- what was met stays met
 pub met-grows : (sent : List Sent) (s : Sent) (batch : Batch) → IsMet sent batch → IsMet (sent ++ s ∷ []) batch
-met-grows sent s batch is = rw (met-end sent s) (has-left (met sent) (batches_in s.message) batch is)
+met-grows sent s batch is = rw (met-end sent s) (has-left (met sent) (batches s.content) batch is)
 
 -- digests
 
@@ -75,34 +76,35 @@ none_passes p (x ∷ xs) b none has =
     let parts = or_false (p x) (list_any p xs) none in
     elim has [ inl here ↦ subst (λ (y : Batch). p y ≡ false) here parts.0 | inr later ↦ none_passes p xs b parts.1 later ]
 
--- a message has one batch at most
-one_batch : (message : Message) (a b : Batch) → HasBatch (batches_in message) a → HasBatch (batches_in message) b → a ≡ b
-one_batch (Ask q) a b ha hb = absurd ha
-one_batch (Propose p) a b ha hb = elim ha [ inl here ↦ elim hb [ inl there ↦ sym here ∙ there | inr none ↦ absurd none ] | inr none ↦ absurd none ]
-one_batch (Vote v) a b ha hb = absurd ha
-one_batch (Reply r) a b ha hb = absurd ha
+-- a content has one batch at most
+one_batch : (x : Content) (a b : Batch) → HasBatch (batches x) a → HasBatch (batches x) b → a ≡ b
+one_batch (contents.Message (Ask q)) a b ha hb = absurd ha
+one_batch (contents.Message (Propose p)) a b ha hb = elim ha [ inl here ↦ elim hb [ inl there ↦ sym here ∙ there | inr none ↦ absurd none ] | inr none ↦ absurd none ]
+one_batch (contents.Message (Vote v)) a b ha hb = absurd ha
+one_batch (contents.Message (Reply r)) a b ha hb = absurd ha
+one_batch (contents.Raw bytes) a b ha hb = absurd ha
 
--- a batch of a message that does not collide, and one met before
-old_new : (sent : List Sent) (message : Message) (a b : Batch) → collides sent message ≡ false → IsMet sent a → HasBatch (batches_in message) b → digest_of b ≡ digest_of a → batch_text b ≡ batch_text a
+-- a batch of a content that does not collide, and one met before
+old_new : (sent : List Sent) (x : Content) (a b : Batch) → collides sent x ≡ false → IsMet sent a → HasBatch (batches x) b → digest_of b ≡ digest_of a → batch_text b ≡ batch_text a
 unfolding collides
-old_new sent message a b free old new same =
-    no_clash b a (none_passes (clash b) (met sent) a (none_passes (λ batch. list_any (clash batch) (met sent)) (batches_in message) b free new) old) same
+old_new sent x a b free old new same =
+    no_clash b a (none_passes (clash b) (met sent) a (none_passes (λ batch. list_any (clash batch) (met sent)) (batches x) b free new) old) same
 
--- so texts stay exact where a message leaves that does not collide
-pub texts-end : (sent : List Sent) (s : Sent) → collides sent s.message ≡ false → TextsExact sent → TextsExact (sent ++ s ∷ [])
+-- so texts stay exact where something is sent that does not collide
+pub texts-end : (sent : List Sent) (s : Sent) → collides sent s.content ≡ false → TextsExact sent → TextsExact (sent ++ s ∷ [])
 texts-end sent s free exact =
     record {
       same = λ a b ma mb same.
-          let ha : HasBatch (met sent ++ batches_in s.message) a = subst (λ (bs : List Batch). HasBatch bs a) (met-end sent s) ma in
-          let hb : HasBatch (met sent ++ batches_in s.message) b = subst (λ (bs : List Batch). HasBatch bs b) (met-end sent s) mb in
-          elim (has-either (met sent) (batches_in s.message) a ha) [
-            | inl olda ↦ elim (has-either (met sent) (batches_in s.message) b hb) [
+          let ha : HasBatch (met sent ++ batches s.content) a = subst (λ (bs : List Batch). HasBatch bs a) (met-end sent s) ma in
+          let hb : HasBatch (met sent ++ batches s.content) b = subst (λ (bs : List Batch). HasBatch bs b) (met-end sent s) mb in
+          elim (has-either (met sent) (batches s.content) a ha) [
+            | inl olda ↦ elim (has-either (met sent) (batches s.content) b hb) [
               | inl oldb ↦ exact.same a b olda oldb same
-              | inr newb ↦ sym (old_new sent s.message a b free olda newb (sym same))
+              | inr newb ↦ sym (old_new sent s.content a b free olda newb (sym same))
             ]
-            | inr newa ↦ elim (has-either (met sent) (batches_in s.message) b hb) [
-              | inl oldb ↦ old_new sent s.message b a free oldb newa same
-              | inr newb ↦ ap batch_text (one_batch s.message a b newa newb)
+            | inr newa ↦ elim (has-either (met sent) (batches s.content) b hb) [
+              | inl oldb ↦ old_new sent s.content b a free oldb newa same
+              | inr newb ↦ ap batch_text (one_batch s.content a b newa newb)
             ]
           ];
     }
@@ -120,19 +122,20 @@ text-batch a b fa fb same =
     let pairs : (a, d) ≡ (b, d) = cc in
     ap (λ (x : Batch × Cut). x.0) pairs
 
--- what was met in messages that have a spelling has one
-met-fits : (sent : List Sent) (batch : Batch) → Each (λ s. IsGood s.message) sent → IsMet sent batch → FitsBatch batch
+-- what was met in contents that are read has a spelling
+met-fits : (sent : List Sent) (batch : Batch) → Each (λ s. IsRead s.content) sent → IsMet sent batch → FitsBatch batch
 met-fits [] batch each is = absurd is
 met-fits (s ∷ sent) batch each is =
-    elim (has-either (batches_in s.message) (met sent) batch is) [ inl here ↦ in_fits s.message each.0 here | inr later ↦ met-fits sent batch each.1 later ]
+    elim (has-either (batches s.content) (met sent) batch is) [ inl here ↦ in_fits s.content each.0 here | inr later ↦ met-fits sent batch each.1 later ]
   where
-    in_fits : (x : Message) → IsGood x → HasBatch (batches_in x) batch → FitsBatch batch
-    in_fits (Ask q) good has = absurd has
-    in_fits (Propose p) good has = elim has [ inl here ↦ subst (λ (b : Batch). FitsBatch b) here good.fits.content_fits.1 | inr none ↦ absurd none ]
-    in_fits (Vote v) good has = absurd has
-    in_fits (Reply r) good has = absurd has
+    in_fits : (x : Content) → IsRead x → HasBatch (batches x) batch → FitsBatch batch
+    in_fits (contents.Message (Ask q)) fits has = absurd has
+    in_fits (contents.Message (Propose p)) fits has = elim has [ inl here ↦ subst (λ (b : Batch). FitsBatch b) here fits.content_fits.1 | inr none ↦ absurd none ]
+    in_fits (contents.Message (Vote v)) fits has = absurd has
+    in_fits (contents.Message (Reply r)) fits has = absurd has
+    in_fits (contents.Raw bytes) unread has = absurd has
 
 -- so batches that were met are one where their digests are
-pub met-exact : (sent : List Sent) → Each (λ s. IsGood s.message) sent → TextsExact sent → Exact (IsMet sent)
+pub met-exact : (sent : List Sent) → Each (λ s. IsRead s.content) sent → TextsExact sent → Exact (IsMet sent)
 met-exact sent each exact =
     record { one = λ a b ma mb same. text-batch a b (met-fits sent a each ma) (met-fits sent b each mb) (exact.same a b ma mb same) }

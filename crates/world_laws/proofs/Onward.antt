@@ -32,7 +32,8 @@ use Rattle.node_rules.specs.declared.node.Held.{Held}
 use Rattle.node_rules.specs.declared.node.Target.{Target}
 use Rattle.node_rules.specs.declared.node.Target.TheVariants as targets
 use Rattle.world_rules.specs.declared.message.Origin.TheVariants as origins
-use Rattle.world_laws.specs.Sending.{IsOwn, votes_for, decides_for, rests_on}
+use Rattle.agreement_laws.specs.Books.{votes_for, decides_for}
+use Rattle.world_laws.specs.Sending.{IsOwn, rests_on}
 use Rattle.world_laws.proofs.Lists.{either, each_end, each_weaker}
 use Rattle.world_laws.proofs.Equal.{and_intro, slot-itself, bytes-itself}
 use Rattle.world_laws.proofs.Executions.{OfRequest, of_delivered}

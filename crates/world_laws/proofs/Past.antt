@@ -6,14 +6,10 @@ use Rattle.smart_base.specs.Views.{View}
 use Rattle.smart_messages.specs.Forms.{SignedBy}
 use Rattle.smart_messages.specs.declared.statement.Request.{Request}
 use Rattle.smart_messages.specs.declared.statement.Answer.{Answer}
-use Rattle.smart_messages.specs.declared.message.Message.{Message}
 use Rattle.smart_messages.specs.declared.entry.NodeEvent.{NodeEvent}
 use Rattle.smart_service.specs.Services.{Meaning}
 use Rattle.node_rules.specs.Nodes.{Node}
 use Rattle.node_rules.specs.Steps.{Outcome, step_of, leaving}
-use Rattle.node_rules.specs.declared.node.Held.{Held}
-use Rattle.node_rules.specs.declared.node.Target.{Target}
-use Rattle.node_rules.specs.declared.node.Target.TheVariants as targets
 use Rattle.client_quorum.specs.Clients.{request_of, asking, learning, after_heard}
 use Rattle.client_quorum.specs.declared.client.Client.{Client}
 use Rattle.client_quorum.specs.declared.client.Acceptance.{Acceptance}
@@ -22,17 +18,15 @@ use Rattle.client_quorum.specs.declared.client.Heard.TheVariants as hears
 use Rattle.world_rules.specs.Clients.{heard}
 use Rattle.world_rules.specs.Knowing.{known_by}
 use Rattle.world_rules.specs.Promises.{HasAsked, IsPast, world_at}
-use Rattle.world_rules.specs.Worlds.{Host, World, sends, sends_all, stepped, acceptance_in, hearing, begun}
+use Rattle.world_rules.specs.Worlds.{Host, World, posts, stepped, acceptance_in, hearing, begun}
 use Rattle.world_rules.specs.Plays.{rested, world_after, lines_told}
 use Rattle.world_rules.specs.declared.line.Line.{Line}
 use Rattle.world_rules.specs.declared.line.OutLine.{OutLine}
 use Rattle.world_rules.specs.declared.message.Ending.{Ending}
-use Rattle.world_rules.specs.declared.message.Origin.{Origin}
-use Rattle.world_rules.specs.declared.message.Origin.TheVariants as origins
 use Rattle.world_rules.specs.declared.message.Sent.{Sent}
 use Rattle.world_laws.proofs.Lists.{some-equal, each_end, each_weaker}
 use Rattle.world_laws.proofs.Numbered.{EachAt, each_at_get, each_at_weaker, each_at_set, each_at_both}
-use Rattle.world_laws.proofs.Keeps.{ask_of, asked_by, by-sends-ended, Keeps, KeepsLive, keeps-world_after, live-world_after, signed_by}
+use Rattle.world_laws.proofs.Keeps.{ask_of, asked_by, by-posts-ended, Keeps, KeepsLive, keeps-world_after, live-world_after, signed_by, from_node, from_client, from_script, keeps-sends_all}
 use Rattle.world_laws.proofs.Hearing.{Accepts, accepts_waiting}
 use Rattle.world_laws.proofs.Asked.{asked_grows}
 use Rattle.world_laws.proofs.Asking.{ClientRight, ClientsRight, keeps-right, rested-right, right-after}
@@ -41,15 +35,11 @@ use Rattle.world_laws.proofs.Seen.{id_at, seen-told}
 
 -- what was sent stays
 
--- a node's messages leave
-asked-all : {S : Type 0} (id : ℕ) (w : World S) (held : List Held) (q : Request) → HasAsked w.sent q → HasAsked (sends_all id w held).sent q
-asked-all id w [] q asked = asked
-asked-all id w (h ∷ hs) q asked = asked-all id (sends w (origins.Node id) h.to h.message) hs q (asked_grows w (origins.Node id) h.to h.message q asked)
-
 -- a node takes an event
 asked-stepped : {S : Type 0} (w : World S) (i : ℕ) (h : Host S) (o : Outcome S) (q : Request) → HasAsked w.sent q → HasAsked (stepped w i h o).sent q
 unfolding stepped
-asked-stepped w i h o q asked = asked-all h.node.id _ (leaving o.node.firm o.node.held) q asked
+asked-stepped {S = S} w i h o q asked =
+    keeps-sends_all (λ (v : World S). HasAsked v.sent q) h.node.id (λ v held asked. asked_grows v (from_node h.node.id held) q asked) _ (leaving o.node.firm o.node.held) asked
 
 -- a client hears
 asked-hearing : {S : Type 0} (w : World S) (i : ℕ) (c : Client) (a : SignedBy Answer) (h : Heard) (q : Request) → HasAsked w.sent q → HasAsked (hearing w i c a h).sent q
@@ -60,11 +50,13 @@ asked-hearing w i c a h q asked = asked
 keeps-sent : {S : Type 0} (step : Node S → NodeEvent → Outcome S) (q : Request) → Keeps step (λ w. HasAsked w.sent q)
 keeps-sent step q =
     record {
-      event = λ w i h event at may asked. asked-stepped w i h (step h.node event) q asked;
+      event = λ w i h event there at may asked. asked-stepped w i h (step h.node event) q asked;
       hear = λ w i c x a at has read asked. asked-hearing w i c a (heard w.view c a) q asked;
-      ask = λ w i c op at free few brief asked. asked_grows (asked_by w i c op) (origins.Client c.id) targets.View (ask_of c op) q asked;
-      again = λ w i c r at waits asked. asked_grows w (origins.Client c.id) targets.View (signed_by c r) q asked;
+      ask = λ w i c op at free few brief asked. asked_grows (asked_by w i c op) (from_client c (ask_of c op)) q asked;
+      again = λ w i c r at waits asked. asked_grows w (from_client c (signed_by c r)) q asked;
       learn = λ w i j c d at other asked. asked;
+      inject = λ w x read fine asked. asked_grows w (from_script x) q asked;
+      declare = λ w faulty rogue ending how asked. asked;
       same = λ w mark told asked. asked;
     }
 
@@ -86,24 +78,21 @@ record AllPast {S : Type 0} (before : List Sent) (known : ℕ → ℕ) (w : Worl
 
 -- messages leave
 
-past-sends : {S : Type 0} (before : List Sent) (known : ℕ → ℕ) (w : World S) (origin : Origin) (to : Target) (message : Message) → AllPast before known w → AllPast before known (sends w origin to message)
-past-sends {S = S} before known w origin to message is =
-    by-sends-ended (λ (v : World S). AllPast before known v) w origin to message
+past-posts : {S : Type 0} (before : List Sent) (known : ℕ → ℕ) (w : World S) (s : Sent) → AllPast before known w → AllPast before known (posts w s)
+past-posts {S = S} before known w s is =
+    by-posts-ended (λ (v : World S). AllPast before known v) w s
     (λ ending ended. record {
       each = each_at_weaker (ClientPast before known w.ending) (ClientPast before known ending) (λ i c past. record { seen = past.seen; waits = λ q waits on. absurd (ended on) }) w.clients is.each;
       accepted = is.accepted;
     })
     (λ free room. record { each = is.each; accepted = is.accepted })
 
-past-sends_all : {S : Type 0} (before : List Sent) (known : ℕ → ℕ) (id : ℕ) (w : World S) (held : List Held) → AllPast before known w → AllPast before known (sends_all id w held)
-past-sends_all before known id w [] is = is
-past-sends_all before known id w (h ∷ hs) is = past-sends_all before known id (sends w (origins.Node id) h.to h.message) hs (past-sends before known w (origins.Node id) h.to h.message is)
-
 -- a node's step
 
 past-stepped : {S : Type 0} (before : List Sent) (known : ℕ → ℕ) (w : World S) (i : ℕ) (h : Host S) (o : Outcome S) → AllPast before known w → AllPast before known (stepped w i h o)
 unfolding stepped
-past-stepped before known w i h o is = past-sends_all before known h.node.id _ (leaving o.node.firm o.node.held) (record { each = is.each; accepted = is.accepted })
+past-stepped {S = S} before known w i h o is =
+    keeps-sends_all (λ (v : World S). AllPast before known v) h.node.id (λ v held past. past-posts before known v (from_node h.node.id held) past) _ (leaving o.node.firm o.node.held) (record { each = is.each; accepted = is.accepted })
 
 -- one client changes
 
@@ -170,14 +159,22 @@ keeps-stating : {S : Type 0} (step : Node S → NodeEvent → Outcome S) (before
 keeps-stating step before known =
     let k = keeps-right step in
     record {
-      event = λ w i h event on at may is. (k.event w i h event on at may is.0, past-stepped before known w i h (step h.node event) is.1);
+      event = λ w i h event on there at may is. (k.event w i h event on there at may is.0, past-stepped before known w i h (step h.node event) is.1);
       hear = λ w i c x a on at has read is. (k.hear w i c x a on at has read is.0, past-hearing before known w i c a on at is.1);
       ask = λ w i c op on at free few brief is. (
         k.ask w i c op on at free few brief is.0,
-        past-sends before known (asked_by w i c op) (origins.Client c.id) targets.View (ask_of c op) (past-asked before known w i c op at (id_at w i c at is.0) is.1),
+        past-posts before known (asked_by w i c op) (from_client c (ask_of c op)) (past-asked before known w i c op at (id_at w i c at is.0) is.1),
       );
-      again = λ w i c q on at waits is. (k.again w i c q on at waits is.0, past-sends before known w (origins.Client c.id) targets.View (signed_by c q) is.1);
+      again = λ w i c q on at waits is. (k.again w i c q on at waits is.0, past-posts before known w (from_client c (signed_by c q)) is.1);
       learn = λ w i j c d on at other is. (k.learn w i j c d on at other is.0, record { each = past-learned before known w i c d.seen at is.1; accepted = is.1.accepted });
+      inject = λ w x on read fine is. (k.inject w x on read fine is.0, past-posts before known w (from_script x) is.1);
+      declare = λ w faulty rogue ending on how is. (
+        k.declare w faulty rogue ending on how is.0,
+        record {
+          each = each_at_weaker (ClientPast before known w.ending) (ClientPast before known ending) (λ i c past. record { seen = past.seen; waits = λ q waits still. past.waits q waits (how.over still) }) w.clients is.1.each;
+          accepted = is.1.accepted;
+        },
+      );
       mark = λ w s on at is. (k.mark w s on at is.0, record { each = is.1.each; accepted = is.1.accepted });
       tell = λ w line beside is. (k.tell w line beside is.0, record { each = is.1.each; accepted = is.1.accepted });
     }

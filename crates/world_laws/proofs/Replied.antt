@@ -1,184 +1,224 @@
--- A client accepts a reply where a quorum of members has sent it.
-use Rattle.std.proofs.Common.{◌≡◌, ℕ, zero, suc, ◌+◌, ◌++◌, Bool, true, false, ◌&&◌, ◌||◌, List, [], ◌∷◌, refl, sym, arith, Some, inl, inr, subst, eq-eqb, append-nil}
+-- A client accepts a reply where a quorum of members has sent it, but for those that are faulty.
+use Rattle.std.proofs.Common.{◌≡◌, ⊎_elim, ℕ, zero, suc, ◌+◌, ◌++◌, ◌==◌, Bool, true, false, ◌&&◌, ◌||◌, List, [], ◌∷◌, refl, sym, arith, Option, Some, None, inl, inr, subst, eq-eqb, append-nil}
 use Rattle.std.specs.Prelude.{slice_get}
 use Rattle.std.specs.List.{list_any}
 use Rattle.smart_base.specs.Lists.{Each}
 use Rattle.smart_base.specs.Views.{View, is_view}
 use Rattle.smart_messages.specs.Forms.{SignedBy}
+use Rattle.smart_messages.specs.Kinds.{answers}
 use Rattle.smart_messages.specs.declared.statement.Answer.{Answer}
-use Rattle.smart_messages.specs.declared.message.Message.{Message}
 use Rattle.smart_messages.specs.declared.message.Message.TheVariants.{Reply}
 use Rattle.smart_service.specs.Services.{Meaning}
+use Rattle.node_rules.specs.Seals.{is_verified}
 use Rattle.node_rules.specs.Steps.{Outcome, step_of, leaving}
-use Rattle.node_rules.specs.declared.node.Held.{Held}
 use Rattle.node_rules.specs.declared.node.Target.{Target}
-use Rattle.node_rules.specs.declared.node.Target.TheVariants as targets
+use Rattle.agreement_laws.specs.Statements.{Among}
+use Rattle.agreement_laws.specs.Statements as statements
+use Rattle.agreement_laws.proofs.Lists.{any_of, each_among}
 use Rattle.world_rules.specs.Secrets.{group_secret}
+use Rattle.world_rules.specs.Premises.{is_among}
 use Rattle.client_quorum.specs.Clients.{learning, acceptance}
 use Rattle.world_rules.specs.Clients.{heard}
-use Rattle.world_rules.specs.Worlds.{Host, World, sends, sends_all, host_after, stepped, acceptance_in, hearing, hosts_from, clients_from, begun}
+use Rattle.world_rules.specs.Worlds.{Host, World, posts, stepped, acceptance_in, hearing, clients_from, begun}
 use Rattle.world_rules.specs.Plays.{world_after}
 use Rattle.client_quorum.specs.declared.client.Client.{Client}
 use Rattle.client_quorum.specs.declared.client.Acceptance.{Acceptance}
 use Rattle.client_quorum.specs.declared.client.Heard.{Heard}
 use Rattle.client_quorum.specs.declared.client.Heard.TheVariants as hears
 use Rattle.world_rules.specs.declared.line.Line.{Line}
+use Rattle.world_rules.specs.declared.message.Content.{Content}
+use Rattle.world_rules.specs.declared.message.Content.TheVariants as contents
 use Rattle.world_rules.specs.declared.message.Origin.{Origin}
 use Rattle.world_rules.specs.declared.message.Origin.TheVariants as origins
 use Rattle.world_rules.specs.declared.message.Sent.{Sent}
-use Rattle.world_laws.specs.Sending.{IsOwn, is_reply, is_of, is_for, has_replied, QuorumReplied, QuorumsReplied}
-use Rattle.world_laws.proofs.Lists.{each_end, each_weaker, each_set, each_get}
+use Rattle.world_laws.specs.Sending.{IsOwnSent, is_reply, is_of, is_for, is_reply_of, has_replied, QuorumReplied, QuorumsReplied}
+use Rattle.world_laws.proofs.Lists.{and_true, each_end, each_weaker, each_set, each_get, or_left, or_right, or_true}
 use Rattle.world_laws.proofs.Equal.{and_intro}
-use Rattle.world_laws.proofs.Keeps.{HasMessage, ask_of, asked_by, by-sends, has_end, KeepsRead, signed_by}
+use Rattle.world_laws.proofs.Keeps.{HasContent, HasMessage, ask_of, asked_by, by-posts, keeps-sends_all, has_end, read_has, Keeps, keeps-world_after, signed_by, from_node, from_client, from_script}
 use Rattle.world_laws.proofs.FitNodes.{IsBrief}
-use Rattle.world_laws.proofs.Fitting.{play-keeps}
-use Rattle.world_laws.proofs.Hearing.{Accepts, accepts_waiting}
+use Rattle.world_laws.proofs.Hearing.{accepts_waiting}
 use Rattle.world_laws.proofs.Given.{IsKept, ClientKeeps, filter_more, keeps_heard, quorum_gave}
-use Rattle.world_laws.proofs.Authentic.{each-leaving}
-use Rattle.world_laws.proofs.Says.{or_left, or_right}
-use Rattle.world_laws.proofs.Follows.{follows-step}
-use Rattle.world_laws.proofs.Onward.{HoldsRight, NodeRests, onward-step, rests-released, rests-opened}
+use Rattle.world_laws.proofs.Stating.{stated_one, reply_content}
+use Rattle.world_laws.proofs.Sound.{message_stated}
+use Rattle.world_laws.proofs.Unforged.{any_more, NodeStates, member_states}
+use Rattle.world_laws.proofs.Chosen.{ChosenRight}
+use Rattle.world_laws.proofs.ChosenKept.{right-reads, chosen-kept, chosen-begun}
 
 -- a reply that was sent
 abbrev pub WasSent : List Sent → SignedBy Answer → Type 0
 WasSent sent r = HasMessage sent (Reply r)
 
--- messages name who sends them, clients keep replies that were sent, and what they accepted a quorum has sent
+-- clients keep replies that were sent, and what they accepted a quorum has sent, but for those that are faulty
 pub record Replied {S : Type 0} (w : World S) : Type 0 where
-  pub hosts : Each (λ h. NodeRests h.node) w.hosts
-  pub sent : Each (λ s. IsOwn s.origin s.to s.message) w.sent
   pub clients : Each (ClientKeeps (WasSent w.sent)) w.clients
-  pub accepted : Each (QuorumReplied w.view w.sent) w.accepted
+  pub accepted : Each (QuorumReplied w.view w.faulty w.sent) w.accepted
 
--- one more sent
+-- more are faulty, and more is sent
 
--- a test that passes on what was sent, passes with one more
-any_more : (p : Sent → Bool) (sent : List Sent) (s : Sent) → list_any p sent ≡ true → list_any p (sent ++ s ∷ []) ≡ true
-any_more p [] s is = absurd (cc)
-any_more p (t ∷ sent) s is = or_more (p t) (any_more p sent s) is
-  where
-    or_more : (a : Bool) → (list_any p sent ≡ true → list_any p (sent ++ s ∷ []) ≡ true) → (a || list_any p sent) ≡ true → (a || list_any p (sent ++ s ∷ [])) ≡ true
-    or_more true more is = refl
-    or_more false more is = more is
+-- a test that passes where another does
+any_where : (p q : Sent → Bool) → ((s : Sent) → p s ≡ true → q s ≡ true) → (sent : List Sent) → list_any p sent ≡ true → list_any q sent ≡ true
+any_where p q more [] is = absurd (cc)
+any_where p q more (s ∷ sent) is =
+    elim (or_true (p s) (list_any p sent) is) [
+      | inl here ↦ or_left (q s) (list_any q sent) (more s here)
+      | inr later ↦ or_right (q s) (list_any q sent) (any_where p q more sent later)
+    ]
+
+-- who has replied has so where more are faulty
+replied_faulty : (faulty more : List ℕ) (sent : List Sent) (a : Acceptance) → ((member : ℕ) → is_among faulty member ≡ true → is_among more member ≡ true) → (member : ℕ)
+    → has_replied faulty sent a member ≡ true → has_replied more sent a member ≡ true
+replied_faulty faulty more sent a grows member is =
+    any_where _ _
+    (λ s passes.
+    let both = and_true (is_reply_of member a s.content) (is_among faulty member || (is_of member s.origin && is_for a.request.client s.to)) passes in
+    and_intro (is_reply_of member a s.content) (is_among more member || (is_of member s.origin && is_for a.request.client s.to)) both.0
+    (⊎_elim (λ breaks. or_left (is_among more member) (is_of member s.origin && is_for a.request.client s.to) (grows member breaks))
+    (λ own. or_right (is_among more member) (is_of member s.origin && is_for a.request.client s.to) own)
+    (or_true (is_among faulty member) (is_of member s.origin && is_for a.request.client s.to) both.1))) sent is
 
 -- so a quorum that has replied has
-quorum_more : (view : View) (sent : List Sent) (s : Sent) (a : Acceptance) → QuorumReplied view sent a → QuorumReplied view (sent ++ s ∷ []) a
-quorum_more view sent s a enough =
-    omega (arith, enough, filter_more (has_replied sent a) (has_replied (sent ++ s ∷ []) a) (λ member is. any_more _ sent s is) view.members)
+quorum_faulty : (view : View) (faulty more : List ℕ) (sent : List Sent) → ((member : ℕ) → is_among faulty member ≡ true → is_among more member ≡ true) → (a : Acceptance) → QuorumReplied view faulty sent a
+    → QuorumReplied view more sent a
+quorum_faulty view faulty more sent grows a enough =
+    omega (arith, enough, filter_more (has_replied faulty sent a) (has_replied more sent a) (replied_faulty faulty more sent a grows) view.members)
 
--- a message leaves
-replied-sends : {S : Type 0} (w : World S) (origin : Origin) (to : Target) (message : Message) → IsOwn origin to message → Replied w → Replied (sends w origin to message)
-replied-sends {S = S} w origin to message own is =
-    let s : Sent = record { origin = origin; to = to; message = message } in
-    by-sends (λ (v : World S). Replied v) w origin to message
-    (λ ending. record { hosts = is.hosts; sent = is.sent; clients = is.clients; accepted = is.accepted })
+quorum_more : (view : View) (faulty : List ℕ) (sent : List Sent) (s : Sent) (a : Acceptance) → QuorumReplied view faulty sent a → QuorumReplied view faulty (sent ++ s ∷ []) a
+quorum_more view faulty sent s a enough =
+    omega (arith, enough, filter_more (has_replied faulty sent a) (has_replied faulty (sent ++ s ∷ []) a) (λ member is. any_more _ sent s is) view.members)
+
+-- something is sent
+replied-posts : {S : Type 0} (w : World S) (s : Sent) → Replied w → Replied (posts w s)
+replied-posts {S = S} w s is =
+    by-posts (λ (v : World S). Replied v) w s
+    (λ ending. record { clients = is.clients; accepted = is.accepted })
     (λ free room. record {
-      hosts = is.hosts;
-      sent = each_end (λ (t : Sent). IsOwn t.origin t.to t.message) w.sent s is.sent own;
       clients = each_weaker (ClientKeeps (WasSent w.sent)) (ClientKeeps (WasSent (w.sent ++ s ∷ [])))
           (λ c kept. each_weaker (IsKept (WasSent w.sent) c.waiting) (IsKept (WasSent (w.sent ++ s ∷ [])) c.waiting)
-          (λ r k. record { given = has_end w.sent s (Reply r) k.given; tagged = k.tagged; waited_for = k.waited_for }) c.replies kept) w.clients is.clients;
-      accepted = each_weaker (QuorumReplied w.view w.sent) (QuorumReplied w.view (w.sent ++ s ∷ [])) (quorum_more w.view w.sent s) w.accepted is.accepted;
+          (λ r k. record { given = has_end w.sent s (contents.Message (Reply r)) k.given; tagged = k.tagged; waited_for = k.waited_for }) c.replies kept) w.clients is.clients;
+      accepted = each_weaker (QuorumReplied w.view w.faulty w.sent) (QuorumReplied w.view w.faulty (w.sent ++ s ∷ [])) (quorum_more w.view w.faulty w.sent s) w.accepted is.accepted;
     })
-
--- messages of a node leave
-replied-sends_all : {S : Type 0} (id : ℕ) (w : World S) (held : List Held) → Each (λ h. IsOwn (origins.Node id) h.to h.message) held → Replied w → Replied (sends_all id w held)
-replied-sends_all id w [] each is = is
-replied-sends_all id w (h ∷ hs) each is =
-    replied-sends_all id (sends w (origins.Node id) h.to h.message) hs each.1 (replied-sends w (origins.Node id) h.to h.message each.0 is)
 
 -- a node's step
-replied-stepped : {S : Type 0} (w : World S) (i : ℕ) (h : Host S) (o : Outcome S) → o.node.id ≡ h.node.id → NodeRests o.node → Replied w → Replied (stepped w i h o)
+replied-stepped : {S : Type 0} (w : World S) (i : ℕ) (h : Host S) (o : Outcome S) → Replied w → Replied (stepped w i h o)
 unfolding stepped
-replied-stepped {S = S} w i h o id rests is =
-    replied-sends_all h.node.id _ (leaving o.node.firm o.node.held)
-    (each_weaker (HoldsRight o.node.id o.node.entries) (λ (x : Held). IsOwn (origins.Node h.node.id) x.to x.message)
-    (λ x right. subst (λ (k : ℕ). IsOwn (origins.Node k) x.to x.message) id right.own)
-    (leaving o.node.firm o.node.held) (each-leaving (HoldsRight o.node.id o.node.entries) o.node.firm o.node.held rests.held))
-    (record {
-      hosts = each_set (λ (g : Host S). NodeRests g.node) w.hosts i (host_after h o) is.hosts (rests-released o.node rests);
-      sent = is.sent;
-      clients = is.clients;
-      accepted = is.accepted;
-    })
+replied-stepped w i h o is =
+    keeps-sends_all Replied h.node.id (λ v held right. replied-posts v (from_node h.node.id held) right) _ (leaving o.node.firm o.node.held) (record { clients = is.clients; accepted = is.accepted })
 
 -- a client hears
 
--- a reply that was sent is sent by the member that it names, to the client that it names
-sent_reply : (sent : List Sent) (r : SignedBy Answer) (a : Acceptance) → Each (λ s. IsOwn s.origin s.to s.message) sent → HasMessage sent (Reply r) → r.statement.client ≡ a.request.client → is_reply a (Reply r) ≡ true
-    → has_replied sent a r.signer ≡ true
-sent_reply [] r a own has client is = absurd has
-sent_reply (s ∷ sent) r a own has client is =
+-- what was sent stands in a message
+record Holds (sent : List Sent) (x : Content) : Type 0 where
+  message : Sent
+  there : Among message sent
+  is : message.content ≡ x
+
+holds : (sent : List Sent) (x : Content) → HasContent sent x → Holds sent x
+holds [] x has = absurd has
+holds (s ∷ sent) x has =
     elim has [
-      | inl here ↦ or_left (is_of r.signer s.origin && is_for a.request.client s.to && is_reply a s.message) (has_replied sent a r.signer) (this here)
-      | inr later ↦ or_right (is_of r.signer s.origin && is_for a.request.client s.to && is_reply a s.message) (has_replied sent a r.signer) (sent_reply sent r a own.1 later client is)
+      | inl here ↦ record { message = s; there = inl refl; is = here }
+      | inr later ↦ let rest = holds sent x later in record { message = rest.message; there = inr rest.there; is = rest.is }
     ]
+
+-- a reply of a member's own is for the client that it names
+own_for : (id : ℕ) (to : Option Target) (r : SignedBy Answer) (client : ℕ) → IsOwnSent (origins.Node id) to (contents.Message (Reply r)) → r.statement.client ≡ client → is_for client to ≡ true
+own_for id None r client own same = absurd own
+own_for id (Some to) r client own same = subst (λ (t : Target). is_for client (Some t) ≡ true) (sym own.1) (eq-eqb r.statement.client client same)
+
+-- where what was sent is read, each one's own and not forged, a member whose reply was sent has sent it, or it is faulty
+sent_reply : {S : Type 0} (m : Meaning S) (w : World S) (r : SignedBy Answer) (a : Acceptance) → ChosenRight m w → HasMessage w.sent (Reply r) → is_verified answers group_secret r ≡ true
+    → r.statement.client ≡ a.request.client → is_reply a (Reply r) ≡ true → has_replied w.faulty w.sent a r.signer ≡ true
+sent_reply {S = S} m w r a right has tagged client is = by (is_among w.faulty r.signer) refl
   where
-    this : s.message ≡ Reply r → (is_of r.signer s.origin && is_for a.request.client s.to && is_reply a s.message) ≡ true
-    this here =
-        let mine : IsOwn s.origin s.to (Reply r) = subst (IsOwn s.origin s.to) here own.0 in
-        and_intro (is_of r.signer s.origin && is_for a.request.client s.to) (is_reply a s.message)
+    test : Sent → Bool
+    test s = is_reply_of r.signer a s.content && (is_among w.faulty r.signer || (is_of r.signer s.origin && is_for a.request.client s.to))
+
+    reply : is_reply_of r.signer a (contents.Message (Reply r)) ≡ true
+    reply = and_intro ((r.signer == r.signer) && is_verified answers group_secret r) (is_reply a (Reply r)) (and_intro (r.signer == r.signer) (is_verified answers group_secret r) (eq-eqb r.signer r.signer refl) tagged) is
+
+    passes : (s : Sent) → s.content ≡ contents.Message (Reply r) → (is_among w.faulty r.signer || (is_of r.signer s.origin && is_for a.request.client s.to)) ≡ true → test s ≡ true
+    passes s same fine =
+        and_intro (is_reply_of r.signer a s.content) (is_among w.faulty r.signer || (is_of r.signer s.origin && is_for a.request.client s.to))
+        (subst (λ (x : Content). is_reply_of r.signer a x ≡ true) (sym same) reply) fine
+
+    mine : NodeStates w.sent r.signer (statements.Replied r) → has_replied w.faulty w.sent a r.signer ≡ true
+    mine source =
+        let s : Sent = source.message in
+        let same : s.content ≡ contents.Message (Reply r) = reply_content s.content r source.states in
+        let own : IsOwnSent s.origin s.to s.content = each_among (λ (t : Sent). IsOwnSent t.origin t.to t.content) w.sent s right.0.0.1.sent.own source.there in
+        let own_node : IsOwnSent (origins.Node r.signer) s.to (contents.Message (Reply r)) =
+        subst (λ (x : Content). IsOwnSent (origins.Node r.signer) s.to x) same (subst (λ (o : Origin). IsOwnSent o s.to s.content) source.from own) in
+        any_of test w.sent s source.there
+        (passes s same
+        (or_right (is_among w.faulty r.signer) (is_of r.signer s.origin && is_for a.request.client s.to)
         (and_intro (is_of r.signer s.origin) (is_for a.request.client s.to)
-        (subst (λ (o : Origin). is_of r.signer o ≡ true) (sym mine.0) (eq-eqb r.signer r.signer refl))
-        (subst (λ (t : Target). is_for a.request.client t ≡ true) (sym mine.1) (eq-eqb r.statement.client a.request.client client)))
-        (subst (λ (x : Message). is_reply a x ≡ true) (sym here) is)
+        (subst (λ (o : Origin). is_of r.signer o ≡ true) (sym source.from) (eq-eqb r.signer r.signer refl))
+        (own_for r.signer s.to r a.request.client own_node client))))
 
--- a client of a world
+    by : (t : Bool) → is_among w.faulty r.signer ≡ t → has_replied w.faulty w.sent a r.signer ≡ true
+    by true breaks =
+        let held : Holds w.sent (contents.Message (Reply r)) = holds w.sent (contents.Message (Reply r)) has in
+        any_of test w.sent held.message held.there
+        (passes held.message held.is (or_left (is_among w.faulty r.signer) (is_of r.signer held.message.origin && is_for a.request.client held.message.to) breaks))
+    by false correct =
+        mine (member_states w r.signer (statements.Replied r) right.0.0.0.fit.sent right.0.0.1.sent.own right.0.1 correct refl
+        (message_stated w.sent (Reply r) (statements.Replied r) has (stated_one answers statements.Replied r tagged)))
 
--- what it accepts, a quorum has sent
-quorum_heard : (sent : List Sent) (v : View) (c : Client) (a : SignedBy Answer) (acc : Acceptance) → Each (λ s. IsOwn s.origin s.to s.message) sent → HasMessage sent (Reply a) → ClientKeeps (WasSent sent) c
-    → Accepts v c a acc → QuorumReplied v sent acc
-quorum_heard sent v c a acc own has kept taken =
-    quorum_gave (WasSent sent) (has_replied sent) (λ q' a' r was tagged client is. sent_reply sent r (acceptance q' a') own was client is) v c a acc has kept taken
-
--- so are all that it accepts
-accepted_heard : (sent : List Sent) (v : View) (accepted : List Acceptance) (c : Client) (a : SignedBy Answer) (h : Heard) → heard v c a ≡ h → Each (λ s. IsOwn s.origin s.to s.message) sent
-    → HasMessage sent (Reply a) → ClientKeeps (WasSent sent) c → Each (QuorumReplied v sent) accepted → Each (QuorumReplied v sent) (accepted ++ acceptance_in h)
-accepted_heard sent v accepted c a (hears.Counted count need) is own has kept each = rw append-nil each
-accepted_heard sent v accepted c a (hears.Ignored why) is own has kept each = rw append-nil each
-accepted_heard sent v accepted c a (hears.Accepted acc) is own has kept each =
-    each_end (QuorumReplied v sent) accepted acc each (quorum_heard sent v c a acc own has kept (accepts_waiting v c a acc is))
+-- so of what a client accepts, a quorum has
+accepted_heard : {S : Type 0} (m : Meaning S) (w : World S) (c : Client) (a : SignedBy Answer) (h : Heard) → heard w.view c a ≡ h → ChosenRight m w → HasMessage w.sent (Reply a)
+    → ClientKeeps (WasSent w.sent) c → Each (QuorumReplied w.view w.faulty w.sent) w.accepted → Each (QuorumReplied w.view w.faulty w.sent) (w.accepted ++ acceptance_in h)
+accepted_heard m w c a (hears.Counted count need) is right has kept each = rw append-nil each
+accepted_heard m w c a (hears.Ignored why) is right has kept each = rw append-nil each
+accepted_heard m w c a (hears.Accepted acc) is right has kept each =
+    each_end (QuorumReplied w.view w.faulty w.sent) w.accepted acc each
+    (quorum_gave (WasSent w.sent) (has_replied w.faulty w.sent) (λ q' a' r was tagged client it. sent_reply m w r (acceptance q' a') right was tagged client it) w.view c a acc has kept
+    (accepts_waiting w.view c a acc is))
 
 -- a client hears a reply that was sent
-replied-hearing : {S : Type 0} (w : World S) (i : ℕ) (c : Client) (a : SignedBy Answer) → slice_get w.clients i ≡ Some c → HasMessage w.sent (Reply a) → Replied w → Replied (hearing w i c a (heard w.view c a))
+replied-hearing : {S : Type 0} (m : Meaning S) (w : World S) (i : ℕ) (c : Client) (a : SignedBy Answer) → slice_get w.clients i ≡ Some c → HasMessage w.sent (Reply a) → ChosenRight m w → Replied w
+    → Replied (hearing w i c a (heard w.view c a))
 unfolding hearing
-replied-hearing w i c a at has is =
+replied-hearing m w i c a at has right is =
     let kept : ClientKeeps (WasSent w.sent) c = each_get (ClientKeeps (WasSent w.sent)) w.clients i c is.clients at in
     record {
-      hosts = is.hosts;
-      sent = is.sent;
       clients = each_set (ClientKeeps (WasSent w.sent)) w.clients i _ is.clients (keeps_heard (WasSent w.sent) w.view c a has kept);
-      accepted = accepted_heard w.sent w.view w.accepted c a (heard w.view c a) refl is.sent has kept is.accepted;
+      accepted = accepted_heard m w c a (heard w.view c a) refl right has kept is.accepted;
     }
 
--- each event keeps that
-keeps-replied : {S : Type 0} (m : Meaning S) → KeepsRead (step_of m) Replied
-keeps-replied {S = S} m =
+-- where the list is right, each event keeps that
+pub keeps-replied : {S : Type 0} (m : Meaning S) (P : World S → Type 0) → ((w : World S) → P w → ChosenRight m w) → Keeps (step_of m) P → Keeps (step_of m) (λ w. P w × Replied w)
+keeps-replied m P right k =
     record {
-      event = λ w i h event at may is.
-          replied-stepped w i h (step_of m h.node event) (follows-step m h.node event).id
-          (onward-step m h.node event (each_get (λ (g : Host S). NodeRests g.node) w.hosts i h is.hosts at)).rests is;
-      hear = λ w i c a at has is. replied-hearing w i c a at has is;
-      ask = λ w i c op at free is.
-          replied-sends (asked_by w i c op) (origins.Client c.id) targets.View (ask_of c op) refl
-          (record { hosts = is.hosts; sent = is.sent; clients = each_set (ClientKeeps (WasSent w.sent)) w.clients i _ is.clients tt; accepted = is.accepted });
-      again = λ w i c q at waits own is. replied-sends w (origins.Client c.id) targets.View (signed_by c q) refl is;
-      learn = λ w i c place at is.
-          record {
-            hosts = is.hosts;
-            sent = is.sent;
-            clients = each_set (ClientKeeps (WasSent w.sent)) w.clients i (learning c place) is.clients (each_get (ClientKeeps (WasSent w.sent)) w.clients i c is.clients at);
-            accepted = is.accepted;
-          };
-      same = λ w mark told is. record { hosts = is.hosts; sent = is.sent; clients = is.clients; accepted = is.accepted };
+      event = λ w i h event there at may p. (k.event w i h event there at may p.0, replied-stepped w i h (step_of m h.node event) p.1);
+      hear = λ w i c x a at has read p. (
+        k.hear w i c x a at has read p.0,
+        replied-hearing m w i c a at (read_has w x (Reply a) (right-reads m w (right w p.0)) has read) (right w p.0) p.1,
+      );
+      ask = λ w i c op at free low brief p. (
+        k.ask w i c op at free low brief p.0,
+        replied-posts (asked_by w i c op) (from_client c (ask_of c op))
+            (record { clients = each_set (ClientKeeps (WasSent w.sent)) w.clients i _ p.1.clients tt; accepted = p.1.accepted }),
+      );
+      again = λ w i c q at waits p. (k.again w i c q at waits p.0, replied-posts w (from_client c (signed_by c q)) p.1);
+      learn = λ w i j c d at other p. (
+        k.learn w i j c d at other p.0,
+        record {
+          clients = each_set (ClientKeeps (WasSent w.sent)) w.clients i (learning c d.seen) p.1.clients (each_get (ClientKeeps (WasSent w.sent)) w.clients i c p.1.clients at);
+          accepted = p.1.accepted;
+        },
+      );
+      inject = λ w x read fine p. (k.inject w x read fine p.0, replied-posts w (from_script x) p.1);
+      declare = λ w faulty rogue ending how p. (
+        k.declare w faulty rogue ending how p.0,
+        record {
+          clients = p.1.clients;
+          accepted = each_weaker (QuorumReplied w.view w.faulty w.sent) (QuorumReplied w.view faulty w.sent) (quorum_faulty w.view w.faulty faulty w.sent how.more_faulty) w.accepted p.1.accepted;
+        },
+      );
+      same = λ w mark told p. (k.same w mark told p.0, record { clients = p.1.clients; accepted = p.1.accepted });
     }
 
 -- the beginning
-
--- nodes that have just opened rest
-pub hosts_rest : {S : Type 0} (m : Meaning S) (view : View) (ids : List ℕ) → Each (λ h. NodeRests h.node) (hosts_from m view ids)
-hosts_rest m view [] = tt
-hosts_rest m view (id ∷ ids) = (rests-opened m group_secret id view, hosts_rest m view ids)
 
 -- clients that have not asked keep nothing
 fresh_keep : (sent : List Sent) (count i : ℕ) → Each (ClientKeeps (WasSent sent)) (clients_from count i)
@@ -186,10 +226,13 @@ unfolding clients_from
 fresh_keep sent zero i = tt
 fresh_keep sent (suc count) i = (tt, fresh_keep sent count (i + 1))
 
--- after the lines of any script, a quorum has sent each reply that a client accepted
+pub replied-begun : {S : Type 0} (m : Meaning S) (view : View) → Replied (begun m view)
+replied-begun m view = record { clients = fresh_keep [] 1025 0; accepted = tt }
+
+-- after the lines of any script, of each reply that a client accepted a quorum has sent it, but for those that are faulty
 pub quorums_replied : {S : Type 0} (m : Meaning S) → IsBrief m → (view : View) (ls : List Line) → is_view view ≡ true → QuorumsReplied (world_after (step_of m) (begun m view) ls)
-quorums_replied m brief view ls is =
+quorums_replied {S = S} m brief view ls is =
     record {
-      each = (play-keeps m brief Replied (keeps-replied m) view ls is
-          (record { hosts = hosts_rest m view view.members; sent = tt; clients = fresh_keep [] 1025 0; accepted = tt })).accepted;
+      each = (keeps-world_after (step_of m) (λ (w : World S). ChosenRight m w × Replied w) (keeps-replied m (ChosenRight m) (λ w right. right) (chosen-kept m brief)) (begun m view) ls
+          (chosen-begun m view is, replied-begun m view)).1.accepted;
     }

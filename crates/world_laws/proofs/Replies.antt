@@ -1,4 +1,4 @@
--- Each reply that a node holds or that was sent tells an execution of the chosen list.
+-- Each reply that a node holds or that a node has sent tells an execution of the chosen list.
 use Rattle.std.proofs.Common.{◌≡◌, ℕ, ◌+◌, ◌==◌, ◌++◌, List, [], ◌∷◌, length, refl, Option, Some, None, inl, inr, subst, Result, Ok, Err, sym, ◌∙◌, take, drop}
 use Rattle.smart_base.specs.Lists.{Each}
 use Rattle.smart_base.specs.Views.{View, is_member}
@@ -20,18 +20,23 @@ use Rattle.node_rules.specs.Rules.{reply_of, replying, lines_to_answer, deliver_
 use Rattle.node_rules.specs.Steps.{Outcome, votes, passes, arrival_outcome, reading_outcome, step_of, leaving}
 use Rattle.node_rules.specs.declared.node.Why.{Why}
 use Rattle.node_rules.specs.declared.node.Held.{Held}
-use Rattle.node_rules.specs.declared.node.Target.{Target}
 use Rattle.node_rules.specs.declared.node.Target.TheVariants as targets
 use Rattle.world_rules.specs.Clients.{heard}
-use Rattle.world_rules.specs.Worlds.{Host, World, sends, sends_all, chosen_with, host_after, stepped, hearing, hosts_from, begun}
+use Rattle.world_rules.specs.Worlds.{Host, World, posts, sends_all, chosen_with, host_after, stepped, hearing, hosts_from, begun}
 use Rattle.client_quorum.specs.declared.client.Client.{Client}
 use Rattle.client_quorum.specs.declared.client.Heard.{Heard}
 use Rattle.world_rules.specs.declared.message.Origin.{Origin}
 use Rattle.world_rules.specs.declared.message.Origin.TheVariants as origins
+use Rattle.world_rules.specs.declared.message.Content.{Content}
+use Rattle.world_rules.specs.declared.message.Content.TheVariants as contents
 use Rattle.world_rules.specs.declared.message.Sent.{Sent}
+use Rattle.agreement_laws.specs.Statements.{Replied}
+use Rattle.agreement_laws.proofs.Lists.{each_among}
+use Rattle.world_laws.proofs.Stating.{reply_content}
+use Rattle.world_laws.proofs.Unforged.{NodeStates}
 use Rattle.world_laws.specs.Lines.{HasLine}
 use Rattle.world_laws.proofs.Lists.{either, each_end, each_weaker, each_set, each_get}
-use Rattle.world_laws.proofs.Keeps.{HasMessage, ask_of, asked_by, by-sends, Keeps, signed_by}
+use Rattle.world_laws.proofs.Keeps.{ask_of, asked_by, by-posts, Keeps, signed_by, from_node, from_client, from_script}
 use Rattle.world_laws.proofs.Authentic.{each-leaving, each-staying}
 use Rattle.world_laws.proofs.Aligned.{Aligned, AllAligned, line_told, IsExecuted}
 use Rattle.world_laws.proofs.Executions.{executions-more, executed-at}
@@ -51,9 +56,19 @@ ReplyRight m view chosen (Reply a) = IsExecuted m view chosen a.statement
 abbrev pub HeldRight : {S : Type 0} → Meaning S → View → List Batch → Node S → Type 0
 HeldRight m view chosen n = Each (λ h. ReplyRight m view chosen h.message) n.held
 
--- each reply that is held or was sent tells an execution of the chosen list
+-- so does what a node sends. Of what clients send and scripts inject nothing is said
+abbrev pub ContentRight : {S : Type 0} → Meaning S → View → List Batch → Content → Type 0
+ContentRight m view chosen (contents.Message x) = ReplyRight m view chosen x
+ContentRight m view chosen (contents.Raw bytes) = Unit {0}
+
+abbrev pub RightFrom : {S : Type 0} → Meaning S → View → List Batch → Origin → Content → Type 0
+RightFrom m view chosen (origins.Node id) x = ContentRight m view chosen x
+RightFrom m view chosen (origins.Client id) x = Unit {0}
+RightFrom m view chosen origins.Script x = Unit {0}
+
+-- each reply that is held or that a node has sent tells an execution of the chosen list
 pub record RepliesRight {S : Type 0} (m : Meaning S) (w : World S) : Type 0 where
-  pub sent : Each (λ s. ReplyRight m w.view w.chosen s.message) w.sent
+  pub sent : Each (λ s. RightFrom m w.view w.chosen s.origin s.content) w.sent
   pub held : Each (λ h. HeldRight m w.view w.chosen h.node) w.hosts
 
 -- a list that grows
@@ -71,6 +86,14 @@ right-chosen : {S : Type 0} (m : Meaning S) (v : View) (chosen : List Batch) (pl
 right-chosen m v chosen place None x right = right
 right-chosen m v chosen place (Some batch) x right =
     either (λ (list : List Batch). ReplyRight m v list x) (place == length chosen + 1) (chosen ++ batch ∷ []) chosen (right-more m v chosen (batch ∷ []) x right) right
+
+-- so does what was sent
+from-chosen : {S : Type 0} (m : Meaning S) (v : View) (chosen : List Batch) (place : ℕ) (waiting : Option Batch) (o : Origin) (x : Content) → RightFrom m v chosen o x
+    → RightFrom m v (chosen_with chosen place waiting) o x
+from-chosen m v chosen place waiting (origins.Node id) (contents.Message x) right = right-chosen m v chosen place waiting x right
+from-chosen m v chosen place waiting (origins.Node id) (contents.Raw bytes) right = tt
+from-chosen m v chosen place waiting (origins.Client id) x right = tt
+from-chosen m v chosen place waiting origins.Script x right = tt
 
 -- rules of a node
 
@@ -201,26 +224,25 @@ held-step m v chosen h (Firm count) aligned held = held-passes m v chosen (recor
 
 -- messages that leave
 
--- a right message leaves
-right-sends : {S : Type 0} (m : Meaning S) (w : World S) (origin : Origin) (to : Target) (x : Message) → ReplyRight m w.view w.chosen x → RepliesRight m w → RepliesRight m (sends w origin to x)
-right-sends {S = S} m w origin to x right r =
-    by-sends (λ (v : World S). RepliesRight m v) w origin to x (λ ending. record { sent = r.sent; held = r.held })
-    (λ free room. record { sent = each_end (λ (s : Sent). ReplyRight m w.view w.chosen s.message) w.sent (record { origin = origin; to = to; message = x }) r.sent right; held = r.held })
+-- what is right is sent
+right-posts : {S : Type 0} (m : Meaning S) (w : World S) (s : Sent) → RightFrom m w.view w.chosen s.origin s.content → RepliesRight m w → RepliesRight m (posts w s)
+right-posts {S = S} m w s right r =
+    by-posts (λ (v : World S). RepliesRight m v) w s (λ ending. record { sent = r.sent; held = r.held })
+    (λ free room. record { sent = each_end (λ (t : Sent). RightFrom m w.view w.chosen t.origin t.content) w.sent s r.sent right; held = r.held })
 
--- the view and the list stay where messages leave
-same_list-sends : {S : Type 0} (m : Meaning S) (w : World S) (origin : Origin) (to : Target) (x y : Message) → ReplyRight m w.view w.chosen y
-    → ReplyRight m (sends w origin to x).view (sends w origin to x).chosen y
-same_list-sends {S = S} m w origin to x y right = by-sends (λ (v : World S). ReplyRight m v.view v.chosen y) w origin to x (λ ending. right) (λ free room. right)
+-- the view and the list stay where more is sent
+same_list-posts : {S : Type 0} (m : Meaning S) (w : World S) (s : Sent) (x : Message) → ReplyRight m w.view w.chosen x → ReplyRight m (posts w s).view (posts w s).chosen x
+same_list-posts {S = S} m w s x right = by-posts (λ (v : World S). ReplyRight m v.view v.chosen x) w s (λ ending. right) (λ free room. right)
 
 -- right messages leave
 right-sends_all : {S : Type 0} (m : Meaning S) (id : ℕ) (w : World S) (held : List Held) → Each (λ h. ReplyRight m w.view w.chosen h.message) held → RepliesRight m w → RepliesRight m (sends_all id w held)
 right-sends_all m id w [] each r = r
 right-sends_all {S = S} m id w (h ∷ hs) each r =
-    let next : World S = sends w (origins.Node id) h.to h.message in
+    let next : World S = posts w (from_node id h) in
     right-sends_all m id next hs
     (each_weaker (λ (x : Held). ReplyRight m w.view w.chosen x.message) (λ (x : Held). ReplyRight m next.view next.chosen x.message)
-    (λ x. same_list-sends m w (origins.Node id) h.to h.message x.message) hs each.1)
-    (right-sends m w (origins.Node id) h.to h.message each.0 r)
+    (λ x. same_list-posts m w (from_node id h) x.message) hs each.1)
+    (right-posts m w (from_node id h) each.0 r)
 
 -- events of a world
 
@@ -234,7 +256,8 @@ right-stepped {S = S} m w i h o held r =
     each_weaker (λ (x : Held). ReplyRight m w.view w.chosen x.message) (λ (x : Held). ReplyRight m w.view chosen x.message) (λ x. more x.message) o.node.held held in
     right-sends_all m h.node.id _ (leaving o.node.firm o.node.held) (each-leaving (λ x. ReplyRight m w.view chosen x.message) o.node.firm o.node.held all)
     (record {
-      sent = each_weaker (λ (s : Sent). ReplyRight m w.view w.chosen s.message) (λ (s : Sent). ReplyRight m w.view chosen s.message) (λ s. more s.message) w.sent r.sent;
+      sent = each_weaker (λ (s : Sent). RightFrom m w.view w.chosen s.origin s.content) (λ (s : Sent). RightFrom m w.view chosen s.origin s.content)
+          (λ s. from-chosen m w.view w.chosen (next_place o.node) o.node.waiting s.origin s.content) w.sent r.sent;
       held = each_set (λ (g : Host S). HeldRight m w.view chosen g.node) w.hosts i (host_after h o)
           (each_weaker (λ (g : Host S). HeldRight m w.view w.chosen g.node) (λ (g : Host S). HeldRight m w.view chosen g.node)
           (λ g. each_weaker (λ (x : Held). ReplyRight m w.view w.chosen x.message) (λ (x : Held). ReplyRight m w.view chosen x.message) (λ x. more x.message) g.node.held) w.hosts r.held)
@@ -250,8 +273,8 @@ right-hearing m w i c a h r = record { sent = r.sent; held = r.held }
 pub keeps-replies : {S : Type 0} (m : Meaning S) (P : World S → Type 0) → Keeps (step_of m) P → ((w : World S) → P w → AllAligned m w) → Keeps (step_of m) (λ w. P w × RepliesRight m w)
 keeps-replies {S = S} m P k aligned =
     record {
-      event = λ w i h event at may p. (
-        k.event w i h event at may p.0,
+      event = λ w i h event there at may p. (
+        k.event w i h event there at may p.0,
         right-stepped m w i h (step_of m h.node event)
             (held-step m w.view w.chosen h event (each_get (Aligned m w.view w.chosen) w.hosts i h (aligned w p.0).hosts at)
             (each_get (λ (g : Host S). HeldRight m w.view w.chosen g.node) w.hosts i h p.1.held at)) p.1,
@@ -259,11 +282,13 @@ keeps-replies {S = S} m P k aligned =
       hear = λ w i c x a at has read p. (k.hear w i c x a at has read p.0, right-hearing m w i c a (heard w.view c a) p.1);
       ask = λ w i c op at free few brief p. (
         k.ask w i c op at free few brief p.0,
-        right-sends m (asked_by w i c op) (origins.Client c.id) targets.View (ask_of c op) tt
+        right-posts m (asked_by w i c op) (from_client c (ask_of c op)) tt
             (record { sent = p.1.sent; held = p.1.held }),
       );
-      again = λ w i c q at waits p. (k.again w i c q at waits p.0, right-sends m w (origins.Client c.id) targets.View (signed_by c q) tt p.1);
+      again = λ w i c q at waits p. (k.again w i c q at waits p.0, right-posts m w (from_client c (signed_by c q)) tt p.1);
       learn = λ w i j c d at other p. (k.learn w i j c d at other p.0, record { sent = p.1.sent; held = p.1.held });
+      inject = λ w x read fine p. (k.inject w x read fine p.0, right-posts m w (from_script x) tt p.1);
+      declare = λ w faulty rogue ending how p. (k.declare w faulty rogue ending how p.0, record { sent = p.1.sent; held = p.1.held });
       same = λ w mark told p. (k.same w mark told p.0, record { sent = p.1.sent; held = p.1.held });
     }
 
@@ -278,13 +303,9 @@ replies-begun m view = record { sent = tt; held = held-hosts_from m view view []
 
 -- replies that were sent
 
--- a message that was sent is right where all are
-message_right : {S : Type 0} (m : Meaning S) (v : View) (chosen : List Batch) (sent : List Sent) (x : Message) → Each (λ s. ReplyRight m v chosen s.message) sent → HasMessage sent x
-    → ReplyRight m v chosen x
-message_right m v chosen [] x each has = absurd has
-message_right m v chosen (s ∷ sent) x each has =
-    elim has [ inl here ↦ subst (ReplyRight m v chosen) here each.0 | inr later ↦ message_right m v chosen sent x each.1 later ]
-
--- a reply that was sent tells an execution of the chosen list
-pub reply_sent : {S : Type 0} (m : Meaning S) (P : World S → Type 0) (w : World S) (a : SignedBy Answer) → P w × RepliesRight m w → HasMessage w.sent (Reply a) → IsExecuted m w.view w.chosen a.statement
-reply_sent m P w a p has = message_right m w.view w.chosen w.sent (Reply a) p.1.sent has
+-- a reply that stands in a message that a node has sent tells an execution
+pub reply_stated : {S : Type 0} (m : Meaning S) (w : World S) (id : ℕ) (a : SignedBy Answer) → RepliesRight m w → NodeStates w.sent id (Replied a) → IsExecuted m w.view w.chosen a.statement
+reply_stated m w id a r source =
+    let right : RightFrom m w.view w.chosen source.message.origin source.message.content =
+    each_among (λ (s : Sent). RightFrom m w.view w.chosen s.origin s.content) w.sent source.message r.sent source.there in
+    subst (ContentRight m w.view w.chosen) (reply_content source.message.content a source.states) (subst (λ (o : Origin). RightFrom m w.view w.chosen o source.message.content) source.from right)

@@ -6,32 +6,27 @@ use Rattle.smart_base.specs.Lists.{Each}
 use Rattle.smart_base.specs.Views.{View}
 use Rattle.smart_messages.specs.Forms.{SignedBy}
 use Rattle.smart_messages.specs.declared.statement.Answer.{Answer}
-use Rattle.smart_messages.specs.declared.message.Message.{Message}
 use Rattle.smart_messages.specs.declared.entry.NodeEvent.{NodeEvent}
 use Rattle.smart_service.specs.Services.{Meaning}
 use Rattle.node_rules.specs.Nodes.{Node}
 use Rattle.node_rules.specs.Steps.{Outcome, leaving}
-use Rattle.node_rules.specs.declared.node.Held.{Held}
-use Rattle.node_rules.specs.declared.node.Target.{Target}
-use Rattle.node_rules.specs.declared.node.Target.TheVariants as targets
 use Rattle.client_quorum.specs.Clients.{request_of, asking, learning, after_heard}
 use Rattle.client_quorum.specs.declared.client.Client.{Client}
 use Rattle.client_quorum.specs.declared.client.Acceptance.{Acceptance}
 use Rattle.client_quorum.specs.declared.client.Heard.{Heard}
 use Rattle.client_quorum.specs.declared.client.Heard.TheVariants as hears
 use Rattle.world_rules.specs.Clients.{heard}
-use Rattle.world_rules.specs.Worlds.{Host, World, sends, sends_all, told_drop, told_fired, stepped, told_heard, hearing, clients_from, begun}
+use Rattle.world_rules.specs.Worlds.{Host, World, posts, told_drop, told_fired, stepped, told_heard, hearing, clients_from, begun}
 use Rattle.world_rules.specs.Plays.{line_played, rested, world_after, lines_told}
 use Rattle.world_rules.specs.declared.line.Line.{Line}
 use Rattle.world_rules.specs.declared.line.OutLine.{OutLine}
 use Rattle.world_rules.specs.declared.line.OutLine.TheVariants as outs
-use Rattle.world_rules.specs.declared.message.Origin.{Origin}
-use Rattle.world_rules.specs.declared.message.Origin.TheVariants as origins
 use Rattle.world_rules.specs.Knowing.{place_told, known_by, seen_by}
 use Rattle.world_laws.proofs.Numbered.{EachAt, each_at_get, each_at_weaker, each_at_set}
-use Rattle.world_laws.proofs.Keeps.{IsBeside, outcome-beside, signed_by, ask_of, asked_by, learned_line, by-sends, KeepsLive, live-line_played}
+use Rattle.world_laws.proofs.Keeps.{IsBeside, outcome-beside, signed_by, ask_of, asked_by, learned_line, by-posts, KeepsLive, live-line_played, from_node, from_client, from_script, keeps-sends_all}
 use Rattle.world_laws.proofs.Hearing.{Accepts, accepts_waiting}
 use Rattle.world_laws.proofs.Asking.{ClientRight, ClientsRight, keeps-right, rested-right, each_fresh, right-begun}
+use Rattle.world_rules.specs.declared.message.Sent.{Sent}
 
 -- transcripts
 
@@ -51,6 +46,7 @@ none_told i (outs.Counted client have need) beside = refl
 none_told i (outs.Accepted client seq place index reply) beside = absurd beside
 none_told i (outs.Ignored client why) beside = refl
 none_told i (outs.Busy client seq) beside = refl
+none_told i (outs.Absent member) beside = refl
 none_told i (outs.Idle member) beside = refl
 none_told i (outs.IdleClient client) beside = refl
 none_told i (outs.Learned client place) beside = absurd beside
@@ -109,21 +105,17 @@ count-set (y ∷ xs) (suc i) x = ap suc (count-set xs i x)
 
 -- messages that leave
 
-know-sends : {S : Type 0} (before : ℕ → ℕ) (count : ℕ) (w : World S) (origin : Origin) (to : Target) (message : Message) → AllKnow before count w → AllKnow before count (sends w origin to message)
-know-sends {S = S} before count w origin to message is =
-    by-sends (λ (v : World S). AllKnow before count v) w origin to message (λ ending. record { each = is.each; there = is.there })
+know-posts : {S : Type 0} (before : ℕ → ℕ) (count : ℕ) (w : World S) (s : Sent) → AllKnow before count w → AllKnow before count (posts w s)
+know-posts {S = S} before count w s is =
+    by-posts (λ (v : World S). AllKnow before count v) w s (λ ending. record { each = is.each; there = is.there })
     (λ free room. record { each = know-beside before w.clients w.told _ (tt, tt) is.each; there = is.there })
-
-know-sends_all : {S : Type 0} (before : ℕ → ℕ) (count id : ℕ) (w : World S) (held : List Held) → AllKnow before count w → AllKnow before count (sends_all id w held)
-know-sends_all before count id w [] is = is
-know-sends_all before count id w (h ∷ hs) is = know-sends_all before count id (sends w (origins.Node id) h.to h.message) hs (know-sends before count w (origins.Node id) h.to h.message is)
 
 -- a node's step
 
 know-stepped : {S : Type 0} (before : ℕ → ℕ) (count : ℕ) (w : World S) (i : ℕ) (h : Host S) (o : Outcome S) → AllKnow before count w → AllKnow before count (stepped w i h o)
 unfolding stepped
-know-stepped before count w i h o is =
-    know-sends_all before count h.node.id _ (leaving o.node.firm o.node.held)
+know-stepped {S = S} before count w i h o is =
+    keeps-sends_all (λ (v : World S). AllKnow before count v) h.node.id (λ v held knows. know-posts before count v (from_node h.node.id held) knows) _ (leaving o.node.firm o.node.held)
     (record {
       each = know-beside before w.clients w.told (told_drop h.node.id o.dropped ++ flat_map (told_fired h.node.id) o.fired)
           (outcome-beside h.node.id o) is.each;
@@ -171,13 +163,13 @@ keeps-knowing : {S : Type 0} (step : Node S → NodeEvent → Outcome S) (before
 keeps-knowing step before count =
     let k = keeps-right step in
     record {
-      event = λ w i h event on at may is. (k.event w i h event on at may is.0, know-stepped before count w i h (step h.node event) is.1);
+      event = λ w i h event on there at may is. (k.event w i h event on there at may is.0, know-stepped before count w i h (step h.node event) is.1);
       hear = λ w i c x a on at has read is. (k.hear w i c x a on at has read is.0, know-hearing before count w i c a at (id_at w i c at is.0) is.1);
       ask = λ w i c op on at free few brief is. (
         k.ask w i c op on at free few brief is.0,
-        know-sends before count (asked_by w i c op) (origins.Client c.id) targets.View (ask_of c op) (know-asked before count w i c op at is.1),
+        know-posts before count (asked_by w i c op) (from_client c (ask_of c op)) (know-asked before count w i c op at is.1),
       );
-      again = λ w i c q on at waits is. (k.again w i c q on at waits is.0, know-sends before count w (origins.Client c.id) targets.View (signed_by c q) is.1);
+      again = λ w i c q on at waits is. (k.again w i c q on at waits is.0, know-posts before count w (from_client c (signed_by c q)) is.1);
       learn = λ w i j c d on at other is. (
         k.learn w i j c d on at other is.0,
         record {
@@ -186,6 +178,8 @@ keeps-knowing step before count =
           there = count-set w.clients i _ ∙ is.1.there;
         },
       );
+      inject = λ w x on read fine is. (k.inject w x on read fine is.0, know-posts before count w (from_script x) is.1);
+      declare = λ w faulty rogue ending on how is. (k.declare w faulty rogue ending on how is.0, record { each = is.1.each; there = is.1.there });
       mark = λ w s on at is. (k.mark w s on at is.0, record { each = is.1.each; there = is.1.there });
       tell = λ w line beside is. (k.tell w line beside is.0, record { each = know-beside before w.clients w.told (line ∷ []) (beside, tt) is.1.each; there = is.1.there });
     }

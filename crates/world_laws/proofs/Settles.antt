@@ -4,43 +4,34 @@ use Rattle.std.specs.Prelude.{slice_get, slice_set}
 use Rattle.std.specs.Option.{option_and_then}
 use Rattle.smart_base.specs.Lists.{Each}
 use Rattle.smart_base.specs.Views.{View}
-use Rattle.smart_messages.specs.declared.message.Message.{Message}
 use Rattle.smart_messages.specs.declared.entry.NodeEvent.{NodeEvent}
 use Rattle.smart_messages.specs.declared.entry.NodeEvent.TheVariants.{Arrive, Deliver, Firm}
 use Rattle.smart_service.specs.Services.{Meaning}
 use Rattle.node_rules.specs.Nodes.{Node, decided_place}
 use Rattle.node_rules.specs.Steps.{Outcome, step_of, leaving, released}
-use Rattle.node_rules.specs.declared.node.Held.{Held}
-use Rattle.node_rules.specs.declared.node.Target.{Target}
-use Rattle.node_rules.specs.declared.node.Target.TheVariants as targets
 use Rattle.world_rules.specs.Repeats.{repeated, turns, until_rest}
 use Rattle.world_rules.specs.Secrets.{group_secret}
-use Rattle.world_rules.specs.Worlds.{Host, World, sends, sends_all, host_after, stepped, host_takes, node_takes, due, takes_due, settle_once, settle, settle_all, gives, hearing, flow_once, hosts_from, begun, at_listed}
+use Rattle.world_rules.specs.Worlds.{Host, World, posts, host_after, stepped, host_takes, node_takes, due, takes_due, settle_once, settle, settle_all, gives, hearing, flow_once, hosts_from, begun, at_listed, is_gone}
 use Rattle.world_rules.specs.Plays.{world_after}
 use Rattle.world_rules.specs.declared.line.Line.{Line}
-use Rattle.world_rules.specs.declared.message.Origin.{Origin}
-use Rattle.world_rules.specs.declared.message.Origin.TheVariants as origins
-use Rattle.world_laws.specs.Settling.{HasSettled, flow_begins, flow_goes, message_goes}
+use Rattle.world_laws.specs.Settling.{HasSettled, flow_begins, flow_goes, message_goes, settles_present}
 use Rattle.world_laws.proofs.Lists.{either, each_set, each_get, repeated_keeps, until_rest_keeps, each_from_keeps}
-use Rattle.world_laws.proofs.Keeps.{ask_of, asked_by, by-sends, Keeps, KeepsLive, live, live-settle_all, live-flow_once, keeps-world_after, at_listed-keeps, signed_by}
+use Rattle.world_laws.proofs.Keeps.{ask_of, asked_by, by-posts, Keeps, KeepsLive, live, live-settle_all, live-flow_once, keeps-world_after, at_listed-keeps, signed_by, from_node, from_client, from_script, live-settles_present, keeps-sends_all}
 use Rattle.world_laws.proofs.Rests.{rests_still}
 use Rattle.world_laws.proofs.Steady.{Steady, steady-step, steady-released, steady-opened, firm-step, place-firm, place-deliver}
+use Rattle.world_rules.specs.declared.message.Sent.{Sent}
 
 -- hosts
 
 -- messages that leave change no host
-hosts-sends : {S : Type 0} (w : World S) (origin : Origin) (to : Target) (message : Message) → (sends w origin to message).hosts ≡ w.hosts
-hosts-sends {S = S} w origin to message = by-sends (λ (v : World S). v.hosts ≡ w.hosts) w origin to message (λ ending. refl) (λ free room. refl)
-
--- nor do many
-hosts-sends_all : {S : Type 0} (id : ℕ) (w : World S) (held : List Held) → (sends_all id w held).hosts ≡ w.hosts
-hosts-sends_all id w [] = refl
-hosts-sends_all id w (h ∷ hs) = hosts-sends_all id (sends w (origins.Node id) h.to h.message) hs ∙ hosts-sends w (origins.Node id) h.to h.message
+hosts-posts : {S : Type 0} (w : World S) (s : Sent) → (posts w s).hosts ≡ w.hosts
+hosts-posts {S = S} w s = by-posts (λ (v : World S). v.hosts ≡ w.hosts) w s (λ ending. refl) (λ free room. refl)
 
 -- a step changes its host
 hosts-stepped : {S : Type 0} (w : World S) (i : ℕ) (h : Host S) (o : Outcome S) → (stepped w i h o).hosts ≡ slice_set w.hosts i (host_after h o)
 unfolding stepped
-hosts-stepped w i h o = hosts-sends_all h.node.id _ (leaving o.node.firm o.node.held)
+hosts-stepped {S = S} w i h o =
+    keeps-sends_all (λ (v : World S). v.hosts ≡ slice_set w.hosts i (host_after h o)) h.node.id (λ v held is. hosts-posts v (from_node h.node.id held) ∙ is) _ (leaving o.node.firm o.node.held) refl
 
 -- what is set at an index is there
 set_there : {A : Type 0} (xs : List A) (i : ℕ) (x y : A) → slice_get xs i ≡ Some x → slice_get (slice_set xs i y) i ≡ Some y
@@ -71,16 +62,18 @@ keeps-steady : {S : Type 0} (m : Meaning S) → Keeps (step_of m) AllSteady
 unfolding hearing
 keeps-steady {S = S} m =
     record {
-      event = λ w i h event at may is. steady-stepped m w i h event at is;
+      event = λ w i h event there at may is. steady-stepped m w i h event at is;
       hear = λ w i c x a at has read is. record { all = is.all };
       ask = λ w i c op at free few brief is. record {
         all = subst (λ (hosts : List (Host S)). Each (λ g. Steady g.node) hosts)
-            (sym (hosts-sends (asked_by w i c op) (origins.Client c.id) targets.View (ask_of c op))) is.all;
+            (sym (hosts-posts (asked_by w i c op) (from_client c (ask_of c op)))) is.all;
       };
       again = λ w i c q at waits is. record {
-        all = subst (λ (hosts : List (Host S)). Each (λ g. Steady g.node) hosts) (sym (hosts-sends w (origins.Client c.id) targets.View (signed_by c q))) is.all;
+        all = subst (λ (hosts : List (Host S)). Each (λ g. Steady g.node) hosts) (sym (hosts-posts w (from_client c (signed_by c q)))) is.all;
       };
       learn = λ w i j c d at other is. record { all = is.all };
+      inject = λ w x read fine is. record { all = subst (λ (hosts : List (Host S)). Each (λ g. Steady g.node) hosts) (sym (hosts-posts w (from_script x))) is.all };
+      declare = λ w faulty rogue ending how is. record { all = is.all };
       same = λ w mark told is. record { all = is.all };
     }
 
@@ -96,7 +89,7 @@ steady-after m view ls = keeps-world_after (step_of m) AllSteady (keeps-steady m
 -- a host that is found takes any event
 steady-host_takes : {S : Type 0} (m : Meaning S) (i : ℕ) (event : NodeEvent) (w : World S) (found : Option (Host S)) → slice_get w.hosts i ≡ found → AllSteady w → AllSteady (host_takes (step_of m) i event w found)
 steady-host_takes m i event w None at is = is
-steady-host_takes m i event w (Some h) at is = steady-stepped m w i h event at is
+steady-host_takes m i event w (Some h) at is = either AllSteady (is_gone w h.node.id) w _ is (steady-stepped m w i h event at is)
 
 -- whatever comes to a node
 steady-node_takes : {S : Type 0} (m : Meaning S) (i : ℕ) (event : NodeEvent) (w : World S) → AllSteady w → AllSteady (node_takes (step_of m) i event w)
@@ -155,15 +148,21 @@ left-deliver {S = S} m k n waits is =
     let place : n'.replica.place ≡ n.replica.place + 1 = place-deliver m n waits in
     record { steady = steady-released n' (steady-step m n Deliver is.steady); enough = omega (arith, bit_low (nat_lt n'.firm (length n'.entries)), place, is.enough) }
 
+-- a host takes an event, unless its node is gone
+left-host : {S : Type 0} (m : Meaning S) (k i : ℕ) (event : NodeEvent) (w : World S) (h : Host S) → slice_get w.hosts i ≡ Some h → Left k (released (step_of m h.node event).node)
+    → (host_takes (step_of m) i event w (Some h) ≡ w) ⊎ LeftAt k (slice_get (host_takes (step_of m) i event w (Some h)).hosts i)
+left-host {S = S} m k i event w h at left =
+    either (λ (v : World S). (v ≡ w) ⊎ LeftAt k (slice_get v.hosts i)) (is_gone w h.node.id) w _ (inl refl)
+    (inr (subst (λ (hosts : List (Host S)). LeftAt k (slice_get hosts i)) (sym (hosts-stepped w i h (step_of m h.node event)))
+    (subst (LeftAt k) (sym (set_there w.hosts i h (host_after h (step_of m h.node event)) at)) left)))
+
 -- a node takes an event, unless the play has ended
 left-takes : {S : Type 0} (m : Meaning S) (k i : ℕ) (event : NodeEvent) (w : World S) (h : Host S) → slice_get w.hosts i ≡ Some h → Left k (released (step_of m h.node event).node)
     → (node_takes (step_of m) i event w ≡ w) ⊎ LeftAt k (slice_get (node_takes (step_of m) i event w).hosts i)
 unfolding node_takes
 left-takes {S = S} m k i event w h at left =
     either (λ (v : World S). (v ≡ w) ⊎ LeftAt k (slice_get v.hosts i)) (is_some w.ending) w _ (inl refl)
-    (inr (subst (λ (found : Option (Host S)). LeftAt k (slice_get (host_takes (step_of m) i event w found).hosts i)) (sym at)
-    (subst (λ (hosts : List (Host S)). LeftAt k (slice_get hosts i)) (sym (hosts-stepped w i h (step_of m h.node event)))
-    (subst (LeftAt k) (sym (set_there w.hosts i h (host_after h (step_of m h.node event)) at)) left))))
+    (subst (λ (found : Option (Host S)). (host_takes (step_of m) i event w found ≡ w) ⊎ LeftAt k (slice_get (host_takes (step_of m) i event w found).hosts i)) (sym at) (left-host m k i event w h at left))
 
 -- a turn of a host, by what is due there
 left-due : {S : Type 0} (m : Meaning S) (k i : ℕ) (w : World S) (h : Host S) (less waits : Bool) → nat_lt h.node.firm (length h.node.entries) ≡ less → is_some h.node.waiting ≡ waits
@@ -230,7 +229,8 @@ settles-line m view ls i = settles m i (world_after (step_of m) (begun m view) l
 pub settles-first : {S : Type 0} (m : Meaning S) (view : View) (ls : List Line) (members : List ℕ) (nodes i : ℕ) → HasSettled m i (settle (step_of m) i (flow_begins m view ls members nodes))
 settles-first m view ls members nodes i =
     settles m i (flow_begins m view ls members nodes)
-    (each_from_keeps AllSteady (at_listed members (settle (step_of m))) (at_listed-keeps AllSteady members (settle (step_of m)) (steady-settle m)) nodes 0 (world_after (step_of m) (begun m view) ls) (steady-after m view ls))
+    (each_from_keeps AllSteady (at_listed members (settles_present m members))
+    (at_listed-keeps AllSteady members (settles_present m members) (live-settles_present (step_of m) AllSteady (live (step_of m) AllSteady (keeps-steady m)) members)) nodes 0 (world_after (step_of m) (begun m view) ls) (steady-after m view ls))
 
 -- all nodes are steady in each turn of a flow
 steady-flow : {S : Type 0} (m : Meaning S) (view : View) (ls : List Line) (members : List ℕ) (k : ℕ) → AllSteady (flow_goes m view ls members k)

@@ -8,18 +8,14 @@ use Rattle.smart_messages.specs.Forms.{SignedBy}
 use Rattle.smart_messages.specs.Messages.{Batch}
 use Rattle.smart_messages.specs.declared.statement.Request.{Request}
 use Rattle.smart_messages.specs.declared.statement.Answer.{Answer}
-use Rattle.smart_messages.specs.declared.message.Message.{Message}
 use Rattle.smart_messages.specs.declared.entry.NodeEvent.{NodeEvent}
 use Rattle.smart_service.specs.Services.{Meaning}
 use Rattle.node_rules.specs.Nodes.{Node}
 use Rattle.node_rules.specs.Steps.{Outcome, step_of, leaving}
-use Rattle.node_rules.specs.declared.node.Held.{Held}
-use Rattle.node_rules.specs.declared.node.Target.{Target}
-use Rattle.node_rules.specs.declared.node.Target.TheVariants as targets
 use Rattle.client_quorum.specs.Clients.{learning}
 use Rattle.world_rules.specs.Clients.{heard}
-use Rattle.world_rules.specs.Promises.{IsRight, IsAnswered}
-use Rattle.world_rules.specs.Worlds.{Host, World, sends, sends_all, told_drop, told_fired, stepped, told_heard, acceptance_in, hearing, begun}
+use Rattle.world_rules.specs.Promises.{IsAnswered}
+use Rattle.world_rules.specs.Worlds.{Host, World, posts, told_drop, told_fired, stepped, told_heard, acceptance_in, hearing, begun}
 use Rattle.world_rules.specs.Plays.{line_played, rested, world_after, lines_told}
 use Rattle.client_quorum.specs.declared.client.Client.{Client}
 use Rattle.client_quorum.specs.declared.client.Acceptance.{Acceptance}
@@ -28,15 +24,13 @@ use Rattle.client_quorum.specs.declared.client.Heard.TheVariants as hears
 use Rattle.world_rules.specs.declared.line.Line.{Line}
 use Rattle.world_rules.specs.declared.line.OutLine.{OutLine}
 use Rattle.world_rules.specs.declared.line.OutLine.TheVariants as outs
-use Rattle.world_rules.specs.declared.message.Origin.{Origin}
-use Rattle.world_rules.specs.declared.message.Origin.TheVariants as origins
 use Rattle.world_rules.specs.declared.message.Sent.{Sent}
 use Rattle.world_laws.proofs.Lists.{each_end, each_append, each_weaker}
 use Rattle.world_laws.proofs.Numbered.{each_at_get}
-use Rattle.world_laws.proofs.Keeps.{IsBeside, outcome-beside, ask_of, asked_by, by-sends, Keeps, KeepsLive, live-line_played, keeps-world_after, signed_by, learned_line}
+use Rattle.world_laws.proofs.Keeps.{IsBeside, outcome-beside, ask_of, asked_by, by-posts, Keeps, KeepsLive, live-line_played, keeps-world_after, signed_by, learned_line, from_node, from_client, from_script, keeps-sends_all}
 use Rattle.world_laws.proofs.Hearing.{Accepts, accepts_waiting}
 use Rattle.world_laws.proofs.Asking.{ClientRight, ClientsRight, keeps-right, rested-right, right-begun}
-use Rattle.world_laws.proofs.Accepted.{AcceptedRight}
+use Rattle.world_laws.proofs.Accepted.{AcceptedRight, RightUnlessRogue}
 use Rattle.world_laws.proofs.Grows.{view-stays}
 
 -- the line that tells of an accepted reply
@@ -81,14 +75,9 @@ of_last (b ∷ accepted) a line is = inr (of_last accepted a line is)
 -- messages that leave
 
 -- a message that leaves tells of no accepted reply
-stems-sends : {S : Type 0} (w : World S) (origin : Origin) (to : Target) (message : Message) → ToldStems w → ToldStems (sends w origin to message)
-stems-sends {S = S} w origin to message is =
-    by-sends (λ (v : World S). ToldStems v) w origin to message (λ ending. record { all = is.all }) (λ free room. record { all = each_end (Stems w.accepted) w.told _ is.all (inl tt) })
-
--- nor do many
-stems-sends_all : {S : Type 0} (id : ℕ) (w : World S) (held : List Held) → ToldStems w → ToldStems (sends_all id w held)
-stems-sends_all id w [] is = is
-stems-sends_all id w (h ∷ hs) is = stems-sends_all id (sends w (origins.Node id) h.to h.message) hs (stems-sends w (origins.Node id) h.to h.message is)
+stems-posts : {S : Type 0} (w : World S) (s : Sent) → ToldStems w → ToldStems (posts w s)
+stems-posts {S = S} w s is =
+    by-posts (λ (v : World S). ToldStems v) w s (λ ending. record { all = is.all }) (λ free room. record { all = each_end (Stems w.accepted) w.told _ is.all (inl tt) })
 
 -- a node's step
 
@@ -96,7 +85,7 @@ stems-sends_all id w (h ∷ hs) is = stems-sends_all id (sends w (origins.Node i
 stems-stepped : {S : Type 0} (w : World S) (i : ℕ) (h : Host S) (o : Outcome S) → ToldStems w → ToldStems (stepped w i h o)
 unfolding stepped
 stems-stepped w i h o is =
-    stems-sends_all h.node.id _ (leaving o.node.firm o.node.held)
+    keeps-sends_all ToldStems h.node.id (λ v held stems. stems-posts v (from_node h.node.id held) stems) _ (leaving o.node.firm o.node.held)
     (record {
       all = each_append (Stems w.accepted) w.told _ is.all
           (each_weaker IsBeside (Stems w.accepted) (λ line beside. inl beside) (told_drop h.node.id o.dropped ++ flat_map (told_fired h.node.id) o.fired) (outcome-beside h.node.id o));
@@ -140,17 +129,19 @@ keeps-stemming : {S : Type 0} (step : Node S → NodeEvent → Outcome S) → Ke
 keeps-stemming step =
     let k = keeps-right step in
     record {
-      event = λ w i h event on at may is. (k.event w i h event on at may is.0, stems-stepped w i h (step h.node event) is.1);
+      event = λ w i h event on there at may is. (k.event w i h event on there at may is.0, stems-stepped w i h (step h.node event) is.1);
       hear = λ w i c x a on at has read is. (k.hear w i c x a on at has read is.0, stems-hearing w i c a (waits_own w i c at is.0) is.1);
       ask = λ w i c op on at free few brief is. (
         k.ask w i c op on at free few brief is.0,
-        stems-sends (asked_by w i c op) (origins.Client c.id) targets.View (ask_of c op) (record { all = is.1.all }),
+        stems-posts (asked_by w i c op) (from_client c (ask_of c op)) (record { all = is.1.all }),
       );
-      again = λ w i c q on at waits is. (k.again w i c q on at waits is.0, stems-sends w (origins.Client c.id) targets.View (signed_by c q) is.1);
+      again = λ w i c q on at waits is. (k.again w i c q on at waits is.0, stems-posts w (from_client c (signed_by c q)) is.1);
       learn = λ w i j c d on at other is. (
         k.learn w i j c d on at other is.0,
         record { all = each_end (Stems w.accepted) w.told (learned_line c d.seen) is.1.all (inr (inl (record { client = c.id; place = (learning c d.seen).seen; is = refl }))) },
       );
+      inject = λ w x on read fine is. (k.inject w x on read fine is.0, stems-posts w (from_script x) is.1);
+      declare = λ w faulty rogue ending on how is. (k.declare w faulty rogue ending on how is.0, record { all = is.1.all });
       mark = λ w s on at is. (k.mark w s on at is.0, record { all = is.1.all });
       tell = λ w line beside is. (k.tell w line beside is.0, record { all = each_end (Stems w.accepted) w.told line is.1.all (inl beside) });
     }
@@ -162,18 +153,14 @@ rested-stemming w is = (rested-right w is.0, record { all = tt })
 -- what was accepted stays so
 
 -- where a message leaves
-accepted-sends : {S : Type 0} (w : World S) (origin : Origin) (to : Target) (message : Message) → (sends w origin to message).accepted ≡ w.accepted
-accepted-sends {S = S} w origin to message = by-sends (λ (v : World S). v.accepted ≡ w.accepted) w origin to message (λ ending. refl) (λ free room. refl)
-
--- where many leave
-accepted-sends_all : {S : Type 0} (id : ℕ) (w : World S) (held : List Held) → (sends_all id w held).accepted ≡ w.accepted
-accepted-sends_all id w [] = refl
-accepted-sends_all id w (h ∷ hs) = accepted-sends_all id (sends w (origins.Node id) h.to h.message) hs ∙ accepted-sends w (origins.Node id) h.to h.message
+accepted-posts : {S : Type 0} (w : World S) (s : Sent) → (posts w s).accepted ≡ w.accepted
+accepted-posts {S = S} w s = by-posts (λ (v : World S). v.accepted ≡ w.accepted) w s (λ ending. refl) (λ free room. refl)
 
 -- where a node steps
 accepted-stepped : {S : Type 0} (w : World S) (i : ℕ) (h : Host S) (o : Outcome S) → (stepped w i h o).accepted ≡ w.accepted
 unfolding stepped
-accepted-stepped w i h o = accepted-sends_all h.node.id _ (leaving o.node.firm o.node.held)
+accepted-stepped {S = S} w i h o =
+    keeps-sends_all (λ (v : World S). v.accepted ≡ w.accepted) h.node.id (λ v held is. accepted-posts v (from_node h.node.id held) ∙ is) _ (leaving o.node.firm o.node.held) refl
 
 -- where a client hears, more is accepted
 accepted-hearing : {S : Type 0} (w : World S) (i : ℕ) (c : Client) (a : SignedBy Answer) (h : Heard) → (hearing w i c a h).accepted ≡ w.accepted ++ acceptance_in h
@@ -184,11 +171,13 @@ accepted-hearing w i c a h = refl
 keeps-stems : {S : Type 0} (step : Node S → NodeEvent → Outcome S) (line : OutLine) → Keeps step (λ w. Stems w.accepted line)
 keeps-stems step line =
     record {
-      event = λ w i h event at may stems. rw accepted-stepped stems;
+      event = λ w i h event there at may stems. rw accepted-stepped stems;
       hear = λ w i c x a at has read stems. rw accepted-hearing (stems_more w.accepted (acceptance_in (heard w.view c a)) line stems);
-      ask = λ w i c op at free few brief stems. rw accepted-sends stems;
-      again = λ w i c q at waits stems. rw accepted-sends stems;
+      ask = λ w i c op at free few brief stems. rw accepted-posts stems;
+      again = λ w i c q at waits stems. rw accepted-posts stems;
       learn = λ w i j c d at other stems. stems;
+      inject = λ w x read fine stems. rw accepted-posts stems;
+      declare = λ w faulty rogue ending how stems. stems;
       same = λ w mark told stems. stems;
     }
 
@@ -206,51 +195,52 @@ lines-stem {S = S} step w (l ∷ ls) is =
     (lines-stem step (rested played) ls (rested-stemming played stemming))
 
 -- a line that tells of no accepted reply
-beside-answered : {S : Type 0} (m : Meaning S) (view : View) (chosen : List Batch) (line : OutLine) → IsBeside line → IsAnswered m view chosen line
-beside-answered m view chosen (outs.Group members faulty app) beside = tt
-beside-answered m view chosen (outs.Sent number origin summary) beside = tt
-beside-answered m view chosen (outs.Decided member place) beside = tt
-beside-answered m view chosen (outs.Delivered member place executed) beside = tt
-beside-answered m view chosen (outs.Dropped member why) beside = tt
-beside-answered m view chosen (outs.Counted client have need) beside = tt
-beside-answered m view chosen (outs.Accepted client seq place index reply) beside = absurd beside
-beside-answered m view chosen (outs.Ignored client why) beside = tt
-beside-answered m view chosen (outs.Busy client seq) beside = tt
-beside-answered m view chosen (outs.Idle member) beside = tt
-beside-answered m view chosen (outs.IdleClient client) beside = tt
-beside-answered m view chosen (outs.Learned client place) beside = absurd beside
-beside-answered m view chosen (outs.Stands member place number regency) beside = tt
-beside-answered m view chosen (outs.Seen client place) beside = tt
-beside-answered m view chosen (outs.End lines messages) beside = tt
+beside-answered : {S : Type 0} (m : Meaning S) (view : View) (rogue : List ℕ) (chosen : List Batch) (line : OutLine) → IsBeside line → IsAnswered m view rogue chosen line
+beside-answered m view rogue chosen (outs.Group members faulty app) beside = tt
+beside-answered m view rogue chosen (outs.Sent number origin summary) beside = tt
+beside-answered m view rogue chosen (outs.Decided member place) beside = tt
+beside-answered m view rogue chosen (outs.Delivered member place executed) beside = tt
+beside-answered m view rogue chosen (outs.Dropped member why) beside = tt
+beside-answered m view rogue chosen (outs.Counted client have need) beside = tt
+beside-answered m view rogue chosen (outs.Accepted client seq place index reply) beside = absurd beside
+beside-answered m view rogue chosen (outs.Ignored client why) beside = tt
+beside-answered m view rogue chosen (outs.Busy client seq) beside = tt
+beside-answered m view rogue chosen (outs.Absent member) beside = tt
+beside-answered m view rogue chosen (outs.Idle member) beside = tt
+beside-answered m view rogue chosen (outs.IdleClient client) beside = tt
+beside-answered m view rogue chosen (outs.Learned client place) beside = absurd beside
+beside-answered m view rogue chosen (outs.Stands member place number regency) beside = tt
+beside-answered m view rogue chosen (outs.Seen client place) beside = tt
+beside-answered m view rogue chosen (outs.End lines messages) beside = tt
 
 -- a line that tells of an accepted reply that is right
-of-answered : {S : Type 0} (m : Meaning S) (view : View) (sent : List Sent) (chosen : List Batch) (accepted : List Acceptance) (line : OutLine)
-    → Each (IsRight m view sent chosen) accepted → IsOf accepted line → IsAnswered m view chosen line
-of-answered m view sent chosen [] line right is = absurd is
-of-answered m view sent chosen (a ∷ accepted) line right is =
+of-answered : {S : Type 0} (m : Meaning S) (view : View) (rogue : List ℕ) (sent : List Sent) (chosen : List Batch) (accepted : List Acceptance) (line : OutLine)
+    → Each (RightUnlessRogue m view rogue sent chosen) accepted → IsOf accepted line → IsAnswered m view rogue chosen line
+of-answered m view rogue sent chosen [] line right is = absurd is
+of-answered m view rogue sent chosen (a ∷ accepted) line right is =
     elim is [
-      | inl here ↦ subst (IsAnswered m view chosen) here (right.0.place_is, right.0.reply_is)
-      | inr later ↦ of-answered m view sent chosen accepted line right.1 later
+      | inl here ↦ subst (IsAnswered m view rogue chosen) here (elim right.0 [ inl breaks ↦ inl breaks | inr is_right ↦ inr (is_right.place_is, is_right.reply_is) ])
+      | inr later ↦ of-answered m view rogue sent chosen accepted line right.1 later
     ]
 
 -- a line that stems from accepted replies that are right
-stems-answered : {S : Type 0} (m : Meaning S) (view : View) (sent : List Sent) (chosen : List Batch) (accepted : List Acceptance) → Each (IsRight m view sent chosen) accepted
-    → (line : OutLine) → Stems accepted line → IsAnswered m view chosen line
-stems-answered m view sent chosen accepted right line stems =
+stems-answered : {S : Type 0} (m : Meaning S) (view : View) (rogue : List ℕ) (sent : List Sent) (chosen : List Batch) (accepted : List Acceptance) → Each (RightUnlessRogue m view rogue sent chosen) accepted
+    → (line : OutLine) → Stems accepted line → IsAnswered m view rogue chosen line
+stems-answered m view rogue sent chosen accepted right line stems =
     elim stems [
-      | inl beside ↦ beside-answered m view chosen line beside
+      | inl beside ↦ beside-answered m view rogue chosen line beside
       | inr other ↦ elim other [
-        | inl learned ↦ subst (IsAnswered m view chosen) learned.is tt
-        | inr is ↦ of-answered m view sent chosen accepted line right is
+        | inl learned ↦ subst (IsAnswered m view rogue chosen) learned.is tt
+        | inr is ↦ of-answered m view rogue sent chosen accepted line right is
       ]
     ]
 
 -- where all accepted replies are right, each line that tells of one tells the service's answer
 pub lines-answered : {S : Type 0} (m : Meaning S) (view : View) (ls : List Line) → AcceptedRight m (world_after (step_of m) (begun m view) ls)
-    → Each (IsAnswered m view (world_after (step_of m) (begun m view) ls).chosen) (lines_told (step_of m) (begun m view) ls)
+    → Each (IsAnswered m view (world_after (step_of m) (begun m view) ls).rogue (world_after (step_of m) (begun m view) ls).chosen) (lines_told (step_of m) (begun m view) ls)
 lines-answered {S = S} m view ls right =
     let after : World S = world_after (step_of m) (begun m view) ls in
     let same : after.view ≡ view = view-stays m (begun m view) ls in
-    each_weaker (Stems after.accepted) (IsAnswered m view after.chosen)
-    (stems-answered m view after.sent after.chosen after.accepted (subst (λ (v : View). Each (IsRight m v after.sent after.chosen) after.accepted) same right.all))
+    each_weaker (Stems after.accepted) (IsAnswered m view after.rogue after.chosen)
+    (stems-answered m view after.rogue after.sent after.chosen after.accepted (subst (λ (v : View). Each (RightUnlessRogue m v after.rogue after.sent after.chosen) after.accepted) same right.all))
     (lines_told (step_of m) (begun m view) ls) (lines-stem (step_of m) (begun m view) ls (right-begun m view, record { all = tt }))

@@ -28,14 +28,13 @@ use Rattle.node_rules.specs.Nodes.{Node, view_of, open_slot, is_free, is_open, h
 use Rattle.node_rules.specs.Arrivals.{signer_why, why_vote, why_dropped, kept, noted}
 use Rattle.node_rules.specs.Pools.{offered, settled}
 use Rattle.node_rules.specs.Rules.{reply_of, replying, lines_to_answer, deliver_batch, delivers, proposing, propose_batch, proposes, writing, write_batch, writes, backed, backers, accepting, accept_batch, accepts, deciding, decide_batch, decides, answering, answer_line, answers_again}
-use Rattle.node_rules.specs.Steps.{votes, passes, arrival_outcome, reading_outcome, step_of, opened}
+use Rattle.node_rules.specs.Steps.{votes, passes, arrival_outcome, reading_outcome, step_of, opened, released}
 use Rattle.node_rules.specs.declared.node.Why.{Why}
 use Rattle.node_rules.specs.declared.node.Target.TheVariants as targets
 use Rattle.kept_arrivals.specs.Kept.{node_after}
 use Rattle.world_laws.specs.Voters.{AreSome, IsAmong, IsCertificate, IsVoted, AllVoted}
-use Rattle.world_laws.proofs.Lists.{and_true, either, either_by, each_end, each_weaker}
+use Rattle.world_laws.proofs.Lists.{and_true, either, either_by, each_end, each_weaker, or_true}
 use Rattle.world_laws.proofs.Equal.{same_bytes-equal, same_kind-equal, same_slot-equal}
-use Rattle.world_laws.proofs.Said.{or_true}
 use Rattle.world_laws.proofs.InOrder.{views-delivered}
 use Rattle.world_laws.proofs.Authentic.{ForBatch, or_else-first, verified_where_signed}
 use Rattle.world_laws.proofs.Ascending.{rising-filter, rising-take, rising-distinct, view-rising}
@@ -170,7 +169,7 @@ voted-deliver_batch view m n (Some batch) is =
     (lines_to_answer m n batch)
     (record { in_force = ap present (views-delivered m n.replica batch) ∙ is.in_force; sealed = is.sealed; each = is.each })
 
-voted-delivers : {S : Type 0} (view : View) (m : Meaning S) (n : Node S) → Voted view n → Voted view (delivers m n)
+pub voted-delivers : {S : Type 0} (view : View) (m : Meaning S) (n : Node S) → Voted view n → Voted view (delivers m n)
 unfolding delivers
 voted-delivers view m n is = voted-deliver_batch view m n n.waiting is
 
@@ -204,6 +203,10 @@ voted-noted : {S : Type 0} (view : View) (n : Node S) (x : Message) → Voted vi
 unfolding noted
 voted-noted view n x is = record { in_force = is.in_force; sealed = is.sealed; each = is.each }
 
+-- and keeps the arrival
+pub voted-arrives : {S : Type 0} (view : View) (n : Node S) (x : Message) → why_dropped n x ≡ None → Voted view n → Voted view (kept (noted n x) x)
+voted-arrives view n x fine is = voted-kept view (noted n x) x (why-noted n x ∙ fine) (voted-noted view n x is)
+
 -- a node answers again
 voted-answer_line : {S : Type 0} (view : View) (n : Node S) (line : Option TableLine) → Voted view n → Voted view (answer_line n line)
 unfolding answer_line
@@ -227,7 +230,7 @@ voted-write_batch view n None is = is
 voted-write_batch view n (Some batch) is = record { in_force = is.in_force; sealed = is.sealed; each = each_end (IsVoted view n.secret n.arrivals) n.entries (Wrote (open_slot n) (digest_of batch)) is.each tt }
 
 -- a quorum's votes for a batch were kept
-abbrev IsBacked : {S : Type 0} → Node S → VoteKind → Batch → Type 0
+abbrev pub IsBacked : {S : Type 0} → Node S → VoteKind → Batch → Type 0
 IsBacked n kind batch = has_quorum n.arrivals (view_of n) kind (open_slot n) (digest_of batch) ≡ true
 
 -- of a batch that is backed
@@ -242,14 +245,14 @@ accepting_backed n =
     either (λ (found : Option Batch). ForBatch found (IsBacked n Write)) (is_open n && not (list_any (is_accepted (open_slot n)) n.entries))
     (backed n Write (proposal_of n.arrivals (open_slot n))) None (backed_quorum n Write (proposal_of n.arrivals (open_slot n))) tt
 
-deciding_backed : {S : Type 0} (n : Node S) → ForBatch (deciding n) (IsBacked n Accept)
+pub deciding_backed : {S : Type 0} (n : Node S) → ForBatch (deciding n) (IsBacked n Accept)
 unfolding deciding
 deciding_backed n =
     either (λ (found : Option Batch). ForBatch found (IsBacked n Accept)) (is_free n)
     (backed n Accept (proposal_of n.arrivals (open_slot n))) None (backed_quorum n Accept (proposal_of n.arrivals (open_slot n))) tt
 
 -- the backers of a batch are a certificate
-backers_certify : {S : Type 0} (view : View) (n : Node S) (kind : VoteKind) (batch : Batch) → is_view view ≡ true → Voted view n → IsBacked n kind batch
+pub backers_certify : {S : Type 0} (view : View) (n : Node S) (kind : VoteKind) (batch : Batch) → is_view view ≡ true → Voted view n → IsBacked n kind batch
     → IsCertificate view n.secret n.arrivals kind (open_slot n) batch (backers n kind batch)
 backers_certify view n kind batch viewed v is =
     let viewed' : is_view (view_of n) ≡ true = subst (λ (x : View). is_view x ≡ true) (sym v.in_force) viewed in
@@ -271,7 +274,7 @@ voted-decide_batch view n (Some batch) viewed back is =
     record { in_force = is.in_force; sealed = is.sealed; each = each_end (IsVoted view n.secret n.arrivals) n.entries (Decided (open_slot n) (backers n Accept batch) batch) is.each (backers_certify view n Accept batch viewed is back) }
 
 -- the voting rules
-voted-votes : {S : Type 0} (view : View) (n : Node S) → is_view view ≡ true → Voted view n → Voted view (votes n)
+pub voted-votes : {S : Type 0} (view : View) (n : Node S) → is_view view ≡ true → Voted view n → Voted view (votes n)
 unfolding votes proposes writes accepts
 voted-votes view n viewed is =
     let proposed : Voted view (proposes n) = voted-propose_batch view n (proposing n) is in
@@ -287,7 +290,7 @@ voted-passes view n viewed is = voted-decide_batch view (votes n) (deciding (vot
 voted-arrival : {S : Type 0} (view : View) (n : Node S) (x : Message) (why : Option Why) → is_view view ≡ true → why_dropped n x ≡ why → Voted view n → Voted view (arrival_outcome n x why).node
 voted-arrival {S = S} view n x None viewed fine is =
     let k : Node S = kept (noted n x) x in
-    voted-answers_again view (passes k) x (voted-passes view k viewed (voted-kept view (noted n x) x (why-noted n x ∙ fine) (voted-noted view n x is)))
+    voted-answers_again view (passes k) x (voted-passes view k viewed (voted-arrives view n x fine is))
 voted-arrival view n x (Some why) viewed fine is = voted-noted view n x is
 
 -- bytes that come, and their pass
@@ -296,7 +299,7 @@ voted-reading view n (Ok x) viewed is = voted-arrival view n x (why_dropped n x)
 voted-reading view n (Err at) viewed is = is
 
 -- a step keeps it
-voted-step : {S : Type 0} (view : View) (m : Meaning S) (n : Node S) (event : NodeEvent) → is_view view ≡ true → Voted view n → Voted view (step_of m n event).node
+pub voted-step : {S : Type 0} (view : View) (m : Meaning S) (n : Node S) (event : NodeEvent) → is_view view ≡ true → Voted view n → Voted view (step_of m n event).node
 unfolding step_of
 voted-step view m n (Arrive bytes) viewed is = voted-reading view n (decoded bytes) viewed is
 voted-step view m n Tick viewed is = voted-passes view n viewed is
@@ -313,3 +316,11 @@ voted_after view m n (e ∷ es) viewed is = voted_after view m (step_of m n e).n
 pub all_voted : {S : Type 0} (m : Meaning S) (secret : List ℕ) (id : ℕ) (view : View) (events : List NodeEvent) → is_view view ≡ true → AllVoted view (node_after m (opened m secret id view) events)
 all_voted m secret id view events viewed =
     record { each = (voted_after view m (opened m secret id view) events viewed (record { in_force = refl; sealed = tt; each = (tt, tt) })).each }
+
+-- messages that leave change nothing of it
+pub voted-released : {S : Type 0} (view : View) (n : Node S) → Voted view n → Voted view (released n)
+voted-released view n is = record { in_force = is.in_force; sealed = is.sealed; each = is.each }
+
+-- an opened node's book names no members
+pub voted-opened : {S : Type 0} (view : View) (m : Meaning S) (secret : List ℕ) (id : ℕ) → Voted view (opened m secret id view)
+voted-opened view m secret id = record { in_force = refl; sealed = tt; each = (tt, tt) }

@@ -1,32 +1,31 @@
 -- Who sends a message, and the entries on which it rests.
-use Rattle.std.specs.Prelude.{ℕ, ◌≡◌, ◌≤◌, ◌==◌, Bool, true, false, ◌&&◌, List, [], ◌∷◌, filter, take, slice_get, option_map, Ok}
+use Rattle.std.specs.Prelude.{ℕ, ◌≡◌, ◌≤◌, ◌==◌, Bool, true, false, ◌&&◌, ◌||◌, List, [], ◌∷◌, filter, take, Option, Some, None, Ok, Err}
 use Rattle.std.specs.List.{list_any, list_all}
 use Rattle.smart_base.specs.Lists.{Each, same_bytes}
 use Rattle.smart_base.specs.Views.{View, weight_of, quorum}
-use Rattle.smart_messages.specs.Equality.{same_slot}
 use Rattle.smart_messages.specs.Forms.{SignedBy}
 use Rattle.smart_messages.specs.Kinds.{requests, proposals, ballots, answers}
 use Rattle.smart_messages.specs.Messages.{spelling, decoded}
 use Rattle.smart_messages.specs.declared.statement.Request.{Request}
-use Rattle.smart_messages.specs.declared.statement.VoteKind.{VoteKind}
-use Rattle.smart_messages.specs.declared.statement.VoteKind.TheVariants.{Write, Accept}
-use Rattle.smart_messages.specs.declared.statement.Ballot.{Ballot}
 use Rattle.smart_messages.specs.declared.statement.Answer.{Answer}
 use Rattle.smart_messages.specs.declared.message.Message.{Message}
 use Rattle.smart_messages.specs.declared.message.Message.TheVariants.{Ask, Propose, Vote, Reply}
 use Rattle.smart_messages.specs.declared.entry.LogEntry.{LogEntry}
-use Rattle.smart_messages.specs.declared.entry.LogEntry.TheVariants.{Opened, Wrote, Accepted, Decided}
-use Rattle.node_rules.specs.Seals.{is_verified, digest_of}
+use Rattle.node_rules.specs.Seals.{is_verified}
 use Rattle.node_rules.specs.Nodes.{Node}
 use Rattle.node_rules.specs.Steps.{leaving}
 use Rattle.node_rules.specs.declared.node.Target.{Target}
 use Rattle.node_rules.specs.declared.node.Target.TheVariants as targets
+use Rattle.agreement_laws.specs.Books.{votes_for, decides_for}
 use Rattle.world_rules.specs.Secrets.{group_secret}
-use Rattle.client_quorum.specs.Clients.{is_waited_for, after_heard}
+use Rattle.world_rules.specs.Premises.{is_among}
+use Rattle.client_quorum.specs.Clients.{after_heard}
 use Rattle.world_rules.specs.Clients.{heard}
 use Rattle.world_rules.specs.Worlds.{Host, World}
 use Rattle.client_quorum.specs.declared.client.Client.{Client}
 use Rattle.client_quorum.specs.declared.client.Acceptance.{Acceptance}
+use Rattle.world_rules.specs.declared.message.Content.{Content}
+use Rattle.world_rules.specs.declared.message.Content.TheVariants as contents
 use Rattle.world_rules.specs.declared.message.Origin.{Origin}
 use Rattle.world_rules.specs.declared.message.Origin.TheVariants as origins
 use Rattle.world_rules.specs.declared.message.Sent.{Sent}
@@ -37,6 +36,17 @@ IsOwn origin to (Ask q) = origin ≡ origins.Client q.signer
 IsOwn origin to (Propose p) = origin ≡ origins.Node p.head.signer
 IsOwn origin to (Vote b) = origin ≡ origins.Node b.signer
 IsOwn origin to (Reply a) = (origin ≡ origins.Node a.signer) × (to ≡ targets.Client a.statement.client)
+
+abbrev pub IsOwnTo : Origin → Option Target → Content → Type 0
+IsOwnTo origin None content = ⊥
+IsOwnTo origin (Some to) (contents.Message message) = IsOwn origin to message
+IsOwnTo origin (Some to) (contents.Raw bytes) = ⊥
+
+-- what a node or a client sends is a message of its own, and what a script injects is for nobody
+abbrev pub IsOwnSent : Origin → Option Target → Content → Type 0
+IsOwnSent (origins.Node id) to content = IsOwnTo (origins.Node id) to content
+IsOwnSent (origins.Client id) to content = IsOwnTo (origins.Client id) to content
+IsOwnSent origins.Script to content = to ≡ None
 
 -- a message bears the tag of its signer, and so does each request of a batch
 abbrev pub is_tagged : Message → Bool
@@ -50,9 +60,30 @@ pub record IsGenuine (message : Message) : Type 0 where
   pub read : decoded (spelling message) ≡ Ok message
   pub tagged : is_tagged message ≡ true
 
--- each message that was sent
+-- bytes are read as no message
+pub record IsUnread (bytes : List ℕ) : Type 0 where
+  pub at : ℕ
+  pub unread : decoded bytes ≡ Err at
+
+-- a message is read from its bytes as itself, and bytes that are none are read as none
+abbrev pub IsReadAs : Content → Type 0
+IsReadAs (contents.Message message) = decoded (spelling message) ≡ Ok message
+IsReadAs (contents.Raw bytes) = IsUnread bytes
+
+abbrev pub IsGenuineContent : Content → Type 0
+IsGenuineContent (contents.Message message) = IsGenuine message
+IsGenuineContent (contents.Raw bytes) = ⊥
+
+-- what a node or a client sends is a genuine message. Of what a script injects nothing is said
+abbrev pub IsGenuineFrom : Origin → Content → Type 0
+IsGenuineFrom (origins.Node id) content = IsGenuineContent content
+IsGenuineFrom (origins.Client id) content = IsGenuineContent content
+IsGenuineFrom origins.Script content = Unit {0}
+
+-- all that was sent is read, and what nodes and clients sent is genuine
 pub record AllGenuine {S : Type 0} (w : World S) : Type 0 where
-  pub each : Each (λ s. IsGenuine s.message) w.sent
+  pub read : Each (λ s. IsReadAs s.content) w.sent
+  pub genuine : Each (λ s. IsGenuineFrom s.origin s.content) w.sent
 
 -- the replies behind an acceptance
 
@@ -84,50 +115,36 @@ pub record IsGiven (view : View) (q : Request) (replies : List (SignedBy Answer)
 abbrev pub is_of : ℕ → Origin → Bool
 is_of member (origins.Node id) = id == member
 is_of member (origins.Client id) = false
+is_of member origins.Script = false
 
 -- it is for a client
-abbrev pub is_for : ℕ → Target → Bool
-is_for client targets.View = false
-is_for client (targets.Client id) = id == client
+abbrev pub is_for : ℕ → Option Target → Bool
+is_for client None = false
+is_for client (Some targets.View) = false
+is_for client (Some (targets.Client id)) = id == client
 
--- a member has sent the client the reply that it accepted
-abbrev pub has_replied : List Sent → Acceptance → ℕ → Bool
-has_replied sent a member = list_any (λ s. is_of member s.origin && is_for a.request.client s.to && is_reply a s.message) sent
+-- it is a member's reply, with its tag, and the one that was accepted
+abbrev pub is_reply_of : ℕ → Acceptance → Content → Bool
+is_reply_of member a (contents.Message (Ask q)) = false
+is_reply_of member a (contents.Message (Propose p)) = false
+is_reply_of member a (contents.Message (Vote b)) = false
+is_reply_of member a (contents.Message (Reply r)) = (r.signer == member) && is_verified answers group_secret r && is_reply a (Reply r)
+is_reply_of member a (contents.Raw bytes) = false
+
+-- a member has sent the client the reply that it accepted; a faulty one may have had it injected
+abbrev pub has_replied : List ℕ → List Sent → Acceptance → ℕ → Bool
+has_replied faulty sent a member =
+    list_any (λ s. is_reply_of member a s.content && (is_among faulty member || (is_of member s.origin && is_for a.request.client s.to))) sent
 
 -- the members of the view that have are a quorum
-abbrev pub QuorumReplied : View → List Sent → Acceptance → Type 0
-QuorumReplied view sent a = quorum view ≤ weight_of view (filter (has_replied sent a) view.members)
+abbrev pub QuorumReplied : View → List ℕ → List Sent → Acceptance → Type 0
+QuorumReplied view faulty sent a = quorum view ≤ weight_of view (filter (has_replied faulty sent a) view.members)
 
 -- of each reply that a client accepted
 pub record QuorumsReplied {S : Type 0} (w : World S) : Type 0 where
-  pub each : Each (QuorumReplied w.view w.sent) w.accepted
+  pub each : Each (QuorumReplied w.view w.faulty w.sent) w.accepted
 
 -- the entries behind a message
-
--- an entry writes for what a vote names
-abbrev pub writes_for : Ballot → LogEntry → Bool
-writes_for b Opened = false
-writes_for b (Wrote s digest) = same_slot s b.slot && same_bytes digest b.digest
-writes_for b (Accepted s voters batch) = false
-writes_for b (Decided s voters batch) = false
-
--- an entry accepts what a vote names
-abbrev pub accepts_for : Ballot → LogEntry → Bool
-accepts_for b Opened = false
-accepts_for b (Wrote s digest) = false
-accepts_for b (Accepted s voters batch) = same_slot s b.slot && same_bytes (digest_of batch) b.digest
-accepts_for b (Decided s voters batch) = false
-
-abbrev pub votes_for : Ballot → VoteKind → LogEntry → Bool
-votes_for b Write entry = writes_for b entry
-votes_for b Accept entry = accepts_for b entry
-
--- an entry decides the request that a reply answers, at the reply's place and index
-abbrev pub decides_for : Answer → LogEntry → Bool
-decides_for a Opened = false
-decides_for a (Wrote s digest) = false
-decides_for a (Accepted s voters batch) = false
-decides_for a (Decided s voters batch) = (s.place == a.place) && is_waited_for (option_map (λ q. q.statement) (slice_get batch a.index)) a
 
 -- entries have the one on which a message rests: of a vote its own, of a reply the decision of its request. A request and a proposal
 -- rest on none
@@ -141,12 +158,18 @@ rests_on entries (Reply a) = list_any (decides_for a.statement) entries
 abbrev pub LeavesFirm : {S : Type 0} → Node S → Type 0
 LeavesFirm n = Each (λ h. rests_on (take n.firm n.entries) h.message ≡ true) (leaving n.firm n.held)
 
--- a message of a member rests on entries that are firm at that member's node
-abbrev pub IsBorne : {S : Type 0} → List (Host S) → Origin → Message → Type 0
-IsBorne hosts (origins.Node id) message = list_any (λ h. (h.node.id == id) && rests_on (take h.node.firm h.node.entries) message) hosts ≡ true
-IsBorne hosts (origins.Client id) message = Unit {0}
+abbrev pub is_rested : List LogEntry → Content → Bool
+is_rested entries (contents.Message message) = rests_on entries message
+is_rested entries (contents.Raw bytes) = false
 
--- each message that was sent names as its signer who sent it, and a member's vote or reply rests on entries that are firm at its node
+-- what a member sends rests on entries that are firm at that member's node
+abbrev pub IsBorne : {S : Type 0} → List (Host S) → Origin → Content → Type 0
+IsBorne hosts (origins.Node id) content = list_any (λ h. (h.node.id == id) && is_rested (take h.node.firm h.node.entries) content) hosts ≡ true
+IsBorne hosts (origins.Client id) content = Unit {0}
+IsBorne hosts origins.Script content = Unit {0}
+
+-- each message that was sent names as its signer who sent it, unless a script injected it, and a member's vote or reply rests on entries
+-- that are firm at its node
 pub record SentFirm {S : Type 0} (w : World S) : Type 0 where
-  pub own : Each (λ s. IsOwn s.origin s.to s.message) w.sent
-  pub borne : Each (λ s. IsBorne w.hosts s.origin s.message) w.sent
+  pub own : Each (λ s. IsOwnSent s.origin s.to s.content) w.sent
+  pub borne : Each (λ s. IsBorne w.hosts s.origin s.content) w.sent

@@ -1,11 +1,11 @@
 -- The worlds of a play in which a node settles.
-use Rattle.std.specs.Prelude.{ℕ, ◌+◌, ◌≡◌, List}
+use Rattle.std.specs.Prelude.{ℕ, ◌+◌, ◌≡◌, List, slice_get}
 use Rattle.smart_base.specs.Views.{View}
 use Rattle.smart_messages.specs.declared.entry.NodeEvent.TheVariants.{Arrive}
 use Rattle.smart_service.specs.Services.{Meaning}
 use Rattle.node_rules.specs.Steps.{step_of}
 use Rattle.world_rules.specs.Repeats.{repeated, each_from}
-use Rattle.world_rules.specs.Worlds.{World, node_takes, settle_once, settle, at_listed, settle_all, gives, flow_once, begun}
+use Rattle.world_rules.specs.Worlds.{World, node_takes, settle_once, at_listed, settle_present, settle_all, gives, flow_once, begun}
 use Rattle.world_rules.specs.Plays.{world_after}
 use Rattle.world_rules.specs.declared.line.Line.{Line}
 
@@ -13,9 +13,13 @@ use Rattle.world_rules.specs.declared.line.Line.{Line}
 abbrev pub HasSettled : {S : Type 0} → Meaning S → ℕ → World S → Type 0
 HasSettled m i w = settle_once (step_of m) i w ≡ w
 
+-- the node at an index settles, unless it is gone
+abbrev pub settles_present : {S : Type 0} → Meaning S → List ℕ → ℕ → World S → World S
+settles_present m members i w = settle_present (step_of m) members i w (slice_get w.hosts i)
+
 -- a flow over listed members begins, and the first of these nodes have settled
 abbrev pub flow_begins : {S : Type 0} → Meaning S → View → List Line → List ℕ → ℕ → World S
-flow_begins m view ls members nodes = each_from (at_listed members (settle (step_of m))) nodes 0 (world_after (step_of m) (begun m view) ls)
+flow_begins m view ls members nodes = each_from (at_listed members (settles_present m members)) nodes 0 (world_after (step_of m) (begun m view) ls)
 
 -- a flow over listed members has had so many turns
 abbrev pub flow_goes : {S : Type 0} → Meaning S → View → List Line → List ℕ → ℕ → World S

@@ -1,6 +1,6 @@
-//! The laws of quorums and of one node.
-ghost use Rattle.std.specs.Prelude.{◌≡◌, ◌+◌, ◌<◌, ◌≤◌, ℕ, List, Bool, true, false, length, filter};
-ghost use Rattle.smart_base.specs.Views.{View, is_view, quorum};
+//! The laws of one node.
+ghost use Rattle.std.specs.Prelude.{◌≡◌, ℕ, List, true};
+ghost use Rattle.smart_base.specs.Views.{View, is_view};
 ghost use Rattle.smart_messages.specs.declared.entry.NodeEvent.{NodeEvent};
 ghost use Rattle.node_rules.specs.Steps.{opened};
 ghost use Rattle.kept_arrivals.specs.Kept.{node_after};
@@ -8,19 +8,6 @@ ghost use Rattle.world_laws.specs.Books.{AcceptsOnce, DeliversInOrder};
 ghost use Rattle.world_laws.specs.Voters.{WritesOnce, AllVoted};
 
 use smart_service::service::Service;
-
-/// Two sets of members that are together more than all have a member in common.
-pub fn quorums_meet()
-    ensures { (p q : ℕ → Bool) (members : List ℕ) → length members < length (filter p members) + length (filter q members) →
-        (member : ℕ) × (p member ≡ true) × (q member ≡ true) }
-{}
-
-/// Two quorums of a view share a member that is not faulty, where at most f members are.
-pub fn quorums_share_a_correct_member()
-    ensures { (p q faulty : ℕ → Bool) (view : View) → length (filter faulty view.members) ≤ view.f →
-        quorum view ≤ length (filter p view.members) → quorum view ≤ length (filter q view.members) →
-        (member : ℕ) × (p member ≡ true) × (q member ≡ true) × (faulty member ≡ false) }
-{}
 
 /// Whatever comes, in whatever order, a node accepts at most one batch for a slot.
 pub fn accepts_once<S: Service>()

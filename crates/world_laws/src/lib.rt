@@ -9,3 +9,4 @@ pub mod laws;
 pub mod one_list;
 pub mod promises;
 pub mod rest;
+pub mod stated;

@@ -23,8 +23,10 @@ use smart_service::service::Service;
 
 /// Whatever replies come to a client that asks, in whatever order: what it accepts is a reply to its
 /// request, and a quorum of the view's members have given that very reply, each with its own tag. And
-/// in every play, of each reply that a client accepted, a quorum of the view's members have sent it to
-/// that client.
+/// in every play, of each reply that a client accepted, a quorum of the view's members have given it:
+/// of each member of that quorum the very reply, with that member's tag, is among the messages of the
+/// play, and a member that is not declared faulty has sent it itself, to that client. A faulty one's
+/// may stand in a message that a script injected.
 pub fn a_quorum_replied<S: Service>()
     ensures client { (view : View) (c : Client) (q : Request) (replies : List (SignedBy Answer)) (a : SignedBy Answer) (accepted : Acceptance) →
         heard view (hears_all view (asking c q) replies) a ≡ hears.Accepted accepted → IsGiven view q (replies ++ a ∷ []) accepted }
@@ -34,9 +36,9 @@ pub fn a_quorum_replied<S: Service>()
 /// A vote leaves only when its entry is firm, and a reply only when the decision of its request is.
 /// Of requests and proposals nothing is said. Whatever comes to a node that has let nothing go yet,
 /// each vote and reply that would leave it now rests on firm entries. And in each world of a play, as
-/// a flow begins and in each turn of it, while a node settles and while one takes bytes, each message
-/// that was sent names as its signer who sent it, and a vote or a reply rests on entries that are
-/// firm at that member's node.
+/// a flow begins and in each turn of it, while a node settles and while one takes bytes, what a node
+/// or a client has sent is a message that names it as its signer, and a vote or a reply that a node
+/// has sent rests on entries that are firm there. What a script injects is for nobody.
 pub fn votes_leave_when_firm<S: Service>()
     ensures node { (secret : List ℕ) (id : ℕ) (view : View) (events : List NodeEvent) → LeavesFirm (node_after S.meaning (opened S.meaning secret id view) events) }
     ensures first { (view : View) (ls : List Line) (members : List ℕ) (nodes i k : ℕ) → SentFirm (repeated (settle_once (step_of S.meaning) i) k (flow_begins S.meaning view ls members nodes)) }
@@ -44,8 +46,10 @@ pub fn votes_leave_when_firm<S: Service>()
         SentFirm (node_goes S.meaning bytes i k (message_goes S.meaning members bytes nodes (flow_goes S.meaning view ls members turn))) }
 {}
 
-/// In every play each message that was sent is read from its bytes as itself, by whoever is given
-/// them, and bears the tag of its signer over its statement. So does each request of a batch in it.
+/// In every play each message that was sent, also one that a script injected, is read from its bytes
+/// as itself, by whoever is given them, and bytes that are no message are read as none. What a node
+/// or a client sends is a message, and bears the tag of its signer over its statement. So does each
+/// request of a batch in it.
 pub fn what_is_sent_is_read<S: Service>()
     ensures { (view : View) (ls : List Line) → is_view view ≡ true → AllGenuine (world_after (step_of S.meaning) (begun S.meaning view) ls) }
 {}

@@ -1,0 +1,61 @@
+-- What has been stated in a world, what its nodes' books have that is firm, and the decisions among what has been stated.
+use Rattle.std.specs.Prelude.{ℕ, suc, ◌⊎◌, List, [], ◌∷◌, take, Option, Some, None}
+use Rattle.std.specs.List.{flat_map}
+use Rattle.smart_base.specs.Views.{View}
+use Rattle.smart_messages.specs.Forms.{SignedBy}
+use Rattle.smart_messages.specs.Messages.{Batch}
+use Rattle.smart_messages.specs.declared.statement.Request.{Request}
+use Rattle.smart_messages.specs.declared.statement.Slot.{Slot}
+use Rattle.smart_messages.specs.declared.entry.LogEntry.{LogEntry}
+use Rattle.node_rules.specs.Seals.{digest_of}
+use Rattle.agreement_laws.specs.Statements.{Among, Statement, Asked, statements}
+use Rattle.agreement_laws.specs.Certificates.{IsDecision}
+use Rattle.agreement_laws.specs.Law.{Witnessed}
+use Rattle.world_rules.specs.Secrets.{group_secret}
+use Rattle.world_rules.specs.Premises.{is_among}
+use Rattle.world_rules.specs.Promises.{HasAsked, IsRogue}
+use Rattle.world_rules.specs.Worlds.{Host, World, host_of}
+use Rattle.world_rules.specs.declared.message.Content.{Content}
+use Rattle.world_rules.specs.declared.message.Content.TheVariants as contents
+use Rattle.world_rules.specs.declared.message.Sent.{Sent}
+
+-- the statements in a content whose tags verify
+abbrev pub stated_in : Content → List Statement
+stated_in (contents.Message message) = statements group_secret message
+stated_in (contents.Raw bytes) = []
+
+-- all that has been stated in what was sent, by whomever
+abbrev pub stated : List Sent → List Statement
+stated sent = flat_map (λ s. stated_in s.content) sent
+
+-- the entries of a host's book that are firm
+abbrev pub diary_of : {S : Type 0} → Option (Host S) → List LogEntry
+diary_of None = []
+diary_of (Some h) = take h.node.firm h.node.entries
+
+-- a member's diary
+abbrev pub diary : {S : Type 0} → World S → ℕ → List LogEntry
+diary w member = diary_of (host_of w.hosts member)
+
+-- the slot of a place at the first regency of a view
+abbrev pub slot_at : View → ℕ → Slot
+slot_at view place = record { view = view.number; place = place; regency = 0 }
+
+-- a quorum of a view has accepted a batch of this digest at a place
+pub record Certified (stated : List Statement) (view : View) (place : ℕ) (digest : List ℕ) : Type 0 where
+  pub voters : List ℕ
+  pub decision : IsDecision view stated (slot_at view place) digest voters
+
+-- each batch of a list that stands from a place on is certified there
+abbrev pub AllCertified : List Statement → View → ℕ → List Batch → Type 0
+AllCertified stated view place [] = Unit {0}
+AllCertified stated view place (batch ∷ batches) = Certified stated view place (digest_of batch) × AllCertified stated view (suc place) batches
+
+-- what members have stated is witnessed by what is firm at their nodes, and each chosen batch has a decision among what has been stated
+pub record IsWitnessed {S : Type 0} (w : World S) : Type 0 where
+  pub witnessed : Witnessed w.view (is_among w.faulty) (diary w) (stated w.sent)
+  pub chosen : AllCertified (stated w.sent) w.view 1 w.chosen
+
+-- each request that has been stated, in whosever message, was sent by its client, unless the client is rogue
+pub record StatedAsked {S : Type 0} (w : World S) : Type 0 where
+  pub each : (q : SignedBy Request) → Among (Asked q) (stated w.sent) → IsRogue w.rogue q.statement.client ⊎ HasAsked w.sent q.statement
