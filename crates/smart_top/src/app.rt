@@ -44,7 +44,8 @@ fn play_line<S: Service>(
 impl AppPlay {
     /// The play of a service at the end of a header.
     pub fn begin(alloc: Global, app: App, view: View) -> Result<AppPlay, AllocError>
-        ensures { IfOk result (λ play. play ≡ app_begun app view) }
+        ensures begun { IfOk result (λ play. play ≡ app_begun app view) }
+        ensures going { IfOk result (λ play. is_over play ≡ false) }
     {
         match app {
             App::Count => Ok(AppPlay::Count(World::begin(alloc, view)?)),

@@ -75,6 +75,8 @@ fn kind_name(kind: Kind) -> &'static str {
 
 fn premise_name(which: Premise) -> &'static str {
     match which {
+        Premise::TooManyFaulty => "TooManyFaulty",
+        Premise::Forged => "Forged",
         Premise::Collision => "Collision",
     }
 }
