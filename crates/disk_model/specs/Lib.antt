@@ -1,0 +1,7 @@
+pub mod Cells
+pub mod Calls
+pub mod Undo
+pub mod Platters
+pub mod Replay
+pub mod Memory
+pub mod Laws

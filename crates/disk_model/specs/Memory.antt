@@ -1,0 +1,26 @@
+-- What disks in memory mean.
+use Rattle.std.specs.Prelude.{ℕ, List, length}
+use Rattle.disk_model.specs.Cells.{Cells, IsWrong}
+use Rattle.disk_model.specs.Platters.{cells_of}
+use Rattle.disk_model.specs.Replay.{LeftSince}
+use Rattle.disk_model.specs.declared.image.ImageFault.{ImageFault}
+use Rattle.disk_model.specs.declared.image.ImageFault.TheVariants.{NotAnImage, NoMemory}
+use Rattle.disk_model.specs.declared.memory.MemDisk.{MemDisk}
+use Rattle.disk_model.specs.declared.plain.PlainDisk.{PlainDisk}
+
+abbrev pub disk_cells : MemDisk → Cells
+disk_cells d = cells_of d.platter
+
+abbrev pub disk_moment : MemDisk → ℕ
+disk_moment d = length d.changes.items
+
+abbrev pub disk_left : MemDisk → ℕ → List ℕ → Type 0
+disk_left d t c = LeftSince d.first d.changes.items t c
+
+abbrev pub plain_cells : PlainDisk → Cells
+plain_cells d = cells_of d.platter
+
+-- why bytes make no disk
+abbrev pub Refuses : ImageFault → Cells → List ℕ → Type 0
+Refuses (NotAnImage at) s bytes = IsWrong s bytes at
+Refuses NoMemory s bytes = Unit {0}

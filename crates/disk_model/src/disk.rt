@@ -1,0 +1,79 @@
+//! What the calls of a disk do, and what a crash may leave of it.
+ghost use Rattle.std.specs.Prelude.{◌≡◌, ◌≤◌, ◌+◌, ◌<◌, ◌^◌, List, ℕ, length, take, drop, IfOk, OnOk};
+ghost use Rattle.faults.specs.Counts.{HasCause};
+ghost use Rattle.disk_model.specs.Cells.{Cells, IsImage, IsSound, Within, written, cut_to, settled};
+ghost use Rattle.disk_model.specs.Calls.{Elapses};
+
+use faults::Fault;
+use smart_base::sequence::Bytes;
+use std::alloc::Global;
+
+/// A disk. Between two syncs each range that was written, and all past the shortest length since
+/// the last sync, may hold any bytes, and the length may be any between the shortest and the
+/// greatest since then; other bytes stay.
+pub trait Disk {
+    /// Whether the disk tells its contents. Each clause on contents has this premise: of a real file
+    /// nothing is told.
+    ghost told: { Type 0 };
+
+    /// Whether it tells what a crash at an earlier moment might have left.
+    ghost remembers: { Type 0 };
+
+    /// What a read gives, and what is not yet sure.
+    ghost cells: { Self → Cells };
+
+    /// The moment, as a number that does not fall.
+    ghost moment: { Self → ℕ };
+
+    /// What a crash at some moment from that one on might have left, during a call or between two.
+    ghost left_since: { Self → ℕ → List ℕ → Type 0 };
+
+    /// How often it has failed.
+    ghost faults: { Self → ℕ };
+
+    /// How many bytes it has.
+    fn len(&mut self) -> Result<u64, Fault>
+        ensures length { IfOk result (λ n. told → n ≡ length (cells self.old).now) }
+        ensures same { told → cells self.new ≡ cells self.old }
+        ensures time { Elapses (moment self.old) (moment self.new) (left_since self.old) (left_since self.new) (IsImage (cells self.new)) }
+        ensures cause { HasCause (faults self.old) (faults self.new) result };
+
+    /// The bytes from `at` on, as many as `count` or all where there are fewer.
+    fn read(&mut self, alloc: Global, at: u64, count: u64) -> Result<Bytes, Fault>
+        ensures bytes { IfOk result (λ bytes. told → bytes ≡ take count (drop at (cells self.old).now)) }
+        ensures same { told → cells self.new ≡ cells self.old }
+        ensures time { Elapses (moment self.old) (moment self.new) (left_since self.old) (left_since self.new) (IsImage (cells self.new)) }
+        ensures cause { HasCause (faults self.old) (faults self.new) result };
+
+    /// Writes over what is there, and past the end. A call that fails may have done any part of it.
+    fn write_at(&mut self, at: u64, bytes: &[u8]) -> Result<(), Fault>
+        requires { told → at ≤ length (cells self.old).now }
+        ensures written { OnOk result (told → cells self.new ≡ written at bytes.now (cells self.old)) }
+        ensures torn { told → Within (cells self.new) (written at bytes.now (cells self.old)) }
+        ensures room { OnOk result (at + length bytes.now < 2 ^ 63) }
+        ensures time { Elapses (moment self.old) (moment self.new) (left_since self.old) (left_since self.new) (IsImage (cells self.new)) }
+        ensures cause { HasCause (faults self.old) (faults self.new) result };
+
+    /// Cuts it to a length. A call that fails may have done any part of it.
+    fn cut(&mut self, to: u64) -> Result<(), Fault>
+        ensures cut { OnOk result (told → cells self.new ≡ cut_to to (cells self.old)) }
+        ensures torn { told → Within (cells self.new) (cut_to to (cells self.old)) }
+        ensures time { Elapses (moment self.old) (moment self.new) (left_since self.old) (left_since self.new) (IsImage (cells self.new)) }
+        ensures cause { HasCause (faults self.old) (faults self.new) result };
+
+    /// After it a crash leaves what a read gives. A call that fails makes nothing sure.
+    fn sync(&mut self) -> Result<(), Fault>
+        ensures settled { OnOk result (told → cells self.new ≡ settled (cells self.old).now) }
+        ensures torn { told → Within (cells self.new) (cells self.old) }
+        ensures time { Elapses (moment self.old) (moment self.new) (left_since self.old) (left_since self.new) (IsImage (cells self.new)) }
+        ensures cause { HasCause (faults self.old) (faults self.new) result };
+
+    /// What a read gives is an image, and so is what it gave at the last sync.
+    ghost is_sound: { (disk : Self) → told → IsSound (cells disk) };
+
+    /// This moment is one of those since an earlier one.
+    ghost counts_now: { (disk : Self) (t : ℕ) (c : List ℕ) → t ≤ moment disk → IsImage (cells disk) c → left_since disk t c };
+
+    /// Since this moment there is no other.
+    ghost only_now: { remembers → (disk : Self) (c : List ℕ) → left_since disk (moment disk) c → IsImage (cells disk) c };
+}

@@ -1,0 +1,198 @@
+//! A disk in memory that remembers. It keeps its first contents and each change, so that what a
+//! crash at any moment might have left is known, and it fails where it is told to.
+ghost use Rattle.std.specs.Prelude.{◌≡◌, ◌≤◌, ◌<◌, ◌+◌, ◌^◌, ℕ, length, IfOk, IfErr, OnOk, OnErr};
+ghost use Rattle.disk_model.specs.Cells.{settled};
+ghost use Rattle.disk_model.specs.Replay.{replay};
+ghost use Rattle.disk_model.specs.Platters.{cells_of};
+
+use crate::disk::Disk;
+use crate::image::{ImageFault, NotAnImage};
+use crate::platter::{Change, Platter, Range, has_room};
+use faults::Fault;
+use smart_base::sequence::Bytes;
+use std::alloc::{AllocError, Global};
+
+#[derive(Drop)]
+pub struct MemDisk {
+    first: Bytes,
+    changes: Vec<Change>,
+    platter: Platter,
+    failing: Vec<u64>,
+    made: u64,
+    faults: u64,
+    ghost replayed: { replay changes.items (settled first) ≡ cells_of platter },
+}
+
+impl MemDisk {
+    ghost use Rattle.std.specs.Prelude.{IsErrOf};
+    ghost use Rattle.faults.specs.Counts.{Rose};
+    ghost use Rattle.disk_model.specs.Cells.{IsImage};
+    ghost use Rattle.disk_model.specs.Calls.{Elapses};
+    ghost use Rattle.disk_model.specs.Replay.{change_cells, Begins};
+    ghost use Rattle.disk_model.specs.Memory.{disk_cells, disk_moment, disk_left, Refuses};
+
+    /// A disk with these bytes, all of them sure. Its calls `write_at`, `cut` and `sync` of these
+    /// numbers, counted from 1, fail.
+    pub fn new(alloc: Global, bytes: Bytes, failing: Vec<u64>) -> Result<Self, AllocError>
+        ensures { IfOk result (λ d. disk_cells d ≡ settled bytes) }
+    {
+        let first = Bytes::from_slice(alloc, bytes.as_slice())?;
+        Ok(MemDisk {
+            first,
+            changes: Vec::new(alloc),
+            platter: Platter::new(alloc, bytes),
+            failing,
+            made: 0,
+            faults: 0,
+        })
+    }
+
+    /// The disk that a crash now leaves, where these bytes are an image of this one. It never fails.
+    pub fn image(&self, alloc: Global, bytes: Bytes) -> Result<MemDisk, ImageFault>
+        ensures ok { IfOk result (λ d. IsImage (disk_cells self.now) bytes × (disk_cells d ≡ settled bytes)) }
+        ensures not { IfErr result (λ e. Refuses e (disk_cells self.now) bytes) }
+    {
+        let first = Bytes::from_slice(alloc, bytes.as_slice())?;
+        match self.platter.image(alloc, bytes) {
+            Ok(platter) => Ok(MemDisk {
+                first,
+                changes: Vec::new(alloc),
+                platter,
+                failing: Vec::new(alloc),
+                made: 0,
+                faults: 0,
+            }),
+            Err(NotAnImage { at }) => Err(ImageFault::NotAnImage { at }),
+        }
+    }
+
+    /// What a read gives.
+    pub fn as_read(&self) -> &[u8]
+        ensures { result.now ≡ (disk_cells self.now).now }
+    {
+        &self.platter.contents
+    }
+
+    /// What a read gave at the last sync.
+    pub fn as_synced(&self, alloc: Global) -> Result<Bytes, AllocError>
+        ensures { IfOk result (λ bytes. bytes ≡ (disk_cells self.now).sure) }
+    {
+        self.platter.as_synced(alloc)
+    }
+
+    /// Makes a change and notes it. Without memory nothing is done.
+    fn make(&mut self, change: Change) -> Result<(), AllocError>
+        requires { Begins change (disk_cells self.old) }
+        ensures ok { OnOk result (disk_cells self.new ≡ change_cells change (disk_cells self.old)) }
+        ensures err { OnErr result (disk_cells self.new ≡ disk_cells self.old) }
+        ensures time { Elapses (disk_moment self.old) (disk_moment self.new) (disk_left self.old) (disk_left self.new) (IsImage (disk_cells self.new)) }
+        ensures faults { self.new.faults ≡ self.old.faults }
+    {
+        self.changes.reserve(1)?;
+        self.platter.apply(&change)?;
+        self.changes.push_reserved(change);
+        Ok(())
+    }
+
+    /// Counts a changing call, and tells whether it is to fail.
+    fn is_to_fail(&mut self) -> bool
+        ensures platter { self.new.platter ≡ self.old.platter }
+        ensures changes { self.new.changes ≡ self.old.changes }
+        ensures first { self.new.first ≡ self.old.first }
+        ensures faults { self.new.faults ≡ self.old.faults }
+    {
+        self.made = self.made.saturating_add(1);
+        self.failing.contains(&self.made)
+    }
+
+    /// Counts a fault.
+    fn fault(&mut self) -> Fault
+        ensures platter { self.new.platter ≡ self.old.platter }
+        ensures changes { self.new.changes ≡ self.old.changes }
+        ensures first { self.new.first ≡ self.old.first }
+        ensures rose { Rose self.old.faults self.new.faults }
+        ensures later { self.old.faults ≤ self.new.faults }
+    {
+        self.faults = self.faults.saturating_add(1);
+        Fault::Failed
+    }
+}
+
+impl Disk for MemDisk {
+    ghost use Rattle.disk_model.specs.Memory.{disk_cells, disk_moment, disk_left};
+    ghost use Rattle.disk_model.specs.Laws.{counts_now, only_now};
+
+    ghost told = { Unit {0} };
+
+    ghost remembers = { Unit {0} };
+
+    ghost cells = { disk_cells };
+
+    ghost moment = { disk_moment };
+
+    ghost left_since = { disk_left };
+
+    ghost faults = { λ d. d.faults };
+
+    fn len(&mut self) -> Result<u64, Fault> {
+        Ok(self.platter.contents.len() as u64)
+    }
+
+    fn read(&mut self, alloc: Global, at: u64, count: u64) -> Result<Bytes, Fault> {
+        match self.platter.read(alloc, at, count) {
+            Ok(bytes) => Ok(bytes),
+            Err(_) => Err(Fault::NoMemory),
+        }
+    }
+
+    fn write_at(&mut self, at: u64, bytes: &[u8]) -> Result<(), Fault> {
+        let is_to_fail = self.is_to_fail();
+        if !has_room(at, bytes.len() as u64) {
+            return Err(Fault::NoMemory);
+        }
+        if is_to_fail {
+            let upto = at + bytes.len() as u64;
+            return match self.make(Change::TornWrite(Range { from: at, upto })) {
+                Ok(()) => Err(self.fault()),
+                Err(_) => Err(Fault::NoMemory),
+            };
+        }
+        let copy = match Bytes::from_slice(*self.changes.allocator(), bytes) {
+            Ok(copy) => copy,
+            Err(_) => return Err(Fault::NoMemory),
+        };
+        match self.make(Change::Wrote(at, copy)) {
+            Ok(()) => Ok(()),
+            Err(_) => Err(Fault::NoMemory),
+        }
+    }
+
+    fn cut(&mut self, to: u64) -> Result<(), Fault> {
+        if self.is_to_fail() {
+            if self.make(Change::TornCut(to)).is_err() {
+                return Err(Fault::NoMemory);
+            }
+            return Err(self.fault());
+        }
+        if self.make(Change::Cut(to)).is_err() {
+            return Err(Fault::NoMemory);
+        }
+        Ok(())
+    }
+
+    fn sync(&mut self) -> Result<(), Fault> {
+        if self.is_to_fail() {
+            return Err(self.fault());
+        }
+        if self.make(Change::Synced).is_err() {
+            return Err(Fault::NoMemory);
+        }
+        Ok(())
+    }
+
+    ghost is_sound = { λ d _. d.platter.sound };
+
+    ghost counts_now = { λ d t c le image. counts_now d.first d.changes.items (disk_cells d) t c d.replayed le image };
+
+    ghost only_now = { λ _ d c left. only_now d.first d.changes.items (disk_cells d) c d.replayed left };
+}

@@ -1,0 +1,43 @@
+//! Checkpoints.
+ghost use Rattle.std.specs.Prelude.{◌≡◌, ◌<◌, ◌^◌, ◌++◌, length, OnOk};
+ghost use Rattle.smart_base.specs.Cuts.{Gives};
+ghost use Rattle.store_form.specs.Spelling.{IsCheckpoint, checkpoint_text};
+ghost use Rattle.store_form.specs.Reading.{checkpoint_at};
+
+use crate::group::take_entry;
+use smart_base::cursor::Cursor;
+use smart_base::fault::ReadError;
+use smart_base::field::{put_text, put_u64};
+use smart_base::sequence::Bytes;
+use std::alloc::{AllocError, Global};
+
+/// A snapshot, and the number of its generation.
+#[derive(Drop)]
+pub struct Checkpoint {
+    pub generation: u64,
+    pub snapshot: Bytes,
+}
+
+/// A checkpoint that stands behind its gate. An `Err` leaves the cursor anywhere.
+#[tactic(auto, unfolding(crate::specs::Reading::checkpoint_at))]
+pub fn take_checkpoint(alloc: Global, cut: &mut Cursor<'_>) -> Result<Checkpoint, ReadError>
+    ensures { Gives result cut.new (checkpoint_at cut.old) }
+{
+    let generation = cut.take_u64()?;
+    let snapshot = take_entry(alloc, cut)?;
+    Ok(Checkpoint {
+        generation,
+        snapshot,
+    })
+}
+
+/// Adds what stands behind the gate of a slot with this snapshot.
+#[tactic(auto, unfolding(crate::specs::Spelling::checkpoint_text))]
+pub fn put_checkpoint(out: &mut Vec<u8>, generation: u64, snapshot: &[u8]) -> Result<(), AllocError>
+    requires { length snapshot.now < 2 ^ 32 }
+    ensures { OnOk result (out.new.items ≡ out.old.items ++ checkpoint_text (record { generation = generation; snapshot = snapshot.now })) }
+{
+    put_u64(out, generation)?;
+    put_text(out, snapshot)?;
+    Ok(())
+}
