@@ -29,7 +29,7 @@ fastest() {
     done | sort -n | head -n 1
 }
 
-# One way to carry entries. Prints a line, and leaves the entries a second in the file `rate`.
+# One way to carry entries. Prints a line, and leaves the seconds in a file by that way's name.
 measure() {
     once=$(fastest "$1" "$n")
     twice=$(fastest "$1" $((2 * n)))

@@ -28,7 +28,7 @@ impl<T: Drop> PutEnd<T> {
     ghost use Rattle.queue_ends.specs.Ends.{put_list, heard_taken, put_queue, put_capacity, told_put, told_taken, told_queue, IsSamePut};
 
     /// Puts an item at the back. It comes back only where the queue was full at one moment of the
-    /// call, so that it held all items that were put but those that were heard to be taken.
+    /// call, so that at least its capacity more were put than were heard to be taken.
     pub fn put<R: Wait>(&mut self, rt: &R, item: T) -> Result<(), T>
         requires { length (put_list self.old) < 2 ^ 62 }
         ensures queue { IsSamePut self.old self.new }
