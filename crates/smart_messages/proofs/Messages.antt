@@ -88,7 +88,7 @@ propose_takes c y bs e =
     ((refl, (t.0, u.0)), spelled-then c (signed proposals a.0.0) a.0.1 (batch_text b.0.0) b.0.1 t.1 u.1)
 
 -- which branch a test took
-picked : {A P : Type 0} (t : Bool) (k n : ℕ) (x r : Result A ℕ) (y : A) → eqb k n ≡ t → cond t x r ≡ Ok y
+pub picked : {A P : Type 0} (t : Bool) (k n : ℕ) (x r : Result A ℕ) (y : A) → eqb k n ≡ t → cond t x r ≡ Ok y
     → (k ≡ n → x ≡ Ok y → P) → (eqb k n ≡ false → r ≡ Ok y → P) → P
 picked true k n x r y h e f g = f (eqb-true k n h) e
 picked false k n x r y h e f g = g h e
@@ -99,7 +99,7 @@ last_of false true c d e p q r = absurd cc
 last_of false false true d e p q r = absurd cc
 last_of false false false d e p q r = e
 
-body_takes : (k : ℕ) → is_kind k ≡ true → (c : Cut) (y : Message × Cut) → IsBytes c.left → body_at k c ≡ Ok y → IsTaken k c y.0 y.1
+pub body_takes : (k : ℕ) → is_kind k ≡ true → (c : Cut) (y : Message × Cut) → IsBytes c.left → body_at k c ≡ Ok y → IsTaken k c y.0 y.1
 unfolding body_at
 body_takes k known c y bs e =
     picked (eqb k 1) k 1 _ _ y refl e (λ same one. subst (λ (k : ℕ). IsTaken k c y.0 y.1) (sym same) (ask_takes c y bs one)) λ n1 e2.
@@ -108,7 +108,7 @@ body_takes k known c y bs e =
     subst (λ (k : ℕ). IsTaken k c y.0 y.1) (sym (eqb-true k 8 (last_of (eqb k 1) (eqb k 2) (eqb k 3) (eqb k 8) known n1 n2 n3)))
     (reply_takes c y bs e4)
 
-content_again : (c : Cut) (m : Message) (d : Cut) → FitsContent m → Spelled c (content m) d → body_at (kind m) c ≡ Ok (m, d)
+pub content_again : (c : Cut) (m : Message) (d : Cut) → FitsContent m → Spelled c (content m) d → body_at (kind m) c ≡ Ok (m, d)
 unfolding body_at ask_at propose_at vote_at reply_at
 content_again c (Ask a) d h s = bind_is (signed_at requests c) (λ a. Ok (Ask a.0, a.1)) (a, d) (ask_law.again c a d h s)
 content_again c (Vote a) d h s = bind_is (signed_at ballots c) (λ a. Ok (Vote a.0, a.1)) (a, d) (vote_law.again c a d h s)
@@ -120,7 +120,7 @@ content_again c (Propose p) d h s =
     ∙ bind_is (batch_at requests m) (λ b. Ok (Propose (record { head = p.head; batch = b.0 }), b.1)) (p.batch, d)
     (batch_law.again m p.batch d h.1 (spelled-back c (signed proposals p.head) (batch_text p.batch) d s))
 
-kind_fits : (m : Message) → (kind m < 2 ^ 8) × (is_kind (kind m) ≡ true)
+pub kind_fits : (m : Message) → (kind m < 2 ^ 8) × (is_kind (kind m) ≡ true)
 kind_fits (Ask a) = (omega arith, refl)
 kind_fits (Propose p) = (omega arith, refl)
 kind_fits (Vote v) = (omega arith, refl)
@@ -147,7 +147,7 @@ message_law =
     refit _ Fits spelling (limited 1048576 message_at) (limited_law FitsContent spelling message_at 1048576 content_law)
     (λ m h. record { content_fits = h.0; bytes_fit = h.1 }) (λ m h. (h.content_fits, h.bytes_fit))
 
-abbrev start : List ℕ → Cut
+abbrev pub start : List ℕ → Cut
 start bytes = record { at = 0; left = bytes }
 
 -- the bytes of a message are its spelling

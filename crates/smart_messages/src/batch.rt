@@ -1,13 +1,12 @@
 //! The requests of one place.
 ghost use Rattle.std.specs.Prelude.{◌≡◌, ◌<◌, ◌≤◌, [], ◌∷◌, ◌++◌, length, IfOk, OnOk};
-ghost use Rattle.std.specs.List.{flat_map};
-ghost use Rattle.smart_base.specs.Cuts.{Gives, times_at};
+ghost use Rattle.smart_base.specs.Cuts.{Gives};
 ghost use Rattle.smart_messages.specs.Kinds.{requests};
 ghost use Rattle.smart_messages.specs.Messages.{batch_text};
-ghost use Rattle.smart_messages.specs.Reading.{signed_at, requests_at, batch_at};
-ghost use Rattle.smart_messages.specs.Spelling.{signed};
+ghost use Rattle.smart_messages.specs.Reading.{requests_at, batch_at};
 
-use crate::signed::{Signed, Statement};
+use crate::signed::{Every, Signed};
+use crate::signed_list::{put_each, read_each};
 use crate::statement::Request;
 use smart_base::cursor::Cursor;
 use smart_base::duplicate::Duplicate;
@@ -117,37 +116,12 @@ impl Batch {
     }
 }
 
-fn put_each(out: &mut Vec<u8>, batch: &[Signed<Request>]) -> Result<(), AllocError>
-    ensures { OnOk result (out.new.items ≡ out.old.items ++ flat_map (signed requests) batch.now) }
-{
-    for request in batch {
-        request.put(out)?;
-    }
-    Ok(())
-}
-
-fn read_list<S: Statement>(
-    alloc: Global,
-    count: u16,
-    cut: &mut Cursor<'_>,
-) -> Result<Sequence<Signed<S>>, ReadError>
-    ensures list { Gives result cut.new (times_at (signed_at S.form) count cut.old) }
-    ensures count { IfOk result (λ list. length list ≡ count) }
-{
-    let mut list = Sequence::new(alloc);
-    for turn in 0..count {
-        let item = Signed::<S>::read(alloc, cut)?;
-        list.push(item)?;
-    }
-    Ok(list)
-}
-
 #[tactic(auto, unfolding(crate::specs::Reading::requests_at))]
 fn read_requests(alloc: Global, cut: &mut Cursor<'_>) -> Result<Batch, ReadError>
     ensures { Gives result cut.new (requests_at requests cut.old) }
 {
     let count = take_items(cut, BATCH_REQUESTS)?;
-    let list = read_list::<Request>(alloc, count, cut)?;
+    let list = read_each::<Request, Every>(alloc, &Every, count, cut)?;
     Ok(Batch { list })
 }
 

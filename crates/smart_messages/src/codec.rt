@@ -1,8 +1,7 @@
 //! The one spelling of each message, and how messages are read.
-ghost use Rattle.std.specs.Prelude.{◌≡◌, IfOk, Ok};
-ghost use Rattle.std.specs.Int.{w8};
+ghost use Rattle.std.specs.Prelude.{◌≡◌, ◌++◌, IfOk, OnOk, Ok};
 ghost use Rattle.smart_base.specs.Cuts.{Gives, GivesAll, Takes, limited};
-ghost use Rattle.smart_messages.specs.Messages.{Fits, spelling, ask_at, propose_at, vote_at, reply_at, body_at, message_kind_at, message_at, decoded};
+ghost use Rattle.smart_messages.specs.Messages.{Fits, spelling, ask_at, propose_at, vote_at, reply_at, body_at, is_kind, message_kind_at, message_at, decoded};
 
 use crate::batch::Batch;
 use crate::message::{Message, Proposed};
@@ -46,8 +45,9 @@ fn read_reply(alloc: Global, cut: &mut Cursor<'_>) -> Result<Message, ReadError>
     Ok(Message::Reply(Signed::<Answer>::read(alloc, cut)?))
 }
 
+/// Reads what stands behind a message's first byte.
 #[tactic(auto, unfolding(crate::specs::Messages::body_at))]
-fn read_body(alloc: Global, kind: u8, cut: &mut Cursor<'_>) -> Result<Message, ReadError>
+pub fn read_body(alloc: Global, kind: u8, cut: &mut Cursor<'_>) -> Result<Message, ReadError>
     ensures { Gives result cut.new (body_at kind cut.old) }
 {
     match kind {
@@ -58,13 +58,20 @@ fn read_body(alloc: Global, kind: u8, cut: &mut Cursor<'_>) -> Result<Message, R
     }
 }
 
+/// Whether this is the first byte of such a message.
+pub fn is_message_kind(kind: u8) -> bool
+    ensures { result ≡ is_kind kind }
+{
+    kind == 1 || kind == 2 || kind == 3 || kind == 8
+}
+
 #[tactic(auto, unfolding(smart_base::specs::Cuts::ranged))]
 fn take_message_kind(cut: &mut Cursor<'_>) -> Result<u8, Unread>
     ensures { Takes result cut.new (message_kind_at cut.old) }
 {
     let at = cut.at();
     let found = cut.take_u8()?;
-    if found == 1 || found == 2 || found == 3 || found == 8 {
+    if is_message_kind(found) {
         Ok(found)
     } else {
         Err(Unread { at })
@@ -116,30 +123,38 @@ pub fn decode(alloc: Global, bytes: &[u8]) -> Result<Message, ReadError>
     read_all(alloc, bytes)
 }
 
-/// The one spelling of the message.
+/// Adds the message's bytes.
 #[tactic(auto, unfolding(crate::specs::Messages::spelling))]
+pub fn put_message(out: &mut Vec<u8>, message: &Message) -> Result<(), AllocError>
+    ensures { OnOk result (out.new.items ≡ out.old.items ++ spelling message.now) }
+{
+    match message {
+        Message::Ask(ask) => {
+            put_u8(out, 1)?;
+            ask.put(out)?;
+        }
+        Message::Propose(proposed) => {
+            put_u8(out, 2)?;
+            proposed.head.put(out)?;
+            proposed.batch.put(out)?;
+        }
+        Message::Vote(vote) => {
+            put_u8(out, 3)?;
+            vote.put(out)?;
+        }
+        Message::Reply(reply) => {
+            put_u8(out, 8)?;
+            reply.put(out)?;
+        }
+    }
+    Ok(())
+}
+
+/// The one spelling of the message.
 pub fn encode(alloc: Global, message: &Message) -> Result<Vec<u8>, AllocError>
     ensures { IfOk result (λ v. v.items ≡ spelling message.now) }
 {
     let mut out = Vec::new(alloc);
-    match message {
-        Message::Ask(ask) => {
-            put_u8(&mut out, 1)?;
-            ask.put(&mut out)?;
-        }
-        Message::Propose(proposed) => {
-            put_u8(&mut out, 2)?;
-            proposed.head.put(&mut out)?;
-            proposed.batch.put(&mut out)?;
-        }
-        Message::Vote(vote) => {
-            put_u8(&mut out, 3)?;
-            vote.put(&mut out)?;
-        }
-        Message::Reply(reply) => {
-            put_u8(&mut out, 8)?;
-            reply.put(&mut out)?;
-        }
-    }
+    put_message(&mut out, message)?;
     Ok(out)
 }

@@ -1,5 +1,5 @@
 //! A statement, its bytes and the tag over them.
-ghost use Rattle.std.specs.Prelude.{◌≡◌, ◌++◌, ◌<◌, ◌^◌, ◌⊎◌, ℕ, List, length, OnOk, IfOk, IfErr};
+ghost use Rattle.std.specs.Prelude.{◌≡◌, ◌+◌, ◌++◌, ◌<◌, ◌^◌, ◌⊎◌, ℕ, List, length, OnOk, IfOk, IfErr};
 ghost use Rattle.smart_base.specs.declared.keys.SignRefused.TheVariants.{NoMemory};
 ghost use Rattle.smart_base.specs.Cuts.{Gives, Takes};
 ghost use Rattle.smart_base.specs.Spelling.{Law};
@@ -40,13 +40,64 @@ pub trait Statement: Duplicate {
     fn read(alloc: Global, signer: u16, cut: &mut Cursor<'_>) -> Result<Self, ReadError>
         ensures { Gives result cut.new (Form.read form signer cut.old) };
 
-    /// Adds the statement's bytes.
+    /// Adds the statement's bytes. One whose text has 2^32 bytes or more is beyond the memory that a
+    /// statement may take.
     fn put(&self, out: &mut Vec<u8>) -> Result<(), AllocError>
         ensures text { OnOk result (out.new.items ≡ out.old.items ++ Form.spell form self.now) }
         ensures small { OnOk result (length (Form.spell form self.now) < 2 ^ 32) };
 
     // What is read is what is spelled.
     ghost agree: { (signer : ℕ) → Law (fits signer) (Form.spell form) (Form.read form signer) };
+}
+
+/// Refuses, as want of memory is refused, a statement's text of 2^32 bytes or more behind the first
+/// `before` bytes: its length would need more than four bytes.
+pub fn within_limit(out: &Vec<u8>, before: usize) -> Result<(), AllocError>
+    ensures { OnOk result (length out.now.items < before + 2 ^ 32) }
+{
+    if out.len().saturating_sub(before) < 1 << 32 {
+        Ok(())
+    } else {
+        Err(AllocError)
+    }
+}
+
+/// Which statements of a kind are read.
+pub trait Selection<S: Statement> {
+    ghost form: { Self → Form S };
+
+    // Which of them have a spelling.
+    ghost fits: { Self → ℕ → S → Type 0 };
+
+    /// Reads one of them beside its signer's number.
+    fn read(&self, alloc: Global, signer: u16, cut: &mut Cursor<'_>) -> Result<S, ReadError>
+        ensures { Gives result cut.new (Form.read (form self.now) signer cut.old) };
+
+    // They have the kind of signers that all have.
+    ghost of_kind: { (which : Self) → Form.kind (form which) ≡ Form.kind S.form };
+
+    // What is read is what is spelled.
+    ghost agree: { (which : Self) (signer : ℕ) → Law (fits which signer) (Form.spell S.form) (Form.read (form which) signer) };
+}
+
+/// All statements of a kind.
+#[derive(Drop)]
+pub struct Every;
+
+impl<S: Statement> Selection<S> for Every {
+    ghost use Rattle.std.specs.Prelude.{refl};
+
+    ghost form = { λ which. S.form };
+
+    ghost fits = { λ which. S.fits };
+
+    ghost of_kind = { λ which. refl };
+
+    ghost agree = { λ which. S.agree };
+
+    fn read(&self, alloc: Global, signer: u16, cut: &mut Cursor<'_>) -> Result<S, ReadError> {
+        S::read(alloc, signer, cut)
+    }
 }
 
 /// A statement with its signer and the tag over it. Its bytes are kept beside it, so that a check
@@ -180,16 +231,28 @@ impl<S: Statement> Signed<S> {
         Ok(())
     }
 
-    #[tactic(auto, unfolding(crate::specs::Reading::signed_at, smart_base::specs::Cuts::sized_at, smart_base::specs::Cuts::whole))]
+    /// Reads a signed statement.
     pub fn read(alloc: Global, cut: &mut Cursor<'_>) -> Result<Signed<S>, ReadError>
         ensures { Gives result cut.new (signed_at S.form cut.old) }
+    {
+        Signed::<S>::read_selected(alloc, &Every, cut)
+    }
+
+    /// Reads a signed statement of some that its kind has.
+    #[tactic(auto, unfolding(crate::specs::Reading::signed_at, smart_base::specs::Cuts::sized_at, smart_base::specs::Cuts::whole))]
+    pub fn read_selected<W: Selection<S>>(
+        alloc: Global,
+        which: &W,
+        cut: &mut Cursor<'_>,
+    ) -> Result<Signed<S>, ReadError>
+        ensures { Gives result cut.new (signed_at (W.form which.now) cut.old) }
     {
         let kind = S::kind();
         take_kind(cut, kind)?;
         let signer = take_signer(cut, kind)?;
         let mut body = cut.take_bytes()?;
         let kept = copied(alloc, &body)?;
-        let statement = S::read(alloc, signer, &mut body)?;
+        let statement = which.read(alloc, signer, &mut body)?;
         if !body.is_done() {
             return Err(ReadError::Unread { at: body.at() });
         }

@@ -3,10 +3,12 @@ ghost use Rattle.std.specs.Prelude.{◌≡◌, ◌++◌, OnOk};
 ghost use Rattle.smart_base.specs.Cuts.{Takes};
 ghost use Rattle.smart_messages.specs.Kinds.{proposals, ballots, answers, requests};
 ghost use Rattle.smart_messages.specs.Reading.{slot_at, proposal_at, vote_kind_at, ballot_at, answer_at, request_at};
+ghost use Rattle.smart_messages.specs.Reports.{votes_of, FitsVote};
+ghost use Rattle.smart_messages.specs.ReportLaws.{vote_law};
 ghost use Rattle.smart_messages.specs.Spelling.{slot as slot_text, vote_kind, FitsProposal, FitsBallot, FitsAnswer, FitsRequest};
 ghost use Rattle.smart_messages.specs.Statements.{proposal_law, ballot_law, answer_law, request_law};
 
-use crate::signed::{CLIENT, MEMBER, Statement};
+use crate::signed::{CLIENT, MEMBER, Selection, Statement};
 use smart_base::bytes::{Digest32, Payload};
 use smart_base::cursor::Cursor;
 use smart_base::duplicate::Duplicate;
@@ -177,6 +179,36 @@ impl Statement for Ballot {
         put_slot(out, self.slot)?;
         out.extend_from_slice(self.digest.as_slice())?;
         Ok(())
+    }
+}
+
+/// The votes of this kind alone.
+impl Selection<Ballot> for VoteKind {
+    ghost use Rattle.std.specs.Prelude.{refl};
+
+    ghost form = { votes_of };
+
+    ghost fits = { λ kind signer. FitsVote kind };
+
+    ghost of_kind = { λ kind. refl };
+
+    ghost agree = { vote_law };
+
+    #[tactic(auto, unfolding(crate::specs::Reports::vote_at))]
+    fn read(
+        &self,
+        _alloc: Global,
+        _signer: u16,
+        cut: &mut Cursor<'_>,
+    ) -> Result<Ballot, ReadError> {
+        take_kind(cut, vote_kind(*self))?;
+        let slot = take_slot(cut)?;
+        let digest = take_digest(cut)?;
+        Ok(Ballot {
+            kind: *self,
+            slot,
+            digest,
+        })
     }
 }
 

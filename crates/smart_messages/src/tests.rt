@@ -1,16 +1,23 @@
 //! Messages against a decoder that was written apart from the definitions.
+use crate::any::{AnyMessage, decode_any, encode_any};
 use crate::batch::Batch;
 use crate::codec::{decode, encode};
 use crate::message::Message;
-use crate::signed::Signed;
-use crate::statement::Request;
-use smart_base::bytes::{Payload, Tag};
+use crate::regency::{Stop, Sync, ViewInfo};
+use crate::report::{Evidence, Mark, Report};
+use crate::signed::{Signed, Statement};
+use crate::signed_list::SignedList;
+use crate::statement::{Request, VoteKind};
+use smart_base::bytes::{Digest32, Payload, Tag};
+use smart_base::cursor::Cursor;
 use smart_base::duplicate::Duplicate;
 use smart_base::fault::ReadError;
 use smart_base::keys::{SignRefused, Signer, Verifier};
-use smart_base::name::ClientId;
+use smart_base::name::{ClientId, MemberId};
+use smart_base::number::{Place, Regency, ViewNo};
 use smart_base::party::Party;
 use smart_base::sequence::Bytes;
+use smart_base::view::View;
 use std::alloc::{AllocError, Global};
 use std::test::*;
 
@@ -91,11 +98,7 @@ impl<'a> Plain<'a> {
         self.number(4, 0, u64::MAX)?;
         self.count()?;
         self.number(4, 0, u64::MAX)?;
-        if self.room() < 32 {
-            return Err(self.at);
-        }
-        self.at = self.at.saturating_add(32);
-        Ok(())
+        self.digest()
     }
 
     fn request(&mut self, signer: u64) -> Result<(), usize> {
@@ -116,9 +119,16 @@ impl<'a> Plain<'a> {
         Ok(())
     }
 
-    /// A signed statement whose first byte is one of two.
-    fn signed(&mut self, first: u64, last: u64) -> Result<(), usize> {
-        let client = first == 9;
+    fn digest(&mut self) -> Result<(), usize> {
+        if self.room() < 32 {
+            return Err(self.at);
+        }
+        self.at = self.at.saturating_add(32);
+        Ok(())
+    }
+
+    /// A signer and the length of its statement: the signer, and where what is around it ends.
+    fn open(&mut self, client: bool) -> Result<(u64, usize), usize> {
         let kind = if client { 2 } else { 1 };
         self.number(1, kind, kind)?;
         let signer = self.number(2, if client { 0 } else { 1 }, u64::MAX)?;
@@ -127,15 +137,12 @@ impl<'a> Plain<'a> {
         let end = self.text(4, 0, u64::MAX)?;
         self.at = begin.saturating_add(4);
         self.end = end;
-        self.number(1, first, last)?;
-        if client {
-            self.request(signer)?;
-        } else if first == 8 {
-            self.reply()?;
-        } else {
-            self.slot()?;
-        }
-        if self.at != end {
+        Ok((signer, outer))
+    }
+
+    /// The end of a statement, and the tag behind it.
+    fn close(&mut self, outer: usize) -> Result<(), usize> {
+        if self.at != self.end {
             return Err(self.at);
         }
         self.end = outer;
@@ -143,17 +150,97 @@ impl<'a> Plain<'a> {
         Ok(())
     }
 
-    fn message(&mut self) -> Result<(), usize> {
+    /// A signed statement whose first byte is one of two.
+    fn signed(&mut self, first: u64, last: u64) -> Result<(), usize> {
+        let (signer, outer) = self.open(first == 9)?;
+        self.number(1, first, last)?;
+        match first {
+            9 => self.request(signer)?,
+            8 => self.reply()?,
+            7 => {
+                self.count()?;
+                self.digest()?;
+            }
+            4 => {
+                self.number(4, 0, u64::MAX)?;
+                self.number(4, 0, u64::MAX)?;
+            }
+            _ => self.slot()?,
+        }
+        self.close(outer)
+    }
+
+    fn list(&mut self, first: u64) -> Result<(), usize> {
+        for _ in 0..self.number(2, 0, u64::MAX)? {
+            self.signed(first, first)?;
+        }
+        Ok(())
+    }
+
+    fn signed_report(&mut self) -> Result<(), usize> {
+        let (_signer, outer) = self.open(false)?;
+        self.number(1, 5, 5)?;
+        self.number(4, 0, u64::MAX)?;
+        self.number(4, 0, u64::MAX)?;
+        let last = self.number(8, 0, 0x7fff_ffff_ffff_ffff)?;
+        match self.number(1, if last == 0 { 0 } else { 1 }, 2)? {
+            1 => {
+                self.number(4, 0, u64::MAX)?;
+                self.number(4, 0, u64::MAX)?;
+                self.digest()?;
+                self.list(3)?;
+            }
+            2 => {
+                self.number(4, 0, u64::MAX)?;
+                self.digest()?;
+                self.list(7)?;
+            }
+            _ => {}
+        }
+        if self.number(1, 0, 1)? == 1 {
+            self.number(4, 0, u64::MAX)?;
+            self.digest()?;
+            self.list(2)?;
+        }
+        self.close(outer)
+    }
+
+    fn signed_sync(&mut self) -> Result<(), usize> {
+        let (_signer, outer) = self.open(false)?;
+        self.number(1, 6, 6)?;
+        self.number(4, 0, u64::MAX)?;
+        self.number(4, 0, u64::MAX)?;
+        for _ in 0..self.number(2, 0, u64::MAX)? {
+            self.signed_report()?;
+        }
+        self.close(outer)
+    }
+
+    fn batch(&mut self) -> Result<(), usize> {
+        for _ in 0..self.number(2, 1, 64)? {
+            self.signed(9, 9)?;
+        }
+        Ok(())
+    }
+
+    /// A message, also one that changes the regency where `any` says so.
+    fn message(&mut self, any: bool) -> Result<(), usize> {
         let at = self.at;
         match self.number(1, 1, 8)? {
             1 => self.signed(9, 9)?,
             2 => {
                 self.signed(1, 1)?;
-                for _ in 0..self.number(2, 1, 64)? {
-                    self.signed(9, 9)?;
-                }
+                self.batch()?;
             }
             3 => self.signed(2, 3)?,
+            4 if any => self.signed(4, 4)?,
+            5 if any => {
+                self.signed_report()?;
+                if self.number(1, 0, 1)? == 1 {
+                    self.batch()?;
+                }
+            }
+            6 if any => self.signed_sync()?,
             8 => self.signed(8, 8)?,
             _ => return Err(at),
         }
@@ -171,17 +258,25 @@ const FINE: usize = 1_000_000;
 const WANTING: usize = 1_000_001;
 
 /// Where a message is faulty.
-fn plainly(bytes: &[u8]) -> usize {
+fn plainly(bytes: &[u8], any: bool) -> usize {
     let mut plain = Plain {
         bytes,
         at: 0,
         end: bytes.len(),
     };
-    plain.message().err().unwrap_or(FINE)
+    plain.message(any).err().unwrap_or(FINE)
 }
 
 fn fault(rt: &HostRuntime, bytes: &[u8]) -> usize {
     match decode(rt.alloc(), bytes) {
+        Ok(_) => FINE,
+        Err(ReadError::NoMemory) => WANTING,
+        Err(ReadError::Unread { at }) => at,
+    }
+}
+
+fn fault_of_any(rt: &HostRuntime, bytes: &[u8]) -> usize {
+    match decode_any(rt.alloc(), bytes) {
         Ok(_) => FINE,
         Err(ReadError::NoMemory) => WANTING,
         Err(ReadError::Unread { at }) => at,
@@ -215,13 +310,16 @@ fn every_front_and_every_change(rt: HostRuntime) -> Result<(), Fail> {
     ] {
         for i in 0..bytes.len() {
             let (front, _rest) = bytes.split_at(i);
-            assert_eq!(rt; fault(&rt, front), plainly(front));
+            assert_eq!(rt; fault(&rt, front), plainly(front, false));
             for value in 0..=255u8 {
                 let mut changed = Vec::from_slice(rt.alloc(), bytes)?;
                 if let Some(byte) = changed.get_mut(i) {
                     *byte = value;
                 }
-                assert_eq!(rt; fault(&rt, changed.as_slice()), plainly(changed.as_slice()));
+                assert_eq!(rt;
+                    fault(&rt, changed.as_slice()),
+                    plainly(changed.as_slice(), false)
+                );
             }
         }
     }
@@ -262,7 +360,7 @@ fn operations_and_tags_have_limits(rt: HostRuntime) -> Result<(), Fail> {
         bytes.push(1)?;
         put_request(&mut bytes, op, tag)?;
         assert_eq!(rt; fault(&rt, bytes.as_slice()), at, "of {op} and {tag}");
-        assert_eq!(rt; plainly(bytes.as_slice()), at, "of {op} and {tag}");
+        assert_eq!(rt; plainly(bytes.as_slice(), false), at, "of {op} and {tag}");
     }
     Ok(())
 }
@@ -346,5 +444,426 @@ fn a_sealed_request_is_an_ask(rt: HostRuntime) -> Result<(), Fail> {
     assert_eq!(rt; bytes.as_slice(), ASK.as_slice());
     // A batch is its count and its requests, and an ask its kind and its request.
     assert_eq!(rt; text.len(), bytes.len() + 1);
+    Ok(())
+}
+
+/// Adds a member's statement with a tag of two bytes.
+fn put_stated(out: &mut Vec<u8>, member: u16, statement: &[u8]) -> Result<(), AllocError> {
+    out.push(1)?;
+    out.extend_from_slice(&member.to_be_bytes())?;
+    out.extend_from_slice(&((statement.len() % 65536) as u32).to_be_bytes())?;
+    out.extend_from_slice(statement)?;
+    out.extend_from_slice(&[0, 2, 5, 6])?;
+    Ok(())
+}
+
+/// A digest of 32 bytes.
+const DIGEST: [u8; 32] = [
+    1, 2, 3, 4, 5, 6, 7, 8, 9, 10, 11, 12, 13, 14, 15, 16, 17, 18, 19, 20, 21, 22, 23, 24, 25, 26,
+    27, 28, 29, 30, 31, 32,
+];
+
+/// The vote of a first byte: for a batch at place 4 of view 2 in regency 3.
+fn vote_text(alloc: Global, kind: u8) -> Result<Vec<u8>, AllocError> {
+    let mut out = Vec::new(alloc);
+    out.push(kind)?;
+    out.extend_from_slice(&[0, 0, 0, 2, 0, 0, 0, 0, 0, 0, 0, 4, 0, 0, 0, 3])?;
+    out.extend_from_slice(DIGEST.as_slice())?;
+    Ok(out)
+}
+
+/// The mark of place 4.
+fn mark_text(alloc: Global) -> Result<Vec<u8>, AllocError> {
+    let mut out = Vec::new(alloc);
+    out.extend_from_slice(&[7, 0, 0, 0, 0, 0, 0, 0, 4])?;
+    out.extend_from_slice(DIGEST.as_slice())?;
+    Ok(out)
+}
+
+/// What stands in a report: a kind of evidence, a lock or none, and as many votes or marks in each.
+#[derive(Clone, Copy)]
+struct Shape {
+    last: u8,
+    evidence: u8,
+    lock: bool,
+    items: u16,
+}
+
+/// A report of view 2 in regency 4.
+fn report_text(alloc: Global, shape: Shape) -> Result<Vec<u8>, AllocError> {
+    let mut out = Vec::new(alloc);
+    out.extend_from_slice(&[5, 0, 0, 0, 2, 0, 0, 0, 4, 0, 0, 0, 0, 0, 0, 0, shape.last])?;
+    out.push(shape.evidence)?;
+    if shape.evidence != 0 {
+        out.extend_from_slice(&[0, 0, 0, 2])?;
+        if shape.evidence == 1 {
+            out.extend_from_slice(&[0, 0, 0, 3])?;
+        }
+        out.extend_from_slice(DIGEST.as_slice())?;
+        out.extend_from_slice(&shape.items.to_be_bytes())?;
+        for _ in 0..shape.items {
+            let text = if shape.evidence == 1 {
+                vote_text(alloc, 3)?
+            } else {
+                mark_text(alloc)?
+            };
+            put_stated(&mut out, 3, text.as_slice())?;
+        }
+    }
+    out.push(if shape.lock { 1 } else { 0 })?;
+    if shape.lock {
+        out.extend_from_slice(&[0, 0, 0, 3])?;
+        out.extend_from_slice(DIGEST.as_slice())?;
+        out.extend_from_slice(&shape.items.to_be_bytes())?;
+        for _ in 0..shape.items {
+            put_stated(&mut out, 2, vote_text(alloc, 2)?.as_slice())?;
+        }
+    }
+    Ok(out)
+}
+
+/// Member 4's report, and with it a batch of one request where `batch` says so.
+fn report_message(alloc: Global, shape: Shape, batch: bool) -> Result<Vec<u8>, AllocError> {
+    let mut out = Vec::new(alloc);
+    out.push(5)?;
+    put_stated(&mut out, 4, report_text(alloc, shape)?.as_slice())?;
+    out.push(if batch { 1 } else { 0 })?;
+    if batch {
+        out.extend_from_slice(&[0, 1])?;
+        put_request(&mut out, 2, 2)?;
+    }
+    Ok(out)
+}
+
+/// Member 1 begins regency 4 of view 2 with so many reports.
+fn sync_message(alloc: Global, shape: Shape, reports: u16) -> Result<Vec<u8>, AllocError> {
+    let mut text = Vec::new(alloc);
+    text.extend_from_slice(&[6, 0, 0, 0, 2, 0, 0, 0, 4])?;
+    text.extend_from_slice(&reports.to_be_bytes())?;
+    for _ in 0..reports {
+        put_stated(&mut text, 4, report_text(alloc, shape)?.as_slice())?;
+    }
+    let mut out = Vec::new(alloc);
+    out.push(6)?;
+    put_stated(&mut out, 1, text.as_slice())?;
+    Ok(out)
+}
+
+/// Member 3 asks for regency 4 of view 2.
+const STOP: [u8; 21] = [
+    4, 1, 0, 3, 0, 0, 0, 9, 4, 0, 0, 0, 2, 0, 0, 0, 4, 0, 2, 7, 8,
+];
+
+/// All shapes that a report may have, with one item in each list, and with none.
+fn shapes(alloc: Global) -> Result<Vec<Shape>, AllocError> {
+    let mut out = Vec::new(alloc);
+    for evidence in 0..3u8 {
+        for lock in [false, true] {
+            for items in [0u16, 1] {
+                out.push(Shape {
+                    last: if evidence == 0 { 0 } else { 4 },
+                    evidence,
+                    lock,
+                    items,
+                })?;
+            }
+        }
+    }
+    Ok(out)
+}
+
+/// All messages that change the regency, of these shapes.
+fn changes(alloc: Global) -> Result<Vec<Vec<u8>>, AllocError> {
+    let mut out = Vec::new(alloc);
+    out.push(Vec::from_slice(alloc, STOP.as_slice())?)?;
+    for shape in shapes(alloc)?.iter() {
+        out.push(report_message(alloc, *shape, false)?)?;
+        out.push(report_message(alloc, *shape, true)?)?;
+        out.push(sync_message(alloc, *shape, 1)?)?;
+    }
+    out.push(sync_message(
+        alloc,
+        Shape {
+            last: 4,
+            evidence: 1,
+            lock: true,
+            items: 2,
+        },
+        0,
+    )?)?;
+    out.push(sync_message(
+        alloc,
+        Shape {
+            last: 4,
+            evidence: 2,
+            lock: true,
+            items: 2,
+        },
+        3,
+    )?)?;
+    Ok(out)
+}
+
+/// What a copy of the message of these bytes is spelled as.
+fn spelled_again(alloc: Global, bytes: &[u8]) -> Result<Vec<u8>, AllocError> {
+    match decode_any(alloc, bytes) {
+        Ok(message) => {
+            let copy = message.duplicate(alloc)?;
+            encode_any(alloc, &copy)
+        }
+        Err(_) => Ok(Vec::new(alloc)),
+    }
+}
+
+fn changes_the_regency(alloc: Global, bytes: &[u8]) -> bool {
+    match decode_any(alloc, bytes) {
+        Ok(AnyMessage::Change(_)) => true,
+        Ok(AnyMessage::Plain(_)) | Err(_) => false,
+    }
+}
+
+#[test]
+fn messages_that_change_the_regency_are_read_and_written(rt: HostRuntime) -> Result<(), Fail> {
+    for bytes in changes(rt.alloc())?.iter() {
+        let again = spelled_again(rt.alloc(), bytes.as_slice())?;
+        assert_eq!(rt; again.as_slice(), bytes.as_slice());
+        assert!(rt; changes_the_regency(rt.alloc(), bytes.as_slice()));
+        assert_eq!(rt; plainly(bytes.as_slice(), true), FINE);
+        // It is none of the messages that the program plays.
+        assert_eq!(rt; fault(&rt, bytes.as_slice()), 0);
+    }
+    Ok(())
+}
+
+#[test]
+fn the_other_messages_are_read_with_them(rt: HostRuntime) -> Result<(), Fail> {
+    for bytes in [
+        ASK.as_slice(),
+        PROPOSE.as_slice(),
+        VOTE.as_slice(),
+        REPLY.as_slice(),
+    ] {
+        let again = spelled_again(rt.alloc(), bytes)?;
+        assert_eq!(rt; again.as_slice(), bytes);
+        assert!(rt; !changes_the_regency(rt.alloc(), bytes));
+    }
+    Ok(())
+}
+
+#[test]
+fn every_front_and_many_changes_of_those(rt: HostRuntime) -> Result<(), Fail> {
+    let marked = Shape {
+        last: 4,
+        evidence: 2,
+        lock: false,
+        items: 1,
+    };
+    for bytes in [
+        report_message(rt.alloc(), FULL, true)?,
+        report_message(rt.alloc(), marked, false)?,
+        sync_message(rt.alloc(), FULL, 1)?,
+    ]
+    .iter()
+    {
+        for i in 0..bytes.len() {
+            let (front, _rest) = bytes.as_slice().split_at(i);
+            assert_eq!(rt; fault_of_any(&rt, front), plainly(front, true));
+            for value in [0, 1, 2, 3, 5, 128, 255] {
+                let mut changed = Vec::from_slice(rt.alloc(), bytes.as_slice())?;
+                if let Some(byte) = changed.get_mut(i) {
+                    *byte = value;
+                }
+                let found = fault_of_any(&rt, changed.as_slice());
+                assert_eq!(rt; found, plainly(changed.as_slice(), true), "{value} at {i}");
+            }
+        }
+    }
+    Ok(())
+}
+
+/// The report's bytes begin at offset 8, its evidence at 25, the lock at 128, and its tag at 227.
+const FULL: Shape = Shape {
+    last: 4,
+    evidence: 1,
+    lock: true,
+    items: 1,
+};
+
+#[test]
+fn first_faults_of_reports(rt: HostRuntime) -> Result<(), Fail> {
+    let bytes = report_message(rt.alloc(), FULL, false)?;
+    for (at, value, found) in [
+        // No evidence of a place that is decided, and a kind that there is not.
+        (25, 0, 25),
+        (25, 3, 25),
+        // A WRITE in a proof, an ACCEPT and a proposal in a lock.
+        (75, 2, 75),
+        (174, 3, 174),
+        (174, 1, 174),
+        // A vote that a client signs, a member without a number, a place 0.
+        (68, 2, 68),
+        (70, 0, 69),
+        (87, 0, 80),
+        // A last place of 2^63 and more.
+        (17, 128, 17),
+        // Flags are 0 or 1.
+        (128, 2, 128),
+        (231, 2, 231),
+        // A flag of 0 leaves the lock's bytes over, and one of 1 says that a batch is there.
+        (128, 0, 129),
+        (231, 1, 232),
+        // Lists that go on where they cannot.
+        // A second vote would begin at the lock: the flag is a member's kind, its number is 0.
+        (67, 2, 129),
+        (166, 2, 227),
+        (166, 0, 167),
+    ] {
+        let mut changed = Vec::from_slice(rt.alloc(), bytes.as_slice())?;
+        if let Some(byte) = changed.get_mut(at) {
+            *byte = value;
+        }
+        assert_eq!(rt;
+            fault_of_any(&rt, changed.as_slice()),
+            found,
+            "{value} at {at}"
+        );
+    }
+    Ok(())
+}
+
+#[test]
+fn bytes_left_over_and_other_kinds(rt: HostRuntime) -> Result<(), Fail> {
+    // A byte left over in a report.
+    let mut text = report_text(rt.alloc(), FULL)?;
+    text.push(0)?;
+    let mut long = Vec::new(rt.alloc());
+    long.push(5)?;
+    put_stated(&mut long, 4, text.as_slice())?;
+    long.push(0)?;
+    assert_eq!(rt; fault_of_any(&rt, long.as_slice()), 227);
+    // A byte behind the message.
+    let mut behind = report_message(rt.alloc(), FULL, false)?;
+    behind.push(0)?;
+    assert_eq!(rt; fault_of_any(&rt, behind.as_slice()), 232);
+    // The first report of a sync begins at offset 19: a client has signed it, or it is no report.
+    for (at, value) in [(19, 2), (26, 6)] {
+        let mut changed = sync_message(rt.alloc(), FULL, 1)?;
+        if let Some(byte) = changed.get_mut(at) {
+            *byte = value;
+        }
+        assert_eq!(rt;
+            fault_of_any(&rt, changed.as_slice()),
+            at,
+            "{value} at {at}"
+        );
+    }
+    // No message begins with another kind.
+    for kind in [0, 7, 9, 10, 13, 255] {
+        let mut changed = Vec::from_slice(rt.alloc(), STOP.as_slice())?;
+        if let Some(byte) = changed.first_mut() {
+            *byte = kind;
+        }
+        assert_eq!(rt; fault_of_any(&rt, changed.as_slice()), 0, "of {kind}");
+    }
+    Ok(())
+}
+
+/// The bytes of a statement that member 3 seals.
+fn sealed<S: Statement>(alloc: Global, statement: S) -> Result<Vec<u8>, AllocError> {
+    let mut out = Vec::new(alloc);
+    match Signed::seal(alloc, &mut Seven, 3, statement) {
+        Ok(signed) => signed.put(&mut out)?,
+        Err(_) => return Err(AllocError),
+    }
+    Ok(out)
+}
+
+#[test]
+fn sealed_statements_are_spelled(rt: HostRuntime) -> Result<(), Fail> {
+    let alloc = rt.alloc();
+    let stop = Stop {
+        view: ViewNo::new(2),
+        regency: Regency::new(4),
+    };
+    assert_eq!(rt; sealed(alloc, stop)?.as_slice(), &STOP[1..]);
+
+    let report = Report {
+        view: ViewNo::new(2),
+        regency: Regency::new(4),
+        last: Place::zero(),
+        evidence: Evidence::Nothing,
+        lock: None,
+    };
+    let spelled = [
+        1, 0, 3, 0, 0, 0, 19, 5, 0, 0, 0, 2, 0, 0, 0, 4, 0, 0, 0, 0, 0, 0, 0, 0, 0, 0, 0, 2, 7, 8,
+    ];
+    assert_eq!(rt; sealed(alloc, report)?.as_slice(), spelled.as_slice());
+
+    let sync = Sync {
+        view: ViewNo::new(2),
+        regency: Regency::new(4),
+        collect: SignedList::new(alloc),
+    };
+    let spelled = [
+        1, 0, 3, 0, 0, 0, 11, 6, 0, 0, 0, 2, 0, 0, 0, 4, 0, 0, 0, 2, 7, 8,
+    ];
+    assert_eq!(rt; sealed(alloc, sync)?.as_slice(), spelled.as_slice());
+
+    let members = Vec::from_slice(alloc, &[MemberId::new(1)])?;
+    let view = View::checked(5, 9, 0, members).ok_or("one member makes a view")?;
+    let spelled = [
+        1, 0, 3, 0, 0, 0, 18, 10, 0, 0, 0, 5, 0, 0, 0, 0, 0, 0, 0, 9, 0, 0, 1, 0, 1, 0, 2, 7, 8,
+    ];
+    let told = sealed(alloc, ViewInfo { view })?;
+    assert_eq!(rt; told.as_slice(), spelled.as_slice());
+    let read = Signed::<ViewInfo>::read(alloc, &mut Cursor::new(told.as_slice()))
+        .ok()
+        .ok_or("the bytes are a view")?;
+    assert_eq!(rt; read.statement().view.start(), 9);
+    Ok(())
+}
+
+#[test]
+fn lists_of_marks_and_votes(rt: HostRuntime) -> Result<(), Fail> {
+    let alloc = rt.alloc();
+    let mut marks = SignedList::<Mark>::new(alloc);
+    let mark = Mark {
+        place: Place::new(4),
+        digest: Digest32::new(DIGEST),
+    };
+    marks.push(
+        Signed::seal(alloc, &mut Seven, 3, mark)
+            .ok()
+            .ok_or("there is memory")?,
+    )?;
+    let mut spelled = Vec::new(alloc);
+    spelled.extend_from_slice(&[0, 1, 1, 0, 3, 0, 0, 0, 41])?;
+    spelled.extend_from_slice(mark_text(alloc)?.as_slice())?;
+    spelled.extend_from_slice(&[0, 2, 7, 8])?;
+    let mut out = Vec::new(alloc);
+    marks.duplicate(alloc)?.put(&mut out)?;
+    assert_eq!(rt; out.as_slice(), spelled.as_slice());
+    let again = SignedList::<Mark>::read(alloc, &mut Cursor::new(out.as_slice()))
+        .ok()
+        .ok_or("the bytes are a list")?;
+    assert_eq!(rt; again.len(), 1);
+    assert!(rt; !again.is_empty());
+    let whole = SignedList::from_list(marks.into_list());
+    assert_eq!(rt; whole.as_slice().len(), 1);
+
+    // Votes of one kind alone are read.
+    let mut votes = Vec::new(alloc);
+    votes.extend_from_slice(&[0, 2])?;
+    put_stated(&mut votes, 1, vote_text(alloc, 2)?.as_slice())?;
+    put_stated(&mut votes, 2, vote_text(alloc, 3)?.as_slice())?;
+    for (kind, found) in [(VoteKind::Write, 69), (VoteKind::Accept, 9)] {
+        let mut cut = Cursor::new(votes.as_slice());
+        let at = match SignedList::read_votes(alloc, kind, &mut cut) {
+            Ok(_) => FINE,
+            Err(ReadError::NoMemory) => WANTING,
+            Err(ReadError::Unread { at }) => at,
+        };
+        assert_eq!(rt; at, found);
+    }
     Ok(())
 }

@@ -1,0 +1,105 @@
+//! How the messages that change the regency are spelled and read.
+ghost use Rattle.std.specs.Prelude.{◌≡◌, ◌++◌, OnOk};
+ghost use Rattle.smart_base.specs.Cuts.{Gives};
+ghost use Rattle.smart_messages.specs.Kinds.{requests};
+ghost use Rattle.smart_messages.specs.Messages.{batch_text};
+ghost use Rattle.smart_messages.specs.Reading.{batch_at};
+ghost use Rattle.smart_messages.specs.RegencyMessages.{change_spelling, stop_message_at, stop_data_at, sync_message_at, change_body_at};
+ghost use Rattle.smart_messages.specs.SignedLists.{optional, optional_at};
+
+use crate::batch::Batch;
+use crate::optional::take_flag;
+use crate::regency::{RegencyMessage, Reported, Stop, Sync};
+use crate::report::Report;
+use crate::signed::Signed;
+use smart_base::cursor::Cursor;
+use smart_base::fault::ReadError;
+use smart_base::field::put_u8;
+use std::alloc::{AllocError, Global};
+
+#[tactic(auto, unfolding(crate::specs::RegencyMessages::stop_message_at))]
+fn read_stop(alloc: Global, cut: &mut Cursor<'_>) -> Result<RegencyMessage, ReadError>
+    ensures { Gives result cut.new (stop_message_at cut.old) }
+{
+    Ok(RegencyMessage::Stop(Signed::<Stop>::read(alloc, cut)?))
+}
+
+#[tactic(auto, unfolding(crate::specs::SignedLists::optional_at, crate::specs::SignedLists::some_at))]
+fn read_batch(alloc: Global, cut: &mut Cursor<'_>) -> Result<Option<Batch>, ReadError>
+    ensures { Gives result cut.new (optional_at (batch_at requests) cut.old) }
+{
+    if take_flag(cut)? == 0 {
+        return Ok(None);
+    }
+    Ok(Some(Batch::read(alloc, cut)?))
+}
+
+#[tactic(auto, unfolding(crate::specs::RegencyMessages::stop_data_at))]
+fn read_stop_data(alloc: Global, cut: &mut Cursor<'_>) -> Result<RegencyMessage, ReadError>
+    ensures { Gives result cut.new (stop_data_at cut.old) }
+{
+    let head = Signed::<Report>::read(alloc, cut)?;
+    let batch = read_batch(alloc, cut)?;
+    Ok(RegencyMessage::StopData(Reported { head, batch }))
+}
+
+#[tactic(auto, unfolding(crate::specs::RegencyMessages::sync_message_at))]
+fn read_sync(alloc: Global, cut: &mut Cursor<'_>) -> Result<RegencyMessage, ReadError>
+    ensures { Gives result cut.new (sync_message_at cut.old) }
+{
+    Ok(RegencyMessage::Sync(Signed::<Sync>::read(alloc, cut)?))
+}
+
+/// Reads what stands behind a message's first byte.
+#[tactic(auto, unfolding(crate::specs::RegencyMessages::change_body_at))]
+pub fn read_change_body(
+    alloc: Global,
+    kind: u8,
+    cut: &mut Cursor<'_>,
+) -> Result<RegencyMessage, ReadError>
+    ensures { Gives result cut.new (change_body_at kind cut.old) }
+{
+    match kind {
+        4 => read_stop(alloc, cut),
+        5 => read_stop_data(alloc, cut),
+        _ => read_sync(alloc, cut),
+    }
+}
+
+fn put_batch(out: &mut Vec<u8>, batch: &Option<Batch>) -> Result<(), AllocError>
+    ensures { OnOk result (out.new.items ≡ out.old.items ++ optional batch_text batch.now) }
+{
+    match batch {
+        None => {
+            put_u8(out, 0)?;
+        }
+        Some(batch) => {
+            put_u8(out, 1)?;
+            batch.put(out)?;
+        }
+    }
+    Ok(())
+}
+
+/// Adds the message's bytes.
+#[tactic(auto, unfolding(crate::specs::RegencyMessages::change_spelling))]
+pub fn put_change(out: &mut Vec<u8>, message: &RegencyMessage) -> Result<(), AllocError>
+    ensures { OnOk result (out.new.items ≡ out.old.items ++ change_spelling message.now) }
+{
+    match message {
+        RegencyMessage::Stop(stop) => {
+            put_u8(out, 4)?;
+            stop.put(out)?;
+        }
+        RegencyMessage::StopData(reported) => {
+            put_u8(out, 5)?;
+            reported.head.put(out)?;
+            put_batch(out, &reported.batch)?;
+        }
+        RegencyMessage::Sync(sync) => {
+            put_u8(out, 6)?;
+            sync.put(out)?;
+        }
+    }
+    Ok(())
+}
