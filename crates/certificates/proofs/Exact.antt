@@ -1,72 +1,16 @@
--- Votes have no fault exactly where they are a certificate.
-use Rattle.std.proofs.Common.{◌≡◌, ℕ, ◌≤◌, ◌==◌, nat_le, Bool, true, false, ◌&&◌, ◌||◌, List, [], ◌∷◌, ◌++◌, refl, sym, ◌∙◌, ap, arith}
+-- Signed statements have no fault exactly where they are as wanted, of enough distinct members of a view.
+use Rattle.std.proofs.Common.{◌≡◌, ℕ, ◌≤◌, ◌==◌, nat_le, Bool, true, false, ◌||◌, List, [], ◌∷◌, ◌++◌, refl, sym, ◌∙◌, ap, arith}
 use Rattle.std.specs.Prelude.{◌↔◌, Option, Some, None, Result, Ok, if◌then◌else◌}
 use Rattle.std.specs.List.{list_any}
-use Rattle.std.proofs.lemmas.Bool.{eqb-true}
 use Rattle.std.proofs.lemmas.Grind.{common_steps}
 use Rattle.std.proofs.lemmas.List.Folds.{list_any-append}
-use Rattle.smart_base.specs.Lists.{or_else, same_bytes, Each, Distinct}
-use Rattle.smart_base.specs.Views.{View, weight_of, quorum, is_member}
-use Rattle.smart_base.proofs.SameLists.{and_true, same_list-equal}
-use Rattle.smart_messages.specs.Equality.{same_slot, same_kind}
-use Rattle.smart_messages.specs.Forms.{SignedBy}
-use Rattle.smart_messages.specs.declared.statement.Ballot.{Ballot}
-use Rattle.smart_messages.specs.declared.statement.Slot.{Slot}
-use Rattle.smart_messages.specs.declared.statement.VoteKind.{VoteKind}
-use Rattle.smart_messages.specs.declared.statement.VoteKind.TheVariants.{Write, Accept}
-use Rattle.certificates.specs.Certificates.{same_ballot, is_verified, signers, IsCertificate, signer_fault, vote_fault, fault_behind, first_fault, passed}
+use Rattle.smart_base.specs.Lists.{or_else, Each}
+use Rattle.smart_base.specs.Views.{View, is_member}
+use Rattle.smart_messages.specs.Forms.{Form, SignedBy}
+use Rattle.certificates.specs.Certificates.{is_verified, signers, AreSigned, signer_fault, item_fault, fault_behind, first_fault, passed}
 use Rattle.certificates.proofs.Faults.{passed_ok}
 use Rattle.certificates.specs.declared.fault.CertFault.{CertFault}
 use Rattle.certificates.specs.declared.fault.CertFault.TheVariants.{TooFew, Stranger, Twice, Unequal, BadTag}
-
--- ---- votes that a test finds alike are equal
-
-same_number : (n : ℕ) → (n == n) ≡ true
-same_number n = grind (arith, common_steps)
-
-bytes_alike : (xs : List ℕ) → same_bytes xs xs ≡ true
-bytes_alike [] = refl
-bytes_alike (x ∷ xs) = rw (same_number x, bytes_alike xs) refl
-
-kind_alike : (k : VoteKind) → same_kind k k ≡ true
-kind_alike Write = refl
-kind_alike Accept = refl
-
-ballot_alike : (b : Ballot) → same_ballot b b ≡ true
-ballot_alike b =
-    rw (kind_alike b.kind, same_number b.slot.view, same_number b.slot.place, same_number b.slot.regency, bytes_alike b.digest) refl
-
-kind_equal : (a b : VoteKind) → same_kind a b ≡ true → a ≡ b
-kind_equal Write Write same = refl
-kind_equal Write Accept same = absurd (cc)
-kind_equal Accept Write same = absurd (cc)
-kind_equal Accept Accept same = refl
-
-slot_of : ℕ → ℕ → ℕ → Slot
-slot_of view place regency = record { view = view; place = place; regency = regency }
-
-slot_equal : (a b : Slot) → same_slot a b ≡ true → a ≡ b
-unfolding slot_of
-slot_equal a b same =
-    let parts = and_true ((a.view == b.view) && (a.place == b.place)) (a.regency == b.regency) same in
-    let front = and_true (a.view == b.view) (a.place == b.place) parts.0 in
-    let view : a.view ≡ b.view = eqb-true a.view b.view front.0 in
-    let place : a.place ≡ b.place = eqb-true a.place b.place front.1 in
-    let regency : a.regency ≡ b.regency = eqb-true a.regency b.regency parts.1 in
-    ap (λ (n : ℕ). slot_of n a.place a.regency) view ∙ (ap (λ (n : ℕ). slot_of b.view n a.regency) place ∙ ap (λ (n : ℕ). slot_of b.view b.place n) regency)
-
-ballot_of : VoteKind → Slot → List ℕ → Ballot
-ballot_of kind slot digest = record { kind = kind; slot = slot; digest = digest }
-
-ballot_equal : (a b : Ballot) → same_ballot a b ≡ true → a ≡ b
-unfolding ballot_of
-ballot_equal a b same =
-    let parts = and_true (same_kind a.kind b.kind && same_slot a.slot b.slot) (same_bytes a.digest b.digest) same in
-    let front = and_true (same_kind a.kind b.kind) (same_slot a.slot b.slot) parts.0 in
-    let kind : a.kind ≡ b.kind = kind_equal a.kind b.kind front.0 in
-    let slot : a.slot ≡ b.slot = slot_equal a.slot b.slot front.1 in
-    let digest : a.digest ≡ b.digest = same_list-equal (λ x y. x == y) eqb-true a.digest b.digest parts.1 in
-    ap (λ (k : VoteKind). ballot_of k a.slot a.digest) kind ∙ (ap (λ (s : Slot). ballot_of b.kind s a.digest) slot ∙ ap (λ (d : List ℕ). ballot_of b.kind b.slot d) digest)
 
 -- ---- signers that are not among earlier ones
 
@@ -138,61 +82,67 @@ signer_from : (v : View) (earlier : List ℕ) (signer : ℕ) → is_member v sig
     → signer_fault v earlier signer ≡ None
 signer_from v earlier signer one two = rw (one, two) refl
 
-vote_parts : (secret : List ℕ) (wanted : Ballot) (vote : SignedBy Ballot) (a b : Bool) → same_ballot vote.statement wanted ≡ a → is_verified secret vote ≡ b
-    → vote_fault secret wanted vote ≡ None → (vote.statement ≡ wanted) × (is_verified secret vote ≡ true)
-vote_parts secret wanted vote true true one two is = (ballot_equal vote.statement wanted one, two)
-vote_parts secret wanted vote true false one two is = let bad : Some BadTag ≡ None = rw (one, two) at is in absurd (cc)
-vote_parts secret wanted vote false b one two is = let unequal : Some Unequal ≡ None = rw one at is in absurd (cc)
+item_parts : {S : Type 0} (secret : List ℕ) (form : Form S) (is_wanted : S → Bool) (item : SignedBy S) (a b : Bool)
+    → is_wanted item.statement ≡ a → is_verified secret form item ≡ b
+    → item_fault secret form is_wanted item ≡ None → (is_wanted item.statement ≡ true) × (is_verified secret form item ≡ true)
+item_parts secret form is_wanted item true true one two is = (one, two)
+item_parts secret form is_wanted item true false one two is = let bad : Some BadTag ≡ None = rw (one, two) at is in absurd (cc)
+item_parts secret form is_wanted item false b one two is = let unequal : Some Unequal ≡ None = rw one at is in absurd (cc)
 
-vote_from : (secret : List ℕ) (wanted : Ballot) (vote : SignedBy Ballot) → vote.statement ≡ wanted → is_verified secret vote ≡ true
-    → vote_fault secret wanted vote ≡ None
-vote_from secret wanted vote equal verified =
-    let alike : same_ballot vote.statement wanted ≡ true = rw equal (ballot_alike wanted) in
-    rw (alike, verified) refl
+item_from : {S : Type 0} (secret : List ℕ) (form : Form S) (is_wanted : S → Bool) (item : SignedBy S)
+    → is_wanted item.statement ≡ true → is_verified secret form item ≡ true → item_fault secret form is_wanted item ≡ None
+item_from secret form is_wanted item wanted verified = rw (wanted, verified) refl
 
--- ---- votes behind earlier signers
+-- ---- statements behind earlier signers
 
-record Behind (secret : List ℕ) (v : View) (wanted : Ballot) (earlier : List ℕ) (votes : List (SignedBy Ballot)) : Type 0 where
-  members : Each (λ vote. is_member v vote.signer ≡ true) votes
-  fresh : Fresh earlier (signers votes)
-  distinct : Distinct (signers votes)
-  equal : Each (λ vote. vote.statement ≡ wanted) votes
-  verified : Each (λ vote. is_verified secret vote ≡ true) votes
+-- a test tells what is wanted
+abbrev pub Tells : {S : Type 0} → (S → Bool) → (S → Type 0) → Type 0
+Tells {S} is_wanted Wanted = (s : S) → (is_wanted s ≡ true) ↔ Wanted s
 
-behind : (secret : List ℕ) (v : View) (wanted : Ballot) (earlier : List ℕ) (votes : List (SignedBy Ballot))
-    → fault_behind secret v wanted earlier votes ≡ None → Behind secret v wanted earlier votes
-behind secret v wanted earlier [] is = record { members = tt; fresh = tt; distinct = tt; equal = tt; verified = tt }
-behind secret v wanted earlier (vote ∷ votes) is =
-    let rest = fault_behind secret v wanted (earlier ++ vote.signer ∷ []) votes in
-    let first = else_parts (signer_fault v earlier vote.signer) (or_else (vote_fault secret wanted vote) rest) is in
-    let second = else_parts (vote_fault secret wanted vote) rest first.1 in
-    let signer = signer_parts v earlier vote.signer (is_member v vote.signer) (list_any (λ m. m == vote.signer) earlier) refl refl first.0 in
-    let stated = vote_parts secret wanted vote (same_ballot vote.statement wanted) (is_verified secret vote) refl refl second.0 in
-    let more = behind secret v wanted (earlier ++ vote.signer ∷ []) votes second.1 in
+record Behind (S : Type 0) (secret : List ℕ) (form : Form S) (v : View) (Wanted : S → Type 0) (earlier : List ℕ) (items : List (SignedBy S)) : Type 0 where
+  fresh : Fresh earlier (signers items)
+  signed : AreSigned S secret form v Wanted items
+
+behind : {S : Type 0} (secret : List ℕ) (form : Form S) (v : View) (is_wanted : S → Bool) (Wanted : S → Type 0) → Tells is_wanted Wanted
+    → (earlier : List ℕ) (items : List (SignedBy S))
+    → fault_behind v (item_fault secret form is_wanted) earlier items ≡ None → Behind S secret form v Wanted earlier items
+behind secret form v is_wanted Wanted tells earlier [] is = record { fresh = tt; signed = record { members = tt; distinct = tt; stated = tt; verified = tt } }
+behind secret form v is_wanted Wanted tells earlier (item ∷ items) is =
+    let rest = fault_behind v (item_fault secret form is_wanted) (earlier ++ item.signer ∷ []) items in
+    let first = else_parts (signer_fault v earlier item.signer) (or_else (item_fault secret form is_wanted item) rest) is in
+    let second = else_parts (item_fault secret form is_wanted item) rest first.1 in
+    let signer = signer_parts v earlier item.signer (is_member v item.signer) (list_any (λ m. m == item.signer) earlier) refl refl first.0 in
+    let stated = item_parts secret form is_wanted item (is_wanted item.statement) (is_verified secret form item) refl refl second.0 in
+    let more = behind secret form v is_wanted Wanted tells (earlier ++ item.signer ∷ []) items second.1 in
     record {
-      members = (signer.0, more.members);
-      fresh = (signer.1, fresh_earlier earlier vote.signer (signers votes) more.fresh);
-      distinct = (fresh_signer earlier vote.signer (signers votes) more.fresh, more.distinct);
-      equal = (stated.0, more.equal);
-      verified = (stated.1, more.verified);
+      fresh = (signer.1, fresh_earlier earlier item.signer (signers items) more.fresh);
+      signed = record {
+        members = (signer.0, more.signed.members);
+        distinct = (fresh_signer earlier item.signer (signers items) more.fresh, more.signed.distinct);
+        stated = ((tells item.statement).0 stated.0, more.signed.stated);
+        verified = (stated.1, more.signed.verified);
+      };
     }
 
-clean : (secret : List ℕ) (v : View) (wanted : Ballot) (earlier : List ℕ) (votes : List (SignedBy Ballot))
-    → Behind secret v wanted earlier votes → fault_behind secret v wanted earlier votes ≡ None
-clean secret v wanted earlier [] all = refl
-clean secret v wanted earlier (vote ∷ votes) all =
-    let rest = fault_behind secret v wanted (earlier ++ vote.signer ∷ []) votes in
-    let more = clean secret v wanted (earlier ++ vote.signer ∷ []) votes (record {
-      members = all.members.1;
-      fresh = fresh_more earlier vote.signer (signers votes) all.fresh.1 all.distinct.0;
-      distinct = all.distinct.1;
-      equal = all.equal.1;
-      verified = all.verified.1;
-    }) in
-    else_from (signer_fault v earlier vote.signer) (or_else (vote_fault secret wanted vote) rest) (signer_from v earlier vote.signer all.members.0 all.fresh.0)
-    (else_from (vote_fault secret wanted vote) rest (vote_from secret wanted vote all.equal.0 all.verified.0) more)
+clean : {S : Type 0} (secret : List ℕ) (form : Form S) (v : View) (is_wanted : S → Bool) (Wanted : S → Type 0) → Tells is_wanted Wanted
+    → (earlier : List ℕ) (items : List (SignedBy S))
+    → Fresh earlier (signers items) → AreSigned S secret form v Wanted items → fault_behind v (item_fault secret form is_wanted) earlier items ≡ None
+clean secret form v is_wanted Wanted tells earlier [] fresh signed = refl
+clean {S} secret form v is_wanted Wanted tells earlier (item ∷ items) fresh signed =
+    let rest = fault_behind v (item_fault secret form is_wanted) (earlier ++ item.signer ∷ []) items in
+    let others : AreSigned S secret form v Wanted items = record {
+      members = signed.members.1;
+      distinct = signed.distinct.1;
+      stated = signed.stated.1;
+      verified = signed.verified.1;
+    } in
+    let more = clean secret form v is_wanted Wanted tells (earlier ++ item.signer ∷ []) items
+    (fresh_more earlier item.signer (signers items) fresh.1 signed.distinct.0) others in
+    else_from (signer_fault v earlier item.signer) (or_else (item_fault secret form is_wanted item) rest) (signer_from v earlier item.signer signed.members.0 fresh.0)
+    (else_from (item_fault secret form is_wanted item) rest
+    (item_from secret form is_wanted item ((tells item.statement).1 signed.stated.0) signed.verified.0) more)
 
--- ---- all votes
+-- ---- all statements
 
 enough_parts : (q n : ℕ) (t : Bool) → nat_le q n ≡ t → (if nat_le q n then None else Some TooFew) ≡ None → q ≤ n
 enough_parts q n true is none = grind (arith, common_steps)
@@ -201,38 +151,29 @@ enough_parts q n false is none = let few : Some TooFew ≡ None = rw is at none 
 enough_test : (q n : ℕ) → q ≤ n → nat_le q n ≡ true
 enough_test q n enough = grind (arith, common_steps)
 
-pub certificate-from : (secret : List ℕ) (v : View) (wanted : Ballot) (votes : List (SignedBy Ballot))
-    → first_fault secret v wanted votes ≡ None → IsCertificate secret v wanted votes
+pub signed-exact : {S : Type 0} (secret : List ℕ) (form : Form S) (v : View) (is_wanted : S → Bool) (Wanted : S → Type 0) → Tells is_wanted Wanted
+    → (enough n : ℕ) (items : List (SignedBy S))
+    → (first_fault v (item_fault secret form is_wanted) (nat_le enough n) items ≡ None) ↔ (AreSigned S secret form v Wanted items × (enough ≤ n))
 unfolding first_fault
-certificate-from secret v wanted votes is =
-    let parts = else_parts (fault_behind secret v wanted [] votes) (if nat_le (quorum v) (weight_of v (signers votes)) then None else Some TooFew) is in
-    let all = behind secret v wanted [] votes parts.0 in
-    record {
-      members = all.members;
-      distinct = all.distinct;
-      equal = all.equal;
-      verified = all.verified;
-      enough = enough_parts (quorum v) (weight_of v (signers votes)) (nat_le (quorum v) (weight_of v (signers votes))) refl parts.1;
-    }
+signed-exact {S} secret form v is_wanted Wanted tells enough n items = (from, to)
+  where
+    from : or_else (fault_behind v (item_fault secret form is_wanted) [] items) (if nat_le enough n then None else Some TooFew) ≡ None
+        → AreSigned S secret form v Wanted items × (enough ≤ n)
+    from is =
+        let parts = else_parts (fault_behind v (item_fault secret form is_wanted) [] items) (if nat_le enough n then None else Some TooFew) is in
+        ((behind secret form v is_wanted Wanted tells [] items parts.0).signed, enough_parts enough n (nat_le enough n) refl parts.1)
 
-pub certificate-clean : (secret : List ℕ) (v : View) (wanted : Ballot) (votes : List (SignedBy Ballot))
-    → IsCertificate secret v wanted votes → first_fault secret v wanted votes ≡ None
-unfolding first_fault
-certificate-clean secret v wanted votes cert =
-    else_from (fault_behind secret v wanted [] votes) (if nat_le (quorum v) (weight_of v (signers votes)) then None else Some TooFew)
-    (clean secret v wanted [] votes (record {
-      members = cert.members;
-      fresh = fresh_first (signers votes);
-      distinct = cert.distinct;
-      equal = cert.equal;
-      verified = cert.verified;
-    }))
-    (rw (enough_test (quorum v) (weight_of v (signers votes)) cert.enough) refl)
+    to : AreSigned S secret form v Wanted items × (enough ≤ n)
+        → or_else (fault_behind v (item_fault secret form is_wanted) [] items) (if nat_le enough n then None else Some TooFew) ≡ None
+    to cert =
+        else_from (fault_behind v (item_fault secret form is_wanted) [] items) (if nat_le enough n then None else Some TooFew)
+        (clean secret form v is_wanted Wanted tells [] items (fresh_first (signers items)) cert.0)
+        (rw (enough_test enough n cert.1) refl)
 
--- a check passes exactly where votes are a certificate
-pub passed-exact : (secret : List ℕ) (v : View) (wanted : Ballot) (votes : List (SignedBy Ballot)) (answer : Result (Unit {0}) CertFault)
-    → answer ≡ passed (first_fault secret v wanted votes) → (answer ≡ Ok tt) ↔ IsCertificate secret v wanted votes
-passed-exact secret v wanted votes answer is = (
-  (λ ok. certificate-from secret v wanted votes (passed_ok (first_fault secret v wanted votes) (sym ok ∙ is))),
-  (λ cert. is ∙ ap passed (certificate-clean secret v wanted votes cert)),
+-- a check passes exactly where no fault is there
+pub passed-exact : (found : Option CertFault) (Holds : Type 0) (answer : Result (Unit {0}) CertFault) → (found ≡ None) ↔ Holds
+    → answer ≡ passed found → (answer ≡ Ok tt) ↔ Holds
+passed-exact found Holds answer exact is = (
+  (λ ok. exact.0 (passed_ok found (sym ok ∙ is))),
+  (λ holds. is ∙ ap passed (exact.1 holds)),
 )

@@ -1,51 +1,36 @@
--- Write certificates and decision proofs: the signed votes of a quorum, and the first fault of votes that are none.
-use Rattle.std.specs.Prelude.{◌≡◌, ℕ, ◌==◌, ◌≤◌, nat_le, Bool, true, false, not, ◌&&◌, List, [], ◌∷◌, ◌++◌, map, slice_index_or, Option, Some, None, Result, Ok, Err, if◌then◌else◌}
+-- Certificates: equal statements signed by enough distinct members of a view. What is wrong with signed statements that are none.
+use Rattle.std.specs.Prelude.{◌≡◌, ℕ, ◌+◌, ◌==◌, ◌≤◌, nat_le, Bool, true, false, not, ◌&&◌, List, [], ◌∷◌, ◌++◌, map, length, slice_index_or, Option, Some, None, Result, Ok, Err, if◌then◌else◌}
 use Rattle.std.specs.List.{list_any}
 use Rattle.smart_base.specs.Lists.{or_else, same_bytes, Each, Distinct}
 use Rattle.smart_base.specs.Views.{View, weight_of, quorum, is_member}
 use Rattle.smart_keys.specs.Keys.{is_tag}
 use Rattle.smart_messages.specs.Equality.{same_slot, same_kind}
-use Rattle.smart_messages.specs.Forms.{SignedBy, party_of}
+use Rattle.smart_messages.specs.Forms.{Form, SignedBy, party_of}
 use Rattle.smart_messages.specs.Kinds.{ballots}
+use Rattle.smart_messages.specs.Reports.{marks}
 use Rattle.smart_messages.specs.declared.statement.Ballot.{Ballot}
 use Rattle.smart_messages.specs.declared.statement.Slot.{Slot}
 use Rattle.smart_messages.specs.declared.statement.VoteKind.TheVariants.{Write, Accept}
+use Rattle.smart_messages.specs.declared.report.Mark.{Mark}
 use Rattle.smart_view.specs.Sizes.{index_of}
 use Rattle.certificates.specs.declared.fault.CertFault.{CertFault}
 use Rattle.certificates.specs.declared.fault.CertFault.TheVariants.{TooFew, Stranger, Twice, Unequal, BadTag}
 
--- votes of one kind for one digest at one slot
-abbrev pub same_ballot : Ballot → Ballot → Bool
-same_ballot a b = same_kind a.kind b.kind && same_slot a.slot b.slot && same_bytes a.digest b.digest
+-- ---- signed statements of members
 
 -- the tag is the one that the signer makes
-abbrev pub is_verified : List ℕ → SignedBy Ballot → Bool
-is_verified secret vote = is_tag secret (party_of ballots.kind vote.signer) (ballots.spell vote.statement) vote.tag
+abbrev pub is_verified : {S : Type 0} → List ℕ → Form S → SignedBy S → Bool
+is_verified secret form item = is_tag secret (party_of form.kind item.signer) (form.spell item.statement) item.tag
 
-abbrev pub signers : List (SignedBy Ballot) → List ℕ
-signers votes = map (λ vote. vote.signer) votes
+abbrev pub signers : {S : Type 0} → List (SignedBy S) → List ℕ
+signers items = map (λ item. item.signer) items
 
--- the wanted vote, signed by distinct members of a view that weigh as much as a quorum
-pub record IsCertificate (secret : List ℕ) (v : View) (wanted : Ballot) (votes : List (SignedBy Ballot)) : Type 0 where
-  pub members : Each (λ vote. is_member v vote.signer ≡ true) votes
-  pub distinct : Distinct (signers votes)
-  pub equal : Each (λ vote. vote.statement ≡ wanted) votes
-  pub verified : Each (λ vote. is_verified secret vote ≡ true) votes
-  pub enough : quorum v ≤ weight_of v (signers votes)
-
-abbrev pub write_of : Slot → List ℕ → Ballot
-write_of slot digest = record { kind = Write; slot = slot; digest = digest }
-
-abbrev pub accept_of : Slot → List ℕ → Ballot
-accept_of slot digest = record { kind = Accept; slot = slot; digest = digest }
-
--- a quorum wrote the digest at the slot
-abbrev pub IsWriteCertificate : List ℕ → View → Slot → List ℕ → List (SignedBy Ballot) → Type 0
-IsWriteCertificate secret v slot digest votes = IsCertificate secret v (write_of slot digest) votes
-
--- a quorum accepted the digest at the slot
-abbrev pub IsDecisionProof : List ℕ → View → Slot → List ℕ → List (SignedBy Ballot) → Type 0
-IsDecisionProof secret v slot digest votes = IsCertificate secret v (accept_of slot digest) votes
+-- statements that are as they have to be, signed by distinct members of a view
+pub record AreSigned (S : Type 0) (secret : List ℕ) (form : Form S) (v : View) (Wanted : S → Type 0) (items : List (SignedBy S)) : Type 0 where
+  pub members : Each (λ item. is_member v item.signer ≡ true) items
+  pub distinct : Distinct (signers items)
+  pub stated : Each (λ item. Wanted item.statement) items
+  pub verified : Each (λ item. is_verified secret form item ≡ true) items
 
 -- what is wrong with a signer behind earlier ones
 abbrev pub signer_fault : View → List ℕ → ℕ → Option CertFault
@@ -54,25 +39,23 @@ signer_fault v earlier signer =
     else (if list_any (λ m. m == signer) earlier then Some Twice
     else None)
 
--- what is wrong with a vote, whoever signed it
-abbrev pub vote_fault : List ℕ → Ballot → SignedBy Ballot → Option CertFault
-vote_fault secret wanted vote =
-    if not (same_ballot vote.statement wanted) then Some Unequal
-    else (if not (is_verified secret vote) then Some BadTag
+-- what is wrong with a statement, whoever signed it
+abbrev pub item_fault : {S : Type 0} → List ℕ → Form S → (S → Bool) → SignedBy S → Option CertFault
+item_fault secret form is_wanted item =
+    if not (is_wanted item.statement) then Some Unequal
+    else (if not (is_verified secret form item) then Some BadTag
     else None)
 
--- the first fault of votes behind the votes of earlier signers
-abbrev pub fault_behind : List ℕ → View → Ballot → List ℕ → List (SignedBy Ballot) → Option CertFault
-fault_behind secret v wanted earlier [] = None
-fault_behind secret v wanted earlier (vote ∷ votes) =
-    or_else (signer_fault v earlier vote.signer) (or_else (vote_fault secret wanted vote)
-    (fault_behind secret v wanted (earlier ++ vote.signer ∷ []) votes))
+-- the first fault of statements behind those of earlier signers
+abbrev pub fault_behind : {S : Type 0} → View → (SignedBy S → Option CertFault) → List ℕ → List (SignedBy S) → Option CertFault
+fault_behind v fault_of earlier [] = None
+fault_behind v fault_of earlier (item ∷ items) =
+    or_else (signer_fault v earlier item.signer) (or_else (fault_of item)
+    (fault_behind v fault_of (earlier ++ item.signer ∷ []) items))
 
--- the first fault of votes; that they are too few is told last
-unfoldable pub first_fault : List ℕ → View → Ballot → List (SignedBy Ballot) → Option CertFault
-first_fault secret v wanted votes =
-    or_else (fault_behind secret v wanted [] votes)
-    (if nat_le (quorum v) (weight_of v (signers votes)) then None else Some TooFew)
+-- the first fault of signed statements; that they are not enough is told last
+unfoldable pub first_fault : {S : Type 0} → View → (SignedBy S → Option CertFault) → Bool → List (SignedBy S) → Option CertFault
+first_fault v fault_of are_enough items = or_else (fault_behind v fault_of [] items) (if are_enough then None else Some TooFew)
 
 -- what a check answers
 abbrev pub passed : Option CertFault → Result (Unit {0}) CertFault
@@ -90,3 +73,51 @@ code_of BadTag = 5
 -- a mark at the index of each member that is among earlier signers, and at no other member's
 pub record Marks (v : View) (earlier : List ℕ) (marks : List Bool) : Type 0 where
   pub at : (m i : ℕ) → index_of v m ≡ Some i → slice_index_or marks i false ≡ list_any (λ x. x == m) earlier
+
+-- ---- votes
+
+-- votes of one kind for one digest at one slot
+abbrev pub same_ballot : Ballot → Ballot → Bool
+same_ballot a b = same_kind a.kind b.kind && same_slot a.slot b.slot && same_bytes a.digest b.digest
+
+-- the wanted vote, signed by members that weigh as much as a quorum
+abbrev pub IsCertificate : List ℕ → View → Ballot → List (SignedBy Ballot) → Type 0
+IsCertificate secret v wanted votes = AreSigned Ballot secret ballots v (λ b. b ≡ wanted) votes × (quorum v ≤ weight_of v (signers votes))
+
+-- the first fault of votes that are wanted to be a certificate
+abbrev pub votes_fault : List ℕ → View → Ballot → List (SignedBy Ballot) → Option CertFault
+votes_fault secret v wanted votes =
+    first_fault v (item_fault secret ballots (λ b. same_ballot b wanted)) (nat_le (quorum v) (weight_of v (signers votes))) votes
+
+abbrev pub write_of : Slot → List ℕ → Ballot
+write_of slot digest = record { kind = Write; slot = slot; digest = digest }
+
+abbrev pub accept_of : Slot → List ℕ → Ballot
+accept_of slot digest = record { kind = Accept; slot = slot; digest = digest }
+
+-- a quorum wrote the digest at the slot
+abbrev pub IsWriteCertificate : List ℕ → View → Slot → List ℕ → List (SignedBy Ballot) → Type 0
+IsWriteCertificate secret v slot digest votes = IsCertificate secret v (write_of slot digest) votes
+
+-- a quorum accepted the digest at the slot
+abbrev pub IsDecisionProof : List ℕ → View → Slot → List ℕ → List (SignedBy Ballot) → Type 0
+IsDecisionProof secret v slot digest votes = IsCertificate secret v (accept_of slot digest) votes
+
+-- ---- marks
+
+-- marks of one digest at one place
+abbrev pub same_mark : Mark → Mark → Bool
+same_mark a b = (a.place == b.place) && same_bytes a.digest b.digest
+
+abbrev pub mark_of : ℕ → List ℕ → Mark
+mark_of place digest = record { place = place; digest = digest }
+
+-- more members than may be faulty marked the digest at the place
+abbrev pub IsMarkCertificate : List ℕ → View → ℕ → List ℕ → List (SignedBy Mark) → Type 0
+IsMarkCertificate secret v place digest items =
+    AreSigned Mark secret marks v (λ m. m ≡ mark_of place digest) items × (v.f + 1 ≤ length items)
+
+-- the first fault of marks that are wanted to be a certificate
+abbrev pub marks_fault : List ℕ → View → ℕ → List ℕ → List (SignedBy Mark) → Option CertFault
+marks_fault secret v place digest items =
+    first_fault v (item_fault secret marks (λ m. same_mark m (mark_of place digest))) (nat_le (v.f + 1) (length items)) items

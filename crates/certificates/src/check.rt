@@ -1,14 +1,16 @@
 //! Checks of certificates and proofs.
-ghost use Rattle.std.specs.Prelude.{◌≡◌, ◌++◌, ◌↔◌, [], ◌∷◌, List, ℕ, ◌<◌, OnOk, IfSome};
-ghost use Rattle.smart_view.specs.Sizes.{index_of};
-ghost use Rattle.certificates.specs.Certificates.{Marks, IsWriteCertificate, IsDecisionProof, same_ballot, signer_fault, vote_fault, first_fault, passed, write_of, accept_of};
+ghost use Rattle.std.specs.Prelude.{◌≡◌, ◌↔◌};
+ghost use Rattle.certificates.specs.Certificates.{IsWriteCertificate, IsDecisionProof, IsMarkCertificate, same_ballot, same_mark, votes_fault, marks_fault, passed, write_of, accept_of};
 
 use crate::fault::CertFault;
+use crate::list::{Wanted, check_list};
 use smart_base::bytes::Digest32;
 use smart_base::equality::same_bytes;
-use smart_base::view::{MEMBERS, View};
+use smart_base::number::Place;
+use smart_base::view::View;
 use smart_keys::ring::Ring;
 use smart_messages::equality::{same_kind, same_slot};
+use smart_messages::report::Mark;
 use smart_messages::signed::Signed;
 use smart_messages::statement::{Ballot, Slot, VoteKind};
 
@@ -20,58 +22,26 @@ fn same_ballot(a: &Ballot, b: &Ballot) -> bool
         && same_bytes(a.digest.as_slice(), b.digest.as_slice())
 }
 
-/// Where a signer stands among the members.
-fn index_of(view: &View, signer: u16) -> Option<usize>
-    ensures index { result ≡ index_of view.now signer }
-    ensures few { IfSome result (λ i. i < 31) }
+fn same_mark(a: &Mark, b: &Mark) -> bool
+    ensures { result ≡ same_mark a.now b.now }
 {
-    view.members().iter().position(|m| m.get() == signer)
+    a.place == b.place && same_bytes(a.digest.as_slice(), b.digest.as_slice())
 }
 
-/// Marks a signer, unless it is no member or was marked before.
-fn mark(view: &View, signer: u16, marks: &mut [bool; MEMBERS]) -> Result<(), CertFault>
-    ensures value { (earlier : List ℕ) → Marks view.now earlier marks.old → result ≡ passed (signer_fault view.now earlier signer) }
-    ensures marks { (earlier : List ℕ) → Marks view.now earlier marks.old → OnOk result (Marks view.now (earlier ++ signer ∷ []) marks.new) }
-{
-    let Some(index) = index_of(view, signer) else {
-        return Err(CertFault::Stranger);
-    };
-    if marks[index] {
-        return Err(CertFault::Twice);
-    }
-    marks[index] = true;
-    Ok(())
-}
+impl Wanted<Ballot> for Ballot {
+    ghost is_wanted = { λ secret wanted ballot. same_ballot ballot wanted };
 
-fn check_vote(ring: &Ring, wanted: &Ballot, vote: &Signed<Ballot>) -> Result<(), CertFault>
-    ensures { result ≡ passed (vote_fault ring.now wanted.now vote.now) }
-{
-    if !same_ballot(vote.statement(), wanted) {
-        Err(CertFault::Unequal)
-    } else if !vote.verifies(ring) {
-        Err(CertFault::BadTag)
-    } else {
-        Ok(())
+    fn is_met(&self, _ring: &Ring, ballot: &Ballot) -> bool {
+        same_ballot(ballot, self)
     }
 }
 
-fn check(
-    ring: &Ring,
-    view: &View,
-    wanted: &Ballot,
-    votes: &[Signed<Ballot>],
-) -> Result<(), CertFault>
-    ensures { result ≡ passed (first_fault ring.now view.now wanted.now votes.now) }
-{
-    let mut marks = [false; MEMBERS];
-    for vote in votes {
-        mark(view, vote.signer(), &mut marks)?;
-        check_vote(ring, wanted, vote)?;
+impl Wanted<Mark> for Mark {
+    ghost is_wanted = { λ secret wanted mark. same_mark mark wanted };
+
+    fn is_met(&self, _ring: &Ring, mark: &Mark) -> bool {
+        same_mark(mark, self)
     }
-    if votes.len() < view.quorum() {
-        return Err(CertFault::TooFew);
-    }
-    Ok(())
 }
 
 /// Whether votes are a write certificate, or their first fault. It takes no memory.
@@ -82,7 +52,7 @@ pub fn check_write_cert(
     digest: Digest32,
     votes: &[Signed<Ballot>],
 ) -> Result<(), CertFault>
-    ensures fault { result ≡ passed (first_fault ring.now view.now (write_of slot digest) votes.now) }
+    ensures fault { result ≡ passed (votes_fault ring.now view.now (write_of slot digest) votes.now) }
     ensures exact { (result ≡ Ok tt) ↔ IsWriteCertificate ring.now view.now slot digest votes.now }
 {
     let wanted = Ballot {
@@ -90,7 +60,7 @@ pub fn check_write_cert(
         slot,
         digest,
     };
-    check(ring, view, &wanted, votes)
+    check_list(ring, view, &wanted, view.quorum(), votes)
 }
 
 /// Whether votes are a decision proof, or their first fault. It takes no memory.
@@ -101,7 +71,7 @@ pub fn check_proof(
     digest: Digest32,
     votes: &[Signed<Ballot>],
 ) -> Result<(), CertFault>
-    ensures fault { result ≡ passed (first_fault ring.now view.now (accept_of slot digest) votes.now) }
+    ensures fault { result ≡ passed (votes_fault ring.now view.now (accept_of slot digest) votes.now) }
     ensures exact { (result ≡ Ok tt) ↔ IsDecisionProof ring.now view.now slot digest votes.now }
 {
     let wanted = Ballot {
@@ -109,5 +79,21 @@ pub fn check_proof(
         slot,
         digest,
     };
-    check(ring, view, &wanted, votes)
+    check_list(ring, view, &wanted, view.quorum(), votes)
+}
+
+/// Whether marks are those of more members of a view than may be faulty, each of this digest at
+/// this place, or their first fault (Dura-SMaRt, USENIX ATC 2013). It takes no memory.
+pub fn check_marks(
+    ring: &Ring,
+    view: &View,
+    place: Place,
+    digest: Digest32,
+    marks: &[Signed<Mark>],
+) -> Result<(), CertFault>
+    ensures fault { result ≡ passed (marks_fault ring.now view.now place digest marks.now) }
+    ensures exact { (result ≡ Ok tt) ↔ IsMarkCertificate ring.now view.now place digest marks.now }
+{
+    let wanted = Mark { place, digest };
+    check_list(ring, view, &wanted, view.f() as usize + 1, marks)
 }

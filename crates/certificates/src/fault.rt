@@ -1,15 +1,15 @@
-//! What is wrong with votes that are no certificate.
+//! What is wrong with signed statements that are no certificate.
 
-/// The first fault of votes.
+/// The first fault of votes, marks or reports.
 #[derive(Clone, Copy, Debug, PartialEq, Eq)]
 pub enum CertFault {
-    /// The votes weigh less than a quorum.
+    /// They are fewer than it takes: votes of a quorum, f+1 marks, n-f reports.
     TooFew = 1,
     /// A signer is not a member of the view.
     Stranger = 2,
-    /// A signer signed an earlier vote.
+    /// A signer signed an earlier one.
     Twice = 3,
-    /// A vote is of another kind, slot or digest.
+    /// One states something else than it has to; in a report evidence or a lock may not hold.
     Unequal = 4,
     /// A tag is not the signer's.
     BadTag = 5,

@@ -3,9 +3,15 @@ ghost use Rattle.std.specs.Prelude.{◌≡◌, ◌↔◌, ℕ, List, None};
 ghost use Rattle.smart_base.specs.Views.{View};
 ghost use Rattle.smart_messages.specs.Forms.{SignedBy};
 ghost use Rattle.smart_messages.specs.declared.statement.Ballot.{Ballot};
-ghost use Rattle.certificates.specs.Certificates.{IsCertificate, first_fault};
+ghost use Rattle.smart_messages.specs.declared.report.Mark.{Mark};
+ghost use Rattle.smart_messages.specs.declared.report.Report.{Report};
+ghost use Rattle.certificates.specs.Certificates.{IsCertificate, IsMarkCertificate, votes_fault, marks_fault};
+ghost use Rattle.certificates.specs.Collects.{IsCollect, collect_fault};
 
-/// Votes have no fault exactly where they are a certificate.
-pub fn votes_without_a_fault_are_a_certificate()
-    ensures { (secret : List ℕ) (v : View) (wanted : Ballot) (votes : List (SignedBy Ballot)) → (first_fault secret v wanted votes ≡ None) ↔ IsCertificate secret v wanted votes }
+/// Votes have no fault exactly where they are a certificate, marks where they are a mark
+/// certificate, and reports where they are a collect.
+pub fn lists_without_a_fault_are_certificates()
+    ensures votes { (secret : List ℕ) (v : View) (wanted : Ballot) (votes : List (SignedBy Ballot)) → (votes_fault secret v wanted votes ≡ None) ↔ IsCertificate secret v wanted votes }
+    ensures marks { (secret : List ℕ) (v : View) (place : ℕ) (digest : List ℕ) (marks : List (SignedBy Mark)) → (marks_fault secret v place digest marks ≡ None) ↔ IsMarkCertificate secret v place digest marks }
+    ensures collects { (secret : List ℕ) (views : List View) (regency : ℕ) (reports : List (SignedBy Report)) → (collect_fault secret views regency reports ≡ None) ↔ IsCollect secret views regency reports }
 {}
