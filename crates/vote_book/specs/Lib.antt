@@ -1,0 +1,5 @@
+pub mod Admission
+pub mod BookIndex
+pub mod BookReports
+pub mod Books
+pub mod Entries

@@ -1,0 +1,93 @@
+//! Sets of slots and of places.
+ghost use Rattle.std.specs.Prelude.{◌≡◌, ◌||◌, ℕ, nat_eq, [], OnOk, OnErr};
+ghost use Rattle.smart_messages.specs.Equality.{same_slot};
+ghost use Rattle.vote_book.specs.BookIndex.{has_slot, has_place};
+ghost use Rattle.smart_messages.specs.declared.statement.Slot.{Slot};
+
+use indexmap::IndexSet;
+use smart_messages::statement::Slot;
+use std::alloc::{AllocError, Global};
+use std::marker::Model;
+
+/// A set of slots, each by its view, place and regency.
+#[derive(Drop)]
+pub struct SlotSet {
+    slots: IndexSet<(u32, u64, u32)>,
+}
+
+impl Model for SlotSet {
+    ghost use Rattle.std.specs.Prelude.{ℕ, List};
+
+    ghost Value = { List (ℕ × ℕ × ℕ) };
+
+    ghost view = { λ s. s.slots.keys };
+}
+
+/// A slot as a key of a set.
+fn key(slot: &Slot) -> (u32, u64, u32)
+    ensures { result ≡ (slot.now.view, slot.now.place, slot.now.regency) }
+{
+    (slot.view.get(), slot.place.get(), slot.regency.get())
+}
+
+impl SlotSet {
+    pub fn new(alloc: Global) -> Self
+        ensures { result ≡ [] }
+    {
+        SlotSet {
+            slots: IndexSet::new(alloc),
+        }
+    }
+
+    pub fn has(&self, slot: &Slot) -> bool
+        ensures { result ≡ has_slot self.now slot.now }
+    {
+        self.slots.contains(&key(slot))
+    }
+
+    pub fn add(&mut self, slot: &Slot) -> Result<(), AllocError>
+        ensures ok { OnOk result ((other : Slot) → has_slot self.new other ≡ (has_slot self.old other || same_slot slot.now other)) }
+        ensures err { OnErr result (self.new ≡ self.old) }
+    {
+        self.slots.insert_full(key(slot))?;
+        Ok(())
+    }
+}
+
+/// A set of places.
+#[derive(Drop)]
+pub struct PlaceSet {
+    places: IndexSet<u64>,
+}
+
+impl Model for PlaceSet {
+    ghost use Rattle.std.specs.Prelude.{ℕ, List};
+
+    ghost Value = { List ℕ };
+
+    ghost view = { λ s. s.places.keys };
+}
+
+impl PlaceSet {
+    pub fn new(alloc: Global) -> Self
+        ensures { result ≡ [] }
+    {
+        PlaceSet {
+            places: IndexSet::new(alloc),
+        }
+    }
+
+    pub fn has(&self, place: u64) -> bool
+        ensures { result ≡ has_place self.now place }
+    {
+        self.places.contains(&place)
+    }
+
+    pub fn add(&mut self, place: u64) -> Result<(), AllocError>
+        ensures ok { OnOk result ((other : ℕ) → has_place self.new other ≡ (has_place self.old other || nat_eq other place)) }
+        ensures err { OnErr result (self.new ≡ self.old) }
+    {
+        self.places.insert_full(place)?;
+        Ok(())
+    }
+}

@@ -1,0 +1,166 @@
+//! What a member writes into its log before a message that rests on it leaves.
+ghost use Rattle.std.specs.Prelude.{◌≡◌, IfOk};
+
+use smart_base::bytes::Digest32;
+use smart_base::duplicate::Duplicate;
+use smart_base::name::MemberId;
+use smart_base::number::{Place, Regency, ViewNo};
+use smart_base::view::View;
+use smart_messages::batch::Batch;
+use smart_messages::report::Mark;
+use smart_messages::signed_list::SignedList;
+use smart_messages::statement::{Ballot, Slot};
+use std::alloc::{AllocError, Global};
+
+/// How a book begins: whose it is, every how many places its group marks one, and the first view.
+#[derive(Drop)]
+pub struct Opening {
+    pub member: MemberId,
+    pub period: u32,
+    pub view: View,
+}
+
+/// A write: the member has voted for a batch in a slot, in the first phase (Mod-SMaRt, EDCC 2012).
+#[derive(Drop)]
+pub struct Write {
+    pub slot: Slot,
+    pub digest: Digest32,
+}
+
+/// An accept: the member has voted for a batch in a slot, in the second phase, since a quorum wrote
+/// for it (Mod-SMaRt, EDCC 2012).
+#[derive(Drop)]
+pub struct Accept {
+    pub slot: Slot,
+    pub digest: Digest32,
+    pub writes: SignedList<Ballot>,
+    pub batch: Batch,
+}
+
+/// A promise to vote in no earlier regency of the view.
+#[derive(Clone, Copy)]
+pub struct Promise {
+    pub view: ViewNo,
+    pub regency: Regency,
+}
+
+/// A regency has begun: the member may vote in it from the place `base` on (1 to 2^63), and there for
+/// the batch `bound` alone, if there is one.
+#[derive(Drop)]
+pub struct Start {
+    pub view: ViewNo,
+    pub regency: Regency,
+    pub base: u64,
+    pub bound: Option<Digest32>,
+}
+
+/// A batch is decided in a slot, since a quorum accepted it.
+#[derive(Drop)]
+pub struct Decision {
+    pub slot: Slot,
+    pub batch: Batch,
+    pub accepts: SignedList<Ballot>,
+}
+
+/// The replica of a place was taken over from other members, who had marked it.
+#[derive(Drop)]
+pub struct Installation {
+    pub place: Place,
+    pub digest: Digest32,
+    pub view: ViewNo,
+    pub marks: SignedList<Mark>,
+}
+
+/// An entry of a member's book. Logging batches and replies is Dura-SMaRt's (USENIX ATC 2013); that
+/// votes, promises and marks are logged before they leave is this project's own rule.
+#[derive(Drop)]
+pub enum LogEntry {
+    Opened(Opening),
+    Wrote(Write),
+    Accepted(Accept),
+    Promised(Promise),
+    Synced(Start),
+    Decided(Decision),
+    Installed(Installation),
+    /// The member has marked its replica.
+    Marked(Mark),
+}
+
+impl Duplicate for Opening {
+    fn duplicate(&self, alloc: Global) -> Result<Opening, AllocError> {
+        Ok(Opening {
+            member: self.member,
+            period: self.period,
+            view: self.view.duplicate(alloc)?,
+        })
+    }
+}
+
+impl Duplicate for Write {
+    fn duplicate(&self, _alloc: Global) -> Result<Write, AllocError> {
+        Ok(Write {
+            slot: self.slot,
+            digest: self.digest,
+        })
+    }
+}
+
+impl Duplicate for Accept {
+    fn duplicate(&self, alloc: Global) -> Result<Accept, AllocError> {
+        Ok(Accept {
+            slot: self.slot,
+            digest: self.digest,
+            writes: self.writes.duplicate(alloc)?,
+            batch: self.batch.duplicate(alloc)?,
+        })
+    }
+}
+
+impl Duplicate for Start {
+    fn duplicate(&self, _alloc: Global) -> Result<Start, AllocError> {
+        Ok(Start {
+            view: self.view,
+            regency: self.regency,
+            base: self.base,
+            bound: self.bound,
+        })
+    }
+}
+
+impl Duplicate for Decision {
+    fn duplicate(&self, alloc: Global) -> Result<Decision, AllocError> {
+        Ok(Decision {
+            slot: self.slot,
+            batch: self.batch.duplicate(alloc)?,
+            accepts: self.accepts.duplicate(alloc)?,
+        })
+    }
+}
+
+impl Duplicate for Installation {
+    fn duplicate(&self, alloc: Global) -> Result<Installation, AllocError> {
+        Ok(Installation {
+            place: self.place,
+            digest: self.digest,
+            view: self.view,
+            marks: self.marks.duplicate(alloc)?,
+        })
+    }
+}
+
+impl Duplicate for LogEntry {
+    fn duplicate(&self, alloc: Global) -> Result<LogEntry, AllocError> {
+        match self {
+            LogEntry::Opened(opening) => Ok(LogEntry::Opened(opening.duplicate(alloc)?)),
+            LogEntry::Wrote(write) => Ok(LogEntry::Wrote(write.duplicate(alloc)?)),
+            LogEntry::Accepted(accept) => Ok(LogEntry::Accepted(accept.duplicate(alloc)?)),
+            LogEntry::Promised(promise) => Ok(LogEntry::Promised(*promise)),
+            LogEntry::Synced(start) => Ok(LogEntry::Synced(start.duplicate(alloc)?)),
+            LogEntry::Decided(decision) => Ok(LogEntry::Decided(decision.duplicate(alloc)?)),
+            LogEntry::Installed(installation) => {
+                Ok(LogEntry::Installed(installation.duplicate(alloc)?))
+            }
+            LogEntry::Marked(mark) => Ok(LogEntry::Marked(mark.duplicate(alloc)?)),
+        }
+    }
+}

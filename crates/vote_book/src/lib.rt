@@ -1,0 +1,9 @@
+//! A member's book: its entries, their one spelling, and which entries it admits.
+#![tactic(auto)]
+
+pub mod book;
+pub mod codec;
+pub mod entry;
+pub mod laws;
+#[cfg(test)]
+mod tests;
