@@ -1,0 +1,372 @@
+//! What a member has heard and done to change the regency.
+ghost use Rattle.std.specs.Prelude.{◌≡◌, ◌+◌, ◌<◌, ◌^◌, true, length, find, IfOk, OnOk, OnErr};
+ghost use Rattle.std.specs.Option.{option_copied};
+ghost use Rattle.regency_sync.specs.Synchronizers.{Synchronizer, is_synced, is_synced_in, repeats_stop, repeats_report, repeats_sync, is_adoptable};
+ghost use Rattle.regency_sync.specs.Synchronizers.{adopting, has_next, stoppers, is_joining, is_promising, reporters, is_collecting, collect, collecting};
+ghost use Rattle.regency_sync.specs.Synchronizers.{due, bears, batch_of, begun, with_stop, with_report, with_sync};
+ghost use Rattle.regency_sync.specs.Synchronizers.{adopted, stopped, promised, led, moved, trimmed};
+
+use crate::find::{
+    carries, collect, count_reporters, count_stoppers, has_same_report, has_same_stop,
+    has_same_sync,
+};
+use crate::needed::{keep_reports, keep_stops, keep_syncs, needs_report, needs_sync};
+use crate::rule::Rule;
+use smart_base::bytes::Digest32;
+use smart_base::name::MemberId;
+use smart_base::number::{Regency, ViewNo};
+use smart_base::view::View;
+use smart_messages::batch::Batch;
+use smart_messages::regency::{Reported, Stop, Sync};
+use smart_messages::report::Report;
+use smart_messages::signed::Signed;
+use smart_messages::signed_list::SignedList;
+use smart_view::size::{collect_size, stop_size};
+use std::alloc::{AllocError, Global};
+use std::marker::Model;
+
+/// A member's part in changing the regency (the synchronisation phase of Mod-SMaRt, EDCC 2012). Who
+/// calls it has checked what it keeps: that the signers are members, and that reports and the
+/// beginnings of regencies bear their proofs. The view in force is lent to each call that needs it.
+/// What is of another view or of an earlier regency than the member's counts for nothing, and is
+/// dropped as the regency or the view changes.
+#[derive(Drop)]
+pub struct Synchronizer {
+    id: MemberId,
+    /// The greatest regency that is promised in the view in force, 0 where none is.
+    regency: Regency,
+    /// Whether the reports with which a leader began that regency are adopted.
+    synced: bool,
+    /// Whether the member has asked for the regency behind that one, in this life.
+    stop_made: bool,
+    /// Whether the member has begun that regency as its leader, in this life.
+    sync_made: bool,
+    /// In the order in which they came, as the next two.
+    stops: Vec<Signed<Stop>>,
+    reports: Vec<Reported>,
+    syncs: Vec<Signed<Sync>>,
+}
+
+impl Model for Synchronizer {
+    ghost use Rattle.regency_sync.specs.Synchronizers.{Synchronizer};
+
+    ghost Value = { Synchronizer };
+
+    ghost view = { λ s. record {
+      id = s.id;
+      regency = s.regency;
+      synced = s.synced;
+      stop_made = s.stop_made;
+      sync_made = s.sync_made;
+      stops = s.stops.items;
+      reports = s.reports.items;
+      syncs = s.syncs.items;
+    } };
+}
+
+impl Synchronizer {
+    /// A member that has promised nothing. It takes no memory.
+    pub fn begin(alloc: Global, id: MemberId) -> Self
+        ensures { result ≡ begun id }
+    {
+        Synchronizer {
+            id,
+            regency: Regency::new(0),
+            synced: false,
+            stop_made: false,
+            sync_made: false,
+            stops: Vec::new(alloc),
+            reports: Vec::new(alloc),
+            syncs: Vec::new(alloc),
+        }
+    }
+
+    /// The greatest regency that the member has promised in the view in force, 0 where it promised
+    /// none.
+    pub fn regency(&self) -> Regency
+        ensures { result ≡ self.now.regency }
+    {
+        self.regency
+    }
+
+    /// Whether the member takes part in its regency: in regency 0 at once, in a later one when it has
+    /// adopted the reports with which the leader begins it.
+    pub fn is_synced(&self) -> bool
+        ensures { result ≡ is_synced self.now }
+    {
+        self.regency.get() == 0 || self.synced
+    }
+
+    /// Keeps a member's wish for a regency. Without memory nothing is kept.
+    pub fn on_stop(&mut self, stop: Signed<Stop>) -> Result<(), AllocError>
+        ensures ok { OnOk result (self.new ≡ with_stop stop self.old) }
+        ensures err { OnErr result (self.new ≡ self.old) }
+    {
+        self.stops.push(stop)?;
+        Ok(())
+    }
+
+    /// Keeps a member's report, with the batch of its lock. Without memory nothing is kept.
+    pub fn on_stopdata(
+        &mut self,
+        report: Signed<Report>,
+        batch: Option<Batch>,
+    ) -> Result<(), AllocError>
+        ensures ok { OnOk result (self.new ≡ with_report report batch self.old) }
+        ensures err { OnErr result (self.new ≡ self.old) }
+    {
+        self.reports.push(Reported {
+            head: report,
+            batch,
+        })?;
+        Ok(())
+    }
+
+    /// Keeps the beginning of a regency. Without memory nothing is kept.
+    pub fn on_sync(&mut self, sync: Signed<Sync>) -> Result<(), AllocError>
+        ensures ok { OnOk result (self.new ≡ with_sync sync self.old) }
+        ensures err { OnErr result (self.new ≡ self.old) }
+    {
+        self.syncs.push(sync)?;
+        Ok(())
+    }
+
+    /// Whether the signer's wish for the regency was kept before.
+    pub fn repeats_stop(&self, stop: &Signed<Stop>) -> bool
+        ensures { result ≡ repeats_stop self.now stop.now }
+    {
+        has_same_stop(self.stops.as_slice(), stop)
+    }
+
+    /// Whether the signer's report in the regency was kept before.
+    pub fn repeats_report(&self, report: &Signed<Report>) -> bool
+        ensures { result ≡ repeats_report self.now report.now }
+    {
+        has_same_report(self.reports.as_slice(), report)
+    }
+
+    /// Whether the signer's beginning of the regency was kept before, or the member takes part in that
+    /// regency already.
+    pub fn repeats_sync(&self, sync: &Signed<Sync>) -> bool
+        ensures { result ≡ repeats_sync self.now sync.now }
+    {
+        self.is_synced_in(sync.statement().regency) || has_same_sync(self.syncs.as_slice(), sync)
+    }
+
+    /// The first rule that is due, if one is.
+    #[tactic(auto, unfolding(crate::specs::Synchronizers::due))]
+    pub fn due(&self, view: &View) -> Option<Rule>
+        ensures { result ≡ due view.now self.now }
+    {
+        if self.adopting(view).is_some() {
+            Some(Rule::Adopt)
+        } else if self.is_joining(view) {
+            Some(Rule::Join)
+        } else if self.is_promising(view) {
+            Some(Rule::Promise)
+        } else if self.is_collecting(view) {
+            Some(Rule::Collect)
+        } else {
+            None
+        }
+    }
+
+    /// The beginning of a regency that the member is to adopt, if one was kept: of its own regency,
+    /// in which it does not take part yet, or of a later one.
+    #[tactic(auto, unfolding(crate::specs::Synchronizers::adopting))]
+    pub fn adopting(&self, view: &View) -> Option<&Signed<Sync>>
+        ensures { option_copied result ≡ adopting view.now self.now }
+    {
+        self.syncs
+            .as_slice()
+            .iter()
+            .find(|sync| self.is_adoptable(view, sync))
+    }
+
+    /// Whether the member is to ask for the next regency, as more members than may be faulty do. There
+    /// is none behind 2^32-1.
+    #[tactic(auto, unfolding(crate::specs::Synchronizers::is_joining))]
+    pub fn is_joining(&self, view: &View) -> bool
+        ensures value { result ≡ is_joining view.now self.now }
+        ensures next { result ≡ true → self.now.regency + 1 < 2 ^ 32 }
+    {
+        self.has_next() && !self.stop_made && (view.f() as usize) < self.count_stoppers(view)
+    }
+
+    /// Whether the member is to promise the next regency, as 2f+1 members ask for it. There is none
+    /// behind 2^32-1.
+    #[tactic(auto, unfolding(crate::specs::Synchronizers::is_promising))]
+    pub fn is_promising(&self, view: &View) -> bool
+        ensures value { result ≡ is_promising view.now self.now }
+        ensures next { result ≡ true → self.now.regency + 1 < 2 ^ 32 }
+    {
+        self.has_next() && stop_size(view) <= self.count_stoppers(view)
+    }
+
+    /// The reports with which the member is to begin its regency, if it is to: it leads the regency,
+    /// nobody has begun it, and n-f members have reported. They are the first n-f by member,
+    /// ascending; of one member the first that came.
+    #[tactic(auto, unfolding(crate::specs::Synchronizers::collecting))]
+    pub fn collecting(
+        &self,
+        alloc: Global,
+        view: &View,
+    ) -> Result<Option<SignedList<Report>>, AllocError>
+        ensures { IfOk result (λ reports. reports ≡ collecting view.now self.now) }
+    {
+        if self.is_collecting(view) {
+            Ok(Some(self.collect(alloc, view)?))
+        } else {
+            Ok(None)
+        }
+    }
+
+    /// The batch of a digest that binds: that of the first report whose lock has this digest and
+    /// which carries a batch, whosever it is (this project's own rule).
+    #[tactic(auto, unfolding(crate::specs::Synchronizers::batch_of))]
+    pub fn batch_of(&self, view: &View, digest: &Digest32) -> Option<&Batch>
+        ensures { option_copied result ≡ batch_of view.now self.now digest.now }
+    {
+        match self.bearer(view, digest) {
+            None => None,
+            Some(reported) => reported.batch.as_ref(),
+        }
+    }
+
+    /// The member has adopted the reports with which a regency begins: it takes part in that one. What
+    /// is older is dropped.
+    pub fn adopted(&mut self, view: &View, regency: Regency)
+        ensures { self.new ≡ trimmed view.now (adopted regency self.old) }
+    {
+        let is_same = regency == self.regency;
+        self.stop_made = self.stop_made && is_same;
+        self.sync_made = self.sync_made && is_same;
+        self.regency = regency;
+        self.synced = true;
+        self.trim(view);
+    }
+
+    /// The member has asked for the next regency.
+    pub fn stop_made(&mut self)
+        ensures { self.new ≡ stopped self.old }
+    {
+        self.stop_made = true;
+    }
+
+    /// The member has promised the next regency, which its leader has to begin. What is older is
+    /// dropped.
+    pub fn promised(&mut self, view: &View)
+        requires { self.old.regency + 1 < 2 ^ 32 }
+        ensures { self.new ≡ trimmed view.now (promised self.old) }
+    {
+        self.regency = Regency::new(self.regency.get() + 1);
+        self.synced = false;
+        self.stop_made = false;
+        self.sync_made = false;
+        self.trim(view);
+    }
+
+    /// The member has begun its regency.
+    pub fn sync_made(&mut self)
+        ensures { self.new ≡ led self.old }
+    {
+        self.sync_made = true;
+    }
+
+    /// This view is in force from now on, in which nothing is promised. What is of other views is
+    /// dropped.
+    pub fn moved(&mut self, view: &View)
+        ensures { self.new ≡ trimmed view.now (moved self.old) }
+    {
+        self.regency = Regency::new(0);
+        self.synced = false;
+        self.stop_made = false;
+        self.sync_made = false;
+        self.trim(view);
+    }
+
+    /// Drops what is of another view or of an earlier regency.
+    #[tactic(auto, unfolding(crate::specs::Synchronizers::trimmed))]
+    fn trim(&mut self, view: &View)
+        ensures { self.new ≡ trimmed view.now self.old }
+    {
+        let number = view.number();
+        keep_stops(&mut self.stops, number, self.regency);
+        keep_reports(&mut self.reports, number, self.regency);
+        keep_syncs(&mut self.syncs, number, self.regency);
+    }
+
+    /// Whether the member takes part in this regency.
+    fn is_synced_in(&self, regency: Regency) -> bool
+        ensures { result ≡ is_synced_in self.now regency }
+    {
+        regency == self.regency && self.is_synced()
+    }
+
+    fn is_adoptable(&self, view: &View, sync: &Signed<Sync>) -> bool
+        ensures { result ≡ is_adoptable view.now self.now sync.now }
+    {
+        needs_sync(view.number(), self.regency, sync)
+            && !self.is_synced_in(sync.statement().regency)
+    }
+
+    fn has_next(&self) -> bool
+        ensures { result ≡ has_next self.now }
+    {
+        self.regency.get() < u32::MAX
+    }
+
+    /// How many members ask for the regency behind the member's.
+    fn count_stoppers(&self, view: &View) -> usize
+        requires { has_next self.now ≡ true }
+        ensures { result ≡ length (stoppers view.now self.now) }
+    {
+        let next = Regency::new(self.regency.get() + 1);
+        count_stoppers(self.stops.as_slice(), view.members(), view.number(), next)
+    }
+
+    fn is_collecting(&self, view: &View) -> bool
+        ensures { result ≡ is_collecting view.now self.now }
+    {
+        view.leader(self.regency) == self.id
+            && !self.is_synced()
+            && !self.sync_made
+            && collect_size(view) <= self.count_reporters(view)
+    }
+
+    /// How many members have reported in the member's regency.
+    fn count_reporters(&self, view: &View) -> usize
+        ensures { result ≡ length (reporters view.now self.now) }
+    {
+        count_reporters(
+            self.reports.as_slice(),
+            view.members(),
+            view.number(),
+            self.regency,
+        )
+    }
+
+    /// The first reports by member, ascending.
+    fn collect(&self, alloc: Global, view: &View) -> Result<SignedList<Report>, AllocError>
+        ensures { IfOk result (λ reports. reports ≡ collect view.now self.now) }
+    {
+        collect(
+            alloc,
+            self.reports.as_slice(),
+            view.members(),
+            view.number(),
+            self.regency,
+            collect_size(view),
+        )
+    }
+
+    /// The first report with a lock of this digest that carries a batch.
+    fn bearer(&self, view: &View, digest: &Digest32) -> Option<&Reported>
+        ensures { option_copied result ≡ find (bears view.now self.now digest.now) self.now.reports }
+    {
+        let number = view.number();
+        self.reports.as_slice().iter().find(|reported| {
+            needs_report(number, self.regency, reported) && carries(digest, reported)
+        })
+    }
+}
