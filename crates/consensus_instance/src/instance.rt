@@ -1,5 +1,5 @@
 //! The instance itself.
-ghost use Rattle.std.specs.Prelude.{◌≡◌, ◌+◌, ◌++◌, ◌∷◌, [], true, false, Some, None, IfOk, IfSome, IsSome, OnOk, OnErr, option_map};
+ghost use Rattle.std.specs.Prelude.{◌≡◌, ◌+◌, ◌<◌, ◌++◌, ◌∷◌, [], true, false, Some, None, IfOk, IfSome, IsSome, OnOk, OnErr, option_map, is_some};
 ghost use Rattle.std.specs.List.{list_any};
 ghost use Rattle.std.specs.Option.{option_copied};
 ghost use Rattle.smart_messages.specs.declared.message.Message.TheVariants as messages;
@@ -7,14 +7,16 @@ ghost use Rattle.smart_messages.specs.declared.message.Proposed.{Proposed};
 ghost use Rattle.node_rules.specs.Nodes.{certificate, proposal_of};
 ghost use Rattle.node_rules.specs.Seals.{digest_of};
 ghost use Rattle.node_rules.specs.Arrivals.{is_same_proposal, is_same_vote};
-ghost use Rattle.consensus_instance.specs.Instances.{Instance, regency_of, decided_place, is_free, is_open, open_slot, locked, backed, due_by, trimmed, moved_on};
+ghost use Rattle.consensus_instance.specs.Instances.{Instance, regency_of, decided_place, is_free, has_begun, is_bound_to, is_within, is_unbound, is_open, open_slot, locked, votable, backed, due_by, trimmed, moved_on, promising, is_unsynced, syncing};
 ghost use Rattle.consensus_instance.specs.Locks.{is_locked_in};
 
 use crate::find::{certificate, has_quorum, proposal_of, repeats_proposal, repeats_vote};
 use crate::lock::Lock;
 use crate::needed::keep_needed;
 use crate::rule::Rule;
+use crate::start::Start;
 use smart_base::bytes::Digest32;
+use smart_base::equality::same_bytes;
 use smart_base::name::MemberId;
 use smart_base::number::{Place, Regency, ViewNo};
 use smart_base::sequence::Sequence;
@@ -29,7 +31,7 @@ use std::marker::Model;
 /// The instance of consensus in which a member takes part, that of its next place (Mod-SMaRt, EDCC
 /// 2012). The view in force is lent to each call that needs it: it changes only as a place is
 /// delivered. Each proposal that is kept states the digest of its batch, so that no batch is
-/// digested again.
+/// digested again. Regency 0 is synced from the first.
 #[derive(Drop)]
 pub struct Instance {
     id: MemberId,
@@ -37,6 +39,9 @@ pub struct Instance {
     place: Place,
     /// Whether the batch of the next place is decided.
     decided: bool,
+    regency: Regency,
+    /// Where the regency in force starts, once it is synced.
+    start: Option<Start>,
     /// Proposals and votes in the order in which they came.
     arrivals: Vec<Message>,
     /// Whether the member has written in the open slot.
@@ -47,7 +52,7 @@ pub struct Instance {
 }
 
 impl Model for Instance {
-    ghost use Rattle.std.specs.Prelude.{◌≡◌, ◌+◌, ◌<◌, ◌^◌, true};
+    ghost use Rattle.std.specs.Prelude.{◌≡◌, ◌+◌, ◌<◌, ◌^◌, true, IsSome};
     ghost use Rattle.smart_base.specs.Lists.{Each};
     ghost use Rattle.consensus_instance.specs.Instances.{Instance};
     ghost use Rattle.consensus_instance.specs.Nodes.{Bears};
@@ -58,23 +63,30 @@ impl Model for Instance {
       id = i.id;
       place = i.place;
       decided = i.decided;
+      regency = i.regency;
+      start = i.start;
       arrivals = i.arrivals.items;
       wrote = i.wrote;
       accept = i.accept;
     } };
 
-    ghost invariant = { λ i. (i.decided ≡ true → i.place + 1 < 2 ^ 63) × Each Bears i.arrivals.items };
+    ghost invariant = { λ i. (i.decided ≡ true → i.place + 1 < 2 ^ 63) × Each Bears i.arrivals.items × (i.regency ≡ 0 → IsSome i.start) };
 }
 
 impl Instance {
-    /// The instance of the first place. It takes no memory.
+    /// The instance of the first place, in regency 0, which starts there. It takes no memory.
     pub fn begin(alloc: Global, id: MemberId) -> Self
-        ensures { result ≡ record { id = id; place = 0; decided = false; arrivals = []; wrote = false; accept = None } }
+        ensures { result ≡ record { id = id; place = 0; decided = false; regency = 0; start = Some (record { base = 1; bound = None }); arrivals = []; wrote = false; accept = None } }
     {
         Instance {
             id,
             place: Place::zero(),
             decided: false,
+            regency: Regency::new(0),
+            start: Some(Start {
+                base: 1,
+                bound: None,
+            }),
             arrivals: Vec::new(alloc),
             wrote: false,
             accept: None,
@@ -92,7 +104,22 @@ impl Instance {
     pub fn regency(&self) -> Regency
         ensures { result ≡ regency_of self.now }
     {
-        Regency::new(0)
+        self.regency
+    }
+
+    /// Where the regency in force starts, if it is synced. Regency 0 always is.
+    pub fn start(&self) -> Option<Start>
+        ensures start { result ≡ self.now.start }
+        ensures first { self.now.regency ≡ 0 → IsSome result }
+    {
+        self.start
+    }
+
+    /// Whether a regency may be synced: a later one, or that in force where it is not.
+    pub fn is_unsynced(&self, regency: Regency) -> bool
+        ensures { result ≡ is_unsynced regency self.now }
+    {
+        self.regency < regency || self.regency == regency && self.start.is_none()
     }
 
     /// The last place that is delivered or decided.
@@ -113,11 +140,33 @@ impl Instance {
         !self.decided && self.place.get() + 1 < 1 << 63
     }
 
-    /// Whether a vote of the member is open at the next place.
+    /// Whether a vote of the member is open at the next place: no decided batch waits, the regency in
+    /// force is synced, and the place is not below its base.
     pub fn is_open(&self, view: &View) -> bool
         ensures { result ≡ is_open view.now self.now }
     {
-        view.is_member(self.id) && self.is_free()
+        view.is_member(self.id) && self.is_free() && self.has_begun()
+    }
+
+    /// The digest of the batch for which alone members vote at a place in the regency in force, if
+    /// there is one. A leader proposes no other batch there.
+    pub fn is_bound_to(&self, place: Place) -> Option<&Digest32>
+        ensures { option_copied result ≡ is_bound_to place self.now }
+    {
+        match &self.start {
+            Some(start) if start.base == place.get() => start.bound.as_ref(),
+            Some(_) | None => None,
+        }
+    }
+
+    /// Whether a proposal, of the view in force, is of the regency in force and for another batch than
+    /// the one to which its place is bound.
+    pub fn is_unbound(&self, proposed: &Proposed) -> bool
+        ensures { result ≡ is_unbound proposed.now self.now }
+    {
+        let proposal = proposed.head.statement();
+        proposal.slot.regency == self.regency
+            && !self.may_have(proposal.slot.place, &proposal.digest)
     }
 
     /// The slot in which the member takes part.
@@ -188,11 +237,13 @@ impl Instance {
         ensures free { IsSome result → is_free self.now ≡ true }
     {
         match rule {
-            Rule::Write if self.is_open(view) && !self.wrote => self.proposal(view),
+            Rule::Write if self.is_open(view) && !self.wrote => self.votable(view),
             Rule::Accept if self.is_open(view) && !self.has_accepted() => {
-                self.backed(view, VoteKind::Write)
+                self.backed(view, VoteKind::Write, self.votable(view))
             }
-            Rule::Decide if self.is_free() => self.backed(view, VoteKind::Accept),
+            Rule::Decide if self.is_free() => {
+                self.backed(view, VoteKind::Accept, self.proposal(view))
+            }
             Rule::Write | Rule::Accept | Rule::Decide => None,
         }
     }
@@ -249,6 +300,28 @@ impl Instance {
         self.accept = None;
     }
 
+    /// The member has promised a later regency. It is not synced, and nothing is written in it yet. The
+    /// lock stays.
+    pub fn promised(&mut self, regency: Regency)
+        requires { self.old.regency < regency }
+        ensures { self.new ≡ promising regency self.old }
+    {
+        self.regency = regency;
+        self.start = None;
+        self.wrote = false;
+    }
+
+    /// A regency is synced, a later one or that in force: it starts there. A later one is so promised
+    /// too.
+    pub fn synced(&mut self, regency: Regency, start: Start)
+        requires { is_unsynced regency self.old ≡ true }
+        ensures { self.new ≡ syncing regency start self.old }
+    {
+        self.wrote = self.wrote && self.regency == regency;
+        self.regency = regency;
+        self.start = Some(start);
+    }
+
     /// Drops the proposals and votes that are not needed any more in a view.
     #[tactic(auto, unfolding(crate::specs::Instances::trimmed), using(crate::proofs::Lists::each_filter))]
     pub fn trim(&mut self, view: ViewNo)
@@ -257,6 +330,27 @@ impl Instance {
         let place = self.decided_place();
         let regency = self.regency();
         keep_needed(&mut self.arrivals, view, place, regency);
+    }
+
+    /// Whether members vote at the next place: it is not below the base of the regency in force, which
+    /// is synced.
+    fn has_begun(&self) -> bool
+        ensures { result ≡ has_begun (self.now.place + 1) self.now.start }
+    {
+        match &self.start {
+            None => false,
+            Some(start) => start.base <= self.place.get() + 1,
+        }
+    }
+
+    /// Whether a batch of a digest may get votes at a place.
+    fn may_have(&self, place: Place, digest: &Digest32) -> bool
+        ensures { result ≡ is_within (is_bound_to place self.now) digest.now }
+    {
+        match self.is_bound_to(place) {
+            None => true,
+            Some(bound) => same_bytes(bound.as_slice(), digest.as_slice()),
+        }
     }
 
     /// Whether the member has accepted in the open slot.
@@ -278,13 +372,37 @@ impl Instance {
         proposal_of(self.arrivals.as_slice(), &self.open_slot(view))
     }
 
-    /// The first proposal for the open slot, if a quorum votes for it.
-    fn backed(&self, view: &View, kind: VoteKind) -> Option<&Proposed>
+    /// The first proposal for the open slot, if the member may vote for it.
+    fn votable(&self, view: &View) -> Option<&Proposed>
         requires { is_free self.now ≡ true }
-        ensures batch { option_map (λ (p : Proposed). p.batch) (option_copied result) ≡ backed view.now self.now kind (proposal_of self.now.arrivals (open_slot view.now self.now)) }
+        ensures batch { option_map (λ (p : Proposed). p.batch) (option_copied result) ≡ votable self.now (proposal_of self.now.arrivals (open_slot view.now self.now)) }
         ensures digest { IfSome result (λ p. p.now.head.statement.digest ≡ digest_of p.now.batch) }
     {
         match self.proposal(view) {
+            None => None,
+            Some(proposed) => {
+                if self.may_have(self.place.next(), &proposed.head.statement().digest) {
+                    Some(proposed)
+                } else {
+                    None
+                }
+            }
+        }
+    }
+
+    /// A proposal, if a quorum votes for it in the open slot.
+    fn backed<'a>(
+        &self,
+        view: &View,
+        kind: VoteKind,
+        proposed: Option<&'a Proposed>,
+    ) -> Option<&'a Proposed>
+        requires free { is_free self.now ≡ true }
+        requires digest { IfSome proposed (λ p. p.now.head.statement.digest ≡ digest_of p.now.batch) }
+        ensures batch { option_map (λ (p : Proposed). p.batch) (option_copied result) ≡ backed view.now self.now kind (option_map (λ (p : Proposed). p.batch) (option_copied proposed.entry)) }
+        ensures digest { IfSome result (λ p. p.now.head.statement.digest ≡ digest_of p.now.batch) }
+    {
+        match proposed {
             None => None,
             Some(proposed) => {
                 let slot = self.open_slot(view);

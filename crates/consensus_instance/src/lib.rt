@@ -1,5 +1,5 @@
-//! The instance of consensus in which a member takes part: what it has heard there, whether it has
-//! written, on which batch it is locked, and what is due.
+//! The instance of consensus in which a member takes part: the regency in force and where it starts,
+//! what the member has heard, whether it has written, on which batch it is locked, and what is due.
 #![tactic(auto)]
 
 mod find;
@@ -8,5 +8,6 @@ pub mod laws;
 pub mod lock;
 pub mod needed;
 pub mod rule;
+pub mod start;
 #[cfg(test)]
 mod tests;

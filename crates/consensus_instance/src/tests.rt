@@ -5,6 +5,7 @@ ghost use Rattle.node_rules.specs.Seals.{digest_of};
 use crate::instance::Instance;
 use crate::lock::Lock;
 use crate::rule::Rule;
+use crate::start::Start;
 use smart_base::bytes::{Digest32, Payload};
 use smart_base::keys::Digester;
 use smart_base::name::{ClientId, MemberId};
@@ -15,6 +16,7 @@ use smart_base::view::View;
 use smart_keys::hash::Sha;
 use smart_keys::ring::Ring;
 use smart_messages::batch::Batch;
+use smart_messages::message::Proposed;
 use smart_messages::signed::{Signed, Statement};
 use smart_messages::statement::{Ballot, Proposal, Request, Slot, VoteKind};
 use std::alloc::{AllocError, Global};
@@ -65,13 +67,18 @@ fn digest_of(alloc: Global, batch: &Batch) -> Result<Digest32, AllocError>
     Ok(Sha::digest(batch.text(alloc)?.as_slice()))
 }
 
-/// The first slot of the view.
-fn slot() -> Slot {
+/// A slot of the first place.
+fn slot_in(regency: u32) -> Slot {
     Slot {
         view: ViewNo::new(0),
         place: Place::new(1),
-        regency: Regency::new(0),
+        regency: Regency::new(regency),
     }
+}
+
+/// The first slot of the view.
+fn slot() -> Slot {
+    slot_in(0)
 }
 
 /// A member's vote for a digest in the first slot.
@@ -103,18 +110,55 @@ fn hear(
     Ok(())
 }
 
-/// The instance of member 2 that has kept the leader's proposal, and the digest of its batch.
-fn proposed(alloc: Global) -> Result<(Instance, Digest32), Fail> {
+/// Member 1's proposal for the first place, which states the digest of its batch.
+fn proposal(alloc: Global, regency: u32) -> Result<Proposed, Fail>
+    ensures { IfOk result (λ p. p.head.statement.digest ≡ digest_of p.batch) }
+{
     let batch = batch(alloc)?;
     let digest = digest_of(alloc, &batch)?;
-    let proposal = Proposal {
-        slot: slot(),
-        digest,
-    };
+    let slot = slot_in(regency);
+    let proposal = Proposal { slot, digest };
     let head = signed(alloc, Party::Member(MemberId::new(1)), 1, proposal)?;
+    Ok(Proposed { head, batch })
+}
+
+/// The instance of member 2 that has kept the proposal of a regency, and the digest of its batch.
+fn proposed_in(alloc: Global, regency: u32) -> Result<(Instance, Digest32), Fail> {
+    let Proposed { head, batch } = proposal(alloc, regency)?;
+    let digest = head.statement().digest;
     let mut instance = Instance::begin(alloc, MemberId::new(2));
     instance.on_propose(head, batch)?;
     Ok((instance, digest))
+}
+
+/// The instance of member 2 that has kept the leader's proposal, and the digest of its batch.
+fn proposed(alloc: Global) -> Result<(Instance, Digest32), Fail> {
+    proposed_in(alloc, 0)
+}
+
+/// The instance of member 2 that has kept the proposal of regency 1, which starts so, and the digest
+/// of its batch.
+fn started(
+    alloc: Global,
+    base: u64,
+    bound: Option<Digest32>,
+) -> Result<(Instance, Digest32), Fail> {
+    let (mut instance, digest) = proposed_in(alloc, 1)?;
+    start(&mut instance, base, bound);
+    Ok((instance, digest))
+}
+
+/// Regency 1 is synced, if it is not yet.
+fn start(instance: &mut Instance, base: u64, bound: Option<Digest32>) {
+    let regency = Regency::new(1);
+    if instance.is_unsynced(regency) {
+        instance.synced(regency, Start { base, bound });
+    }
+}
+
+/// Another digest.
+fn other(alloc: Global) -> Result<Digest32, Fail> {
+    Ok(Sha::digest(Bytes::from_slice(alloc, b"other")?.as_slice()))
 }
 
 /// How many members a write certificate has.
@@ -190,5 +234,64 @@ fn a_quorum_of_accepts_decides_and_the_next_place_begins(rt: HostRuntime) -> Res
     instance.trim(view.number());
     assert!(rt; !instance.repeats_vote(&again));
     assert_eq!(rt; instance.lock(), None);
+    Ok(())
+}
+
+#[test]
+fn no_vote_is_open_below_the_base(rt: HostRuntime) -> Result<(), Fail> {
+    let alloc = rt.alloc();
+    let view = view(alloc)?;
+    let (mut instance, digest) = started(alloc, 2, None)?;
+    assert!(rt; !instance.is_open(&view));
+    assert!(rt; !is_due(&instance, &view, Rule::Write));
+    if instance.is_free() {
+        instance.decided();
+        instance.delivered();
+    }
+    assert!(rt; instance.is_open(&view));
+    let (instance, digest) = started(alloc, 1, None)?;
+    assert!(rt; is_due(&instance, &view, Rule::Write));
+    Ok(())
+}
+
+#[test]
+fn at_a_bound_base_only_the_bound_is_written_for(rt: HostRuntime) -> Result<(), Fail> {
+    let alloc = rt.alloc();
+    let view = view(alloc)?;
+    let proposed = proposal(alloc, 1)?;
+    let digest = proposed.head.statement().digest;
+    let (instance, kept) = started(alloc, 1, Some(digest))?;
+    assert!(rt; is_due(&instance, &view, Rule::Write));
+    assert!(rt; !instance.is_unbound(&proposed));
+    assert_eq!(rt; instance.is_bound_to(Place::new(1)), Some(&digest));
+    assert_eq!(rt; instance.is_bound_to(Place::new(2)), None);
+    let (instance, kept) = started(alloc, 1, Some(other(alloc)?))?;
+    assert!(rt; instance.is_open(&view));
+    assert!(rt; !is_due(&instance, &view, Rule::Write));
+    assert!(rt; instance.is_unbound(&proposed));
+    assert!(rt; !instance.is_unbound(&proposal(alloc, 2)?));
+    Ok(())
+}
+
+#[test]
+fn a_promise_closes_the_vote_until_it_is_synced(rt: HostRuntime) -> Result<(), Fail> {
+    let alloc = rt.alloc();
+    let view = view(alloc)?;
+    let (mut instance, digest) = proposed_in(alloc, 1)?;
+    instance.wrote();
+    instance.accepted(digest);
+    if instance.regency().get() == 0 {
+        instance.promised(Regency::new(1));
+    }
+    assert_eq!(rt; instance.start(), None);
+    assert!(rt; !instance.is_open(&view));
+    let lock = Lock {
+        regency: Regency::new(0),
+        digest,
+    };
+    assert_eq!(rt; instance.lock(), Some(lock));
+    start(&mut instance, 1, Some(digest));
+    assert!(rt; !instance.is_unsynced(Regency::new(1)));
+    assert!(rt; is_due(&instance, &view, Rule::Write));
     Ok(())
 }

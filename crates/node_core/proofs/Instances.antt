@@ -25,7 +25,7 @@ wrote_after id view place waiting entries more i now slot digest is at grown mov
     rw (moved, grown, at) (is.0, wrote_instance id view place waiting i.arrivals entries i digest is.1)
 
 pub accepted_after : (id view place : ℕ) (waiting : Option Batch) (entries more : List LogEntry) (i now : Instance) (slot : Slot) (voters digest : List ℕ) (batch : Batch) → Follows id view place waiting entries i
-    → digest ≡ digest_of batch → slot ≡ slot_at view (place + 1) → more ≡ entries ++ Accepted slot voters batch ∷ [] → now ≡ record i { accept = Some (record { regency = 0; digest = digest }) }
+    → digest ≡ digest_of batch → slot ≡ slot_at view (place + 1) → more ≡ entries ++ Accepted slot voters batch ∷ [] → now ≡ record i { accept = Some (record { regency = i.regency; digest = digest }) }
     → Follows id view place waiting more now
 accepted_after id view place waiting entries more i now slot voters digest batch is same at grown moved =
     rw (moved, grown, at) (is.0, accepted_instance id view place waiting i.arrivals entries i voters digest batch same is.1)

@@ -12,12 +12,13 @@ mod arrivals;
 mod asks;
 mod rules;
 
-use crate::find::{count_leaving, keep_ahead};
+use crate::find::keep_ahead;
 use crate::seal::MemberKeys;
 use consensus_instance::instance::Instance;
 use consensus_instance::lock::Lock;
 use delivery::replica::KeptReplica;
 use node_rules::node::{Fired, Held, Target, Why};
+use outbox::outbox::Outbox;
 use request_pool::pool::RequestPool;
 use smart_base::fault::ReadError;
 use smart_base::name::MemberId;
@@ -47,7 +48,7 @@ pub struct NodeCore<S> {
     instance: Instance,
     entries: Sequence<LogEntry>,
     firm: u64,
-    held: Sequence<Held>,
+    held: Outbox,
     proposed: Vec<Slot>,
     behind: bool,
 }
@@ -101,7 +102,7 @@ impl<S: Service> NodeCore<S> {
             instance: Instance::begin(alloc, id),
             entries,
             firm: 0,
-            held: Sequence::new(alloc),
+            held: Outbox::new(alloc),
             proposed: Vec::new(alloc),
             behind: false,
         })
@@ -192,26 +193,17 @@ impl<S: Service> NodeCore<S> {
         ensures held { result ≡ first_leaving self.old.firm self.old.held }
         ensures node { self.new ≡ record self.old { held = after_first self.old.firm self.old.held } }
     {
-        let held = self.held.as_slice();
-        if held.is_empty() || held[0].needs > self.firm {
-            return None;
-        }
-        Some(self.held.take_first())
+        self.held.release(self.firm)
     }
 
     /// The held messages leave in order, up to the first whose entries are not firm. Without memory
     /// none leaves. The cost is linear in the held messages.
-    #[tactic(auto, using(crate::proofs::Leaving::take_leaving, crate::proofs::Leaving::drop_leaving, crate::proofs::Leaving::none_leaving, crate::proofs::Leaving::all_staying))]
     pub fn release_all(&mut self) -> Result<Sequence<Held>, AllocError>
         ensures held { IfOk result (λ left. left ≡ leaving self.old.firm self.old.held) }
         ensures node { OnOk result (self.new ≡ released self.old) }
         ensures err { OnErr result (self.new ≡ self.old) }
     {
-        let count = count_leaving(self.held.as_slice(), self.firm);
-        if count == 0 {
-            return Ok(Sequence::new(self.alloc));
-        }
-        self.held.take_front(count)
+        self.held.release_all(self.firm)
     }
 
     /// The step of a node that keeps all.
@@ -327,6 +319,6 @@ impl<S: Service> NodeCore<S> {
         ensures { OnOk result (self.new ≡ holding self.old to message) }
     {
         let needs = self.made();
-        self.held.push(Held { to, message, needs })
+        self.held.hold(to, message, needs)
     }
 }
