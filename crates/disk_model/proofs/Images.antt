@@ -1,10 +1,10 @@
 -- What a crash leaves of a disk after one call.
-use Rattle.std.proofs.Common.{◌≡◌, ◌≢◌, ⊎_elim, ℕ, suc, zero, ◌+◌, ◌≤◌, ◌<◌, min, max, true, false, Bool, not, ◌&&◌, ◌||◌, nat_lt, List, [], ◌∷◌, ◌++◌, length, get_or, take, drop, set, refl, sym, ◌∙◌, ap, subst, arith}
+use Rattle.std.proofs.Common.{◌≡◌, ◌≢◌, ⊎_elim, ℕ, suc, zero, ◌+◌, ◌≤◌, ◌<◌, true, false, Bool, not, ◌&&◌, ◌||◌, nat_lt, List, [], ◌∷◌, ◌++◌, length, get_or, take, drop, set, refl, sym, ◌∙◌, subst, arith}
 use Rattle.std.proofs.lemmas.Bool.Decides.{nat_tests}
 use Rattle.std.proofs.lemmas.Bool.{cases_eq}
 use Rattle.std.proofs.lemmas.List.{get_or-take, ext_get_or, length-set, get_or-set_same, get_or-set_other, set_split}
 use Rattle.disk_model.specs.declared.platter.Range.{Range}
-use Rattle.disk_model.specs.Cells.{Cells, IsImage, Within, settled, written, cut_to, put, covers}
+use Rattle.disk_model.specs.Cells.{Cells, IsImage, Within, settled, written, cut_to, covers}
 use Rattle.disk_model.specs.Replay.{torn_write, torn_cut}
 use Rattle.disk_model.proofs.Puts.{put_outside}
 

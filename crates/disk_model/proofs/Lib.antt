@@ -4,3 +4,4 @@ pub mod Undone
 pub mod Sound
 pub mod Kept
 pub mod Moments
+pub mod Shelves

@@ -1,6 +1,6 @@
 -- Bytes put over others.
-use Rattle.std.proofs.Common.{◌≡◌, ◌⊎◌, inl, inr, ⊎_elim, ℕ, ◌+◌, ◌-◌, ◌≤◌, ◌<◌, min, max, List, [], ◌∷◌, ◌++◌, length, get_or, take, drop, refl, sym, ◌∙◌, ap, arith, length-append, length-drop}
-use Rattle.std.proofs.lemmas.List.{get_or-take, get_or-drop, get_or-append_right, get_or_append_left, length-take-le, length-take, take_all, drop_all, append-nil, take_min, take-append-le, drop-append-le, take-append-drop}
+use Rattle.std.proofs.Common.{◌≡◌, ◌⊎◌, ⊎_elim, ℕ, ◌+◌, ◌-◌, ◌≤◌, ◌<◌, max, List, ◌++◌, length, get_or, take, drop, refl, ◌∙◌, ap, arith, length-append, length-drop}
+use Rattle.std.proofs.lemmas.List.{get_or-take, get_or-drop, get_or-append_right, get_or_append_left, length-take-le, take_all, drop_all, append-nil}
 use Rattle.disk_model.specs.Cells.{put}
 
 pub put_outside : (at : ℕ) (bytes old : List ℕ) (i : ℕ) → at ≤ length old → (i < at + length bytes → i < at) → get_or (put at bytes old) i 0 ≡ get_or old i 0

@@ -1,8 +1,8 @@
 -- A disk stays sound by each change.
-use Rattle.std.proofs.Common.{◌≡◌, ℕ, ◌+◌, ◌≤◌, min, max, List, [], ◌∷◌, ◌++◌, length, take, refl, sym, subst, arith}
+use Rattle.std.proofs.Common.{◌≡◌, ℕ, ◌≤◌, List, length, refl, sym, subst, arith}
 use Rattle.std.proofs.lemmas.List.{length-take}
 use Rattle.disk_model.specs.declared.platter.Range.{Range}
-use Rattle.disk_model.specs.Cells.{Cells, IsImage, IsSound, settled, written, cut_to, put}
+use Rattle.disk_model.specs.Cells.{Cells, IsImage, IsSound, settled, written, cut_to}
 use Rattle.disk_model.specs.Replay.{torn_write, torn_cut}
 use Rattle.disk_model.proofs.Puts.{length-put}
 use Rattle.disk_model.proofs.Images.{within_begun, within_touched, within_cut_begun, within_shortened}

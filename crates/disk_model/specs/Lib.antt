@@ -5,3 +5,4 @@ pub mod Platters
 pub mod Replay
 pub mod Memory
 pub mod Laws
+pub mod Rooms

@@ -6,5 +6,6 @@ pub mod image;
 pub mod memory;
 pub mod plain;
 pub mod platter;
+pub mod room;
 #[cfg(test)]
 mod tests;

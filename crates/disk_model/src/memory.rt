@@ -34,7 +34,8 @@ impl MemDisk {
     /// A disk with these bytes, all of them sure. Its calls `write_at`, `cut` and `sync` of these
     /// numbers, counted from 1, fail.
     pub fn new(alloc: Global, bytes: Bytes, failing: Vec<u64>) -> Result<Self, AllocError>
-        ensures { IfOk result (λ d. disk_cells d ≡ settled bytes) }
+        ensures cells { IfOk result (λ d. disk_cells d ≡ settled bytes) }
+        ensures faults { IfOk result (λ d. d.faults ≡ 0) }
     {
         let first = Bytes::from_slice(alloc, bytes.as_slice())?;
         Ok(MemDisk {
@@ -78,6 +79,13 @@ impl MemDisk {
         ensures { IfOk result (λ bytes. bytes ≡ (disk_cells self.now).sure) }
     {
         self.platter.as_synced(alloc)
+    }
+
+    /// How often it has failed.
+    pub fn faults(&self) -> u64
+        ensures { result ≡ self.now.faults }
+    {
+        self.faults
     }
 
     /// Makes a change and notes it. Without memory nothing is done.

@@ -3,7 +3,9 @@ use crate::disk::Disk;
 use crate::image::{ImageFault, NotAnImage};
 use crate::memory::MemDisk;
 use crate::plain::PlainDisk;
+use crate::room::{DiskRoom, MemRoom};
 use faults::Fault;
+use smart_base::name::MemberId;
 use smart_base::sequence::Bytes;
 use std::alloc::{AllocError, Global};
 use std::test::Fail;
@@ -106,5 +108,32 @@ fn an_image_has_any_bytes_where_none_are_sure(rt: HostRuntime) -> Result<(), Fai
             Err(NotAnImage { at }) => assert_eq!(rt; wrong, Some(at)),
         }
     }
+    Ok(())
+}
+
+#[test]
+fn a_room_gives_back_what_it_keeps(rt: HostRuntime) -> Result<(), Fail> {
+    let alloc = rt.alloc();
+    let member = MemberId::new(2);
+    let mut room = MemRoom::new(alloc);
+    let Ok(mut disk) = room.get(alloc, b"d", member, 1) else {
+        return Err("it is refused".into());
+    };
+    assert_eq!(rt; disk.as_read(), b"".as_slice());
+    assert_eq!(rt; put(&mut disk, 0, b"abc"), Ok(()));
+    // A disk that is taken is not there a second time.
+    assert_eq!(rt; room.get(alloc, b"d", member, 1).err(), Some(Fault::Failed));
+    room.keep(b"d", member, 1, disk);
+    // Other names are other disks.
+    for (dir, number, device) in [(b"e", 2, 1), (b"d", 3, 1), (b"d", 2, 2)] {
+        let Ok(other) = room.get(alloc, dir, MemberId::new(number), device) else {
+            return Err("another is refused".into());
+        };
+        assert_eq!(rt; other.as_read(), b"".as_slice());
+    }
+    let Ok(back) = room.get(alloc, b"d", member, 1) else {
+        return Err("it is refused again".into());
+    };
+    assert_eq!(rt; back.as_read(), b"abc".as_slice());
     Ok(())
 }

@@ -1,6 +1,6 @@
 use Rattle.std.proofs.Common.{◌≡◌, ◌∙◌, min, length, take, drop, [], ◌∷◌, ◌++◌, rules}
 use Rattle.std.proofs.lemmas.List.{take_min}
-use Rattle.disk_model.specs.Cells.{Cells, cut_to}
+use Rattle.disk_model.specs.Cells.{cut_to}
 use Rattle.disk_model.specs.Undo.{all_undone}
 use Rattle.disk_model.specs.Platters.{cells_of}
 use Rattle.disk_model.proofs.Undone.{sure_cut}

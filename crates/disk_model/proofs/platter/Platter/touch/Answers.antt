@@ -2,7 +2,7 @@ use Rattle.std.proofs.Common.{◌≡◌, max, [], ◌∷◌, ◌++◌, rules}
 use Rattle.disk_model.specs.Replay.{torn_write}
 use Rattle.disk_model.specs.Undo.{all_undone}
 use Rattle.disk_model.specs.Platters.{cells_of}
-use Rattle.disk_model.proofs.Sound.{same_sound, sound_touched, cells_are}
+use Rattle.disk_model.proofs.Sound.{same_sound, sound_touched}
 use Rattle.disk_model.proofs.platter.Platter.touch.Goals as goal
 
 pub invariant_of-self-2 : goal.invariant_of-self-2

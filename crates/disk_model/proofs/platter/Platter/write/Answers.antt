@@ -1,5 +1,5 @@
-use Rattle.std.proofs.Common.{◌≡◌, ◌∙◌, ◌+◌, max, length, take, drop, [], ◌∷◌, ◌++◌, rules}
-use Rattle.disk_model.specs.Cells.{Cells, written, put}
+use Rattle.std.proofs.Common.{◌≡◌, ◌+◌, max, length, take, drop, [], ◌∷◌, ◌++◌, rules}
+use Rattle.disk_model.specs.Cells.{written, put}
 use Rattle.disk_model.specs.Undo.{all_undone}
 use Rattle.disk_model.specs.Platters.{cells_of}
 use Rattle.disk_model.proofs.Undone.{sure_written}
