@@ -1,0 +1,14 @@
+-- How a call of a log ends, and whether the log takes calls from then on.
+use Rattle.std.specs.Prelude.{◌≡◌, true, false, Result, Ok, Err}
+use Rattle.batch_log.specs.declared.log.LogFault.{LogFault}
+use Rattle.batch_log.specs.declared.log.LogFault.TheVariants.{Disk, NoMemory as no_memory}
+use Rattle.batch_log.specs.declared.log.State.{State}
+use Rattle.batch_log.specs.declared.log.State.TheVariants.{Open, Failed, NoMemory}
+
+-- A disk that fails closes the log, and so does want of memory inside a device call. A closed log stays so, and answers
+-- what closed it.
+abbrev pub Closes : {T : Type 0} → Result T LogFault → State → State → Type 0
+Closes (Ok x) old new = (old ≡ Open) × (new ≡ Open)
+Closes (Err (Disk true)) old new = (old ≡ Failed) × (new ≡ Failed)
+Closes (Err (Disk false)) old new = (old ≡ Open) × (new ≡ Failed)
+Closes (Err no_memory) old new = (old ≡ Failed → ⊥) × ((new ≡ Failed → ⊥) × (old ≡ NoMemory → new ≡ NoMemory))

@@ -1,0 +1,4 @@
+pub mod Log
+pub mod Jobs
+pub mod Wires
+pub mod Ends

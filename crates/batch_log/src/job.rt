@@ -1,0 +1,119 @@
+//! A job of a log, one device call at a time.
+ghost use Rattle.std.specs.Prelude.{◌≡◌, List, ℕ, IfOk};
+ghost use Rattle.faults.specs.Counts.{HasCause};
+ghost use Rattle.disk_model.specs.Cells.{IsImage, Within};
+ghost use Rattle.disk_model.specs.Calls.{Elapses};
+ghost use Rattle.smart_base.specs.Lists.{Each};
+ghost use Rattle.store_form.specs.Spelling.{Group, IsEntry};
+ghost use Rattle.batch_log.specs.Wires.{Wired};
+ghost use Rattle.batch_log.specs.Jobs.{IsUnderWay, IsIdle, IsBody, Begins, idle, Stands, kept_after, other_after, called, code, code_after};
+
+use disk_model::disk::Disk;
+use faults::Fault;
+use smart_base::sequence::Bytes;
+use std::alloc::{AllocError, Global};
+use store_form::group::put_group;
+
+/// The next call of a job. A number is where the log ends once the group has been added.
+#[derive(Drop)]
+pub enum Job {
+    /// No job runs, and the gate behind the groups is closed.
+    Rest,
+    /// No job runs. There is no gate behind the groups, or one that a crash left open or torn: it has
+    /// to be closed before a group is added.
+    Torn,
+    /// Close that gate. Then these bytes are written behind it, if there are any.
+    Close(Option<Bytes>),
+    SyncClose(Option<Bytes>),
+    /// Write these bytes behind the gate.
+    Body(Bytes),
+    SyncBody(u64),
+    /// Open the gate.
+    Gate(u64),
+    SyncGate(u64),
+}
+
+/// Makes the next device call of a job, and answers where the log then ends and what the next call
+/// is. Where no job runs it makes none.
+pub fn step<D: Disk>(device: &mut D, end: u64, job: Job) -> Result<(u64, Job), Fault>
+    requires { D.told → IsUnderWay (D.cells device.old) end job }
+    ensures goes { IfOk result (λ r. D.told → (g : Group) (gs other : List Group) → Stands (D.cells device.old) end job g gs other
+        → Stands (D.cells device.new) r.0 r.1 g (kept_after job g gs) (other_after job g gs other)) }
+    ensures wired { IfOk result (λ r. D.told → (g : Group) (gs other : List Group) → Stands (D.cells device.old) end job g gs other
+        → Wired (D.cells device.old) gs → Wired (D.cells device.new) (kept_after job g gs)) }
+    ensures next { IfOk result (λ r. code r.1 ≡ code_after job) }
+    ensures torn { D.told → Within (D.cells device.new) (called job end (D.cells device.old)) }
+    ensures time { Elapses (D.moment device.old) (D.moment device.new) (D.left_since device.old) (D.left_since device.new) (IsImage (D.cells device.new)) }
+    ensures cause { HasCause (D.faults device.old) (D.faults device.new) result }
+{
+    match job {
+        Job::Rest => {
+            device.len()?;
+            Ok((end, Job::Rest))
+        }
+        Job::Torn => {
+            device.len()?;
+            Ok((end, Job::Torn))
+        }
+        Job::Close(waiting) => {
+            device.write_at(end, &[0])?;
+            Ok((end, Job::SyncClose(waiting)))
+        }
+        Job::SyncClose(waiting) => {
+            device.sync()?;
+            match waiting {
+                None => Ok((end, Job::Rest)),
+                Some(bytes) => Ok((end, Job::Body(bytes))),
+            }
+        }
+        Job::Body(bytes) => {
+            let count = bytes.len() as u64;
+            if count >= u64::MAX - end {
+                return Err(Fault::NoMemory);
+            }
+            device.write_at(end + 1, bytes.as_slice())?;
+            Ok((end, Job::SyncBody(end + count)))
+        }
+        Job::SyncBody(next) => {
+            device.sync()?;
+            Ok((end, Job::Gate(next)))
+        }
+        Job::Gate(next) => {
+            device.write_at(end, &[1])?;
+            Ok((end, Job::SyncGate(next)))
+        }
+        Job::SyncGate(next) => {
+            device.sync()?;
+            Ok((next, Job::Rest))
+        }
+    }
+}
+
+/// Whether no job runs.
+pub fn is_idle(job: &Job) -> bool
+    ensures { result ≡ idle job.now }
+{
+    matches!(job, Job::Rest | Job::Torn)
+}
+
+/// The job that adds a group whose bytes these are, where no job runs.
+pub fn begun(job: &Job, bytes: Bytes) -> Job
+    requires { IsIdle job.now }
+    ensures { Begins job.now bytes result }
+{
+    match job {
+        Job::Torn => Job::Close(Some(bytes)),
+        _ => Job::Body(bytes),
+    }
+}
+
+/// What stands behind the gate of a group, and the next gate.
+pub fn body_of(alloc: Global, entries: &[Bytes]) -> Result<Bytes, AllocError>
+    requires { Each IsEntry entries.now }
+    ensures { IfOk result (λ bytes. IsBody bytes entries.now) }
+{
+    let mut bytes = Vec::new(alloc);
+    put_group(alloc, &mut bytes, entries)?;
+    bytes.push(0)?;
+    Ok(Bytes::from_vec(bytes))
+}

@@ -1,0 +1,31 @@
+//! What holds of a log through all lives. The laws speak of the definitions alone.
+ghost use Rattle.std.specs.Prelude.{◌≡◌, List, ℕ, []};
+ghost use Rattle.disk_model.specs.Cells.{Cells, IsImage, settled};
+ghost use Rattle.store_form.specs.Spelling.{Group};
+ghost use Rattle.batch_log.specs.Log.{restored};
+ghost use Rattle.batch_log.specs.Jobs.{Stands, LeavesEither};
+ghost use Rattle.batch_log.specs.Wires.{Wire, Next, Wired};
+ghost use Rattle.batch_log.specs.declared.job.Job.{Job};
+
+/// A crash between two calls leaves what the log stands for, the one or the other.
+pub fn a_crash_leaves_either()
+    ensures { (cells : Cells) (end : ℕ) (job : Job) (g : Group) (gs other : List Group) → Stands cells end job g gs other → LeavesEither cells gs other }
+{}
+
+/// After a crash between two calls of a log that only crashes of its own lives have changed, it is
+/// such a log again, and what a torn gate may bring back is no more than what this life might have
+/// left.
+pub fn a_crash_leaves_a_log()
+    ensures { (cells : Cells) (end : ℕ) (job : Job) (g : Group) (gs other : List Group) → Stands cells end job g gs other → Wired cells gs
+        → (image : List ℕ) → IsImage cells image → Next image gs other }
+{}
+
+/// Such a log restores what it is said to.
+pub fn a_log_restores()
+    ensures { (bytes : List ℕ) (gs other : List Group) → Wire bytes gs other → restored bytes ≡ gs }
+{}
+
+/// An empty device is such a log.
+pub fn an_empty_log()
+    ensures { Wire [] [] [] }
+{}

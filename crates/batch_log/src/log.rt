@@ -1,0 +1,210 @@
+//! The log over one device.
+ghost use Rattle.std.specs.Prelude.{◌≡◌, true};
+ghost use Rattle.batch_log.specs.Jobs.{idle};
+ghost use Rattle.batch_log.specs.declared.log.State.TheVariants.{Open};
+
+use crate::job::{Job, begun, body_of, is_idle, step};
+use disk_model::disk::Disk;
+use faults::Fault;
+use smart_base::sequence::Bytes;
+use std::alloc::{AllocError, Global};
+
+/// Why a call of a log did not do its work.
+#[derive(Clone, Copy, Debug, PartialEq, Eq)]
+pub enum LogFault {
+    /// The disk has failed, in this call or, where the log is closed, in an earlier one.
+    Disk { closed: bool },
+    /// Memory ran out, in this call or in the one that closed the log.
+    NoMemory,
+}
+
+/// Whether a log takes calls, and what closed it.
+#[derive(Clone, Copy, Debug, PartialEq, Eq)]
+pub enum State {
+    Open,
+    /// The disk has failed.
+    Failed,
+    /// Memory ran out inside a device call.
+    NoMemory,
+}
+
+/// A log that is open until its disk fails, or memory runs out inside a device call. Then it is to be
+/// opened again over what the device holds.
+///
+/// No job runs in a log that is closed.
+#[derive(Drop)]
+pub struct BatchLog<D: Disk> {
+    pub device: D,
+    /// Where the gate behind the groups stands.
+    pub end: u64,
+    pub job: Job,
+    pub state: State,
+    ghost rests: { (state ≡ Open → ⊥) → idle job ≡ true },
+}
+
+impl<D: Disk> BatchLog<D> {
+    ghost use Rattle.std.specs.Prelude.{◌≡◌, ◌≤◌, ◌++◌, ◌∷◌, [], List, ℕ, IsTrue, ◌↔◌, IfOk, OnOk, OnErr, IsErrOf, false};
+    ghost use Rattle.faults.specs.Counts.{Rose};
+    ghost use Rattle.disk_model.specs.Cells.{IsImage};
+    ghost use Rattle.disk_model.specs.Calls.{Elapses, LeavesOnly};
+    ghost use Rattle.smart_base.specs.Lists.{Each};
+    ghost use Rattle.store_form.specs.Spelling.{Group, IsEntry};
+    ghost use Rattle.batch_log.specs.Log.{restored};
+    ghost use Rattle.batch_log.specs.Jobs.{IsUnderWay, Stands, Runs, Adds, Begins, IsIdle, idle, LeavesEither, OneOf, at_stake, kept_after, other_after, code, code_after};
+    ghost use Rattle.batch_log.specs.Wires.{Wired, LeavesWire};
+    ghost use Rattle.batch_log.specs.Ends.{Closes};
+
+    /// Adds a group of entries, and closes a torn gate first. After `Ok` each crash leaves the log
+    /// with the group.
+    pub fn append_group(&mut self, alloc: Global, entries: &[Bytes]) -> Result<(), LogFault>
+        requires fit { Each IsEntry entries.now }
+        requires idle { IsIdle self.old.job }
+        requires stands { self.old.state ≡ State.Open → D.told → IsUnderWay (D.cells self.old.device) self.old.end self.old.job }
+        ensures ok { OnOk result (D.told → (gs other : List Group) → Stands (D.cells self.old.device) self.old.end self.old.job entries.now gs other
+            → Stands (D.cells self.new.device) self.new.end self.new.job entries.now (gs ++ entries.now ∷ []) (gs ++ entries.now ∷ [])) }
+        ensures rests { OnOk result (self.new.job ≡ Job.Rest) }
+        // A crash at any moment of the call leaves what one before it left, or the groups with the
+        // whole new one.
+        ensures any_moment { D.told → D.remembers → (gs other : List Group) → Stands (D.cells self.old.device) self.old.end self.old.job entries.now gs other
+            → LeavesOnly D.moment D.left_since self.old.device self.new.device (λ c. OneOf (restored c) gs other (gs ++ entries.now ∷ [])) }
+        ensures crash { D.told → (gs other : List Group) → Stands (D.cells self.old.device) self.old.end self.old.job entries.now gs other
+            → (c : List ℕ) → IsImage (D.cells self.new.device) c → OneOf (restored c) gs other (gs ++ entries.now ∷ []) }
+        ensures underway { OnOk result (D.told → IsUnderWay (D.cells self.new.device) self.new.end self.new.job) }
+        ensures idle { IsIdle self.new.job }
+        ensures later { D.faults self.old.device ≤ D.faults self.new.device }
+        ensures cause { IsErrOf result (LogFault.Disk false) → Rose (D.faults self.old.device) (D.faults self.new.device) }
+        ensures closes { Closes result self.old.state self.new.state }
+    {
+        self.append_start(alloc, entries)?;
+        while !self.is_idle() {
+            self.next_call()?;
+        }
+        Ok(())
+    }
+
+    /// Begins the job that adds a group, and closes a torn gate first. It makes no device call.
+    pub fn append_start(&mut self, alloc: Global, entries: &[Bytes]) -> Result<(), LogFault>
+        requires fit { Each IsEntry entries.now }
+        requires idle { IsIdle self.old.job }
+        ensures ok { OnOk result (D.told → (gs other : List Group) → Stands (D.cells self.old.device) self.old.end self.old.job entries.now gs other
+            → Runs (D.cells self.new.device) self.new.end self.new.job entries.now gs other) }
+        ensures adds { OnOk result (Adds self.new.job) }
+        ensures begins { OnOk result ((bytes : List ℕ) × Begins self.old.job bytes self.new.job) }
+        ensures err { OnErr result (self.new.job ≡ self.old.job) }
+        ensures device { self.new.device ≡ self.old.device }
+        ensures end { self.new.end ≡ self.old.end }
+        ensures state { self.new.state ≡ self.old.state }
+        ensures cause { IsErrOf result (LogFault.Disk false) → ⊥ }
+        ensures closes { Closes result self.old.state self.new.state }
+    {
+        self.state()?;
+        let bytes = body_of(alloc, entries)?;
+        self.job = begun(&self.job, bytes);
+        Ok(())
+    }
+
+    /// Begins the job that closes a torn gate and adds nothing. It makes no device call.
+    pub fn repair_start(&mut self) -> Result<(), LogFault>
+        requires { self.old.job ≡ Job.Torn }
+        ensures ok { OnOk result (D.told → (g : Group) (gs other : List Group) → Stands (D.cells self.old.device) self.old.end self.old.job g gs other
+            → Stands (D.cells self.new.device) self.new.end self.new.job g gs other) }
+        ensures job { OnOk result (code self.new.job ≡ 8) }
+        ensures err { OnErr result (self.new.job ≡ self.old.job) }
+        ensures device { self.new.device ≡ self.old.device }
+        ensures end { self.new.end ≡ self.old.end }
+        ensures state { self.new.state ≡ self.old.state }
+        ensures cause { IsErrOf result (LogFault.Disk false) → ⊥ }
+        ensures closes { Closes result self.old.state self.new.state }
+    {
+        self.state()?;
+        self.job = Job::Close(None);
+        Ok(())
+    }
+
+    /// Makes the next device call of the job, and tells whether no job runs then.
+    pub fn next_call(&mut self) -> Result<bool, LogFault>
+        requires { self.old.state ≡ State.Open → D.told → IsUnderWay (D.cells self.old.device) self.old.end self.old.job }
+        ensures goes { OnOk result (D.told → (g : Group) (gs other : List Group) → Stands (D.cells self.old.device) self.old.end self.old.job g gs other
+            → Stands (D.cells self.new.device) self.new.end self.new.job g (kept_after self.old.job g gs) (other_after self.old.job g gs other)) }
+        ensures next { OnOk result (code self.new.job ≡ code_after self.old.job) }
+        ensures done { IfOk result (λ done. done ≡ idle self.new.job) }
+        ensures underway { OnOk result (D.told → IsUnderWay (D.cells self.new.device) self.new.end self.new.job) }
+        ensures rests { OnErr result (IsIdle self.new.job) }
+        // Whether it goes well or not, a crash leaves what is kept, or what was at stake.
+        ensures crash { D.told → (g : Group) (gs other : List Group) → Stands (D.cells self.old.device) self.old.end self.old.job g gs other
+            → LeavesEither (D.cells self.new.device) gs (at_stake self.old.job g gs other) }
+        // And over a log that only crashes of its own lives have changed, it leaves such a log.
+        ensures wires { D.told → (g : Group) (gs other : List Group) → Stands (D.cells self.old.device) self.old.end self.old.job g gs other
+            → Wired (D.cells self.old.device) gs → LeavesWire (D.cells self.new.device) gs (at_stake self.old.job g gs other) }
+        ensures wired { OnOk result (D.told → (g : Group) (gs other : List Group) → Stands (D.cells self.old.device) self.old.end self.old.job g gs other
+            → Wired (D.cells self.old.device) gs → Wired (D.cells self.new.device) (kept_after self.old.job g gs)) }
+        ensures time { Elapses (D.moment self.old.device) (D.moment self.new.device) (D.left_since self.old.device) (D.left_since self.new.device) (IsImage (D.cells self.new.device)) }
+        ensures later { D.faults self.old.device ≤ D.faults self.new.device }
+        ensures cause { IsErrOf result (LogFault.Disk false) → Rose (D.faults self.old.device) (D.faults self.new.device) }
+        ensures closes { Closes result self.old.state self.new.state }
+    {
+        self.state()?;
+        let job = std::mem::replace(&mut self.job, Job::Rest);
+        match step(&mut self.device, self.end, job) {
+            Ok((end, next)) => {
+                let is_done = is_idle(&next);
+                self.end = end;
+                self.job = next;
+                Ok(is_done)
+            }
+            Err(Fault::Failed) => {
+                self.state = State::Failed;
+                Err(LogFault::Disk { closed: false })
+            }
+            Err(Fault::NoMemory) => {
+                self.state = State::NoMemory;
+                Err(LogFault::NoMemory)
+            }
+        }
+    }
+
+    /// Whether no job runs.
+    pub fn is_idle(&self) -> bool
+        ensures { result ≡ idle self.now.job }
+    {
+        is_idle(&self.job)
+    }
+
+    /// Whether a gate has to be closed before a group is added.
+    pub fn is_torn(&self) -> bool
+        ensures { IsTrue result ↔ (self.now.job ≡ Job.Torn) }
+    {
+        matches!(self.job, Job::Torn)
+    }
+
+    /// Gives the device back.
+    pub fn into_device(self) -> D
+        ensures { result ≡ self.device }
+    {
+        let BatchLog { device, .. } = self;
+        device
+    }
+
+    /// What a closed log answers.
+    fn state(&self) -> Result<(), LogFault>
+        ensures closes { Closes result self.now.state self.now.state }
+        ensures not_now { IsErrOf result (LogFault.Disk false) → ⊥ }
+        ensures closed { OnErr result (self.now.state ≡ State.Open → ⊥) }
+    {
+        match self.state {
+            State::Open => Ok(()),
+            State::Failed => Err(LogFault::Disk { closed: true }),
+            State::NoMemory => Err(LogFault::NoMemory),
+        }
+    }
+}
+
+impl From<AllocError> for LogFault {
+    ghost use Rattle.batch_log.specs.declared.log.LogFault.TheVariants.{NoMemory};
+
+    ghost from_gives = { λ _ e. e ≡ NoMemory };
+
+    fn from(_e: AllocError) -> Self {
+        LogFault::NoMemory
+    }
+}
