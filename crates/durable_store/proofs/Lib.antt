@@ -1,0 +1,10 @@
+pub mod Closings
+pub mod Begins
+pub mod Codes
+pub mod Leaves
+pub mod Pushed
+pub mod Moves
+pub mod Goes
+pub mod Called
+pub mod Opened
+pub mod Anytime

@@ -1,0 +1,113 @@
+-- A store that is opened again.
+use Rattle.std.proofs.Common.{◌≡◌, ◌⊎◌, inl, inr, ℕ, ◌<◌, ◌≤◌, ◌-◌, ◌^◌, min, Bool, true, false, not, cond, List, [], ◌∷◌, ◌++◌, length, Option, Some, None, refl, sym, ap, ◌∙◌, subst, arith}
+use Rattle.faults.specs.Counts.{Rose}
+use Rattle.disk_model.specs.Cells.{Cells, settled}
+use Rattle.disk_model.specs.declared.disk.Disk.{Ghosts}
+use Rattle.store_form.specs.Spelling.{Group}
+use Rattle.store_form.specs.declared.checkpoint.Checkpoint.{Checkpoint}
+use Rattle.batch_log.specs.Log.{restored}
+use Rattle.batch_log.specs.Jobs.{Stands, IsIdle}
+use Rattle.batch_log.specs.declared.job.Job.{Job}
+use Rattle.batch_log.specs.declared.job.Job.TheVariants as jobs
+use Rattle.checkpoint_store.specs.Slots.{is_odd, slot_of, instead_of, newer, newest}
+use Rattle.checkpoint_store.specs.SlotJobs.{SlotStands, idle as slot_idle}
+use Rattle.checkpoint_store.specs.declared.job.SlotJob.{SlotJob}
+use Rattle.checkpoint_store.specs.declared.job.SlotJob.TheVariants.{Empty, Torn, Shut, Close, SyncClose, Fill, SyncFill, Full, Gate, SyncGate, Counts}
+use Rattle.durable_store.specs.Restored.{Images, generation_of, entries_of, restores}
+use Rattle.durable_store.specs.Turns.{closing, adds, OnlyCloses}
+use Rattle.durable_store.specs.Standing.{kept_by, side, beside, StoreStands}
+use Rattle.durable_store.specs.Disks.{contents, AreSettled, AreSame, DiskRose}
+use Rattle.durable_store.specs.declared.disks.Disks.{Disks}
+use Rattle.durable_store.specs.declared.kept.Kept.{Kept}
+use Rattle.durable_store.specs.declared.store.Store.{Store}
+
+abbrev nothing : Checkpoint
+nothing = record { generation = 0; snapshot = [] }
+
+-- a slot that is opened has nothing to be put into it
+opened_slot : (odd : Bool) (cells : Cells) (job : SlotJob) (has other : Option Checkpoint) → slot_idle job ≡ true → ((next : Checkpoint) → SlotStands odd cells job next has other) → OnlyCloses job
+opened_slot odd cells Empty has other is stands = tt
+opened_slot odd cells Torn has other is stands = tt
+opened_slot odd cells Shut has other is stands = tt
+opened_slot odd cells Counts has other is stands = tt
+opened_slot odd cells Full has other is stands =
+    let none : 0 < 0 = (stands nothing).0.is_for.fits.some in
+    absurd (omega (arith, none))
+opened_slot odd cells Close has other is stands = absurd cc
+opened_slot odd cells SyncClose has other is stands = absurd cc
+opened_slot odd cells (Fill bytes) has other is stands = absurd cc
+opened_slot odd cells SyncFill has other is stands = absurd cc
+opened_slot odd cells Gate has other is stands = absurd cc
+opened_slot odd cells SyncGate has other is stands = absurd cc
+
+idle_adds : (job : Job) → IsIdle job → adds job ≡ false
+idle_adds jobs.Rest is = refl
+idle_adds jobs.Torn is = refl
+idle_adds (jobs.Close waiting) is = absurd cc
+idle_adds (jobs.SyncClose waiting) is = absurd cc
+idle_adds (jobs.Body bytes) is = absurd cc
+idle_adds (jobs.SyncBody next) is = absurd cc
+idle_adds (jobs.Gate next) is = absurd cc
+idle_adds (jobs.SyncGate next) is = absurd cc
+
+module _ {D : Type 0} {g : Ghosts D} where
+  pub opened : (s : Store D g) (e o : List ℕ) (kept : Kept) (own : List Group)
+      → ((next : Checkpoint) → SlotStands false (g.cells s.slots.even.device) s.slots.even.job next (slot_of false e) (instead_of false e))
+      → ((next : Checkpoint) → SlotStands true (g.cells s.slots.odd.device) s.slots.odd.job next (slot_of true o) (instead_of true o))
+      → (slot_idle s.slots.even.job ≡ true) × (slot_idle s.slots.odd.job ≡ true)
+      → ((other : List Group) × Stands (g.cells s.log.device) s.log.end s.log.job [] own other) → IsIdle s.log.job → g.cells s.other_log ≡ settled (g.cells s.other_log).now
+      → s.generation ≡ generation_of (newest e o) → kept ≡ kept_by (side s) own (beside s) (slot_of false e) (slot_of true o) → s.firm ≡ length kept.entries → s.firm < 2 ^ 63
+      → (others : List Kept) × StoreStands s [] kept others
+  opened s e o kept own even odd idle log log_idle sure generation kept_is firm small = (
+    _,
+    record {
+      next = nothing;
+      even = slot_of false e;
+      even_other = instead_of false e;
+      odd = slot_of true o;
+      odd_other = instead_of true o;
+      own = own;
+      own_other = log.0;
+      even_slot = even nothing;
+      odd_slot = odd nothing;
+      log = log.1;
+      other_log = sure;
+      turn = record {
+        even_closes = opened_slot false (g.cells s.slots.even.device) s.slots.even.job (slot_of false e) (instead_of false e) idle.0 even;
+        odd_closes = opened_slot true (g.cells s.slots.odd.device) s.slots.odd.job (slot_of true o) (instead_of true o) idle.1 odd;
+        even_first = λ unused. (idle.1, log_idle);
+        odd_next = λ unused. log_idle;
+      };
+      present = generation;
+      kept_is = kept_is;
+      others_are = refl;
+      firm = omega (arith, firm, small);
+      counted = λ is. absurd (never (adds s.log.job) is (idle_adds s.log.job log_idle));
+    },
+  )
+    where
+      never : (b : Bool) → b ≡ true → b ≡ false → ⊥
+      never true busy quiet = absurd cc
+      never false busy quiet = absurd cc
+
+-- ---- which log is whose
+
+module _ {D : Type 0} (cells : D → Cells) (d : Disks D) (odd : Bool) (logs : D × D) (are : logs ≡ cond odd (d.odd_log, d.even_log) (d.even_log, d.odd_log)) where
+  pub both_settled : AreSettled cells d → (cells logs.0 ≡ settled (cells logs.0).now) × (cells logs.1 ≡ settled (cells logs.1).now)
+  both_settled sure = by odd are
+    where
+      by : (b : Bool) → logs ≡ cond b (d.odd_log, d.even_log) (d.even_log, d.odd_log) → (cells logs.0 ≡ settled (cells logs.0).now) × (cells logs.1 ≡ settled (cells logs.1).now)
+      by true is = (rw (ap (λ p. p.0) is) sure.odd_log, rw (ap (λ p. p.1) is) sure.even_log)
+      by false is = (rw (ap (λ p. p.0) is) sure.even_log, rw (ap (λ p. p.1) is) sure.odd_log)
+
+abbrev kept_with : Option Checkpoint → List (List ℕ) → Kept
+kept_with present entries = record { present = present; entries = entries }
+
+pub kept_reads : (odd : Bool) (own beside : List Group) (even_has odd_has present : Option Checkpoint) (entries : List (List ℕ)) → present ≡ newer even_has odd_has → odd ≡ is_odd (generation_of (newer even_has odd_has)) → entries ≡ entries_of own
+    → kept_with present entries ≡ kept_by odd own beside even_has odd_has
+kept_reads true own beside even_has odd_has present entries newest_is parity is =
+    ap (λ (p : Option Checkpoint). kept_with p entries) newest_is ∙ ap (λ (l : List (List ℕ)). kept_with (newer even_has odd_has) l) is
+    ∙ ap (λ (t : Bool). kept_with (newer even_has odd_has) (entries_of (cond t own beside))) parity
+kept_reads false own beside even_has odd_has present entries newest_is parity is =
+    ap (λ (p : Option Checkpoint). kept_with p entries) newest_is ∙ ap (λ (l : List (List ℕ)). kept_with (newer even_has odd_has) l) is
+    ∙ ap (λ (t : Bool). kept_with (newer even_has odd_has) (entries_of (cond t beside own))) parity

@@ -1,0 +1,288 @@
+use Rattle.std.proofs.Common.{◌≡◌, ◌≤◌, ◌∙◌, inl, inr, subst, arith, Bool, true, false, cond, ◌&&◌, List, sym, ap, ⊎_elim}
+use Rattle.faults.specs.Counts.{Rose}
+use Rattle.store_form.specs.Spelling.{Group}
+use Rattle.batch_log.specs.Ends.{Closes}
+use Rattle.durable_store.specs.Turns.{closing, rests}
+use Rattle.durable_store.specs.Standing.{some, at_stake, StoreStands, IsUnderWay}
+use Rattle.durable_store.specs.declared.kept.Kept.{Kept}
+use Rattle.durable_store.specs.Calls.{Goes}
+use Rattle.durable_store.proofs.Anytime.{even_moment, odd_moment, log_moment, still_moment}
+use Rattle.durable_store.proofs.Moves.{store_leaves}
+use Rattle.durable_store.proofs.Goes.{even_goes, odd_goes, begin_goes, call_goes}
+use Rattle.durable_store.proofs.Called.{ok_three, ok_or_err, even_crash, odd_crash, same_crash, log_crash, even_after, odd_after, log_after, even_stake, odd_stake, log_staked, not_begun, same_stands, on_all, on_none, on_ok, on_err, even_counts, odd_counts, log_firm, log_waiting, even_falls, odd_falls, log_falls}
+use Rattle.durable_store.proofs.store.Store.next_call.Goals as goal
+
+pub returns-then-is_closing-clause-goes : goal.returns-then-is_closing-clause-goes
+returns-then-is_closing-clause-goes g c =
+    let s = c.args.self.now in
+    let t = c.close_slot.new.self in
+    let e = c.close_slot.ensures in
+    let is : closing s.slots.even.job ≡ true = sym c.is_closing.ensures ∙ c.if-is_closing.true in
+    ok_three c.close_slot.result _ _ _ _ (λ goes one two told added kept others h.
+    even_after s s t added kept others is
+    (even_goes s t added kept others h e.other_log e.generation is (goes told) one two e.log e.firm e.adding))
+    e.goes e.next e.beside
+
+pub returns-then-is_closing-clause-crash : goal.returns-then-is_closing-clause-crash
+returns-then-is_closing-clause-crash g c = λ is_open told added kept others h.
+    let s = c.args.self.now in
+    let t = c.close_slot.new.self in
+    let e = c.close_slot.ensures in
+    let is : closing s.slots.even.job ≡ true = sym c.is_closing.ensures ∙ c.if-is_closing.true in
+    even_stake s s t added kept others is (even_crash s t e.other_log e.generation added kept others h is (e.crash told) e.apart e.log)
+
+pub returns-then-is_closing-clause-underway : goal.returns-then-is_closing-clause-underway
+returns-then-is_closing-clause-underway g c = λ is_open told.
+    let u = c.requires.stands c.in_ok-state.ensures.closes.0 told in
+    ⊎_elim (λ goes. record { added = _; kept = _; others = _; stands = goes told u.added u.kept u.others u.stands }) (λ shut. absurd (shut is_open))
+    (ok_or_err c.close_slot.result _ _ (returns-then-is_closing-clause-goes g c) c.close_slot.ensures.shut)
+
+pub returns-then-is_closing-2-clause-goes : goal.returns-then-is_closing-2-clause-goes
+returns-then-is_closing-2-clause-goes g c =
+    let s = c.args.self.now in
+    let t = c.close_slot-then-is_closing-2.new.self in
+    let e = c.close_slot-then-is_closing-2.ensures in
+    let calm : closing s.slots.even.job ≡ false = sym c.is_closing.ensures ∙ c.if-is_closing.false in
+    let is : closing s.slots.odd.job ≡ true = sym c.is_closing-2.ensures ∙ c.if-is_closing-2.true in
+    ok_three c.close_slot-then-is_closing-2.result _ _ _ _ (λ goes one two told added kept others h.
+    odd_after s s t added kept others calm is
+    (odd_goes s t added kept others h e.other_log e.generation calm is (goes told) one two e.log e.firm e.adding))
+    e.goes e.next e.beside
+
+pub returns-then-is_closing-2-clause-crash : goal.returns-then-is_closing-2-clause-crash
+returns-then-is_closing-2-clause-crash g c = λ is_open told added kept others h.
+    let s = c.args.self.now in
+    let t = c.close_slot-then-is_closing-2.new.self in
+    let e = c.close_slot-then-is_closing-2.ensures in
+    let calm : closing s.slots.even.job ≡ false = sym c.is_closing.ensures ∙ c.if-is_closing.false in
+    let is : closing s.slots.odd.job ≡ true = sym c.is_closing-2.ensures ∙ c.if-is_closing-2.true in
+    odd_stake s s t added kept others calm is (odd_crash s t e.other_log e.generation added kept others h calm is (e.crash told) e.apart e.log)
+
+pub returns-then-is_closing-2-clause-underway : goal.returns-then-is_closing-2-clause-underway
+returns-then-is_closing-2-clause-underway g c = λ is_open told.
+    let u = c.requires.stands c.in_ok-state.ensures.closes.0 told in
+    ⊎_elim (λ goes. record { added = _; kept = _; others = _; stands = goes told u.added u.kept u.others u.stands }) (λ shut. absurd (shut is_open))
+    (ok_or_err c.close_slot-then-is_closing-2.result _ _ (returns-then-is_closing-2-clause-goes g c) c.close_slot-then-is_closing-2.ensures.shut)
+
+pub returns-in_err-begin-clause-underway : goal.returns-in_err-begin-clause-underway
+returns-in_err-begin-clause-underway g c = λ is_open told.
+    let s = c.args.self.now in
+    let t = c.begin.new.self in
+    let e = c.in_err-begin.ensures in
+    let u = c.requires.stands c.in_ok-state.ensures.closes.0 told in
+    record {
+      added = u.added;
+      kept = u.kept;
+      others = u.others;
+      stands = same_stands s s t u.added u.kept u.others u.stands e.slots e.device e.err_log.0 e.err_log.1 e.other_log e.generation e.firm e.err.1;
+    }
+
+pub returns-in_err-begin-clause-crash : goal.returns-in_err-begin-clause-crash
+returns-in_err-begin-clause-crash g c = λ is_open told added kept others h.
+    let s = c.args.self.now in
+    let t = c.begin.new.self in
+    let e = c.in_err-begin.ensures in
+    let calm : closing s.slots.even.job ≡ false = sym c.is_closing.ensures ∙ c.if-is_closing.false in
+    let too : closing s.slots.odd.job ≡ false = sym c.is_closing-2.ensures ∙ c.if-is_closing-2.false in
+    not_begun s s t added kept others h calm too (same_crash s t e.other_log e.generation added kept others h e.slots e.device)
+
+pub returns-clause-goes : goal.returns-clause-goes
+returns-clause-goes g c =
+    let s = c.args.self.now in
+    let m = c.begin.new.self in
+    let t = c.call_log.new.self in
+    let b = c.in_ok-begin.ensures in
+    let e = c.call_log.ensures in
+    let calm : closing s.slots.even.job ≡ false = sym c.is_closing.ensures ∙ c.if-is_closing.false in
+    let too : closing s.slots.odd.job ≡ false = sym c.is_closing-2.ensures ∙ c.if-is_closing-2.false in
+    ok_three c.call_log.result _ _ _ _ (λ goes one two told added kept others h.
+    let a = cond (rests s.log.job && some s.waiting) s.waiting added in
+    let begun : StoreStands m a kept others = begin_goes s m added kept others h b.other_log b.generation b.slots calm too (some s.waiting) s.waiting (b.stands told) b.job b.firm b.adding in
+    log_after s m t added kept others calm too b.job
+    (call_goes m t a kept others begun e.other_log e.generation e.slots (ap (λ q. closing q.even.job) b.slots ∙ calm) (ap (λ q. closing q.odd.job) b.slots ∙ too) (goes told) one two e.adding))
+    e.goes e.next e.firm
+
+pub returns-clause-underway : goal.returns-clause-underway
+returns-clause-underway g c = λ is_open told.
+    let u = c.requires.stands c.in_ok-state.ensures.closes.0 told in
+    ⊎_elim (λ goes. record { added = _; kept = _; others = _; stands = goes told u.added u.kept u.others u.stands }) (λ shut. absurd (shut is_open))
+    (ok_or_err c.call_log.result _ _ (returns-clause-goes g c) c.call_log.ensures.shut)
+
+pub returns-clause-crash : goal.returns-clause-crash
+returns-clause-crash g c = λ is_open told added kept others h.
+    let s = c.args.self.now in
+    let m = c.begin.new.self in
+    let t = c.call_log.new.self in
+    let b = c.in_ok-begin.ensures in
+    let e = c.call_log.ensures in
+    let calm : closing s.slots.even.job ≡ false = sym c.is_closing.ensures ∙ c.if-is_closing.false in
+    let too : closing s.slots.odd.job ≡ false = sym c.is_closing-2.ensures ∙ c.if-is_closing-2.false in
+    let a = cond (rests s.log.job && some s.waiting) s.waiting added in
+    let begun : StoreStands m a kept others = begin_goes s m added kept others h b.other_log b.generation b.slots calm too (some s.waiting) s.waiting (b.stands told) b.job b.firm b.adding in
+    log_staked s m t added kept others calm too b.job
+    (log_crash m t e.other_log e.generation a kept others begun (ap (λ q. closing q.even.job) b.slots ∙ calm) (ap (λ q. closing q.odd.job) b.slots ∙ too) (e.crash told) e.slots)
+
+pub returns-then-is_closing-clause-firm : goal.returns-then-is_closing-clause-firm
+returns-then-is_closing-clause-firm g c =
+    let is : closing c.args.self.now.slots.even.job ≡ true = sym c.is_closing.ensures ∙ c.if-is_closing.true in
+    on_all c.close_slot.result _ (even_counts c.args.self.now c.args.self.now c.close_slot.new.self is c.close_slot.ensures.firm c.close_slot.ensures.waiting).0
+
+pub returns-then-is_closing-2-clause-firm : goal.returns-then-is_closing-2-clause-firm
+returns-then-is_closing-2-clause-firm g c =
+    let calm : closing c.args.self.now.slots.even.job ≡ false = sym c.is_closing.ensures ∙ c.if-is_closing.false in
+    let is : closing c.args.self.now.slots.odd.job ≡ true = sym c.is_closing-2.ensures ∙ c.if-is_closing-2.true in
+    on_all c.close_slot-then-is_closing-2.result _ (odd_counts c.args.self.now c.args.self.now c.close_slot-then-is_closing-2.new.self calm is c.close_slot-then-is_closing-2.ensures.firm c.close_slot-then-is_closing-2.ensures.waiting).0
+
+pub returns-then-is_closing-clause-waiting : goal.returns-then-is_closing-clause-waiting
+returns-then-is_closing-clause-waiting g c =
+    let is : closing c.args.self.now.slots.even.job ≡ true = sym c.is_closing.ensures ∙ c.if-is_closing.true in
+    on_all c.close_slot.result _ (even_counts c.args.self.now c.args.self.now c.close_slot.new.self is c.close_slot.ensures.firm c.close_slot.ensures.waiting).1
+
+pub returns-then-is_closing-2-clause-waiting : goal.returns-then-is_closing-2-clause-waiting
+returns-then-is_closing-2-clause-waiting g c =
+    let calm : closing c.args.self.now.slots.even.job ≡ false = sym c.is_closing.ensures ∙ c.if-is_closing.false in
+    let is : closing c.args.self.now.slots.odd.job ≡ true = sym c.is_closing-2.ensures ∙ c.if-is_closing-2.true in
+    on_all c.close_slot-then-is_closing-2.result _ (odd_counts c.args.self.now c.args.self.now c.close_slot-then-is_closing-2.new.self calm is c.close_slot-then-is_closing-2.ensures.firm c.close_slot-then-is_closing-2.ensures.waiting).1
+
+pub returns-clause-firm : goal.returns-clause-firm
+returns-clause-firm g c =
+    let calm : closing c.args.self.now.slots.even.job ≡ false = sym c.is_closing.ensures ∙ c.if-is_closing.false in
+    let too : closing c.args.self.now.slots.odd.job ≡ false = sym c.is_closing-2.ensures ∙ c.if-is_closing-2.false in
+    let b = c.in_ok-begin.ensures in
+    on_ok c.call_log.result _ _ (λ is. log_firm c.args.self.now c.begin.new.self c.call_log.new.self calm too b.job b.firm b.adding is) c.call_log.ensures.firm
+
+pub returns-clause-waiting : goal.returns-clause-waiting
+returns-clause-waiting g c =
+    let calm : closing c.args.self.now.slots.even.job ≡ false = sym c.is_closing.ensures ∙ c.if-is_closing.false in
+    let too : closing c.args.self.now.slots.odd.job ≡ false = sym c.is_closing-2.ensures ∙ c.if-is_closing-2.false in
+    on_all c.call_log.result _ (log_waiting c.args.self.now c.begin.new.self c.call_log.new.self calm too (c.call_log.ensures.waiting ∙ c.in_ok-begin.ensures.waiting))
+
+pub returns-then-is_closing-clause-not_firm : goal.returns-then-is_closing-clause-not_firm
+returns-then-is_closing-clause-not_firm g c =
+    on_none c.close_slot.result _ c.close_slot.ensures.firm
+
+pub returns-then-is_closing-clause-generation : goal.returns-then-is_closing-clause-generation
+returns-then-is_closing-clause-generation g c =
+    c.close_slot.ensures.generation
+
+pub returns-then-is_closing-clause-closes : goal.returns-then-is_closing-clause-closes
+returns-then-is_closing-clause-closes g c =
+    c.close_slot.ensures.closes
+
+pub returns-then-is_closing-2-clause-not_firm : goal.returns-then-is_closing-2-clause-not_firm
+returns-then-is_closing-2-clause-not_firm g c =
+    on_none c.close_slot-then-is_closing-2.result _ c.close_slot-then-is_closing-2.ensures.firm
+
+pub returns-then-is_closing-2-clause-generation : goal.returns-then-is_closing-2-clause-generation
+returns-then-is_closing-2-clause-generation g c =
+    c.close_slot-then-is_closing-2.ensures.generation
+
+pub returns-then-is_closing-2-clause-closes : goal.returns-then-is_closing-2-clause-closes
+returns-then-is_closing-2-clause-closes g c =
+    c.close_slot-then-is_closing-2.ensures.closes
+
+pub returns-clause-not_firm : goal.returns-clause-not_firm
+returns-clause-not_firm g c =
+    on_err c.call_log.result _ _ (λ is. is ∙ c.in_ok-begin.ensures.firm) c.call_log.ensures.not_firm
+
+pub returns-clause-generation : goal.returns-clause-generation
+returns-clause-generation g c =
+    c.call_log.ensures.generation ∙ c.in_ok-begin.ensures.generation
+
+pub returns-clause-closes : goal.returns-clause-closes
+returns-clause-closes g c =
+    subst (λ (old : _). Closes c.call_log.result old c.call_log.new.self.state) c.in_ok-begin.ensures.state c.call_log.ensures.closes
+
+pub returns-then-is_closing-clause-untouched : goal.returns-then-is_closing-clause-untouched
+returns-then-is_closing-clause-untouched g c =
+    λ shut. absurd (shut c.in_ok-state.ensures.closes.0)
+
+pub returns-then-is_closing-2-clause-untouched : goal.returns-then-is_closing-2-clause-untouched
+returns-then-is_closing-2-clause-untouched g c =
+    λ shut. absurd (shut c.in_ok-state.ensures.closes.0)
+
+pub returns-in_err-begin-clause-untouched : goal.returns-in_err-begin-clause-untouched
+returns-in_err-begin-clause-untouched g c =
+    λ shut. absurd (shut c.in_ok-state.ensures.closes.0)
+
+pub returns-clause-untouched : goal.returns-clause-untouched
+returns-clause-untouched g c =
+    λ shut. absurd (shut c.in_ok-state.ensures.closes.0)
+
+pub returns-then-is_closing-clause-later : goal.returns-then-is_closing-clause-later
+returns-then-is_closing-clause-later g c =
+    let e = c.close_slot.ensures in
+    even_falls c.args.self.now c.close_slot.new.self e.other_log e.later e.apart e.log
+
+pub returns-then-is_closing-2-clause-later : goal.returns-then-is_closing-2-clause-later
+returns-then-is_closing-2-clause-later g c =
+    let e = c.close_slot-then-is_closing-2.ensures in
+    odd_falls c.args.self.now c.close_slot-then-is_closing-2.new.self e.other_log e.later e.apart e.log
+
+pub returns-in_err-begin-clause-later : goal.returns-in_err-begin-clause-later
+returns-in_err-begin-clause-later g c =
+    let b = c.in_err-begin.ensures in
+    log_falls c.args.self.now c.begin.new.self b.other_log b.slots (rw (b.device) (omega arith))
+
+pub returns-clause-later : goal.returns-clause-later
+returns-clause-later g c =
+    let b = c.in_ok-begin.ensures in
+    let e = c.call_log.ensures in
+    log_falls c.args.self.now c.call_log.new.self (e.other_log ∙ b.other_log) (e.slots ∙ b.slots) (subst (λ (d : _). g.D.Disk.faults d ≤ g.D.Disk.faults c.call_log.new.self.log.device) b.device e.later)
+
+pub returns-then-is_closing-clause-cause : goal.returns-then-is_closing-clause-cause
+returns-then-is_closing-clause-cause g c =
+    λ is. inl (c.close_slot.ensures.cause is)
+
+pub returns-then-is_closing-2-clause-cause : goal.returns-then-is_closing-2-clause-cause
+returns-then-is_closing-2-clause-cause g c =
+    λ is. inr (inl (c.close_slot-then-is_closing-2.ensures.cause is))
+
+pub returns-clause-cause : goal.returns-clause-cause
+returns-clause-cause g c =
+    λ is. inr (inr (subst (λ (d : _). Rose (g.D.Disk.faults d) (g.D.Disk.faults c.call_log.new.self.log.device)) c.in_ok-begin.ensures.device (c.call_log.ensures.cause is)))
+
+pub returns-then-is_closing-clause-any_moment : goal.returns-then-is_closing-clause-any_moment
+returns-then-is_closing-clause-any_moment g c = λ is_open told remembers added kept others h images left.
+    let s = c.args.self.now in
+    let t = c.close_slot.new.self in
+    let e = c.close_slot.ensures in
+    let is : closing c.args.self.now.slots.even.job ≡ true = sym c.is_closing.ensures ∙ c.if-is_closing.true in
+    even_moment g.D.Disk (g.met.D.Disk.only_now remembers) s t kept (at_stake s added kept others) e.generation e.other_log
+    (even_stake s s s added kept others is (store_leaves s added kept others h))
+    (returns-then-is_closing-clause-crash g c is_open told added kept others h) images left e.time e.apart (ap (λ l. l.device) e.log)
+
+pub returns-then-is_closing-2-clause-any_moment : goal.returns-then-is_closing-2-clause-any_moment
+returns-then-is_closing-2-clause-any_moment g c = λ is_open told remembers added kept others h images left.
+    let s = c.args.self.now in
+    let t = c.close_slot-then-is_closing-2.new.self in
+    let e = c.close_slot-then-is_closing-2.ensures in
+    let calm : closing c.args.self.now.slots.even.job ≡ false = sym c.is_closing.ensures ∙ c.if-is_closing.false in
+    let is : closing c.args.self.now.slots.odd.job ≡ true = sym c.is_closing-2.ensures ∙ c.if-is_closing-2.true in
+    odd_moment g.D.Disk (g.met.D.Disk.only_now remembers) s t kept (at_stake s added kept others) e.generation e.other_log
+    (odd_stake s s s added kept others calm is (store_leaves s added kept others h))
+    (returns-then-is_closing-2-clause-crash g c is_open told added kept others h) images left e.time e.apart (ap (λ l. l.device) e.log)
+
+pub returns-in_err-begin-clause-any_moment : goal.returns-in_err-begin-clause-any_moment
+returns-in_err-begin-clause-any_moment g c = λ is_open told remembers added kept others h images left.
+    let s = c.args.self.now in
+    let t = c.begin.new.self in
+    let e = c.in_err-begin.ensures in
+    let calm : closing c.args.self.now.slots.even.job ≡ false = sym c.is_closing.ensures ∙ c.if-is_closing.false in
+    let too : closing c.args.self.now.slots.odd.job ≡ false = sym c.is_closing-2.ensures ∙ c.if-is_closing-2.false in
+    still_moment g.D.Disk (g.met.D.Disk.only_now remembers) s t kept (at_stake s added kept others) e.generation e.other_log
+    (not_begun s s s added kept others h calm too (store_leaves s added kept others h))
+    (returns-in_err-begin-clause-crash g c is_open told added kept others h) images left e.slots e.device
+
+pub returns-clause-any_moment : goal.returns-clause-any_moment
+returns-clause-any_moment g c = λ is_open told remembers added kept others h images left.
+    let s = c.args.self.now in
+    let t = c.call_log.new.self in
+    let b = c.in_ok-begin.ensures in
+    let e = c.call_log.ensures in
+    let calm : closing c.args.self.now.slots.even.job ≡ false = sym c.is_closing.ensures ∙ c.if-is_closing.false in
+    let too : closing c.args.self.now.slots.odd.job ≡ false = sym c.is_closing-2.ensures ∙ c.if-is_closing-2.false in
+    log_moment g.D.Disk (g.met.D.Disk.only_now remembers) s t kept (at_stake s added kept others) (e.generation ∙ b.generation) (e.other_log ∙ b.other_log)
+    (not_begun s s s added kept others h calm too (store_leaves s added kept others h))
+    (returns-clause-crash g c is_open told added kept others h) images left
+    (subst (λ (d : _). Goes g.D.Disk d t.log.device) b.device e.time) (e.slots ∙ b.slots)

@@ -1,0 +1,34 @@
+-- What a call of a store does to its devices.
+use Rattle.std.specs.Prelude.{◌≤◌, ◌⊎◌, not, List, ℕ}
+use Rattle.faults.specs.Counts.{Rose}
+use Rattle.disk_model.specs.Cells.{IsImage}
+use Rattle.disk_model.specs.Calls.{Elapses}
+use Rattle.disk_model.specs.declared.disk.Disk.{Ghosts}
+use Rattle.durable_store.specs.Restored.{Images, log_image}
+use Rattle.durable_store.specs.Standing.{side}
+use Rattle.durable_store.specs.declared.store.Store.{Store}
+
+-- time goes on for a device
+abbrev pub Goes : {D : Type 0} → Ghosts D → D → D → Type 0
+Goes g old new = Elapses (g.moment old) (g.moment new) (g.left_since old) (g.left_since new) (IsImage (g.cells new))
+
+module _ {D : Type 0} {g : Ghosts D} where
+  -- a crash at some moment since `old` might have left these bytes
+  pub record LeftSince (old new : Store D g) (images : Images) : Type 0 where
+    pub even_slot : g.left_since new.slots.even.device (g.moment old.slots.even.device) images.even_slot
+    pub odd_slot : g.left_since new.slots.odd.device (g.moment old.slots.odd.device) images.odd_slot
+    pub log : g.left_since new.log.device (g.moment old.log.device) (log_image (side old) images)
+    pub other_log : g.left_since new.other_log (g.moment old.other_log) (log_image (not (side old)) images)
+
+  -- no device has failed less often than before
+  pub record NoneFalls (old new : Store D g) : Type 0 where
+    pub even_slot : g.faults old.slots.even.device ≤ g.faults new.slots.even.device
+    pub odd_slot : g.faults old.slots.odd.device ≤ g.faults new.slots.odd.device
+    pub log : g.faults old.log.device ≤ g.faults new.log.device
+    pub other_log : g.faults old.other_log ≤ g.faults new.other_log
+
+  -- one of them has failed
+  abbrev pub OneRose : Store D g → Store D g → Type 0
+  OneRose old new =
+      Rose (g.faults old.slots.even.device) (g.faults new.slots.even.device)
+      ⊎ (Rose (g.faults old.slots.odd.device) (g.faults new.slots.odd.device) ⊎ Rose (g.faults old.log.device) (g.faults new.log.device))

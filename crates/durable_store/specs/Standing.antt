@@ -1,0 +1,176 @@
+-- Where a store stands between two device calls.
+use Rattle.std.specs.Prelude.{◌≡◌, ◌⊎◌, ◌≤◌, ◌+◌, ◌-◌, ◌^◌, ℕ, min, Bool, true, false, not, cond, ◌&&◌, ◌||◌, List, [], ◌∷◌, ◌++◌, length, drop, Option, Some, None}
+use Rattle.disk_model.specs.Cells.{Cells, IsImage, settled}
+use Rattle.disk_model.specs.declared.disk.Disk.{Ghosts}
+use Rattle.store_form.specs.Spelling.{Group}
+use Rattle.store_form.specs.declared.checkpoint.Checkpoint.{Checkpoint}
+use Rattle.batch_log.specs.Log.{restored}
+use Rattle.batch_log.specs.Jobs.{Stands, idle}
+use Rattle.batch_log.specs.declared.job.Job.{Job}
+use Rattle.batch_log.specs.declared.job.Job.TheVariants.{Rest, Torn, Close, SyncClose, Body, SyncBody, Gate, SyncGate}
+use Rattle.checkpoint_store.specs.Slots.{is_odd, newer}
+use Rattle.checkpoint_store.specs.SlotJobs.{SlotStands, idle as slot_idle}
+use Rattle.checkpoint_store.specs.declared.job.SlotJob.{SlotJob}
+use Rattle.checkpoint_store.specs.declared.job.SlotJob.TheVariants.{Empty, Torn as TornSlot, Shut, Close as CloseSlot, SyncClose as SyncCloseSlot, Fill, SyncFill, Full, Gate as GateSlot, SyncGate as SyncGateSlot, Counts}
+use Rattle.durable_store.specs.Restored.{Images, log_image, generation_of, kept_of, restores}
+use Rattle.durable_store.specs.Turns.{closing, unsure, adds, rests, ends_group, InTurn}
+use Rattle.durable_store.specs.declared.kept.Kept.{Kept}
+use Rattle.durable_store.specs.declared.store.Store.{Store}
+
+-- A store stands for what each crash now restores, `kept`, and for what it may restore instead. That is the first of
+-- `others`, which has one for each gate that is torn or just opened, in the order in which they are closed. So it has
+-- one at most, unless more gates were torn when the store was opened. `added` is the group that the running job adds, if
+-- it adds one.
+
+-- the first of them, or else `kept`
+abbrev pub first : Kept → List Kept → Kept
+first kept [] = kept
+first kept (other ∷ others) = other
+
+-- what is restored where the present log, of the odd or of the even generations, has `own`, and the other log `beside`
+abbrev pub kept_by : Bool → List Group → List Group → Option Checkpoint → Option Checkpoint → Kept
+kept_by false own beside even odd = kept_of own beside even odd
+kept_by true own beside even odd = kept_of beside own even odd
+
+abbrev pub with : Kept → Group → Kept
+with kept added = record { present = kept.present; entries = kept.entries ++ added }
+
+abbrev pub only : Bool → Kept → List Kept
+only true other = other ∷ []
+only false other = []
+
+-- ---- what the next call of a job makes of them
+
+abbrev pub some : {A : Type 0} → List A → Bool
+some [] = false
+some (x ∷ xs) = true
+
+abbrev pub slot_others : SlotJob → List Kept → List Kept
+slot_others SyncCloseSlot others = drop 1 others
+slot_others Empty others = others
+slot_others TornSlot others = others
+slot_others Shut others = others
+slot_others CloseSlot others = others
+slot_others (Fill bytes) others = others
+slot_others SyncFill others = others
+slot_others Full others = others
+slot_others GateSlot others = others
+slot_others SyncGateSlot others = others
+slot_others Counts others = others
+
+abbrev pub log_kept : Job → Group → Kept → Kept
+log_kept (SyncGate next) added kept = with kept added
+log_kept Rest added kept = kept
+log_kept Torn added kept = kept
+log_kept (Close waiting) added kept = kept
+log_kept (SyncClose waiting) added kept = kept
+log_kept (Body bytes) added kept = kept
+log_kept (SyncBody next) added kept = kept
+log_kept (Gate next) added kept = kept
+
+abbrev pub log_others : Job → Group → Kept → List Kept → List Kept
+log_others (Gate next) added kept others = with kept added ∷ []
+log_others (SyncGate next) added kept others = []
+log_others (SyncClose waiting) added kept others = []
+log_others Rest added kept others = others
+log_others Torn added kept others = others
+log_others (Close waiting) added kept others = others
+log_others (Body bytes) added kept others = others
+log_others (SyncBody next) added kept others = others
+
+-- what a crash during that call may restore instead of `kept`
+abbrev pub log_stake : Job → Group → Kept → List Kept → Kept
+log_stake (Gate next) added kept others = with kept added
+log_stake (SyncGate next) added kept others = first kept others
+log_stake (SyncClose waiting) added kept others = first kept others
+log_stake Rest added kept others = first kept others
+log_stake Torn added kept others = first kept others
+log_stake (Close waiting) added kept others = first kept others
+log_stake (Body bytes) added kept others = first kept others
+log_stake (SyncBody next) added kept others = first kept others
+
+module _ {D : Type 0} {g : Ghosts D} where
+  abbrev pub side : Store D g → Bool
+  side s = is_odd s.generation
+
+  -- the groups of the log of the other generations
+  abbrev pub beside : Store D g → List Group
+  beside s = restored (g.cells s.other_log).now
+
+  pub record StoreStands (s : Store D g) (added : Group) (kept : Kept) (others : List Kept) : Type 0 where
+    pub next : Checkpoint
+    pub even : Option Checkpoint
+    pub even_other : Option Checkpoint
+    pub odd : Option Checkpoint
+    pub odd_other : Option Checkpoint
+    pub own : List Group
+    pub own_other : List Group
+    pub even_slot : SlotStands false (g.cells s.slots.even.device) s.slots.even.job next even even_other
+    pub odd_slot : SlotStands true (g.cells s.slots.odd.device) s.slots.odd.job next odd odd_other
+    pub log : Stands (g.cells s.log.device) s.log.end s.log.job added own own_other
+    pub other_log : g.cells s.other_log ≡ settled (g.cells s.other_log).now
+    pub turn : InTurn s.slots.even.job s.slots.odd.job s.log.job
+    pub present : s.generation ≡ generation_of (newer even odd)
+    pub kept_is : kept ≡ kept_by (side s) own (beside s) even odd
+    pub others_are : others
+        ≡ only (closing s.slots.even.job) (kept_by (side s) own (beside s) even_other odd)
+        ++ (only (closing s.slots.odd.job) (kept_by (side s) own (beside s) even odd_other)
+        ++ only (unsure s.log.job) (kept_by (side s) own_other (beside s) even odd))
+    pub firm : s.firm ≡ min (length kept.entries) (2 ^ 64 - 1)
+    pub counted : adds s.log.job ≡ true → s.adding ≡ length added
+
+  pub record IsUnderWay (s : Store D g) : Type 0 where
+    pub added : Group
+    pub kept : Kept
+    pub others : List Kept
+    pub stands : StoreStands s added kept others
+
+  -- a crash now may leave these bytes
+  pub record AreImages (s : Store D g) (images : Images) : Type 0 where
+    pub even_slot : IsImage (g.cells s.slots.even.device) images.even_slot
+    pub odd_slot : IsImage (g.cells s.slots.odd.device) images.odd_slot
+    pub log : IsImage (g.cells s.log.device) (log_image (side s) images)
+    pub other_log : IsImage (g.cells s.other_log) (log_image (not (side s)) images)
+
+  -- a crash now restores the one or the other
+  abbrev pub LeavesEither : Store D g → Kept → Kept → Type 0
+  LeavesEither s kept other = (images : Images) → AreImages s images → (restores images ≡ kept) ⊎ (restores images ≡ other)
+
+  -- ---- the next call
+
+  -- it is one of the log
+  abbrev pub calls_log : Store D g → Bool
+  calls_log s = not (closing s.slots.even.job || closing s.slots.odd.job)
+
+  -- it begins the group of all entries that wait
+  abbrev pub begins_group : Store D g → Bool
+  begins_group s = calls_log s && (rests s.log.job && some s.waiting)
+
+  abbrev pub added_by : Store D g → Group → Group
+  added_by s added = cond (begins_group s) s.waiting added
+
+  abbrev pub waiting_after : Store D g → List (List ℕ)
+  waiting_after s = cond (begins_group s) [] s.waiting
+
+  abbrev pub firm_after : Store D g → ℕ
+  firm_after s = cond (calls_log s && ends_group s.log.job) (min (s.firm + s.adding) (2 ^ 64 - 1)) s.firm
+
+  abbrev pub kept_after : Store D g → Group → Kept → Kept
+  kept_after s added kept = cond (calls_log s) (log_kept s.log.job added kept) kept
+
+  abbrev pub others_after : Store D g → Group → Kept → List Kept → List Kept
+  others_after s added kept others =
+      cond (closing s.slots.even.job) (slot_others s.slots.even.job others)
+      (cond (closing s.slots.odd.job) (slot_others s.slots.odd.job others) (log_others s.log.job added kept others))
+
+  -- what a crash during it may restore instead of `kept`
+  abbrev pub at_stake : Store D g → Group → Kept → List Kept → Kept
+  at_stake s added kept others = cond (calls_log s) (log_stake s.log.job added kept others) (first kept others)
+
+  -- no job runs
+  abbrev pub is_idle : Store D g → Bool
+  is_idle s = slot_idle s.slots.even.job && (slot_idle s.slots.odd.job && idle s.log.job)
+
+  -- there is a call to make
+  abbrev pub is_due : Store D g → Bool
+  is_due s = closing s.slots.even.job || (closing s.slots.odd.job || (not (rests s.log.job) || some s.waiting))

@@ -1,0 +1,31 @@
+//! What a store restores.
+ghost use Rattle.std.specs.Prelude.{◌≡◌, ◌++◌, OnOk, OnErr};
+
+use smart_base::sequence::{Bytes, Sequence};
+use std::alloc::{AllocError, Global};
+use std::mem;
+use store_form::checkpoint::Checkpoint;
+
+/// What a store restores: the newest checkpoint that counts, and the entries of the log of its
+/// generation, in their order. Without a checkpoint the generation is 0.
+#[derive(Drop)]
+pub struct Kept {
+    pub present: Option<Checkpoint>,
+    pub entries: Sequence<Bytes>,
+}
+
+/// Adds entries to others. Without memory nothing is added.
+pub fn push_all(
+    alloc: Global,
+    entries: &mut Sequence<Bytes>,
+    more: Sequence<Bytes>,
+) -> Result<(), AllocError>
+    ensures ok { OnOk result (entries.new ≡ entries.old ++ more) }
+    ensures err { OnErr result (entries.new ≡ entries.old) }
+{
+    let mut items = mem::replace(entries, Sequence::new(alloc)).into_vec();
+    let mut added = more.into_vec();
+    let answer = items.append(&mut added);
+    *entries = Sequence::from_vec(items);
+    answer
+}

@@ -1,0 +1,364 @@
+//! The store over its four devices.
+ghost use Rattle.std.specs.Prelude.{◌≡◌, Bool, Err};
+ghost use Rattle.batch_log.specs.Ends.{Closes};
+ghost use Rattle.batch_log.specs.declared.log.State.TheVariants.{Open};
+ghost use Rattle.durable_store.specs.Fit.{AreEntries, entries_prop};
+ghost use Rattle.durable_store.specs.Turns.{rests};
+
+use crate::closing::{close_call, is_closing};
+use crate::disks::Disks;
+use crate::kept::push_all;
+use batch_log::job::Job as LogJob;
+use batch_log::log::{BatchLog, LogFault, State};
+use checkpoint_store::reading::is_odd;
+use checkpoint_store::store::CheckpointStore;
+use disk_model::disk::Disk;
+use smart_base::sequence::{Bytes, Sequence};
+use std::alloc::Global;
+
+/// Why a call of a store did not do its work.
+pub type StoreFault = LogFault;
+
+/// Names the slot of the even generations, and that of the odd ones.
+const EVEN: u64 = 2;
+
+const ODD: u64 = 1;
+
+/// The entries with which the log of a new generation begins.
+#[derive(Drop)]
+pub struct Tail {
+    /// The number of the last one among the entries made in this life, from 1. It is 0 where that
+    /// entry was restored, or none is there.
+    pub made: u64,
+    pub entries: Sequence<Bytes>,
+}
+
+/// What a store is asked to do.
+#[derive(Drop)]
+pub struct Job {
+    /// Make these entries firm, in one group with all that wait.
+    pub entries: Sequence<Bytes>,
+}
+
+/// A store that is open until a disk fails, or memory runs out inside a device call. Then it is to be
+/// opened again over what the devices hold.
+#[derive(Drop)]
+pub struct Store<D: Disk> {
+    /// The two slots.
+    pub slots: CheckpointStore<D>,
+    /// The log of the present generation, and that of the other generations.
+    pub log: BatchLog<D>,
+    pub other_log: D,
+    /// The present generation.
+    pub generation: u64,
+    /// How many entries are firm.
+    pub firm: u64,
+    /// How many entries the running job adds.
+    pub adding: u64,
+    /// The entries that wait.
+    pub waiting: Sequence<Bytes>,
+    pub state: State,
+    ghost fit: { AreEntries waiting } by { entries_prop waiting },
+    ghost open: { state ≡ Open → (slots.state ≡ Open) × (log.state ≡ Open) },
+}
+
+impl<D: Disk> Store<D> {
+    ghost use Rattle.std.specs.Prelude.{◌≡◌, ◌≤◌, ◌<◌, ◌+◌, ◌-◌, ◌^◌, ◌⊎◌, List, ℕ, [], length, min, cond, ◌&&◌, ◌++◌, Option, IfOk, OnOk, OnErr, IsErrOf, false, true};
+    ghost use Rattle.faults.specs.Counts.{Rose};
+    ghost use Rattle.disk_model.specs.Cells.{IsImage};
+    ghost use Rattle.disk_model.specs.Calls.{Elapses};
+    ghost use Rattle.store_form.specs.Spelling.{Group};
+    ghost use Rattle.store_form.specs.declared.checkpoint.Checkpoint.{Checkpoint};
+    ghost use Rattle.batch_log.specs.Jobs.{Stands, LeavesEither as LogLeaves, IsUnderWay as LogUnderWay, kept_after as log_kept_after, other_after as log_other_after, at_stake as log_at_stake, code, code_after, idle};
+    ghost use Rattle.checkpoint_store.specs.Slots.{is_odd};
+    ghost use Rattle.checkpoint_store.specs.Stores.{slot, beside, StandsAt, UnderWayAt, LeavesAt};
+    ghost use Rattle.checkpoint_store.specs.SlotJobs.{idle as slot_idle};
+    ghost use Rattle.durable_store.specs.Restored.{Images, restores};
+    ghost use Rattle.durable_store.specs.Turns.{closing, job_closed, other_closed, ends_group, job_started};
+    ghost use Rattle.durable_store.specs.Standing.{StoreStands, IsUnderWay, LeavesEither, some, added_by, waiting_after, firm_after, kept_after, others_after, at_stake, is_idle, is_due, calls_log};
+    ghost use Rattle.durable_store.specs.Calls.{LeftSince, NoneFalls, OneRose};
+    ghost use Rattle.durable_store.specs.declared.kept.Kept.{Kept};
+
+    /// Makes the next device call, and tells whether no job runs then. Where none runs before, it
+    /// starts the first that applies: the close of a slot, the repair of the log, the group of all
+    /// entries that wait. Where none applies it does nothing.
+    pub fn next_call(&mut self, alloc: Global, tail: &Tail) -> Result<bool, StoreFault>
+        requires empty { (tail.now.made ≡ 0) × (tail.now.entries ≡ []) }
+        requires stands { self.old.state ≡ State.Open → D.told → IsUnderWay self.old }
+        ensures goes { OnOk result (D.told → (added : Group) (kept : Kept) (others : List Kept) → StoreStands self.old added kept others
+            → StoreStands self.new (added_by self.old added) (kept_after self.old added kept) (others_after self.old added kept others)) }
+        ensures underway { self.new.state ≡ State.Open → D.told → IsUnderWay self.new }
+        // Whether it goes well or not, a crash restores what is kept, or what was at stake.
+        ensures crash { self.old.state ≡ State.Open → D.told → (added : Group) (kept : Kept) (others : List Kept) → StoreStands self.old added kept others
+            → LeavesEither self.new kept (at_stake self.old added kept others) }
+        // So it does at any moment of the call.
+        ensures any_moment { self.old.state ≡ State.Open → D.told → D.remembers → (added : Group) (kept : Kept) (others : List Kept) → StoreStands self.old added kept others
+            → (images : Images) → LeftSince self.old self.new images → (restores images ≡ kept) ⊎ (restores images ≡ at_stake self.old added kept others) }
+        ensures waiting { OnOk result (self.new.waiting ≡ waiting_after self.old) }
+        ensures firm { OnOk result (self.new.firm ≡ firm_after self.old) }
+        ensures not_firm { OnErr result (self.new.firm ≡ self.old.firm) }
+        ensures generation { self.new.generation ≡ self.old.generation }
+        ensures untouched { (self.old.state ≡ State.Open → ⊥) → self.new ≡ self.old }
+        ensures later { NoneFalls self.old self.new }
+        ensures cause { IsErrOf result (LogFault.Disk false) → OneRose self.old self.new }
+        ensures closes { Closes result self.old.state self.new.state }
+    {
+        let _ = tail;
+        self.state()?;
+        if is_closing(&self.slots.even.job) {
+            return self.close_slot(EVEN);
+        }
+        if is_closing(&self.slots.odd.job) {
+            return self.close_slot(ODD);
+        }
+        self.begin(alloc)?;
+        self.call_log()
+    }
+
+    /// Gives entries to the store. They wait for the next group.
+    pub fn start(&mut self, alloc: Global, job: Job) -> Result<(), StoreFault>
+        requires { AreEntries job.entries }
+        ensures waiting { OnOk result (self.new.waiting ≡ self.old.waiting ++ job.entries) }
+        ensures err { OnErr result (self.new.waiting ≡ self.old.waiting) }
+        ensures slots { self.new.slots ≡ self.old.slots }
+        ensures log { self.new.log ≡ self.old.log }
+        ensures other_log { self.new.other_log ≡ self.old.other_log }
+        ensures generation { self.new.generation ≡ self.old.generation }
+        ensures firm { self.new.firm ≡ self.old.firm }
+        ensures adding { self.new.adding ≡ self.old.adding }
+        ensures state { self.new.state ≡ self.old.state }
+        ensures stands { (added : Group) (kept : Kept) (others : List Kept) → StoreStands self.old added kept others → StoreStands self.new added kept others }
+        ensures cause { IsErrOf result (LogFault.Disk false) → ⊥ }
+        ensures closes { Closes result self.old.state self.new.state }
+    {
+        self.state()?;
+        push_all(alloc, &mut self.waiting, job.entries)?;
+        Ok(())
+    }
+
+    /// Whether the next call needs a tail. No job of this store does.
+    pub fn wants_tail(&self) -> bool
+        ensures { result ≡ false }
+    {
+        let _ = self;
+        false
+    }
+
+    /// How many entries are firm: those restored, and those made firm since. At 2^64-1 it stays.
+    pub fn firm(&self) -> u64
+        ensures { result ≡ self.now.firm }
+    {
+        self.firm
+    }
+
+    /// The present generation, 0 where no slot counts.
+    pub fn generation(&self) -> u64
+        ensures { result ≡ self.now.generation }
+    {
+        self.generation
+    }
+
+    /// Whether there is a call to make.
+    pub fn is_due(&self) -> bool
+        ensures { result ≡ is_due self.now }
+    {
+        is_closing(&self.slots.even.job)
+            || is_closing(&self.slots.odd.job)
+            || !is_resting(&self.log.job)
+            || !self.waiting.is_empty()
+    }
+
+    /// Gives the devices back.
+    pub fn into_disks(self) -> Disks<D>
+        ensures even_slot { result.even_slot ≡ self.slots.even.device }
+        ensures odd_slot { result.odd_slot ≡ self.slots.odd.device }
+        ensures even_log { result.even_log ≡ cond (is_odd self.generation) self.other_log self.log.device }
+        ensures odd_log { result.odd_log ≡ cond (is_odd self.generation) self.log.device self.other_log }
+    {
+        let Store {
+            slots,
+            log,
+            other_log,
+            generation,
+            ..
+        } = self;
+        let (even_slot, odd_slot) = slots.into_disks();
+        let log = log.into_device();
+        if is_odd(generation) {
+            return Disks {
+                even_log: other_log,
+                odd_log: log,
+                even_slot,
+                odd_slot,
+            };
+        }
+        Disks {
+            even_log: log,
+            odd_log: other_log,
+            even_slot,
+            odd_slot,
+        }
+    }
+
+    /// Makes the next device call that closes a slot.
+    fn close_slot(&mut self, generation: u64) -> Result<bool, StoreFault>
+        requires some { 0 < generation }
+        requires open { self.old.state ≡ State.Open }
+        requires closing { closing (slot generation self.old.slots).job ≡ true }
+        requires stands { D.told → UnderWayAt D.cells generation self.old.slots }
+        ensures goes { OnOk result (D.told → (next : Checkpoint) (has other : Option Checkpoint) → StandsAt D.cells generation self.old.slots next has other
+            → StandsAt D.cells generation self.new.slots next has (other_closed (slot generation self.old.slots).job has other)) }
+        ensures next { OnOk result ((slot generation self.new.slots).job ≡ job_closed (slot generation self.old.slots).job) }
+        ensures crash { D.told → (next : Checkpoint) (has other : Option Checkpoint) → StandsAt D.cells generation self.old.slots next has other
+            → LeavesAt D.cells generation self.new.slots has other }
+        ensures beside { OnOk result (beside generation self.new.slots ≡ beside generation self.old.slots) }
+        ensures apart { (beside generation self.new.slots).device ≡ (beside generation self.old.slots).device }
+        ensures log { self.new.log ≡ self.old.log }
+        ensures other_log { self.new.other_log ≡ self.old.other_log }
+        ensures generation { self.new.generation ≡ self.old.generation }
+        ensures firm { self.new.firm ≡ self.old.firm }
+        ensures adding { self.new.adding ≡ self.old.adding }
+        ensures waiting { self.new.waiting ≡ self.old.waiting }
+        ensures time { Elapses (D.moment (slot generation self.old.slots).device) (D.moment (slot generation self.new.slots).device)
+            (D.left_since (slot generation self.old.slots).device) (D.left_since (slot generation self.new.slots).device) (IsImage (D.cells (slot generation self.new.slots).device)) }
+        ensures later { D.faults (slot generation self.old.slots).device ≤ D.faults (slot generation self.new.slots).device }
+        ensures cause { IsErrOf result (LogFault.Disk false) → Rose (D.faults (slot generation self.old.slots).device) (D.faults (slot generation self.new.slots).device) }
+        ensures shut { OnErr result (self.new.state ≡ State.Open → ⊥) }
+        ensures closes { Closes result self.old.state self.new.state }
+    {
+        match close_call(&mut self.slots, generation) {
+            Ok(is_done) => Ok(is_done),
+            Err(fault) => {
+                self.state = closed_by(fault);
+                Err(fault)
+            }
+        }
+    }
+
+    /// Starts the first job of the log that applies, where none runs. It makes no device call.
+    fn begin(&mut self, alloc: Global) -> Result<(), StoreFault>
+        requires open { self.old.state ≡ State.Open }
+        ensures stands { OnOk result (D.told → (added : Group) (gs other : List Group) → Stands (D.cells self.old.log.device) self.old.log.end self.old.log.job added gs other
+            → Stands (D.cells self.new.log.device) self.new.log.end self.new.log.job (cond (rests self.old.log.job && some self.old.waiting) self.old.waiting added) gs other) }
+        ensures job { OnOk result (code self.new.log.job ≡ job_started (some self.old.waiting) self.old.log.job) }
+        ensures waiting { OnOk result (self.new.waiting ≡ cond (rests self.old.log.job && some self.old.waiting) [] self.old.waiting) }
+        ensures adding { OnOk result (self.new.adding ≡ cond (rests self.old.log.job && some self.old.waiting) (length self.old.waiting) self.old.adding) }
+        ensures slots { self.new.slots ≡ self.old.slots }
+        ensures device { self.new.log.device ≡ self.old.log.device }
+        ensures other_log { self.new.other_log ≡ self.old.other_log }
+        ensures generation { self.new.generation ≡ self.old.generation }
+        ensures firm { self.new.firm ≡ self.old.firm }
+        ensures state { self.new.state ≡ self.old.state }
+        ensures err_log { OnErr result ((self.new.log.job ≡ self.old.log.job) × (self.new.log.end ≡ self.old.log.end)) }
+        ensures err { OnErr result ((self.new.waiting ≡ self.old.waiting) × (self.new.adding ≡ self.old.adding)) }
+        ensures cause { IsErrOf result (LogFault.Disk false) → ⊥ }
+        ensures closes { Closes result self.old.state self.new.state }
+    {
+        match self.log.job {
+            LogJob::Rest => self.begin_group(alloc),
+            LogJob::Torn => self.log.repair_start(),
+            _ => Ok(()),
+        }
+    }
+
+    /// Starts the group of all entries that wait, if there are any.
+    fn begin_group(&mut self, alloc: Global) -> Result<(), StoreFault>
+        requires open { self.old.state ≡ State.Open }
+        requires rests { self.old.log.job ≡ LogJob.Rest }
+        ensures stands { OnOk result (D.told → (added : Group) (gs other : List Group) → Stands (D.cells self.old.log.device) self.old.log.end self.old.log.job added gs other
+            → Stands (D.cells self.new.log.device) self.new.log.end self.new.log.job (cond (some self.old.waiting) self.old.waiting added) gs other) }
+        ensures job { OnOk result (code self.new.log.job ≡ cond (some self.old.waiting) 4 0) }
+        ensures waiting { OnOk result (self.new.waiting ≡ []) }
+        ensures adding { OnOk result (self.new.adding ≡ cond (some self.old.waiting) (length self.old.waiting) self.old.adding) }
+        ensures slots { self.new.slots ≡ self.old.slots }
+        ensures device { self.new.log.device ≡ self.old.log.device }
+        ensures other_log { self.new.other_log ≡ self.old.other_log }
+        ensures generation { self.new.generation ≡ self.old.generation }
+        ensures firm { self.new.firm ≡ self.old.firm }
+        ensures state { self.new.state ≡ self.old.state }
+        ensures err_log { OnErr result ((self.new.log.job ≡ self.old.log.job) × (self.new.log.end ≡ self.old.log.end)) }
+        ensures err { OnErr result ((self.new.waiting ≡ self.old.waiting) × (self.new.adding ≡ self.old.adding)) }
+        ensures cause { IsErrOf result (LogFault.Disk false) → ⊥ }
+        ensures closes { Closes result self.old.state self.new.state }
+    {
+        let count = self.waiting.len() as u64;
+        if count == 0 {
+            return Ok(());
+        }
+        self.log.append_start(alloc, self.waiting.as_slice())?;
+        self.adding = count;
+        self.waiting = Sequence::new(alloc);
+        Ok(())
+    }
+
+    /// Makes the next device call of the job that runs on the log, if one does.
+    fn call_log(&mut self) -> Result<bool, StoreFault>
+        requires open { self.old.state ≡ State.Open }
+        requires stands { D.told → LogUnderWay (D.cells self.old.log.device) self.old.log.end self.old.log.job }
+        ensures goes { OnOk result (D.told → (added : Group) (gs other : List Group) → Stands (D.cells self.old.log.device) self.old.log.end self.old.log.job added gs other
+            → Stands (D.cells self.new.log.device) self.new.log.end self.new.log.job added (log_kept_after self.old.log.job added gs) (log_other_after self.old.log.job added gs other)) }
+        ensures next { OnOk result (code self.new.log.job ≡ code_after self.old.log.job) }
+        ensures crash { D.told → (added : Group) (gs other : List Group) → Stands (D.cells self.old.log.device) self.old.log.end self.old.log.job added gs other
+            → LogLeaves (D.cells self.new.log.device) gs (log_at_stake self.old.log.job added gs other) }
+        ensures firm { OnOk result (self.new.firm ≡ cond (ends_group self.old.log.job) (min (self.old.firm + self.old.adding) (2 ^ 64 - 1)) self.old.firm) }
+        ensures not_firm { OnErr result (self.new.firm ≡ self.old.firm) }
+        ensures slots { self.new.slots ≡ self.old.slots }
+        ensures other_log { self.new.other_log ≡ self.old.other_log }
+        ensures generation { self.new.generation ≡ self.old.generation }
+        ensures adding { self.new.adding ≡ self.old.adding }
+        ensures waiting { self.new.waiting ≡ self.old.waiting }
+        ensures time { Elapses (D.moment self.old.log.device) (D.moment self.new.log.device) (D.left_since self.old.log.device) (D.left_since self.new.log.device) (IsImage (D.cells self.new.log.device)) }
+        ensures later { D.faults self.old.log.device ≤ D.faults self.new.log.device }
+        ensures cause { IsErrOf result (LogFault.Disk false) → Rose (D.faults self.old.log.device) (D.faults self.new.log.device) }
+        ensures shut { OnErr result (self.new.state ≡ State.Open → ⊥) }
+        ensures closes { Closes result self.old.state self.new.state }
+    {
+        if is_resting(&self.log.job) {
+            return Ok(true);
+        }
+        let ends_group = matches!(self.log.job, LogJob::SyncGate(_));
+        match self.log.next_call() {
+            Ok(is_done) => {
+                if ends_group {
+                    self.firm = self.firm.saturating_add(self.adding);
+                }
+                Ok(is_done)
+            }
+            Err(fault) => {
+                self.state = closed_by(fault);
+                Err(fault)
+            }
+        }
+    }
+
+    /// What a closed store answers.
+    fn state(&self) -> Result<(), StoreFault>
+        ensures closes { Closes result self.now.state self.now.state }
+        ensures not_now { IsErrOf result (LogFault.Disk false) → ⊥ }
+        ensures closed { OnErr result (self.now.state ≡ State.Open → ⊥) }
+    {
+        match self.state {
+            State::Open => Ok(()),
+            State::Failed => Err(LogFault::Disk { closed: true }),
+            State::NoMemory => Err(LogFault::NoMemory),
+        }
+    }
+}
+
+/// Whether no job runs on the log, and its gate is closed.
+fn is_resting(job: &LogJob) -> bool
+    ensures { result ≡ rests job.now }
+{
+    matches!(job, LogJob::Rest)
+}
+
+/// The state of a store after a device call that failed.
+fn closed_by(fault: StoreFault) -> State
+    ensures closes { (state : State) → Closes {T = Bool} (Err fault) Open state → Closes {T = Bool} (Err fault) Open result }
+    ensures closed { result ≡ Open → ⊥ }
+{
+    match fault {
+        LogFault::Disk { .. } => State::Failed,
+        LogFault::NoMemory => State::NoMemory,
+    }
+}
