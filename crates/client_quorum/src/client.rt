@@ -36,11 +36,17 @@ pub struct Acceptance {
 /// Why a client ignores a message: the first reason that applies.
 #[derive(Clone, Copy, Debug, PartialEq, Eq)]
 pub enum Ignored {
+    /// The bytes are no reply.
     Unread,
+    /// The tag is not the signer's.
     BadTag,
+    /// The client does not wait for a reply to this request.
     Settled,
+    /// The client knows no view of this number.
     UnknownView,
+    /// The signer is no member of that view.
     Stranger,
+    /// A reply of this member was counted.
     Repeated,
 }
 

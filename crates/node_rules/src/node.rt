@@ -7,20 +7,35 @@ use smart_messages::message::Message;
 /// Why an arrival is dropped: the first reason that applies.
 #[derive(Clone, Copy, Debug, PartialEq, Eq)]
 pub enum Why {
+    /// The bytes are no message.
     Unread,
+    /// The node is no member of its view.
     NotMember,
+    /// The tag is not the signer's.
     BadTag,
+    /// The signer is no member of the view, or no client.
     Stranger,
+    /// It is of a view before the one in force.
     OldView,
+    /// It is of a view that is not yet in force.
     NewView,
+    /// Its place is decided.
     OldPlace,
+    /// Its place is too far ahead.
     FarPlace,
+    /// Its regency is too far ahead.
     NewRegency,
+    /// A later request of the client was executed.
     OldSeq,
+    /// The client's request before it was not executed.
     FarSeq,
+    /// The signer does not lead the regency.
     NotLeader,
+    /// The batch may not stand at the place, or is not the one that is named.
     InvalidBatch,
+    /// Nothing waits for it.
     Unasked,
+    /// One of this kind was kept from this signer.
     Repeated,
 }
 

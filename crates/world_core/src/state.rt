@@ -245,7 +245,7 @@ impl<S: Service> WorldState<S> {
         self.chosen.as_slice()
     }
 
-    /// All messages that left, in the order of their numbers.
+    /// All that was sent, injected messages too, in the order of their numbers.
     pub fn sent(&self) -> &[Sent]
         ensures { result.now ≡ self.now.sent }
     {

@@ -128,7 +128,7 @@ impl<S: Service> World<S> {
         self.state.chosen()
     }
 
-    /// All messages that left, in the order of their numbers.
+    /// All that was sent, injected messages too, in the order of their numbers.
     pub fn sent(&self) -> &[Sent]
         ensures { result.now ≡ self.now.world.sent }
     {

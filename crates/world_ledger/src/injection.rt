@@ -278,7 +278,7 @@ fn injected_bytes(
     }
 }
 
-/// Bytes are bytes.
+/// Shows what each slice of bytes is: numbers below 256.
 fn show_bytes(bytes: &[u8])
     ensures { are_bytes bytes.now ≡ true }
 {}

@@ -63,7 +63,7 @@ pub record IsRight {S : Type 0} (m : Meaning S) (view : View) (sent : List Sent)
   pub view_is : a.view ≡ (view_at m view chosen a.place).number
   pub above : a.request.after < a.place
 
--- what a client accepts stands above all that it accepted before
+-- the request of a later reply states a place no less than that of each reply that its client accepted before
 abbrev pub Rises : List Acceptance → Type 0
 Rises [] = Unit {0}
 Rises (a ∷ later) = Each (λ b. b.request.client ≡ a.request.client → a.place ≤ b.request.after) later × Rises later
@@ -72,15 +72,15 @@ Rises (a ∷ later) = Each (λ b. b.request.client ≡ a.request.client → a.pl
 abbrev pub IsRogue : List ℕ → ℕ → Type 0
 IsRogue rogue client = is_among rogue client ≡ true
 
--- all nodes, those that are gone too, have delivered fronts of one list, and each reply that a client that is not rogue accepted is the
--- service's answer at its request's one place there, past the place that its request states
+-- all nodes, those that are gone too, have delivered fronts of one list, and each reply that was accepted by a client that is not rogue is
+-- the service's answer at its request's one place there, past the place that its request states
 pub record OneList {S : Type 0} (m : Meaning S) (w : World S) : Type 0 where
   pub hosts : Each (IsPrefix m w.view w.chosen) w.hosts
   pub accepted : Each (λ a. IsRogue w.rogue a.request.client ⊎ IsRight m w.view w.sent w.chosen a) w.accepted
   pub rising : Rises w.accepted
 
--- a transcript line that tells of a reply that a client that is not rogue accepted names the one place of its request in the list, and
--- tells the service's answer there
+-- a transcript line that tells of a reply that was accepted by a client that is not rogue names the one place of its request in the list,
+-- and tells the service's answer there
 abbrev pub IsAnswered : {S : Type 0} → Meaning S → View → List ℕ → List Batch → OutLine → Type 0
 IsAnswered m view rogue chosen (outs.Accepted client seq place index reply) =
     IsRogue rogue client ⊎ ((place_of m view chosen client seq ≡ Some (place, index)) × (answer m view chosen place index ≡ Some reply))

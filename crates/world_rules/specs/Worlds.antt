@@ -67,7 +67,7 @@ pub record World (S : Type 0) : Type 0 where
   pub hosts : List (Host S)
   -- the clients: number i stands at index i
   pub clients : List Client
-  -- all messages that left: number i stands at index i - 1
+  -- all that was sent, injected messages too: number i stands at index i - 1
   pub sent : List Sent
   -- the number of the last message that a flow has given
   pub mark : ℕ

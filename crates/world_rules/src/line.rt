@@ -103,8 +103,8 @@ pub enum Kind {
     Number,
     /// Any other wrong word.
     Form,
-    /// A message, a member or a client that is not there or not of that kind, or an injection whose
-    /// batch passes its limit.
+    /// A message or a member that is not there, a message that is not of that kind, or an injection
+    /// whose batch passes its limit.
     Refer,
 }
 

@@ -60,7 +60,7 @@ pub const NUMBERS: Range = Range {
     most: u64::MAX,
 };
 
-/// A number of a range.
+/// The number that a word is, if it is in the range.
 pub fn number_in(range: &Range, word: &[u8]) -> Option<u64>
     ensures number { result ≡ number_in range.now.least range.now.most word.now }
     ensures most { IfSome result (λ n. n ≤ range.now.most) }
@@ -73,7 +73,8 @@ pub fn number_in(range: &Range, word: &[u8]) -> Option<u64>
     }
 }
 
-/// As many numbers as there are ranges, each in its own. They are taken from the words.
+/// A number for each range, in order. Their words are taken. There are none where a word is missing
+/// or is no number of its range.
 pub fn numbers_in<const N: usize>(ranges: &[Range; N], words: &mut Words<'_>) -> Option<[u64; N]>
     ensures numbers { result ≡ numbers_in ranges.now words.old }
     ensures within { IfSome result (λ ns. Within ranges.now ns) }
@@ -88,7 +89,7 @@ pub fn numbers_in<const N: usize>(ranges: &[Range; N], words: &mut Words<'_>) ->
     Some(numbers)
 }
 
-/// The numbers of messages that the words are.
+/// The numbers of messages that the words are, if each is one.
 pub fn messages_in(alloc: Global, mut words: Words<'_>) -> Result<Option<Sequence<u64>>, AllocError>
     ensures { IfOk result (λ numbers. numbers ≡ each_word (number_in 1 (2 ^ 24)) words.entry) }
 {

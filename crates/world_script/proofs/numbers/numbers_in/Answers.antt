@@ -10,7 +10,11 @@ returns-in_err-word-clause-numbers g c =
 
 pub loop-i-preserved : goal.loop-i-preserved
 loop-i-preserved g c =
-    let e = next_number c.loop-i.numbers c.args.ranges.now c.loop-i.i c.in_ok-numbers.field-0 c.index-ranges-i.result c.in_ok-word.word.now c.loop-i.words c.in_ok-word.more (omega arith) (omega arith) c.in_ok-word.ensures (sym c.number_in.ensures.number ∙ c.in_ok-numbers.was) in
+    let is = sym c.number_in.ensures.number ∙ c.in_ok-numbers.was in
+    let e =
+    next_number c.loop-i.numbers c.args.ranges.now c.loop-i.i c.in_ok-numbers.field-0 c.index-ranges-i.result c.in_ok-word.word.now c.loop-i.words c.in_ok-word.more
+    (omega arith) (omega arith) c.in_ok-word.ensures is
+    in
     record {
       long = grind (arith, common_steps);
       rest = left_behind c.args.words.now c.loop-i.words c.in_ok-word.more c.in_ok-word.word.now c.loop-i.i c.loop-i.invariant.rest c.in_ok-word.ensures;
