@@ -8,7 +8,7 @@ use Rattle.store_form.specs.Spelling.{Group, group_text, IsGroup}
 use Rattle.batch_log.specs.declared.job.Job.{Job}
 use Rattle.batch_log.specs.declared.job.Job.TheVariants.{Rest, Torn, Close, SyncClose, Body, SyncBody, Gate, SyncGate}
 use Rattle.batch_log.specs.Log.{log_bytes, AreGroups, restored}
-use Rattle.batch_log.specs.Jobs.{Clean, Behind, Staged, Gated, IsTorn, ToClose, Closing, Stands, at_stake, called}
+use Rattle.batch_log.specs.Jobs.{Clean, Behind, Staged, Gated, IsTorn, ToClose, Closing, Stands, IsIdle, at_stake, called}
 use Rattle.batch_log.specs.Wires.{Ends, Bare, Armed, Wire, Next, LeavesWire, Wired}
 use Rattle.batch_log.proofs.Restored.{log_push, groups_push, restored_is, closed}
 use Rattle.batch_log.proofs.Steps.{short, byte_over, added}
@@ -20,33 +20,28 @@ cancel (x ∷ xs) ys zs same = let rest : xs ++ ys ≡ xs ++ zs = cc in cancel x
 
 -- ---- torn gates
 
--- what a log of its own lives has behind its groups, where the gate is torn
+-- what a gate of 1 would bring back is what a log of its own lives says of it
+torn_is : (end : ℕ) (rest : List ℕ) (gs other instead : List Group) → IsTorn end rest gs other → Ends (log_bytes gs ++ rest) gs instead ⊎ (Bare (log_bytes gs ++ rest) gs instead ⊎ Armed (log_bytes gs ++ rest) gs instead)
+    → other ≡ instead
+torn_is end rest gs other instead t (inl e) =
+    let is : rest ≡ 0 ∷ e.tail = cancel (log_bytes gs) rest (0 ∷ e.tail) e.are in
+    absurd (t.torn (ap (λ (l : List ℕ). get_or l 0 1) is))
+torn_is end rest gs other instead t (inr (inl b)) =
+    let is : rest ≡ b.rest = cancel (log_bytes gs) rest b.rest b.are in
+    let nothing : drop 1 rest ≡ [] = drop_all 1 rest (omega (arith, b.short, ap length is)) in
+    t.is ∙ ap (λ (l : List ℕ). restored (log_bytes gs ++ 1 ∷ l)) nothing ∙ restored_is gs (1 ∷ []) t.fit (short (1 ∷ []) (omega arith)) ∙ sym b.nothing
+torn_is end rest gs other instead t (inr (inr a)) =
+    let is : rest ≡ a.gate ∷ (group_text a.group ++ 0 ∷ a.tail) = cancel (log_bytes gs) rest (a.gate ∷ (group_text a.group ++ 0 ∷ a.tail)) a.are in
+    t.is ∙ ap (λ (l : List ℕ). restored (log_bytes gs ++ 1 ∷ drop 1 l)) is ∙ added gs (length (log_bytes gs)) refl t.fit a.group a.tail a.fits ∙ sym a.is
+
+-- what such a log has behind its groups, where the gate is torn
 torn_kind : (end : ℕ) (rest : List ℕ) (gs other instead : List Group) → IsTorn end rest gs other → Ends (log_bytes gs ++ rest) gs instead ⊎ (Bare (log_bytes gs ++ rest) gs instead ⊎ Armed (log_bytes gs ++ rest) gs instead)
     → Bare (log_bytes gs ++ rest) gs other ⊎ Armed (log_bytes gs ++ rest) gs other
 torn_kind end rest gs other instead t (inl e) =
     let is : rest ≡ 0 ∷ e.tail = cancel (log_bytes gs) rest (0 ∷ e.tail) e.are in
     absurd (t.torn (ap (λ (l : List ℕ). get_or l 0 1) is))
-torn_kind end rest gs other instead t (inr (inl b)) =
-    let is : rest ≡ b.rest = cancel (log_bytes gs) rest b.rest b.are in
-    let few : length rest ≤ 1 = omega (arith, b.short, ap length is) in
-    let nothing : drop 1 rest ≡ [] = drop_all 1 rest few in
-    inl (record {
-      rest = rest;
-      are = refl;
-      short = few;
-      nothing = t.is ∙ ap (λ (l : List ℕ). restored (log_bytes gs ++ 1 ∷ l)) nothing ∙ restored_is gs (1 ∷ []) t.fit (short (1 ∷ []) (omega arith));
-    })
-torn_kind end rest gs other instead t (inr (inr a)) =
-    let is : rest ≡ a.gate ∷ (group_text a.group ++ 0 ∷ a.tail) = cancel (log_bytes gs) rest (a.gate ∷ (group_text a.group ++ 0 ∷ a.tail)) a.are in
-    inr (record {
-      gate = a.gate;
-      shut = a.shut;
-      group = a.group;
-      fits = a.fits;
-      tail = a.tail;
-      are = a.are;
-      is = t.is ∙ ap (λ (l : List ℕ). restored (log_bytes gs ++ 1 ∷ drop 1 l)) is ∙ added gs (length (log_bytes gs)) refl t.fit a.group a.tail a.fits;
-    })
+torn_kind end rest gs other instead t (inr kind) =
+    subst (λ (o : List Group). Bare (log_bytes gs ++ rest) gs o ⊎ Armed (log_bytes gs ++ rest) gs o) (sym (torn_is end rest gs other instead t (inr kind))) kind
 
 -- whatever a crash makes of the gate of a whole group
 any_gate : (gs : List Group) (g : Group) (tail c : List ℕ) (gate : ℕ) (other : List Group) → AreGroups gs → IsGroup g → other ≡ gs ++ g ∷ [] → c ≡ log_bytes gs ++ gate ∷ (group_text g ++ 0 ∷ tail) → Next c gs other
@@ -60,7 +55,18 @@ any_gate gs g tail c gate other fit fits is parts =
         nothing = refl;
       }),
     )))
-    (λ (shut : gate ≢ 1). inr (inl (fit, inr (inr (record { gate = gate; shut = shut; group = g; fits = fits; tail = tail; are = parts; is = is })))))
+    (λ (not_one : gate ≢ 1).
+    ⊎_elim
+    (λ (closed_gate : gate ≡ 0). inl (
+      fit,
+      inl (record {
+        tail = group_text g ++ 0 ∷ tail;
+        are = parts ∙ ap (λ (b : ℕ). log_bytes gs ++ b ∷ (group_text g ++ 0 ∷ tail)) closed_gate;
+        nothing = refl;
+      }),
+    ))
+    (λ (not_zero : gate ≢ 0). inr (inl (fit, inr (inr (record { gate = gate; torn = (not_zero, not_one); group = g; fits = fits; tail = tail; are = parts; is = is })))))
+    (cases_eq gate 0))
     (cases_eq gate 1)
 
 image_of : (cells by : Cells) (c : List ℕ) → cells ≡ by → IsImage cells c → IsImage by c
@@ -154,10 +160,48 @@ fewer_wires old new gs other within each c is = each c (within c is)
 pub wire_restores : (bytes : List ℕ) (gs other : List Group) → Wire bytes gs other → restored bytes ≡ gs
 wire_restores bytes gs other (fit, inl e) = ap restored e.are ∙ restored_is gs (0 ∷ e.tail) fit (closed 0 e.tail (omega arith))
 wire_restores bytes gs other (fit, inr (inl b)) = ap restored b.are ∙ restored_is gs b.rest fit (short b.rest b.short)
-wire_restores bytes gs other (fit, inr (inr a)) = ap restored a.are ∙ restored_is gs (a.gate ∷ (group_text a.group ++ 0 ∷ a.tail)) fit (closed a.gate (group_text a.group ++ 0 ∷ a.tail) a.shut)
+wire_restores bytes gs other (fit, inr (inr a)) = ap restored a.are ∙ restored_is gs (a.gate ∷ (group_text a.group ++ 0 ∷ a.tail)) fit (closed a.gate (group_text a.group ++ 0 ∷ a.tail) a.torn.1)
 
 pub empty_wire : Wire [] [] []
 empty_wire = (tt, inr (inl (record { rest = []; are = refl; short = omega arith; nothing = refl })))
+
+-- ---- a log that is opened again stands for what its own lives have left
+
+now_of : (cells : Cells) (bytes by : List ℕ) → cells ≡ settled bytes → cells ≡ settled by → bytes ≡ by
+now_of cells bytes by are is = ap (λ (q : Cells). q.now) (sym are ∙ is)
+
+clean_back : (cells : Cells) (end : ℕ) (bytes : List ℕ) (gs : List Group) → cells ≡ settled bytes → Clean cells end gs → restored bytes ≡ gs
+clean_back cells end bytes gs are s = ap restored (now_of cells bytes (log_bytes gs ++ 0 ∷ s.tail) are s.are) ∙ restored_is gs (0 ∷ s.tail) s.fit (closed 0 s.tail (omega arith))
+
+torn_back : (cells : Cells) (end : ℕ) (bytes : List ℕ) (gs other : List Group) → cells ≡ settled bytes → ToClose cells end gs other → restored bytes ≡ gs
+torn_back cells end bytes gs other are s = ap restored (now_of cells bytes (log_bytes gs ++ s.rest) are s.are) ∙ restored_is gs s.rest s.torn.fit s.torn.nothing
+
+clean_as : (cells : Cells) (end : ℕ) (bytes : List ℕ) (gs other : List Group) → cells ≡ settled bytes → Clean cells end gs → Wire bytes gs other → other ≡ gs
+clean_as cells end bytes gs other are s (fit, inl e) = e.nothing
+clean_as cells end bytes gs other are s (fit, inr (inl b)) = b.nothing
+clean_as cells end bytes gs other are s (fit, inr (inr a)) =
+    let same : a.gate ∷ (group_text a.group ++ 0 ∷ a.tail) ≡ 0 ∷ s.tail =
+    cancel (log_bytes gs) (a.gate ∷ (group_text a.group ++ 0 ∷ a.tail)) (0 ∷ s.tail) (sym a.are ∙ now_of cells bytes (log_bytes gs ++ 0 ∷ s.tail) are s.are) in
+    absurd (a.torn.0 (ap (λ (l : List ℕ). get_or l 0 1) same))
+
+torn_as : (cells : Cells) (end : ℕ) (bytes : List ℕ) (gs other instead : List Group) → cells ≡ settled bytes → ToClose cells end gs instead → Wire bytes gs other → instead ≡ other
+torn_as cells end bytes gs other instead are s w =
+    torn_is end s.rest gs instead other s.torn (subst (λ (l : List ℕ). Wire l gs other) (now_of cells bytes (log_bytes gs ++ s.rest) are s.are) w).1
+
+pub opened_as : (bytes : List ℕ) (gs other : List Group) → Wire bytes gs other → (cells : Cells) (end : ℕ) (job : Job) (g : Group) (kept instead : List Group) → cells ≡ settled bytes → IsIdle job
+    → Stands cells end job g kept instead → (kept ≡ gs) × (instead ≡ other)
+opened_as bytes gs other w cells end Rest g kept instead are idle s =
+    let back : kept ≡ gs = sym (clean_back cells end bytes kept are s.0) ∙ wire_restores bytes gs other w in
+    (back, s.1 ∙ back ∙ sym (clean_as cells end bytes gs other are (subst (Clean cells end) back s.0) w))
+opened_as bytes gs other w cells end Torn g kept instead are idle s =
+    let back : kept ≡ gs = sym (torn_back cells end bytes kept instead are s) ∙ wire_restores bytes gs other w in
+    (back, torn_as cells end bytes gs other instead are (subst (λ (k : List Group). ToClose cells end k instead) back s) w)
+opened_as bytes gs other w cells end (Close waiting) g kept instead are idle s = absurd cc
+opened_as bytes gs other w cells end (SyncClose waiting) g kept instead are idle s = absurd cc
+opened_as bytes gs other w cells end (Body waiting) g kept instead are idle s = absurd cc
+opened_as bytes gs other w cells end (SyncBody n) g kept instead are idle s = absurd cc
+opened_as bytes gs other w cells end (Gate n) g kept instead are idle s = absurd cc
+opened_as bytes gs other w cells end (SyncGate n) g kept instead are idle s = absurd cc
 
 -- ---- a log stays such a log
 

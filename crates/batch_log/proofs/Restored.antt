@@ -4,9 +4,9 @@ use Rattle.std.proofs.lemmas.Bool.{eqb-true}
 use Rattle.std.proofs.lemmas.List.{append-nil}
 use Rattle.smart_base.specs.Cuts.{Cut}
 use Rattle.store_form.specs.Spelling.{Group, group_text, IsGroup}
-use Rattle.store_form.specs.Reading.{group_at}
+use Rattle.store_form.specs.Reading.{all_of, group_at}
 use Rattle.store_form.specs.Laws.{group_law}
-use Rattle.batch_log.specs.Log.{log_bytes, AreGroups, found, all_of, first_group, joined, restored_by, restored}
+use Rattle.batch_log.specs.Log.{log_bytes, AreGroups, found, first_group, joined, restored_by, restored}
 
 pub group_again : (g : Group) (rest : List ℕ) → IsGroup g → first_group (1 ∷ (group_text g ++ rest)) ≡ Some (g, rest)
 group_again g rest fits =

@@ -3,9 +3,9 @@ use Rattle.std.proofs.Common.{◌≡◌, ◌≢◌, ℕ, ◌-◌, ◌<◌, List,
 use Rattle.smart_base.specs.Cuts.{Cut, IsBytes}
 use Rattle.disk_model.specs.Cells.{Cells, settled}
 use Rattle.store_form.specs.Spelling.{Group, group_text, IsGroup}
-use Rattle.store_form.specs.Reading.{group_at}
+use Rattle.store_form.specs.Reading.{all_of, group_at}
 use Rattle.store_form.specs.Laws.{group_law}
-use Rattle.batch_log.specs.Log.{log_bytes, AreGroups, found, all_of, first_group, restored}
+use Rattle.batch_log.specs.Log.{log_bytes, AreGroups, found, first_group, restored}
 use Rattle.batch_log.specs.Jobs.{ToClose, Clean}
 use Rattle.batch_log.proofs.Restored.{log_push, groups_push, restored_is}
 

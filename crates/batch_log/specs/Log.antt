@@ -3,7 +3,7 @@ use Rattle.std.specs.Prelude.{ℕ, zero, suc, cond, ◌==◌, List, [], ◌∷�
 use Rattle.smart_base.specs.Cuts.{Cut}
 use Rattle.smart_base.specs.Lists.{Each}
 use Rattle.store_form.specs.Spelling.{Group, group_text, IsGroup}
-use Rattle.store_form.specs.Reading.{group_at}
+use Rattle.store_form.specs.Reading.{all_of, group_at}
 
 abbrev pub log_bytes : List Group → List ℕ
 log_bytes [] = []
@@ -17,9 +17,6 @@ AreGroups gs = Each IsGroup gs
 abbrev pub found : Result (Group × Cut) ℕ → Option (Group × List ℕ)
 found (Ok x) = Some (x.0, x.1.left)
 found (Err at) = None
-
-abbrev pub all_of : List ℕ → Cut
-all_of bytes = record { at = 0; left = bytes }
 
 -- the group at the front, and the bytes behind it, where its gate is 1 and it is whole
 abbrev pub first_group : List ℕ → Option (Group × List ℕ)

@@ -17,10 +17,10 @@ pub record Bare (bytes : List ℕ) (gs other : List Group) : Type 0 where
   pub short : length rest ≤ 1
   pub nothing : other ≡ gs
 
--- a torn gate, behind it a whole group of an earlier life and a closed gate
+-- a gate that is neither closed nor open, behind it a whole group of an earlier life and a closed gate
 pub record Armed (bytes : List ℕ) (gs other : List Group) : Type 0 where
   pub gate : ℕ
-  pub shut : gate ≢ 1
+  pub torn : (gate ≢ 0) × (gate ≢ 1)
   pub group : Group
   pub fits : IsGroup group
   pub tail : List ℕ

@@ -34,7 +34,7 @@ pub enum Job {
 }
 
 /// Makes the next device call of a job, and answers where the log then ends and what the next call
-/// is. Where no job runs it makes none.
+/// is. Where no job runs it asks for the length of the device, and changes nothing.
 pub fn step<D: Disk>(device: &mut D, end: u64, job: Job) -> Result<(u64, Job), Fault>
     requires { D.told → IsUnderWay (D.cells device.old) end job }
     ensures goes { IfOk result (λ r. D.told → (g : Group) (gs other : List Group) → Stands (D.cells device.old) end job g gs other

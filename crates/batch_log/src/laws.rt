@@ -3,7 +3,7 @@ ghost use Rattle.std.specs.Prelude.{◌≡◌, List, ℕ, []};
 ghost use Rattle.disk_model.specs.Cells.{Cells, IsImage, settled};
 ghost use Rattle.store_form.specs.Spelling.{Group};
 ghost use Rattle.batch_log.specs.Log.{restored};
-ghost use Rattle.batch_log.specs.Jobs.{Stands, LeavesEither};
+ghost use Rattle.batch_log.specs.Jobs.{Stands, IsIdle, LeavesEither};
 ghost use Rattle.batch_log.specs.Wires.{Wire, Next, Wired};
 ghost use Rattle.batch_log.specs.declared.job.Job.{Job};
 
@@ -23,6 +23,14 @@ pub fn a_crash_leaves_a_log()
 /// Such a log restores what it is said to.
 pub fn a_log_restores()
     ensures { (bytes : List ℕ) (gs other : List Group) → Wire bytes gs other → restored bytes ≡ gs }
+{}
+
+/// A log that is opened over such bytes stands for the very pair: what it says a torn gate may bring
+/// back is what the life before might have left.
+pub fn a_log_is_opened_as_it_was()
+    ensures { (bytes : List ℕ) (gs other : List Group) → Wire bytes gs other
+        → (cells : Cells) (end : ℕ) (job : Job) (g : Group) (kept instead : List Group) → cells ≡ settled bytes → IsIdle job
+        → Stands cells end job g kept instead → (kept ≡ gs) × (instead ≡ other) }
 {}
 
 /// An empty device is such a log.

@@ -28,10 +28,29 @@ pub enum State {
     NoMemory,
 }
 
+impl State {
+    ghost use Rattle.std.specs.Prelude.{◌≡◌, OnErr, IsErrOf, false};
+    ghost use Rattle.batch_log.specs.Ends.{Closes};
+
+    /// What whatever is closed answers.
+    pub fn check(self) -> Result<(), LogFault>
+        ensures closes { Closes result self self }
+        ensures not_now { IsErrOf result (LogFault.Disk false) → ⊥ }
+        ensures closed { OnErr result (self ≡ State.Open → ⊥) }
+    {
+        match self {
+            State::Open => Ok(()),
+            State::Failed => Err(LogFault::Disk { closed: true }),
+            State::NoMemory => Err(LogFault::NoMemory),
+        }
+    }
+}
+
 /// A log that is open until its disk fails, or memory runs out inside a device call. Then it is to be
 /// opened again over what the device holds.
 ///
-/// No job runs in a log that is closed.
+/// No job runs in a log that is closed. What it says of jobs then, and of its end, says nothing of the
+/// device.
 #[derive(Drop)]
 pub struct BatchLog<D: Disk> {
     pub device: D,
@@ -71,6 +90,9 @@ impl<D: Disk> BatchLog<D> {
             → (c : List ℕ) → IsImage (D.cells self.new.device) c → OneOf (restored c) gs other (gs ++ entries.now ∷ []) }
         ensures underway { OnOk result (D.told → IsUnderWay (D.cells self.new.device) self.new.end self.new.job) }
         ensures idle { IsIdle self.new.job }
+        // A log that is still open is as it was: memory ran out before the first device call.
+        ensures unchanged { OnErr result (self.new.state ≡ State.Open → self.new ≡ self.old) }
+        ensures untouched { (self.old.state ≡ State.Open → ⊥) → self.new ≡ self.old }
         ensures later { D.faults self.old.device ≤ D.faults self.new.device }
         ensures cause { IsErrOf result (LogFault.Disk false) → Rose (D.faults self.old.device) (D.faults self.new.device) }
         ensures closes { Closes result self.old.state self.new.state }
@@ -90,14 +112,15 @@ impl<D: Disk> BatchLog<D> {
             → Runs (D.cells self.new.device) self.new.end self.new.job entries.now gs other) }
         ensures adds { OnOk result (Adds self.new.job) }
         ensures begins { OnOk result ((bytes : List ℕ) × Begins self.old.job bytes self.new.job) }
-        ensures err { OnErr result (self.new.job ≡ self.old.job) }
+        ensures err { OnErr result (self.new ≡ self.old) }
+        ensures untouched { (self.old.state ≡ State.Open → ⊥) → self.new ≡ self.old }
         ensures device { self.new.device ≡ self.old.device }
         ensures end { self.new.end ≡ self.old.end }
         ensures state { self.new.state ≡ self.old.state }
         ensures cause { IsErrOf result (LogFault.Disk false) → ⊥ }
         ensures closes { Closes result self.old.state self.new.state }
     {
-        self.state()?;
+        self.state.check()?;
         let bytes = body_of(alloc, entries)?;
         self.job = begun(&self.job, bytes);
         Ok(())
@@ -109,14 +132,15 @@ impl<D: Disk> BatchLog<D> {
         ensures ok { OnOk result (D.told → (g : Group) (gs other : List Group) → Stands (D.cells self.old.device) self.old.end self.old.job g gs other
             → Stands (D.cells self.new.device) self.new.end self.new.job g gs other) }
         ensures job { OnOk result (code self.new.job ≡ 8) }
-        ensures err { OnErr result (self.new.job ≡ self.old.job) }
+        ensures err { OnErr result (self.new ≡ self.old) }
+        ensures untouched { (self.old.state ≡ State.Open → ⊥) → self.new ≡ self.old }
         ensures device { self.new.device ≡ self.old.device }
         ensures end { self.new.end ≡ self.old.end }
         ensures state { self.new.state ≡ self.old.state }
         ensures cause { IsErrOf result (LogFault.Disk false) → ⊥ }
         ensures closes { Closes result self.old.state self.new.state }
     {
-        self.state()?;
+        self.state.check()?;
         self.job = Job::Close(None);
         Ok(())
     }
@@ -130,6 +154,8 @@ impl<D: Disk> BatchLog<D> {
         ensures done { IfOk result (λ done. done ≡ idle self.new.job) }
         ensures underway { OnOk result (D.told → IsUnderWay (D.cells self.new.device) self.new.end self.new.job) }
         ensures rests { OnErr result (IsIdle self.new.job) }
+        ensures shut { OnErr result (self.new.state ≡ State.Open → ⊥) }
+        ensures untouched { (self.old.state ≡ State.Open → ⊥) → self.new ≡ self.old }
         // Whether it goes well or not, a crash leaves what is kept, or what was at stake.
         ensures crash { D.told → (g : Group) (gs other : List Group) → Stands (D.cells self.old.device) self.old.end self.old.job g gs other
             → LeavesEither (D.cells self.new.device) gs (at_stake self.old.job g gs other) }
@@ -143,7 +169,7 @@ impl<D: Disk> BatchLog<D> {
         ensures cause { IsErrOf result (LogFault.Disk false) → Rose (D.faults self.old.device) (D.faults self.new.device) }
         ensures closes { Closes result self.old.state self.new.state }
     {
-        self.state()?;
+        self.state.check()?;
         let job = std::mem::replace(&mut self.job, Job::Rest);
         match step(&mut self.device, self.end, job) {
             Ok((end, next)) => {
@@ -183,19 +209,6 @@ impl<D: Disk> BatchLog<D> {
     {
         let BatchLog { device, .. } = self;
         device
-    }
-
-    /// What a closed log answers.
-    fn state(&self) -> Result<(), LogFault>
-        ensures closes { Closes result self.now.state self.now.state }
-        ensures not_now { IsErrOf result (LogFault.Disk false) → ⊥ }
-        ensures closed { OnErr result (self.now.state ≡ State.Open → ⊥) }
-    {
-        match self.state {
-            State::Open => Ok(()),
-            State::Failed => Err(LogFault::Disk { closed: true }),
-            State::NoMemory => Err(LogFault::NoMemory),
-        }
     }
 }
 

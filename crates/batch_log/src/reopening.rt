@@ -1,7 +1,8 @@
 //! A log is opened again over what a crash has left.
 ghost use Rattle.std.specs.Prelude.{◌≡◌, ◌≤◌, List, ℕ, IfOk, IfErr, IsErrOf, OnOk, false, true};
 ghost use Rattle.faults.specs.Counts.{Rose, HasCause};
-ghost use Rattle.disk_model.specs.Cells.{settled};
+ghost use Rattle.disk_model.specs.Cells.{IsImage, settled};
+ghost use Rattle.disk_model.specs.Calls.{Elapses};
 ghost use Rattle.store_form.specs.Spelling.{Group};
 ghost use Rattle.batch_log.specs.Log.{restored};
 ghost use Rattle.batch_log.specs.Jobs.{Stands, IsIdle, IsUnderWay};
@@ -9,21 +10,9 @@ ghost use Rattle.batch_log.specs.Jobs.{Stands, IsIdle, IsUnderWay};
 use crate::job::Job;
 use crate::log::{BatchLog, LogFault, State};
 use crate::reading::{Groups, groups_of};
-use disk_model::disk::Disk;
+use disk_model::disk::{Disk, read_all};
 use faults::Fault;
-use smart_base::sequence::Bytes;
 use std::alloc::Global;
-
-/// What a device holds.
-fn read_all<D: Disk>(alloc: Global, device: &mut D) -> Result<Bytes, Fault>
-    ensures bytes { IfOk result (λ bytes. D.told → bytes ≡ (D.cells device.old).now) }
-    ensures same { D.told → D.cells device.new ≡ D.cells device.old }
-    ensures cause { HasCause (D.faults device.old) (D.faults device.new) result }
-{
-    let length = device.len()?;
-    let bytes = device.read(alloc, 0, length)?;
-    Ok(bytes)
-}
 
 /// The groups, where they end, and whether the gate there is closed.
 fn read_log<D: Disk>(alloc: Global, device: &mut D) -> Result<(Groups, u64, Job), Fault>
@@ -33,6 +22,7 @@ fn read_log<D: Disk>(alloc: Global, device: &mut D) -> Result<(Groups, u64, Job)
     ensures stands { IfOk result (λ r. D.told → (g : Group) → (other : List Group) × Stands (D.cells device.new) r.1 r.2 g r.0 other) }
     ensures idle { IfOk result (λ r. IsIdle r.2) }
     ensures same { D.told → D.cells device.new ≡ D.cells device.old }
+    ensures time { D.told → Elapses (D.moment device.old) (D.moment device.new) (D.left_since device.old) (D.left_since device.new) (IsImage (D.cells device.new)) }
     ensures cause { HasCause (D.faults device.old) (D.faults device.new) result }
 {
     let bytes = read_all(alloc, device)?;
@@ -58,7 +48,10 @@ pub fn reopen<D: Disk>(alloc: Global, device: D) -> Result<(BatchLog<D>, Groups)
     ensures open { IfOk result (λ r. r.0.state ≡ State.Open) }
     ensures same { IfOk result (λ r. D.told → D.cells r.0.device ≡ D.cells device) }
     ensures back { IfErr result (λ e. D.told → D.cells e.1 ≡ D.cells device) }
+    ensures time { IfOk result (λ r. D.told → Elapses (D.moment device) (D.moment r.0.device) (D.left_since device) (D.left_since r.0.device) (IsImage (D.cells r.0.device))) }
+    ensures back_time { IfErr result (λ e. D.told → Elapses (D.moment device) (D.moment e.1) (D.left_since device) (D.left_since e.1) (IsImage (D.cells e.1))) }
     ensures later { IfOk result (λ r. D.faults device ≤ D.faults r.0.device) }
+    ensures back_later { IfErr result (λ e. D.faults device ≤ D.faults e.1) }
     ensures cause { IfErr result (λ e. e.0 ≡ LogFault.Disk false → Rose (D.faults device) (D.faults e.1)) }
     ensures not_closed { IfErr result (λ e. e.0 ≡ LogFault.Disk true → ⊥) }
 {

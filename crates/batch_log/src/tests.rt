@@ -58,32 +58,44 @@ enum Crash {
     Old,
     /// It is as it reads.
     New,
-    /// Each byte that is not sure is 7.
+    /// Each byte that is not sure is 9.
     Torn,
+    /// Each byte that is not sure is 1, as in an open gate.
+    Open,
 }
 
 fn image(alloc: Global, disk: &MemDisk, crash: Crash) -> Result<Bytes, AllocError> {
     let old = disk.as_synced(alloc)?;
     let new = disk.as_read();
-    match crash {
-        Crash::Old => Ok(old),
-        Crash::New => Bytes::from_slice(alloc, new),
-        Crash::Torn => {
-            let mut bytes = Vec::new(alloc);
-            for (i, &byte) in new.iter().enumerate() {
-                let is_sure = old.as_slice().get(i) == Some(&byte);
-                bytes.push(if is_sure { byte } else { 7 })?;
-            }
-            Ok(Bytes::from_vec(bytes))
-        }
+    let unsure = match crash {
+        Crash::Old => return Ok(old),
+        Crash::New => return Bytes::from_slice(alloc, new),
+        Crash::Torn => 9,
+        Crash::Open => 1,
+    };
+    let mut bytes = Vec::new(alloc);
+    for (i, &byte) in new.iter().enumerate() {
+        let is_sure = old.as_slice().get(i) == Some(&byte);
+        bytes.push(if is_sure { byte } else { unsure })?;
     }
+    Ok(Bytes::from_vec(bytes))
+}
+
+/// What stands behind the groups.
+#[derive(Clone, Copy, Debug, PartialEq, Eq)]
+enum Gate {
+    Closed,
+    /// Torn, or not there, and nothing is behind it.
+    Bare,
+    /// Torn, and behind it a whole group.
+    Armed(u8),
 }
 
 /// What a log has, by the order of the calls alone: a repair makes two, a group four.
 #[derive(Drop)]
 struct Model {
     groups: Vec<u8>,
-    is_torn: bool,
+    gate: Gate,
 }
 
 impl Model {
@@ -95,26 +107,55 @@ impl Model {
         first: u8,
         second: u8,
     ) -> Result<(), AllocError> {
-        let repair = if self.is_torn { 2 } else { 0 };
-        let done = failing.saturating_sub(1).min(repair + 8);
-        let of_groups = done.saturating_sub(repair);
-        let gates = if crash == Crash::New {
-            (of_groups + 1) / 4
-        } else {
-            of_groups / 4
-        };
-        if gates >= 1 {
+        let done = failing.saturating_sub(1);
+        if self.gate == Gate::Closed {
+            return self.add(done, crash, first, second);
+        }
+        if done >= 2 {
+            return self.add(done - 2, crash, first, second);
+        }
+        if done == 1 {
+            return self.half_closed(crash);
+        }
+        Ok(())
+    }
+
+    /// The gate was closed, and the sync failed.
+    fn half_closed(&mut self, crash: Crash) -> Result<(), AllocError> {
+        if crash == Crash::New {
+            self.gate = Gate::Closed;
+        }
+        if crash == Crash::Open {
+            if let Gate::Armed(group) = self.gate {
+                self.groups.push(group)?;
+                self.gate = Gate::Closed;
+            }
+        }
+        Ok(())
+    }
+
+    /// So many calls of two groups went well.
+    fn add(&mut self, done: u64, crash: Crash, first: u8, second: u8) -> Result<(), AllocError> {
+        self.gate = Gate::Closed;
+        if done >= 4 {
             self.groups.push(first)?;
         }
-        if gates >= 2 {
+        if done >= 8 {
             self.groups.push(second)?;
+        } else if done % 4 == 3 {
+            let group = if done < 4 { first } else { second };
+            self.half_opened(crash, group)?;
         }
-        let was_torn = self.is_torn;
-        self.is_torn = match crash {
-            Crash::Old => was_torn && done < 2,
-            Crash::New => was_torn && done < 1,
-            Crash::Torn => was_torn && done < 2 || of_groups % 4 == 3,
-        };
+        Ok(())
+    }
+
+    /// The gate of a group was opened, and the sync failed.
+    fn half_opened(&mut self, crash: Crash, group: u8) -> Result<(), AllocError> {
+        match crash {
+            Crash::Old => {}
+            Crash::New | Crash::Open => self.groups.push(group)?,
+            Crash::Torn => self.gate = Gate::Armed(group),
+        }
         Ok(())
     }
 }
@@ -127,7 +168,7 @@ fn lives(
 ) -> Result<(Vec<u8>, Vec<u8>), Fail> {
     let mut model = Model {
         groups: Vec::new(alloc),
-        is_torn: true,
+        gate: Gate::Bare,
     };
     let mut calls = Vec::new(alloc);
     calls.push(failing.0)?;
@@ -157,7 +198,7 @@ fn lives(
 #[test]
 fn what_is_restored_after_two_crashes(rt: HostRuntime) -> Result<(), Fail> {
     let alloc = rt.alloc();
-    let crashes = [Crash::Old, Crash::New, Crash::Torn];
+    let crashes = [Crash::Old, Crash::New, Crash::Torn, Crash::Open];
     for one in 1..12 {
         for other in 1..12 {
             for first in crashes {
@@ -178,9 +219,7 @@ fn what_is_restored_after_two_crashes(rt: HostRuntime) -> Result<(), Fail> {
 #[test]
 fn a_fault_closes_the_log(rt: HostRuntime) -> Result<(), Fail> {
     let alloc = rt.alloc();
-    let mut calls = Vec::new(alloc);
-    calls.push(2)?;
-    let disk = MemDisk::new(alloc, Bytes::new(alloc), calls)?;
+    let disk = MemDisk::new(alloc, Bytes::new(alloc), [2, 3, 4].to_vec(alloc)?)?;
     let (mut log, groups) = match reopen(alloc, disk) {
         Ok(opened) => opened,
         Err(_) => return Err("it opens".into()),
@@ -191,7 +230,9 @@ fn a_fault_closes_the_log(rt: HostRuntime) -> Result<(), Fail> {
     assert_eq!(rt; answer, Err(LogFault::Disk { closed: false }));
     let answer = log.append_group(alloc, entries.as_slice());
     assert_eq!(rt; answer, Err(LogFault::Disk { closed: true }));
-    // The second made no call.
-    assert_eq!(rt; log.into_device().as_read(), [0].as_slice());
+    // The second made no call: it would have failed too.
+    let disk = log.into_device();
+    assert_eq!(rt; disk.faults(), 1);
+    assert_eq!(rt; disk.as_read(), [0].as_slice());
     Ok(())
 }

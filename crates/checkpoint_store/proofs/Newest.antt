@@ -2,9 +2,9 @@
 use Rattle.std.proofs.Common.{◌≡◌, ◌≢◌, ℕ, ◌≤◌, ◌<◌, Bool, true, false, not, cond, ◌&&◌, nat_lt, eqb, List, [], ◌∷◌, Option, Some, None, Result, Ok, Err, refl, sym, ◌∙◌, ap, arith}
 use Rattle.std.proofs.lemmas.Bool.Decides.{nat_tests}
 use Rattle.smart_base.specs.Cuts.{Cut}
-use Rattle.store_form.specs.Reading.{checkpoint_at}
+use Rattle.store_form.specs.Reading.{all_of, checkpoint_at}
 use Rattle.store_form.specs.declared.checkpoint.Checkpoint.{Checkpoint}
-use Rattle.checkpoint_store.specs.Slots.{is_odd, same, all_of, uses, counted, slot_of, newer, newest, generation_of, NoneAbove}
+use Rattle.checkpoint_store.specs.Slots.{is_odd, same, uses, counted, slot_of, newer, newest, generation_of, NoneAbove}
 
 -- the greater generation wins on either side
 newer_left : (x y : Checkpoint) → y.generation < x.generation → newer (Some x) (Some y) ≡ Some x

@@ -6,10 +6,10 @@ use Rattle.smart_base.specs.Cuts.{Cut, number_at}
 use Rattle.disk_model.specs.Cells.{IsImage, settled, written}
 use Rattle.disk_model.proofs.Images.{image_front, image_byte}
 use Rattle.store_form.specs.Spelling.{checkpoint_text}
-use Rattle.store_form.specs.Reading.{checkpoint_at}
+use Rattle.store_form.specs.Reading.{all_of, checkpoint_at}
 use Rattle.store_form.specs.Laws.{checkpoint_law}
 use Rattle.store_form.specs.declared.checkpoint.Checkpoint.{Checkpoint}
-use Rattle.checkpoint_store.specs.Slots.{same, all_of, counted, slot_of, by_gate, instead_of}
+use Rattle.checkpoint_store.specs.Slots.{same, counted, slot_of, by_gate, instead_of}
 use Rattle.checkpoint_store.specs.SlotJobs.{IsFor, Leaves}
 
 same_refl : (b : Bool) → same b b ≡ true

@@ -1,18 +1,14 @@
 -- What the bytes of a slot stand for: a gate of 1, a generation that uses this slot, and a whole snapshot.
-use Rattle.std.specs.Prelude.{◌≡◌, ◌≤◌, ◌<◌, ◌%◌, ℕ, Bool, true, false, not, cond, ◌&&◌, ◌==◌}
-use Rattle.std.specs.Prelude.{nat_lt, List, [], ◌∷◌, ◌++◌, drop, Option, Some, None, Result, Ok, Err}
+use Rattle.std.specs.Prelude.{◌≡◌, ◌≤◌, ◌<◌, ◌%◌, ℕ, Bool, true, false, not, cond, ◌&&◌, ◌==◌, nat_lt, List, [], ◌∷◌, ◌++◌, drop, Option, Some, None, Result, Ok, Err}
 use Rattle.smart_base.specs.Cuts.{Cut}
 use Rattle.disk_model.specs.Cells.{Cells, IsImage}
 use Rattle.store_form.specs.Spelling.{IsCheckpoint, checkpoint_text}
-use Rattle.store_form.specs.Reading.{checkpoint_at}
+use Rattle.store_form.specs.Reading.{all_of, checkpoint_at}
 use Rattle.store_form.specs.declared.checkpoint.Checkpoint.{Checkpoint}
 
 -- the odd generations use one slot, the even ones the other
 abbrev pub is_odd : ℕ → Bool
 is_odd g = (g % 2) == 1
-
-abbrev pub all_of : List ℕ → Cut
-all_of bytes = record { at = 0; left = bytes }
 
 abbrev pub same : Bool → Bool → Bool
 same true b = b

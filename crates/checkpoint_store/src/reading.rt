@@ -1,11 +1,11 @@
 //! Reading what a slot holds.
 ghost use Rattle.std.specs.Prelude.{◌≡◌, ◌≤◌, ◌⊎◌, IfOk, IsErrOf};
-ghost use Rattle.faults.specs.Counts.{HasCause, Rose};
+ghost use Rattle.faults.specs.Counts.{Rose};
 ghost use Rattle.disk_model.specs.Cells.{IsImage};
 ghost use Rattle.disk_model.specs.Calls.{Elapses};
-ghost use Rattle.checkpoint_store.specs.Slots.{is_odd, uses, slot_of, newer, newest};
+ghost use Rattle.checkpoint_store.specs.Slots.{is_odd, uses, slot_of, newer, newest, generation_of};
 
-use disk_model::disk::Disk;
+use disk_model::disk::{Disk, read_all};
 use faults::Fault;
 use smart_base::cursor::Cursor;
 use smart_base::fault::ReadError;
@@ -48,6 +48,16 @@ fn counted(odd: bool, found: Checkpoint) -> Option<Checkpoint>
     }
 }
 
+/// The generation of a checkpoint, 0 where there is none.
+pub fn generation_of(found: &Option<Checkpoint>) -> u64
+    ensures { result ≡ generation_of found.now }
+{
+    match found {
+        Some(checkpoint) => checkpoint.generation,
+        None => 0,
+    }
+}
+
 /// Of two checkpoints that of the greater generation.
 pub fn newer(one: Option<Checkpoint>, other: Option<Checkpoint>) -> Option<Checkpoint>
     ensures { result ≡ newer one other }
@@ -63,19 +73,6 @@ pub fn newer(one: Option<Checkpoint>, other: Option<Checkpoint>) -> Option<Check
     } else {
         Some(x)
     }
-}
-
-/// What a device holds.
-pub fn read_all<D: Disk>(alloc: Global, device: &mut D) -> Result<Bytes, Fault>
-    ensures bytes { IfOk result (λ bytes. D.told → bytes ≡ (D.cells device.old).now) }
-    ensures same { D.told → D.cells device.new ≡ D.cells device.old }
-    ensures time { D.told → Elapses (D.moment device.old) (D.moment device.new)
-        (D.left_since device.old) (D.left_since device.new) (IsImage (D.cells device.new)) }
-    ensures cause { HasCause (D.faults device.old) (D.faults device.new) result }
-{
-    let length = device.len()?;
-    let bytes = device.read(alloc, 0, length)?;
-    Ok(bytes)
 }
 
 /// What two devices hold.

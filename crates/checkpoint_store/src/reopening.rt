@@ -1,16 +1,17 @@
 //! A store is opened again over what a crash has left.
 ghost use Rattle.std.specs.Prelude.{◌≡◌, ◌≤◌, ◌⊎◌, Bool, true, false, IfOk, IfErr, IsErrOf};
 ghost use Rattle.faults.specs.Counts.{Rose, HasCause};
-ghost use Rattle.disk_model.specs.Cells.{settled};
+ghost use Rattle.disk_model.specs.Cells.{IsImage, settled};
+ghost use Rattle.disk_model.specs.Calls.{Elapses};
 ghost use Rattle.store_form.specs.declared.checkpoint.Checkpoint.{Checkpoint};
 ghost use Rattle.checkpoint_store.specs.Slots.{slot_of, instead_of, newest};
 ghost use Rattle.checkpoint_store.specs.SlotJobs.{SlotStands, IsIdle, IsSlotUnderWay};
 
 use crate::job::SlotJob;
-use crate::reading::{newer, read_all, slot_of};
+use crate::reading::{newer, slot_of};
 use crate::store::{CheckpointStore, Slot};
 use batch_log::log::{LogFault, State};
-use disk_model::disk::Disk;
+use disk_model::disk::{Disk, read_all};
 use faults::Fault;
 use std::alloc::Global;
 use store_form::checkpoint::Checkpoint;
@@ -28,6 +29,7 @@ fn open_slot<D: Disk>(
         → SlotStands odd (D.cells device.new) r.0 next (slot_of odd (D.cells device.old).now) (instead_of odd (D.cells device.old).now)) }
     ensures idle { IfOk result (λ r. IsIdle r.0) }
     ensures same { D.told → D.cells device.new ≡ D.cells device.old }
+    ensures time { D.told → Elapses (D.moment device.old) (D.moment device.new) (D.left_since device.old) (D.left_since device.new) (IsImage (D.cells device.new)) }
     ensures cause { HasCause (D.faults device.old) (D.faults device.new) result }
 {
     let bytes = read_all(alloc, device)?;
@@ -63,6 +65,8 @@ fn open_both<D: Disk>(
     ensures idle { IfOk result (λ r. IsIdle r.0 × IsIdle r.1) }
     ensures even_same { D.told → D.cells even.new ≡ D.cells even.old }
     ensures odd_same { D.told → D.cells odd.new ≡ D.cells odd.old }
+    ensures even_time { D.told → Elapses (D.moment even.old) (D.moment even.new) (D.left_since even.old) (D.left_since even.new) (IsImage (D.cells even.new)) }
+    ensures odd_time { D.told → Elapses (D.moment odd.old) (D.moment odd.new) (D.left_since odd.old) (D.left_since odd.new) (IsImage (D.cells odd.new)) }
     ensures even_later { D.faults even.old ≤ D.faults even.new }
     ensures odd_later { D.faults odd.old ≤ D.faults odd.new }
     ensures cause { IsErrOf result Fault.Failed → Rose (D.faults even.old) (D.faults even.new) ⊎ Rose (D.faults odd.old) (D.faults odd.new) }
@@ -94,6 +98,15 @@ pub fn reopen<D: Disk>(
     ensures open { IfOk result (λ r. r.0.state ≡ State.Open) }
     ensures same { IfOk result (λ r. D.told → (D.cells r.0.even.device ≡ D.cells even) × (D.cells r.0.odd.device ≡ D.cells odd)) }
     ensures back { IfErr result (λ e. D.told → (D.cells e.1.0 ≡ D.cells even) × (D.cells e.1.1 ≡ D.cells odd)) }
+    ensures even_time { IfOk result (λ r. D.told
+        → Elapses (D.moment even) (D.moment r.0.even.device) (D.left_since even) (D.left_since r.0.even.device) (IsImage (D.cells r.0.even.device))) }
+    ensures odd_time { IfOk result (λ r. D.told
+        → Elapses (D.moment odd) (D.moment r.0.odd.device) (D.left_since odd) (D.left_since r.0.odd.device) (IsImage (D.cells r.0.odd.device))) }
+    ensures back_even_time { IfErr result (λ e. D.told
+        → Elapses (D.moment even) (D.moment e.1.0) (D.left_since even) (D.left_since e.1.0) (IsImage (D.cells e.1.0))) }
+    ensures back_odd_time { IfErr result (λ e. D.told
+        → Elapses (D.moment odd) (D.moment e.1.1) (D.left_since odd) (D.left_since e.1.1) (IsImage (D.cells e.1.1))) }
+    ensures back_later { IfErr result (λ e. (D.faults even ≤ D.faults e.1.0) × (D.faults odd ≤ D.faults e.1.1)) }
     ensures later { IfOk result (λ r. (D.faults even ≤ D.faults r.0.even.device) × (D.faults odd ≤ D.faults r.0.odd.device)) }
     ensures cause { IfErr result (λ e. e.0 ≡ LogFault.Disk false → Rose (D.faults even) (D.faults e.1.0) ⊎ Rose (D.faults odd) (D.faults e.1.1)) }
     ensures not_closed { IfErr result (λ e. e.0 ≡ LogFault.Disk true → ⊥) }

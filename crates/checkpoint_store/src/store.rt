@@ -26,7 +26,8 @@ pub struct Slot<D> {
 /// The slot of the even generations and that of the odd ones. They are open until a disk fails, or
 /// memory runs out inside a device call. Then they are to be opened again over what the devices hold.
 ///
-/// A call names the generation whose slot it is on. No job runs in a store that is closed.
+/// A call names the generation whose slot it is on. No job runs in a store that is closed. What it says
+/// of jobs then says nothing of the devices: also not that a gate is shut.
 #[derive(Drop)]
 pub struct CheckpointStore<D> {
     pub even: Slot<D>,
@@ -66,6 +67,9 @@ impl<D: Disk> CheckpointStore<D> {
         ensures idle { IsIdle (slot generation self.new).job }
         ensures beside { OnOk result (beside generation self.new ≡ beside generation self.old) }
         ensures apart { (beside generation self.new).device ≡ (beside generation self.old).device }
+        // A store that is still open is as it was: memory ran out before the first device call.
+        ensures unchanged { OnErr result (self.new.state ≡ State.Open → self.new ≡ self.old) }
+        ensures untouched { (self.old.state ≡ State.Open → ⊥) → self.new ≡ self.old }
         ensures later { D.faults (slot generation self.old).device ≤ D.faults (slot generation self.new).device }
         ensures cause { IsErrOf result (LogFault.Disk false) → Rose (D.faults (slot generation self.old).device) (D.faults (slot generation self.new).device) }
         ensures closes { Closes result self.old.state self.new.state }
@@ -100,6 +104,8 @@ impl<D: Disk> CheckpointStore<D> {
         ensures idle { IsIdle (slot generation self.new).job }
         ensures beside { OnOk result (beside generation self.new ≡ beside generation self.old) }
         ensures apart { (beside generation self.new).device ≡ (beside generation self.old).device }
+        ensures unchanged { OnErr result (self.new.state ≡ State.Open → self.new ≡ self.old) }
+        ensures untouched { (self.old.state ≡ State.Open → ⊥) → self.new ≡ self.old }
         ensures later { D.faults (slot generation self.old).device ≤ D.faults (slot generation self.new).device }
         ensures cause { IsErrOf result (LogFault.Disk false) → Rose (D.faults (slot generation self.old).device) (D.faults (slot generation self.new).device) }
         ensures closes { Closes result self.old.state self.new.state }
@@ -133,6 +139,8 @@ impl<D: Disk> CheckpointStore<D> {
         ensures idle { IsIdle (slot generation self.new).job }
         ensures beside { OnOk result (beside generation self.new ≡ beside generation self.old) }
         ensures apart { (beside generation self.new).device ≡ (beside generation self.old).device }
+        ensures unchanged { OnErr result (self.new.state ≡ State.Open → self.new ≡ self.old) }
+        ensures untouched { (self.old.state ≡ State.Open → ⊥) → self.new ≡ self.old }
         ensures later { D.faults (slot generation self.old).device ≤ D.faults (slot generation self.new).device }
         ensures cause { IsErrOf result (LogFault.Disk false) → Rose (D.faults (slot generation self.old).device) (D.faults (slot generation self.new).device) }
         ensures closes { Closes result self.old.state self.new.state }
@@ -150,12 +158,13 @@ impl<D: Disk> CheckpointStore<D> {
             → StandsAt D.cells generation self.new next None (gate_gives D.cells generation self.old)) }
         ensures job { OnOk result ((slot generation self.new).job ≡ SlotJob.Close) }
         ensures err { OnErr result (self.new ≡ self.old) }
+        ensures untouched { (self.old.state ≡ State.Open → ⊥) → self.new ≡ self.old }
         ensures device { (slot generation self.new).device ≡ (slot generation self.old).device }
         ensures beside { beside generation self.new ≡ beside generation self.old }
         ensures cause { IsErrOf result (LogFault.Disk false) → ⊥ }
         ensures closes { Closes result self.old.state self.new.state }
     {
-        self.state()?;
+        self.state.check()?;
         self.begin(generation, SlotJob::Close);
         Ok(())
     }
@@ -176,12 +185,13 @@ impl<D: Disk> CheckpointStore<D> {
         ensures job { OnOk result ((slot generation self.new).job
             ≡ SlotJob.Fill (checkpoint_text (record { generation = generation; snapshot = snapshot.now }))) }
         ensures err { OnErr result (self.new ≡ self.old) }
+        ensures untouched { (self.old.state ≡ State.Open → ⊥) → self.new ≡ self.old }
         ensures device { (slot generation self.new).device ≡ (slot generation self.old).device }
         ensures beside { beside generation self.new ≡ beside generation self.old }
         ensures cause { IsErrOf result (LogFault.Disk false) → ⊥ }
         ensures closes { Closes result self.old.state self.new.state }
     {
-        self.state()?;
+        self.state.check()?;
         let mut bytes = Vec::new(alloc);
         put_checkpoint(&mut bytes, generation, snapshot)?;
         self.begin(generation, SlotJob::Fill(Bytes::from_vec(bytes)));
@@ -200,12 +210,13 @@ impl<D: Disk> CheckpointStore<D> {
             → StandsAt D.cells generation self.new next None None) }
         ensures job { OnOk result ((slot generation self.new).job ≡ SlotJob.Gate) }
         ensures err { OnErr result (self.new ≡ self.old) }
+        ensures untouched { (self.old.state ≡ State.Open → ⊥) → self.new ≡ self.old }
         ensures device { (slot generation self.new).device ≡ (slot generation self.old).device }
         ensures beside { beside generation self.new ≡ beside generation self.old }
         ensures cause { IsErrOf result (LogFault.Disk false) → ⊥ }
         ensures closes { Closes result self.old.state self.new.state }
     {
-        self.state()?;
+        self.state.check()?;
         self.begin(generation, SlotJob::Gate);
         Ok(())
     }
@@ -219,6 +230,8 @@ impl<D: Disk> CheckpointStore<D> {
         ensures next { OnOk result ((slot generation self.new).job ≡ job_after (slot generation self.old).job) }
         ensures done { IfOk result (λ done. done ≡ idle (slot generation self.new).job) }
         ensures rests { OnErr result (IsIdle (slot generation self.new).job) }
+        ensures shut { OnErr result (self.new.state ≡ State.Open → ⊥) }
+        ensures untouched { (self.old.state ≡ State.Open → ⊥) → self.new ≡ self.old }
         ensures underway { OnOk result (D.told → UnderWayAt D.cells generation self.new) }
         // Whether it goes well or not, a crash leaves what the slot has, or what was at stake.
         ensures crash { D.told → (next : Checkpoint) (has other : Option Checkpoint) → StandsAt D.cells generation self.old next has other
@@ -231,7 +244,7 @@ impl<D: Disk> CheckpointStore<D> {
         ensures cause { IsErrOf result (LogFault.Disk false) → Rose (D.faults (slot generation self.old).device) (D.faults (slot generation self.new).device) }
         ensures closes { Closes result self.old.state self.new.state }
     {
-        self.state()?;
+        self.state.check()?;
         match self.call(generation) {
             Ok(is_done) => Ok(is_done),
             Err(fault) => Err(self.closed_by(fault)),
@@ -255,6 +268,7 @@ impl<D: Disk> CheckpointStore<D> {
         ensures idle { IsIdle (slot generation self.new).job }
         ensures beside { OnOk result (beside generation self.new ≡ beside generation self.old) }
         ensures apart { (beside generation self.new).device ≡ (beside generation self.old).device }
+        ensures shut { OnErr result (self.new.state ≡ State.Open → ⊥) }
         ensures later { D.faults (slot generation self.old).device ≤ D.faults (slot generation self.new).device }
         ensures cause { IsErrOf result (LogFault.Disk false) → Rose (D.faults (slot generation self.old).device) (D.faults (slot generation self.new).device) }
         ensures closes { Closes result self.old.state self.new.state }
@@ -273,6 +287,8 @@ impl<D: Disk> CheckpointStore<D> {
         ensures odd { D.told → D.cells self.new.odd.device ≡ D.cells self.old.odd.device }
         ensures even_job { OnOk result (self.new.even.job ≡ self.old.even.job) }
         ensures odd_job { OnOk result (self.new.odd.job ≡ self.old.odd.job) }
+        ensures unchanged { OnErr result (self.new.state ≡ State.Open → (self.new.even.job ≡ self.old.even.job) × (self.new.odd.job ≡ self.old.odd.job)) }
+        ensures untouched { (self.old.state ≡ State.Open → ⊥) → self.new ≡ self.old }
         ensures even_time { D.told → Elapses (D.moment self.old.even.device) (D.moment self.new.even.device)
             (D.left_since self.old.even.device) (D.left_since self.new.even.device) (IsImage (D.cells self.new.even.device)) }
         ensures odd_time { D.told → Elapses (D.moment self.old.odd.device) (D.moment self.new.odd.device)
@@ -283,7 +299,7 @@ impl<D: Disk> CheckpointStore<D> {
             → Rose (D.faults self.old.even.device) (D.faults self.new.even.device) ⊎ Rose (D.faults self.old.odd.device) (D.faults self.new.odd.device) }
         ensures closes { Closes result self.old.state self.new.state }
     {
-        self.state()?;
+        self.state.check()?;
         let (even, odd) = self.read_both(alloc)?;
         let found = newest_of(alloc, even.as_slice(), odd.as_slice())?;
         Ok(found)
@@ -304,7 +320,8 @@ impl<D: Disk> CheckpointStore<D> {
         matches!(self.job(generation), SlotJob::Torn)
     }
 
-    /// Whether the gate of a slot is closed. Where it is not, it is to be closed before the slot is filled.
+    /// Whether the gate of a slot of an open store is closed. Where it is not, it is to be closed before
+    /// the slot is filled.
     pub fn is_shut(&self, generation: u64) -> bool
         ensures { result ≡ shut (slot generation self.now).job }
     {
@@ -380,6 +397,7 @@ impl<D: Disk> CheckpointStore<D> {
         ensures odd { self.new.odd.device ≡ self.old.odd.device }
         ensures idle { (idle self.new.even.job ≡ true) × (idle self.new.odd.job ≡ true) }
         ensures failed { result ≡ LogFault.Disk false → fault ≡ Fault.Failed }
+        ensures shut { self.new.state ≡ State.Open → ⊥ }
         ensures closes { Closes {T = Unit {0}} (Err result) self.old.state self.new.state }
     {
         self.even.job = SlotJob::Shut;
@@ -404,6 +422,7 @@ impl<D: Disk> CheckpointStore<D> {
         ensures odd { D.told → D.cells self.new.odd.device ≡ D.cells self.old.odd.device }
         ensures even_job { OnOk result (self.new.even.job ≡ self.old.even.job) }
         ensures odd_job { OnOk result (self.new.odd.job ≡ self.old.odd.job) }
+        ensures shut { OnErr result (self.new.state ≡ State.Open → ⊥) }
         ensures even_time { D.told → Elapses (D.moment self.old.even.device) (D.moment self.new.even.device)
             (D.left_since self.old.even.device) (D.left_since self.new.even.device) (IsImage (D.cells self.new.even.device)) }
         ensures odd_time { D.told → Elapses (D.moment self.old.odd.device) (D.moment self.new.odd.device)
@@ -417,19 +436,6 @@ impl<D: Disk> CheckpointStore<D> {
         match read_pair(alloc, &mut self.even.device, &mut self.odd.device) {
             Ok(read) => Ok(read),
             Err(fault) => Err(self.closed_by(fault)),
-        }
-    }
-
-    /// What a closed store answers.
-    fn state(&self) -> Result<(), LogFault>
-        ensures closes { Closes result self.now.state self.now.state }
-        ensures not_now { IsErrOf result (LogFault.Disk false) → ⊥ }
-        ensures closed { OnErr result (self.now.state ≡ State.Open → ⊥) }
-    {
-        match self.state {
-            State::Open => Ok(()),
-            State::Failed => Err(LogFault::Disk { closed: true }),
-            State::NoMemory => Err(LogFault::NoMemory),
         }
     }
 }

@@ -2,11 +2,11 @@
 ghost use Rattle.std.specs.Prelude.{◌≡◌, ◌<◌, ◌^◌, ◌+◌, not, length, OnOk, IfOk};
 ghost use Rattle.disk_model.specs.Cells.{settled};
 ghost use Rattle.disk_model.specs.Memory.{disk_cells};
-ghost use Rattle.checkpoint_store.specs.Slots.{is_odd, slot_of, generation_of, InEachImage, IsClosed, NoneAbove};
+ghost use Rattle.checkpoint_store.specs.Slots.{is_odd, slot_of, InEachImage, IsClosed, NoneAbove};
 ghost use Rattle.checkpoint_store.specs.Stores.{slot, beside, UnderWayAt};
 ghost use Rattle.checkpoint_store.specs.SlotJobs.{IsIdle};
 
-use crate::reading::{is_odd, slot_of};
+use crate::reading::{generation_of, is_odd, slot_of};
 use crate::reopening::reopen;
 use crate::store::CheckpointStore;
 use batch_log::log::LogFault;
@@ -15,15 +15,6 @@ use smart_base::sequence::Bytes;
 use std::alloc::{AllocError, Global};
 use std::test::Fail;
 use store_form::checkpoint::Checkpoint;
-
-fn generation_of(found: &Option<Checkpoint>) -> u64
-    ensures { result ≡ generation_of found.now }
-{
-    match found {
-        Some(checkpoint) => checkpoint.generation,
-        None => 0,
-    }
-}
 
 /// Closes the gate of a slot, where it is not closed.
 fn shut(store: &mut CheckpointStore<MemDisk>, generation: u64) -> Result<(), LogFault>
@@ -111,7 +102,7 @@ enum Crash {
     Old,
     /// It is as it reads.
     New,
-    /// Each byte that is not sure is 7.
+    /// Each byte that is not sure is 9.
     Torn,
     /// Each byte that is not sure is 1, as in an open gate.
     Open,
@@ -123,7 +114,7 @@ fn image(alloc: Global, disk: &MemDisk, crash: Crash) -> Result<Bytes, AllocErro
     let unsure = match crash {
         Crash::Old => return Ok(old),
         Crash::New => return Bytes::from_slice(alloc, new),
-        Crash::Torn => 7,
+        Crash::Torn => 9,
         Crash::Open => 1,
     };
     let mut bytes = Vec::new(alloc);
@@ -327,6 +318,11 @@ fn two_generations_stand_in_turn(rt: HostRuntime) -> Result<(), Fail> {
         Err(_) => return Err("it opens".into()),
     };
     assert_eq!(rt; shown(&found), (2, 12));
+    let found = match store.newest(alloc) {
+        Ok(found) => found,
+        Err(_) => return Err("it is read".into()),
+    };
+    assert_eq!(rt; shown(&found), (2, 12));
     assert_eq!(rt; store.close_slot(2), Ok(()));
     let found = match store.newest(alloc) {
         Ok(found) => found,
@@ -339,9 +335,7 @@ fn two_generations_stand_in_turn(rt: HostRuntime) -> Result<(), Fail> {
 #[test]
 fn a_fault_closes_the_store(rt: HostRuntime) -> Result<(), Fail> {
     let alloc = rt.alloc();
-    let mut calls = Vec::new(alloc);
-    calls.push(2)?;
-    let even = MemDisk::new(alloc, Bytes::new(alloc), calls)?;
+    let even = MemDisk::new(alloc, Bytes::new(alloc), [2, 3, 4].to_vec(alloc)?)?;
     let odd = MemDisk::new(alloc, Bytes::new(alloc), Vec::new(alloc))?;
     let (mut store, _) = match reopen(alloc, even, odd) {
         Ok(opened) => opened,
@@ -353,8 +347,9 @@ fn a_fault_closes_the_store(rt: HostRuntime) -> Result<(), Fail> {
         Err(fault) => assert_eq!(rt; fault, LogFault::Disk { closed: true }),
         Ok(_) => return Err("it is closed".into()),
     }
-    // The second made no call.
+    // The second made no call: it would have failed too.
     let (even, _) = store.into_disks();
+    assert_eq!(rt; even.faults(), 1);
     assert_eq!(rt; even.as_read(), [0].as_slice());
     Ok(())
 }

@@ -1,22 +1,25 @@
 use crate::file::FileDisk;
 use disk_model::disk::Disk;
 use faults::Fault;
-use std::fs;
 use std::fs::OpenOptions;
 use std::test::Fail;
-
-/// Where the test's file is for a while.
-const PATH: &str = "/tmp/smart-file-disk-of-a-test";
+use std::{env, fs, process};
 
 #[test]
 fn a_file_is_read_written_and_cut_in_place(rt: HostRuntime) -> Result<(), Fail> {
     let alloc = rt.alloc();
+    // A folder of this test's own.
+    let id = process::id(rt.process());
+    let name = format!(in alloc; "smart-file-disk-{id}")?;
+    let folder = env::temp_dir(&rt)?.join(alloc, name.as_str())?;
+    fs::create_dir_all(&rt, &folder)?;
+    let path = folder.join(alloc, "disk")?;
     let file = OpenOptions::new()
         .read(true)
         .write(true)
         .create(true)
         .truncate(true)
-        .open(&rt, PATH)?;
+        .open(&rt, &path)?;
     let mut disk = FileDisk::new(file);
     assert_eq!(rt; disk.len(), Ok(0));
     assert_eq!(rt; disk.write_at(0, b"abcdef"), Ok(()));
@@ -34,6 +37,6 @@ fn a_file_is_read_written_and_cut_in_place(rt: HostRuntime) -> Result<(), Fail> 
     assert_eq!(rt; disk.cut(9), Ok(()));
     assert_eq!(rt; disk.len(), Ok(7));
     assert_eq!(rt; disk.write_at(1 << 63, b"a"), Err(Fault::Failed));
-    fs::remove_file(&rt, PATH)?;
+    fs::remove_dir_all(&rt, &folder)?;
     Ok(())
 }

@@ -77,3 +77,15 @@ pub trait Disk {
     /// Since this moment there is no other.
     ghost only_now: { remembers → (disk : Self) (c : List ℕ) → left_since disk (moment disk) c → IsImage (cells disk) c };
 }
+
+/// What a disk holds.
+pub fn read_all<D: Disk>(alloc: Global, device: &mut D) -> Result<Bytes, Fault>
+    ensures bytes { IfOk result (λ bytes. D.told → bytes ≡ (D.cells device.old).now) }
+    ensures same { D.told → D.cells device.new ≡ D.cells device.old }
+    ensures time { D.told → Elapses (D.moment device.old) (D.moment device.new) (D.left_since device.old) (D.left_since device.new) (IsImage (D.cells device.new)) }
+    ensures cause { HasCause (D.faults device.old) (D.faults device.new) result }
+{
+    let length = device.len()?;
+    let bytes = device.read(alloc, 0, length)?;
+    Ok(bytes)
+}

@@ -24,17 +24,18 @@ pub struct MemDisk {
 }
 
 impl MemDisk {
-    ghost use Rattle.std.specs.Prelude.{IsErrOf};
+    ghost use Rattle.std.specs.Prelude.{IsErrOf, []};
     ghost use Rattle.faults.specs.Counts.{Rose};
     ghost use Rattle.disk_model.specs.Cells.{IsImage};
     ghost use Rattle.disk_model.specs.Calls.{Elapses};
     ghost use Rattle.disk_model.specs.Replay.{change_cells, Begins};
-    ghost use Rattle.disk_model.specs.Memory.{disk_cells, disk_moment, disk_left, Refuses};
+    ghost use Rattle.disk_model.specs.Memory.{disk_cells, disk_moment, disk_left, next_number, is_due, Refuses};
 
     /// A disk with these bytes, all of them sure. Its calls `write_at`, `cut` and `sync` of these
     /// numbers, counted from 1, fail.
     pub fn new(alloc: Global, bytes: Bytes, failing: Vec<u64>) -> Result<Self, AllocError>
         ensures cells { IfOk result (λ d. disk_cells d ≡ settled bytes) }
+        ensures failing { IfOk result (λ d. (d.failing ≡ failing) × (d.made ≡ 0)) }
         ensures faults { IfOk result (λ d. d.faults ≡ 0) }
     {
         let first = Bytes::from_slice(alloc, bytes.as_slice())?;
@@ -51,6 +52,8 @@ impl MemDisk {
     /// The disk that a crash now leaves, where these bytes are an image of this one. It never fails.
     pub fn image(&self, alloc: Global, bytes: Bytes) -> Result<MemDisk, ImageFault>
         ensures ok { IfOk result (λ d. IsImage (disk_cells self.now) bytes × (disk_cells d ≡ settled bytes)) }
+        ensures never { IfOk result (λ d. d.failing.items ≡ []) }
+        ensures faults { IfOk result (λ d. d.faults ≡ 0) }
         ensures not { IfErr result (λ e. Refuses e (disk_cells self.now) bytes) }
     {
         let first = Bytes::from_slice(alloc, bytes.as_slice())?;
@@ -95,6 +98,8 @@ impl MemDisk {
         ensures err { OnErr result (disk_cells self.new ≡ disk_cells self.old) }
         ensures time { Elapses (disk_moment self.old) (disk_moment self.new) (disk_left self.old) (disk_left self.new) (IsImage (disk_cells self.new)) }
         ensures faults { self.new.faults ≡ self.old.faults }
+        ensures made { self.new.made ≡ self.old.made }
+        ensures failing { self.new.failing ≡ self.old.failing }
     {
         self.changes.reserve(1)?;
         self.platter.apply(&change)?;
@@ -104,6 +109,9 @@ impl MemDisk {
 
     /// Counts a changing call, and tells whether it is to fail.
     fn is_to_fail(&mut self) -> bool
+        ensures made { self.new.made ≡ next_number self.old }
+        ensures answer { result ≡ is_due self.old }
+        ensures failing { self.new.failing ≡ self.old.failing }
         ensures platter { self.new.platter ≡ self.old.platter }
         ensures changes { self.new.changes ≡ self.old.changes }
         ensures first { self.new.first ≡ self.old.first }
@@ -118,16 +126,27 @@ impl MemDisk {
         ensures platter { self.new.platter ≡ self.old.platter }
         ensures changes { self.new.changes ≡ self.old.changes }
         ensures first { self.new.first ≡ self.old.first }
+        ensures made { self.new.made ≡ self.old.made }
+        ensures failing { self.new.failing ≡ self.old.failing }
         ensures rose { Rose self.old.faults self.new.faults }
         ensures later { self.old.faults ≤ self.new.faults }
+        ensures result { result ≡ Fault.Failed }
     {
         self.faults = self.faults.saturating_add(1);
         Fault::Failed
     }
 }
 
+/// Its changing calls fail exactly where they were told to. Then a read gives what it did before, and a
+/// crash may leave any part of the call.
 impl Disk for MemDisk {
-    ghost use Rattle.disk_model.specs.Memory.{disk_cells, disk_moment, disk_left};
+    ghost use Rattle.std.specs.Prelude.{IsErrOf, true, false};
+    ghost use Rattle.faults.specs.Counts.{HasCause};
+    ghost use Rattle.disk_model.specs.Cells.{IsImage, Within, written, cut_to};
+    ghost use Rattle.disk_model.specs.Calls.{Elapses};
+    ghost use Rattle.std.specs.Prelude.{take, drop};
+    ghost use Rattle.disk_model.specs.Memory.{disk_cells, disk_moment, disk_left, next_number, is_due};
+    ghost use Rattle.disk_model.specs.Replay.{torn_write, torn_cut};
     ghost use Rattle.disk_model.specs.Laws.{counts_now, only_now};
 
     ghost told = { Unit {0} };
@@ -142,18 +161,42 @@ impl Disk for MemDisk {
 
     ghost faults = { λ d. d.faults };
 
-    fn len(&mut self) -> Result<u64, Fault> {
+    fn len(&mut self) -> Result<u64, Fault>
+        ensures length { IfOk result (λ n. n ≡ length (disk_cells self.old).now) }
+        ensures same { disk_cells self.new ≡ disk_cells self.old }
+        ensures time { Elapses (disk_moment self.old) (disk_moment self.new) (disk_left self.old) (disk_left self.new) (IsImage (disk_cells self.new)) }
+        ensures cause { HasCause self.old.faults self.new.faults result }
+        ensures uncounted { self.new ≡ self.old }
+    {
         Ok(self.platter.contents.len() as u64)
     }
 
-    fn read(&mut self, alloc: Global, at: u64, count: u64) -> Result<Bytes, Fault> {
+    fn read(&mut self, alloc: Global, at: u64, count: u64) -> Result<Bytes, Fault>
+        ensures bytes { IfOk result (λ bytes. bytes ≡ take count (drop at (disk_cells self.old).now)) }
+        ensures same { disk_cells self.new ≡ disk_cells self.old }
+        ensures time { Elapses (disk_moment self.old) (disk_moment self.new) (disk_left self.old) (disk_left self.new) (IsImage (disk_cells self.new)) }
+        ensures cause { HasCause self.old.faults self.new.faults result }
+        ensures uncounted { self.new ≡ self.old }
+    {
         match self.platter.read(alloc, at, count) {
             Ok(bytes) => Ok(bytes),
             Err(_) => Err(Fault::NoMemory),
         }
     }
 
-    fn write_at(&mut self, at: u64, bytes: &[u8]) -> Result<(), Fault> {
+    fn write_at(&mut self, at: u64, bytes: &[u8]) -> Result<(), Fault>
+        requires { at ≤ length (disk_cells self.old).now }
+        ensures written { OnOk result (disk_cells self.new ≡ written at bytes.now (disk_cells self.old)) }
+        ensures torn { Within (disk_cells self.new) (written at bytes.now (disk_cells self.old)) }
+        ensures room { OnOk result (at + length bytes.now < 2 ^ 63) }
+        ensures time { Elapses (disk_moment self.old) (disk_moment self.new) (disk_left self.old) (disk_left self.new) (IsImage (disk_cells self.new)) }
+        ensures cause { HasCause self.old.faults self.new.faults result }
+        ensures failed { IsErrOf result Fault.Failed → disk_cells self.new ≡ torn_write (record { from = at; upto = at + length bytes.now }) (disk_cells self.old) }
+        ensures told { IsErrOf result Fault.Failed → is_due self.old ≡ true }
+        ensures not_told { OnOk result (is_due self.old ≡ false) }
+        ensures made { self.new.made ≡ next_number self.old }
+        ensures failing { self.new.failing ≡ self.old.failing }
+    {
         let is_to_fail = self.is_to_fail();
         if !has_room(at, bytes.len() as u64) {
             return Err(Fault::NoMemory);
@@ -175,7 +218,17 @@ impl Disk for MemDisk {
         }
     }
 
-    fn cut(&mut self, to: u64) -> Result<(), Fault> {
+    fn cut(&mut self, to: u64) -> Result<(), Fault>
+        ensures cut { OnOk result (disk_cells self.new ≡ cut_to to (disk_cells self.old)) }
+        ensures torn { Within (disk_cells self.new) (cut_to to (disk_cells self.old)) }
+        ensures time { Elapses (disk_moment self.old) (disk_moment self.new) (disk_left self.old) (disk_left self.new) (IsImage (disk_cells self.new)) }
+        ensures cause { HasCause self.old.faults self.new.faults result }
+        ensures failed { IsErrOf result Fault.Failed → disk_cells self.new ≡ torn_cut to (disk_cells self.old) }
+        ensures told { IsErrOf result Fault.Failed → is_due self.old ≡ true }
+        ensures not_told { OnOk result (is_due self.old ≡ false) }
+        ensures made { self.new.made ≡ next_number self.old }
+        ensures failing { self.new.failing ≡ self.old.failing }
+    {
         if self.is_to_fail() {
             if self.make(Change::TornCut(to)).is_err() {
                 return Err(Fault::NoMemory);
@@ -188,7 +241,17 @@ impl Disk for MemDisk {
         Ok(())
     }
 
-    fn sync(&mut self) -> Result<(), Fault> {
+    fn sync(&mut self) -> Result<(), Fault>
+        ensures settled { OnOk result (disk_cells self.new ≡ settled (disk_cells self.old).now) }
+        ensures torn { Within (disk_cells self.new) (disk_cells self.old) }
+        ensures time { Elapses (disk_moment self.old) (disk_moment self.new) (disk_left self.old) (disk_left self.new) (IsImage (disk_cells self.new)) }
+        ensures cause { HasCause self.old.faults self.new.faults result }
+        ensures failed { OnErr result (disk_cells self.new ≡ disk_cells self.old) }
+        ensures told { IsErrOf result Fault.Failed → is_due self.old ≡ true }
+        ensures not_told { OnOk result (is_due self.old ≡ false) }
+        ensures made { self.new.made ≡ next_number self.old }
+        ensures failing { self.new.failing ≡ self.old.failing }
+    {
         if self.is_to_fail() {
             return Err(self.fault());
         }

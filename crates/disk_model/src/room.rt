@@ -1,5 +1,5 @@
 //! Rooms, which keep the disks of all members by name.
-ghost use Rattle.std.specs.Prelude.{◌≡◌, ◌≤◌, ℕ, Option, Some, None, IfOk, OnOk, OnErr, IsSome, [], true};
+ghost use Rattle.std.specs.Prelude.{◌≡◌, ◌≤◌, ℕ, Option, Some, None, IfOk, OnOk, OnErr, IsErrOf, IsSome, [], true};
 ghost use Rattle.std.specs.List.{position};
 ghost use Rattle.faults.specs.Counts.{HasCause, Rose};
 ghost use Rattle.disk_model.specs.Cells.{Cells, settled};
@@ -35,6 +35,8 @@ pub trait DiskRoom {
         device: u8,
     ) -> Result<Self::Disk, Fault>
         ensures disk { IfOk result (λ disk. Self.Disk.told → Self.Disk.cells disk ≡ cells self.old (address dir.now member device)) }
+        ensures free { IfOk result (λ disk. taken self.old (address dir.now member device) ≡ None) }
+        ensures not_twice { IsSome (taken self.old (address dir.now member device)) → IsErrOf result Fault.Failed }
         ensures taken { IfOk result (λ disk. taken self.new (address dir.now member device) ≡ Some (Self.Disk.faults disk)) }
         ensures refused { OnErr result (cells self.new (address dir.now member device) ≡ cells self.old (address dir.now member device)) }
         ensures refused_taken { OnErr result (taken self.new (address dir.now member device) ≡ taken self.old (address dir.now member device)) }
@@ -43,7 +45,7 @@ pub trait DiskRoom {
         ensures cause { HasCause (faults self.old) (faults self.new) result };
 
     /// Takes a disk back into its place. If the disk has failed since it was taken, the room counts
-    /// that. It takes no memory.
+    /// that, and nothing else. It takes no memory.
     fn keep(&mut self, dir: &[u8], member: MemberId, device: u8, disk: Self::Disk)
         requires { IsSome (taken self.old (address dir.now member device)) }
         ensures disk { Self.Disk.told → cells self.new (address dir.now member device) ≡ Self.Disk.cells disk }
@@ -51,7 +53,8 @@ pub trait DiskRoom {
         ensures others { KeepsOthers (address dir.now member device) (cells self.old) (cells self.new) }
         ensures others_taken { KeepsOthers (address dir.now member device) (taken self.old) (taken self.new) }
         ensures later { faults self.old ≤ faults self.new }
-        ensures rose { (before : ℕ) → taken self.old (address dir.now member device) ≡ Some before → Rose before (Self.Disk.faults disk) → Rose (faults self.old) (faults self.new) };
+        ensures rose { (before : ℕ) → taken self.old (address dir.now member device) ≡ Some before → Rose before (Self.Disk.faults disk) → Rose (faults self.old) (faults self.new) }
+        ensures steady { (before : ℕ) → taken self.old (address dir.now member device) ≡ Some before → (Rose before (Self.Disk.faults disk) → ⊥) → faults self.new ≡ faults self.old };
 }
 
 /// The place of one disk.
@@ -99,6 +102,7 @@ fn take(shelf: &mut Shelf) -> Option<MemDisk>
 fn put_back(shelf: &mut Shelf, disk: MemDisk) -> bool
     ensures shelf { shelf.new ≡ refilled disk shelf.old }
     ensures failed { Rose shelf.old.faults disk.faults → result ≡ true }
+    ensures rose { result ≡ true → Rose shelf.old.faults disk.faults }
 {
     let now = disk.faults();
     shelf.disk = Some(disk);
@@ -118,12 +122,20 @@ impl MemRoom {
 
     /// A room in which no disk was ever.
     pub fn new(alloc: Global) -> Self
-        ensures { result.shelves.items ≡ [] }
+        ensures shelves { result.shelves.items ≡ [] }
+        ensures faults { result.faults ≡ 0 }
     {
         MemRoom {
             shelves: Vec::new(alloc),
             faults: 0,
         }
+    }
+
+    /// How often it has refused a disk, or taken one back that had failed.
+    pub fn faults(&self) -> u64
+        ensures { result ≡ self.now.faults }
+    {
+        self.faults
     }
 
     /// Adds a shelf for a disk that was never there, and takes that disk.
@@ -155,6 +167,7 @@ impl MemRoom {
     /// Counts a fault.
     fn fault(&mut self) -> Fault
         ensures shelves { self.new.shelves ≡ self.old.shelves }
+        ensures result { result ≡ Fault.Failed }
         ensures rose { Rose self.old.faults self.new.faults }
         ensures later { self.old.faults ≤ self.new.faults }
     {

@@ -123,7 +123,9 @@ fn a_room_gives_back_what_it_keeps(rt: HostRuntime) -> Result<(), Fail> {
     assert_eq!(rt; put(&mut disk, 0, b"abc"), Ok(()));
     // A disk that is taken is not there a second time.
     assert_eq!(rt; room.get(alloc, b"d", member, 1).err(), Some(Fault::Failed));
+    assert_eq!(rt; room.faults(), 1);
     room.keep(b"d", member, 1, disk);
+    assert_eq!(rt; room.faults(), 1);
     // Other names are other disks.
     for (dir, number, device) in [(b"e", 2, 1), (b"d", 3, 1), (b"d", 2, 2)] {
         let Ok(other) = room.get(alloc, dir, MemberId::new(number), device) else {

@@ -1,10 +1,9 @@
 -- What a crash at any moment of a call leaves.
-use Rattle.std.proofs.Common.{◌≡◌, ◌⊎◌, inl, inr, ⊎_elim, ℕ, ◌≤◌, Bool, not, List, ap, subst, arith}
+use Rattle.std.proofs.Common.{◌≡◌, ◌⊎◌, inl, inr, ⊎_elim, ℕ, not, List, ap, subst, arith}
 use Rattle.disk_model.specs.Cells.{IsImage}
 use Rattle.disk_model.specs.declared.disk.Disk.{Ghosts}
-use Rattle.checkpoint_store.specs.Slots.{is_odd}
 use Rattle.durable_store.specs.Restored.{Images, log_image, restores}
-use Rattle.durable_store.specs.Standing.{side, AreImages, LeavesEither}
+use Rattle.durable_store.specs.Standing.{side, LeavesEither}
 use Rattle.durable_store.specs.Calls.{Goes, LeftSince}
 use Rattle.durable_store.specs.declared.kept.Kept.{Kept}
 use Rattle.durable_store.specs.declared.store.Store.{Store}

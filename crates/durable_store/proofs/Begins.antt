@@ -1,5 +1,5 @@
 -- A job of the log begins.
-use Rattle.std.proofs.Common.{◌≡◌, ℕ, Bool, true, false, List, [], ◌∷◌, Option, refl, sym, subst, ap, ◌∙◌}
+use Rattle.std.proofs.Common.{◌≡◌, ℕ, true, List, refl, subst, ap}
 use Rattle.batch_log.specs.declared.job.Job.{Job}
 use Rattle.batch_log.specs.declared.job.Job.TheVariants.{Rest, Torn, Close, SyncClose, Body, SyncBody, Gate, SyncGate}
 use Rattle.batch_log.specs.Jobs.{Begins, code, idle}

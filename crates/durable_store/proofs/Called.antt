@@ -1,5 +1,5 @@
 -- A call of a store, whole: what it leaves, and where the store stands then.
-use Rattle.std.proofs.Common.{◌≡◌, ◌⊎◌, inl, inr, ⊎_elim, ℕ, ◌+◌, ◌-◌, ◌^◌, ◌≤◌, ◌==◌, min, length, Bool, true, false, not, cond, ◌&&◌, ◌||◌, List, [], ◌∷◌, ◌++◌, Option, Some, None, Result, Ok, Err, OnOk, OnErr, refl, sym, ap, ◌∙◌, subst, arith}
+use Rattle.std.proofs.Common.{◌≡◌, ◌⊎◌, inl, inr, ℕ, ◌+◌, ◌-◌, ◌^◌, ◌≤◌, ◌==◌, min, length, true, false, not, cond, ◌&&◌, List, [], ◌∷◌, ◌++◌, Option, Result, Ok, Err, OnOk, OnErr, refl, sym, ap, ◌∙◌, subst, arith}
 use Rattle.disk_model.specs.Cells.{IsImage}
 use Rattle.disk_model.specs.declared.disk.Disk.{Ghosts}
 use Rattle.store_form.specs.Spelling.{Group}
@@ -12,7 +12,7 @@ use Rattle.checkpoint_store.specs.SlotJobs.{SlotStands, SlotLeaves, IsSlotUnderW
 use Rattle.durable_store.specs.Restored.{Images, log_image, restores}
 use Rattle.durable_store.specs.Turns.{closing, unsure, rests, ends_group, job_started}
 use Rattle.durable_store.specs.Calls.{NoneFalls}
-use Rattle.durable_store.specs.Standing.{first, kept_by, with, only, some, side, beside, slot_others, log_kept, log_others, log_stake, added_by, waiting_after, firm_after, kept_after, others_after, at_stake, StoreStands, IsUnderWay, AreImages, LeavesEither}
+use Rattle.durable_store.specs.Standing.{first, kept_by, with, only, some, side, beside, slot_others, log_kept, log_others, log_stake, added_by, waiting_after, firm_after, kept_after, others_after, at_stake, StoreStands, IsUnderWay, LeavesEither}
 use Rattle.durable_store.specs.declared.kept.Kept.{Kept}
 use Rattle.durable_store.specs.declared.store.Store.{Store}
 use Rattle.durable_store.proofs.Codes.{ends_is, ends_started, firm_started, kept_is, kept_at, kept_started, others_is, others_at, others_started, stake_is, stake_at, stake_started}
@@ -94,6 +94,10 @@ even_under_way s u = record { next = u.stands.next; has = u.stands.even; other =
 
 pub odd_under_way : {D : Type 0} {g : Ghosts D} (s : Store D g) → IsUnderWay s → IsSlotUnderWay true (g.cells s.slots.odd.device) s.slots.odd.job
 odd_under_way s u = record { next = u.stands.next; has = u.stands.odd; other = u.stands.odd_other; stands = u.stands.odd_slot }
+
+pub ok_two : {T E : Type 0} (r : Result T E) (X Y Z : Type 0) → (X → Y → Z) → OnOk r X → OnOk r Y → OnOk r Z
+ok_two (Ok x) X Y Z f one two = f one two
+ok_two (Err e) X Y Z f one two = tt
 
 pub ok_three : {T E : Type 0} (r : Result T E) (X Y W Z : Type 0) → (X → Y → W → Z) → OnOk r X → OnOk r Y → OnOk r W → OnOk r Z
 ok_three (Ok x) X Y W Z f one two three = f one two three

@@ -1,5 +1,5 @@
 -- The close of a slot, call by call.
-use Rattle.std.proofs.Common.{◌≡◌, ◌⊎◌, Bool, true, false, List, ◌∷◌, Option, Some, None, Result, Ok, Err, OnOk, refl, sym, subst}
+use Rattle.std.proofs.Common.{◌≡◌, Bool, true, ◌∷◌, Option, Result, Ok, Err, OnOk, refl, sym, subst}
 use Rattle.disk_model.specs.Cells.{Cells}
 use Rattle.store_form.specs.declared.checkpoint.Checkpoint.{Checkpoint}
 use Rattle.checkpoint_store.specs.SlotJobs.{SlotStands, SlotLeaves, has_after, other_after, slot_stake}

@@ -1,5 +1,5 @@
 -- What the code of the log's job says of it.
-use Rattle.std.proofs.Common.{◌≡◌, ℕ, Bool, true, false, cond, ◌&&◌, ◌||◌, ◌==◌, ◌+◌, ◌-◌, ◌^◌, min, nat_lt, List, [], ◌∷◌, Option, Some, None, refl, sym, ap, ◌∙◌}
+use Rattle.std.proofs.Common.{◌≡◌, ℕ, Bool, true, false, cond, ◌&&◌, ◌||◌, ◌==◌, ◌+◌, ◌-◌, ◌^◌, min, nat_lt, List, [], ◌∷◌, Some, None, refl, ◌∙◌}
 use Rattle.store_form.specs.Spelling.{Group}
 use Rattle.batch_log.specs.Jobs.{code, code_after}
 use Rattle.batch_log.specs.declared.job.Job.{Job}

@@ -1,19 +1,17 @@
 -- Where a store stands after a call that went well.
-use Rattle.std.proofs.Common.{◌≡◌, ◌⊎◌, inl, inr, ⊎_elim, ℕ, ◌+◌, ◌^◌, ◌-◌, min, Bool, true, false, not, cond, ◌&&◌, ◌||◌, ◌==◌, List, [], ◌∷◌, ◌++◌, length, drop, Option, Some, None, refl, sym, ap, ◌∙◌, subst, arith, length-append}
-use Rattle.disk_model.specs.Cells.{Cells, settled}
+use Rattle.std.proofs.Common.{◌≡◌, ◌+◌, ◌^◌, ◌-◌, min, Bool, true, false, cond, ◌&&◌, List, [], ◌∷◌, ◌++◌, length, Option, Some, None, refl, sym, ap, ◌∙◌, arith, length-append}
 use Rattle.disk_model.specs.declared.disk.Disk.{Ghosts}
 use Rattle.store_form.specs.Spelling.{Group}
 use Rattle.store_form.specs.declared.checkpoint.Checkpoint.{Checkpoint}
-use Rattle.batch_log.specs.Jobs.{Stands, idle, code, code_after, kept_after as log_kept_after, other_after as log_other_after}
+use Rattle.batch_log.specs.Jobs.{Stands, code, code_after, kept_after as log_kept_after, other_after as log_other_after}
 use Rattle.batch_log.specs.declared.job.Job.{Job}
 use Rattle.batch_log.specs.declared.job.Job.TheVariants as jobs
-use Rattle.checkpoint_store.specs.Slots.{is_odd, newer}
-use Rattle.checkpoint_store.specs.SlotJobs.{SlotStands, idle as slot_idle}
+use Rattle.checkpoint_store.specs.Slots.{is_odd}
+use Rattle.checkpoint_store.specs.SlotJobs.{SlotStands}
 use Rattle.checkpoint_store.specs.declared.job.SlotJob.{SlotJob}
 use Rattle.checkpoint_store.specs.declared.job.SlotJob.TheVariants.{Empty, Torn, Shut, Close, SyncClose, Fill, SyncFill, Full, Gate, SyncGate, Counts}
-use Rattle.durable_store.specs.Restored.{generation_of}
 use Rattle.durable_store.specs.Turns.{closing, unsure, adds, rests, ends_group, job_started, job_closed, other_closed, OnlyCloses, InTurn}
-use Rattle.durable_store.specs.Standing.{first, kept_by, with, only, some, side, beside, slot_others, log_kept, log_others, StoreStands}
+use Rattle.durable_store.specs.Standing.{kept_by, with, only, side, beside, slot_others, log_kept, log_others, StoreStands}
 use Rattle.durable_store.specs.declared.kept.Kept.{Kept}
 use Rattle.durable_store.specs.declared.store.Store.{Store}
 use Rattle.durable_store.proofs.Codes.{unsure_is, adds_is, unsure_by, adds_by, unsure_started, counted_started, added_before}

@@ -1,25 +1,22 @@
 -- What a crash leaves of the four devices together.
-use Rattle.std.proofs.Common.{◌≡◌, ◌⊎◌, inl, inr, ⊎_elim, ℕ, Bool, true, false, not, cond, List, [], ◌∷◌, ◌++◌, Option, Some, None, refl, sym, ap, ◌∙◌, subst}
+use Rattle.std.proofs.Common.{◌≡◌, ◌⊎◌, inl, inr, ⊎_elim, ℕ, Bool, true, false, not, List, [], ◌∷◌, ◌++◌, Option, refl, sym, ap, ◌∙◌, subst}
 use Rattle.disk_model.specs.Cells.{Cells, IsImage, settled}
-use Rattle.disk_model.specs.declared.disk.Disk.{Ghosts}
 use Rattle.disk_model.proofs.Images.{image_settled}
 use Rattle.store_form.specs.Spelling.{Group}
 use Rattle.store_form.specs.declared.checkpoint.Checkpoint.{Checkpoint}
 use Rattle.batch_log.specs.Log.{restored, log_bytes}
-use Rattle.batch_log.specs.Jobs.{Stands, LeavesEither as LogLeaves, idle}
+use Rattle.batch_log.specs.Jobs.{Stands, idle}
 use Rattle.batch_log.specs.declared.job.Job.{Job}
 use Rattle.batch_log.specs.declared.job.Job.TheVariants as jobs
 use Rattle.batch_log.proofs.Restored.{restored_is}
 use Rattle.batch_log.proofs.Phases.{leaves as log_leaves}
 use Rattle.checkpoint_store.specs.Slots.{slot_of}
-use Rattle.checkpoint_store.specs.SlotJobs.{SlotStands, SlotLeaves, Leaves, idle as slot_idle}
+use Rattle.checkpoint_store.specs.SlotJobs.{SlotStands, Leaves, idle as slot_idle}
 use Rattle.checkpoint_store.specs.declared.job.SlotJob.{SlotJob}
 use Rattle.checkpoint_store.specs.declared.job.SlotJob.TheVariants.{Empty, Torn, Shut, Close, SyncClose, Fill, SyncFill, Full, Gate, SyncGate, Counts}
-use Rattle.checkpoint_store.proofs.Phases.{leaves as slot_leaves}
-use Rattle.durable_store.specs.Restored.{Images, log_image, kept_of, restores}
+use Rattle.durable_store.specs.Restored.{Images, log_image, restores}
 use Rattle.durable_store.specs.Turns.{closing, unsure, OnlyCloses}
 use Rattle.durable_store.specs.Standing.{kept_by}
-use Rattle.durable_store.specs.declared.kept.Kept.{Kept}
 
 -- ---- one device
 

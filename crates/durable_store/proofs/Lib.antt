@@ -1,6 +1,13 @@
 pub mod Closings
 pub mod Begins
 pub mod Codes
+pub mod Given
+pub mod Lighter
+pub mod Growing
+pub mod Lasting
+pub mod Appending
+pub mod Fronts
+pub mod Same
 pub mod Leaves
 pub mod Pushed
 pub mod Moves

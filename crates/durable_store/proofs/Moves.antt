@@ -1,20 +1,17 @@
 -- What a crash leaves of a store, and where the store stands after a call.
-use Rattle.std.proofs.Common.{◌≡◌, ◌⊎◌, inl, inr, ⊎_elim, ℕ, ◌+◌, ◌^◌, ◌-◌, min, Bool, true, false, not, cond, ◌&&◌, ◌||◌, ◌==◌, List, [], ◌∷◌, ◌++◌, length, drop, Option, Some, None, refl, sym, ap, ◌∙◌, subst, arith, length-append}
-use Rattle.disk_model.specs.Cells.{Cells, IsImage, settled}
+use Rattle.std.proofs.Common.{◌≡◌, ◌⊎◌, inl, inr, ⊎_elim, ℕ, Bool, true, false, not, List, [], ◌++◌, Option, refl, sym, ap, ◌∙◌, subst}
+use Rattle.disk_model.specs.Cells.{IsImage}
 use Rattle.disk_model.specs.declared.disk.Disk.{Ghosts}
 use Rattle.store_form.specs.Spelling.{Group}
 use Rattle.store_form.specs.declared.checkpoint.Checkpoint.{Checkpoint}
 use Rattle.batch_log.specs.Log.{restored}
-use Rattle.batch_log.specs.Jobs.{Stands, LeavesEither as LogLeaves, idle, code, code_after}
-use Rattle.batch_log.specs.declared.job.Job.{Job}
+use Rattle.batch_log.specs.Jobs.{idle}
 use Rattle.batch_log.proofs.Phases.{leaves as log_leaves}
-use Rattle.checkpoint_store.specs.Slots.{slot_of, is_odd, newer}
-use Rattle.checkpoint_store.specs.SlotJobs.{SlotStands, SlotLeaves, idle as slot_idle}
-use Rattle.checkpoint_store.specs.declared.job.SlotJob.{SlotJob}
+use Rattle.checkpoint_store.specs.Slots.{slot_of}
 use Rattle.checkpoint_store.proofs.Phases.{leaves as slot_leaves}
-use Rattle.durable_store.specs.Restored.{Images, log_image, restores, generation_of}
-use Rattle.durable_store.specs.Turns.{closing, unsure, adds, ends_group, job_started, job_closed, other_closed, OnlyCloses, InTurn}
-use Rattle.durable_store.specs.Standing.{first, kept_by, with, only, some, side, beside, slot_others, log_kept, log_others, log_stake, StoreStands, AreImages, LeavesEither, calls_log}
+use Rattle.durable_store.specs.Restored.{Images, log_image, restores}
+use Rattle.durable_store.specs.Turns.{closing, unsure}
+use Rattle.durable_store.specs.Standing.{first, kept_by, only, side, beside, StoreStands, LeavesEither}
 use Rattle.durable_store.specs.declared.kept.Kept.{Kept}
 use Rattle.durable_store.specs.declared.store.Store.{Store}
 use Rattle.durable_store.proofs.Leaves.{slot_plain, slot_still, calm_idle, log_still, log_calm, sure_still, restores_by}

@@ -1,22 +1,20 @@
 -- A store that is opened again.
-use Rattle.std.proofs.Common.{◌≡◌, ◌⊎◌, inl, inr, ℕ, ◌<◌, ◌≤◌, ◌-◌, ◌^◌, min, Bool, true, false, not, cond, List, [], ◌∷◌, ◌++◌, length, Option, Some, None, refl, sym, ap, ◌∙◌, subst, arith}
-use Rattle.faults.specs.Counts.{Rose}
+use Rattle.std.proofs.Common.{◌≡◌, ℕ, ◌<◌, ◌^◌, Bool, true, false, cond, List, [], length, Option, refl, ap, ◌∙◌, arith}
 use Rattle.disk_model.specs.Cells.{Cells, settled}
 use Rattle.disk_model.specs.declared.disk.Disk.{Ghosts}
 use Rattle.store_form.specs.Spelling.{Group}
 use Rattle.store_form.specs.declared.checkpoint.Checkpoint.{Checkpoint}
-use Rattle.batch_log.specs.Log.{restored}
 use Rattle.batch_log.specs.Jobs.{Stands, IsIdle}
 use Rattle.batch_log.specs.declared.job.Job.{Job}
 use Rattle.batch_log.specs.declared.job.Job.TheVariants as jobs
-use Rattle.checkpoint_store.specs.Slots.{is_odd, slot_of, instead_of, newer, newest}
+use Rattle.checkpoint_store.specs.Slots.{is_odd, slot_of, instead_of, newer, newest, generation_of}
 use Rattle.checkpoint_store.specs.SlotJobs.{SlotStands, idle as slot_idle}
 use Rattle.checkpoint_store.specs.declared.job.SlotJob.{SlotJob}
 use Rattle.checkpoint_store.specs.declared.job.SlotJob.TheVariants.{Empty, Torn, Shut, Close, SyncClose, Fill, SyncFill, Full, Gate, SyncGate, Counts}
-use Rattle.durable_store.specs.Restored.{Images, generation_of, entries_of, restores}
-use Rattle.durable_store.specs.Turns.{closing, adds, OnlyCloses}
+use Rattle.durable_store.specs.Restored.{entries_of}
+use Rattle.durable_store.specs.Turns.{adds, OnlyCloses}
 use Rattle.durable_store.specs.Standing.{kept_by, side, beside, StoreStands}
-use Rattle.durable_store.specs.Disks.{contents, AreSettled, AreSame, DiskRose}
+use Rattle.durable_store.specs.Disks.{AreSettled}
 use Rattle.durable_store.specs.declared.disks.Disks.{Disks}
 use Rattle.durable_store.specs.declared.kept.Kept.{Kept}
 use Rattle.durable_store.specs.declared.store.Store.{Store}

@@ -1,14 +1,12 @@
 -- What is kept, with a group more.
-use Rattle.std.proofs.Common.{◌≡◌, ℕ, Bool, true, false, cond, List, [], ◌∷◌, ◌++◌, Option, refl, sym, ap, ◌∙◌}
-use Rattle.std.specs.List.{flat_map}
+use Rattle.std.proofs.Common.{◌≡◌, Bool, true, false, cond, List, [], ◌∷◌, ◌++◌, Option, sym, ap, ◌∙◌}
 use Rattle.std.proofs.lemmas.Grind.{flat_map-append}
 use Rattle.std.proofs.lemmas.List.{append-nil}
 use Rattle.store_form.specs.Spelling.{Group}
 use Rattle.store_form.specs.declared.checkpoint.Checkpoint.{Checkpoint}
-use Rattle.checkpoint_store.specs.Slots.{is_odd, newer}
-use Rattle.durable_store.specs.Restored.{generation_of, entries_of}
+use Rattle.checkpoint_store.specs.Slots.{is_odd, newer, generation_of}
+use Rattle.durable_store.specs.Restored.{entries_of}
 use Rattle.durable_store.specs.Standing.{kept_by, with}
-use Rattle.durable_store.specs.declared.kept.Kept.{Kept}
 
 pub entries_push : (gs : List Group) (added : Group) → entries_of (gs ++ added ∷ []) ≡ entries_of gs ++ added
 entries_push gs added = flat_map-append (λ (group : Group). group) gs (added ∷ []) ∙ ap (λ (l : Group). entries_of gs ++ l) (append-nil added)

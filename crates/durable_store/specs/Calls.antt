@@ -1,11 +1,13 @@
 -- What a call of a store does to its devices.
-use Rattle.std.specs.Prelude.{◌≤◌, ◌⊎◌, not, List, ℕ}
+use Rattle.std.specs.Prelude.{◌≡◌, ◌≤◌, ◌⊎◌, not, cond, false}
 use Rattle.faults.specs.Counts.{Rose}
 use Rattle.disk_model.specs.Cells.{IsImage}
 use Rattle.disk_model.specs.Calls.{Elapses}
 use Rattle.disk_model.specs.declared.disk.Disk.{Ghosts}
 use Rattle.durable_store.specs.Restored.{Images, log_image}
-use Rattle.durable_store.specs.Standing.{side}
+use Rattle.batch_log.specs.Jobs.{code}
+use Rattle.durable_store.specs.Turns.{job_closed, code_next}
+use Rattle.durable_store.specs.Standing.{side, some, calls_even, calls_odd, calls_log}
 use Rattle.durable_store.specs.declared.store.Store.{Store}
 
 -- time goes on for a device
@@ -32,3 +34,24 @@ module _ {D : Type 0} {g : Ghosts D} where
   OneRose old new =
       Rose (g.faults old.slots.even.device) (g.faults new.slots.even.device)
       ⊎ (Rose (g.faults old.slots.odd.device) (g.faults new.slots.odd.device) ⊎ Rose (g.faults old.log.device) (g.faults new.log.device))
+
+  -- time goes on for each of them
+  pub record TimeGoes (old new : Store D g) : Type 0 where
+    pub even_slot : Goes g old.slots.even.device new.slots.even.device
+    pub odd_slot : Goes g old.slots.odd.device new.slots.odd.device
+    pub log : Goes g old.log.device new.log.device
+    pub other_log : Goes g old.other_log new.other_log
+
+  -- the next call is one of a single device
+  pub record CallsOne (old new : Store D g) : Type 0 where
+    pub even_slot : calls_even old ≡ false → new.slots.even.device ≡ old.slots.even.device
+    pub odd_slot : calls_odd old ≡ false → new.slots.odd.device ≡ old.slots.odd.device
+    pub log : calls_log old ≡ false → new.log.device ≡ old.log.device
+    pub other_log : new.other_log ≡ old.other_log
+
+  -- The job on each device after the next call. Where none ran, that call is the first of the job that comes first: the
+  -- close of the even slot, that of the odd one, the repair of the log, the group of all that waits.
+  pub record NextJobs (old new : Store D g) : Type 0 where
+    pub even_slot : new.slots.even.job ≡ cond (calls_even old) (job_closed old.slots.even.job) old.slots.even.job
+    pub odd_slot : new.slots.odd.job ≡ cond (calls_odd old) (job_closed old.slots.odd.job) old.slots.odd.job
+    pub log : code new.log.job ≡ cond (calls_log old) (code_next (some old.waiting) old.log.job) (code old.log.job)

@@ -1,9 +1,13 @@
 -- The four devices of a store, opened or not.
-use Rattle.std.specs.Prelude.{◌≡◌, ◌⊎◌, ℕ}
+use Rattle.std.specs.Prelude.{◌≡◌, ◌≤◌, ◌⊎◌, ℕ, List, cond}
 use Rattle.faults.specs.Counts.{Rose}
-use Rattle.disk_model.specs.Cells.{Cells, settled}
+use Rattle.disk_model.specs.Cells.{Cells, IsImage, settled}
+use Rattle.disk_model.specs.Calls.{Elapses}
+use Rattle.disk_model.specs.declared.disk.Disk.{Ghosts}
+use Rattle.checkpoint_store.specs.Slots.{is_odd}
 use Rattle.durable_store.specs.Restored.{Images}
 use Rattle.durable_store.specs.declared.disks.Disks.{Disks}
+use Rattle.durable_store.specs.declared.store.Store.{Store}
 
 module _ {D : Type 0} where
   -- what they hold
@@ -29,3 +33,26 @@ module _ {D : Type 0} where
   DiskRose faults old new =
       Rose (faults old.even_log) (faults new.even_log)
       ⊎ (Rose (faults old.odd_log) (faults new.odd_log) ⊎ (Rose (faults old.even_slot) (faults new.even_slot) ⊎ Rose (faults old.odd_slot) (faults new.odd_slot)))
+
+  -- time goes on for each of them
+  pub record TimeWent (moment : D → ℕ) (left_since : D → ℕ → List ℕ → Type 0) (cells : D → Cells) (old new : Disks D) : Type 0 where
+    pub even_log : Elapses (moment old.even_log) (moment new.even_log) (left_since old.even_log) (left_since new.even_log) (IsImage (cells new.even_log))
+    pub odd_log : Elapses (moment old.odd_log) (moment new.odd_log) (left_since old.odd_log) (left_since new.odd_log) (IsImage (cells new.odd_log))
+    pub even_slot : Elapses (moment old.even_slot) (moment new.even_slot) (left_since old.even_slot) (left_since new.even_slot) (IsImage (cells new.even_slot))
+    pub odd_slot : Elapses (moment old.odd_slot) (moment new.odd_slot) (left_since old.odd_slot) (left_since new.odd_slot) (IsImage (cells new.odd_slot))
+
+  -- none of them has failed less often than before
+  pub record NoneFell (faults : D → ℕ) (old new : Disks D) : Type 0 where
+    pub even_log : faults old.even_log ≤ faults new.even_log
+    pub odd_log : faults old.odd_log ≤ faults new.odd_log
+    pub even_slot : faults old.even_slot ≤ faults new.even_slot
+    pub odd_slot : faults old.odd_slot ≤ faults new.odd_slot
+
+-- the devices of a store
+abbrev pub devices : {D : Type 0} → {g : Ghosts D} → Store D g → Disks D
+devices s = record {
+  even_log = cond (is_odd s.generation) s.other_log s.log.device;
+  odd_log = cond (is_odd s.generation) s.log.device s.other_log;
+  even_slot = s.slots.even.device;
+  odd_slot = s.slots.odd.device;
+}

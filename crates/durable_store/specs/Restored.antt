@@ -1,10 +1,10 @@
 -- What the bytes of four devices restore.
-use Rattle.std.specs.Prelude.{◌≡◌, ℕ, Bool, true, false, cond, List, Option, Some, None}
+use Rattle.std.specs.Prelude.{ℕ, Bool, true, false, cond, List, Option}
 use Rattle.std.specs.List.{flat_map}
 use Rattle.store_form.specs.Spelling.{Group}
 use Rattle.store_form.specs.declared.checkpoint.Checkpoint.{Checkpoint}
 use Rattle.batch_log.specs.Log.{restored}
-use Rattle.checkpoint_store.specs.Slots.{is_odd, slot_of, newer}
+use Rattle.checkpoint_store.specs.Slots.{is_odd, slot_of, newer, generation_of}
 use Rattle.durable_store.specs.declared.kept.Kept.{Kept}
 
 -- the bytes of the logs and of the slots, of the even and of the odd generations
@@ -17,11 +17,6 @@ pub record Images : Type 0 where
 abbrev pub log_image : Bool → Images → List ℕ
 log_image false images = images.even_log
 log_image true images = images.odd_log
-
--- without a checkpoint it is 0
-abbrev pub generation_of : Option Checkpoint → ℕ
-generation_of None = 0
-generation_of (Some checkpoint) = checkpoint.generation
 
 abbrev pub entries_of : List Group → List (List ℕ)
 entries_of groups = flat_map (λ group. group) groups

@@ -1,6 +1,6 @@
 -- Where a store stands between two device calls.
-use Rattle.std.specs.Prelude.{◌≡◌, ◌⊎◌, ◌≤◌, ◌+◌, ◌-◌, ◌^◌, ℕ, min, Bool, true, false, not, cond, ◌&&◌, ◌||◌, List, [], ◌∷◌, ◌++◌, length, drop, Option, Some, None}
-use Rattle.disk_model.specs.Cells.{Cells, IsImage, settled}
+use Rattle.std.specs.Prelude.{◌≡◌, ◌⊎◌, ◌+◌, ◌-◌, ◌^◌, ℕ, min, Bool, true, false, not, cond, ◌&&◌, ◌||◌, List, [], ◌∷◌, ◌++◌, length, drop, Option}
+use Rattle.disk_model.specs.Cells.{IsImage, settled}
 use Rattle.disk_model.specs.declared.disk.Disk.{Ghosts}
 use Rattle.store_form.specs.Spelling.{Group}
 use Rattle.store_form.specs.declared.checkpoint.Checkpoint.{Checkpoint}
@@ -8,11 +8,11 @@ use Rattle.batch_log.specs.Log.{restored}
 use Rattle.batch_log.specs.Jobs.{Stands, idle}
 use Rattle.batch_log.specs.declared.job.Job.{Job}
 use Rattle.batch_log.specs.declared.job.Job.TheVariants.{Rest, Torn, Close, SyncClose, Body, SyncBody, Gate, SyncGate}
-use Rattle.checkpoint_store.specs.Slots.{is_odd, newer}
+use Rattle.checkpoint_store.specs.Slots.{is_odd, newer, generation_of}
 use Rattle.checkpoint_store.specs.SlotJobs.{SlotStands, idle as slot_idle}
 use Rattle.checkpoint_store.specs.declared.job.SlotJob.{SlotJob}
 use Rattle.checkpoint_store.specs.declared.job.SlotJob.TheVariants.{Empty, Torn as TornSlot, Shut, Close as CloseSlot, SyncClose as SyncCloseSlot, Fill, SyncFill, Full, Gate as GateSlot, SyncGate as SyncGateSlot, Counts}
-use Rattle.durable_store.specs.Restored.{Images, log_image, generation_of, kept_of, restores}
+use Rattle.durable_store.specs.Restored.{Images, log_image, kept_of, restores}
 use Rattle.durable_store.specs.Turns.{closing, unsure, adds, rests, ends_group, InTurn}
 use Rattle.durable_store.specs.declared.kept.Kept.{Kept}
 use Rattle.durable_store.specs.declared.store.Store.{Store}
@@ -138,6 +138,14 @@ module _ {D : Type 0} {g : Ghosts D} where
 
   -- ---- the next call
 
+  -- it is one of the even slot
+  abbrev pub calls_even : Store D g → Bool
+  calls_even s = closing s.slots.even.job
+
+  -- it is one of the odd slot
+  abbrev pub calls_odd : Store D g → Bool
+  calls_odd s = not (closing s.slots.even.job) && closing s.slots.odd.job
+
   -- it is one of the log
   abbrev pub calls_log : Store D g → Bool
   calls_log s = not (closing s.slots.even.job || closing s.slots.odd.job)
@@ -151,6 +159,9 @@ module _ {D : Type 0} {g : Ghosts D} where
 
   abbrev pub waiting_after : Store D g → List (List ℕ)
   waiting_after s = cond (begins_group s) [] s.waiting
+
+  abbrev pub adding_after : Store D g → ℕ
+  adding_after s = cond (begins_group s) (length s.waiting) s.adding
 
   abbrev pub firm_after : Store D g → ℕ
   firm_after s = cond (calls_log s && ends_group s.log.job) (min (s.firm + s.adding) (2 ^ 64 - 1)) s.firm
@@ -174,3 +185,17 @@ module _ {D : Type 0} {g : Ghosts D} where
   -- there is a call to make
   abbrev pub is_due : Store D g → Bool
   is_due s = closing s.slots.even.job || (closing s.slots.odd.job || (not (rests s.log.job) || some s.waiting))
+
+  -- ---- what was given to it
+
+  -- the group that the running job adds
+  abbrev pub running : Store D g → Group → Group
+  running s added = cond (adds s.log.job) added []
+
+  -- what is kept, what the running job adds, and what waits
+  abbrev pub together : Store D g → Group → Kept → List (List ℕ)
+  together s added kept = kept.entries ++ (running s added ++ s.waiting)
+
+  -- how many are not firm yet
+  abbrev pub to_come : Store D g → ℕ
+  to_come s = cond (adds s.log.job) s.adding 0 + length s.waiting

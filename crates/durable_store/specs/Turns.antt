@@ -1,7 +1,7 @@
 -- Which job of a store comes next.
 use Rattle.std.specs.Prelude.{◌≡◌, ℕ, Bool, true, false, cond, Option, Some, None}
 use Rattle.store_form.specs.declared.checkpoint.Checkpoint.{Checkpoint}
-use Rattle.batch_log.specs.Jobs.{idle, code}
+use Rattle.batch_log.specs.Jobs.{idle, code, code_after}
 use Rattle.batch_log.specs.declared.job.Job.{Job}
 use Rattle.batch_log.specs.declared.job.Job.TheVariants.{Rest, Torn as TornLog, Close as CloseLog, SyncClose as SyncCloseLog, Body, SyncBody, Gate as GateLog, SyncGate as SyncGateLog}
 use Rattle.checkpoint_store.specs.SlotJobs.{idle as slot_idle}
@@ -122,6 +122,18 @@ job_started waits (Body bytes) = 4
 job_started waits (SyncBody next) = 3
 job_started waits (GateLog next) = 2
 job_started waits (SyncGateLog next) = 1
+
+-- the code of the job of the log after its next call: where none ran, that call is the first of the repair, or else of
+-- the group of all that waits
+abbrev pub code_next : Bool → Job → ℕ
+code_next waits Rest = cond waits 3 0
+code_next waits TornLog = 7
+code_next waits (CloseLog waiting) = code_after (CloseLog waiting)
+code_next waits (SyncCloseLog waiting) = code_after (SyncCloseLog waiting)
+code_next waits (Body bytes) = 3
+code_next waits (SyncBody next) = 2
+code_next waits (GateLog next) = 1
+code_next waits (SyncGateLog next) = 0
 
 -- its next call makes a group firm
 abbrev pub ends_group : Job → Bool

@@ -8,3 +8,5 @@ pub mod kept;
 pub mod laws;
 pub mod reopening;
 pub mod store;
+#[cfg(test)]
+mod tests;

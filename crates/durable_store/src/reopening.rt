@@ -1,14 +1,15 @@
 //! A store is opened again over what a crash has left.
-ghost use Rattle.std.specs.Prelude.{◌≡◌, ◌++◌, List, ℕ, [], Bool, not, cond, length, Option, IfOk, IfErr, false, true};
+ghost use Rattle.std.specs.Prelude.{◌≡◌, ◌≤◌, List, [], cond, length, IfOk, IfErr, false, true};
 ghost use Rattle.faults.specs.Counts.{Rose};
-ghost use Rattle.disk_model.specs.Cells.{settled};
+ghost use Rattle.disk_model.specs.Cells.{IsImage, settled};
+ghost use Rattle.disk_model.specs.Calls.{Elapses};
 ghost use Rattle.store_form.specs.Spelling.{Group};
 ghost use Rattle.batch_log.specs.Log.{restored};
 ghost use Rattle.batch_log.specs.Jobs.{Stands, IsIdle};
-ghost use Rattle.checkpoint_store.specs.Slots.{is_odd};
-ghost use Rattle.durable_store.specs.Restored.{restores, entries_of, generation_of};
+ghost use Rattle.checkpoint_store.specs.Slots.{generation_of};
+ghost use Rattle.durable_store.specs.Restored.{restores, entries_of};
 ghost use Rattle.durable_store.specs.Standing.{StoreStands, IsUnderWay};
-ghost use Rattle.durable_store.specs.Disks.{contents, AreSettled, AreSame, DiskRose};
+ghost use Rattle.durable_store.specs.Disks.{contents, devices, AreSettled, AreSame, DiskRose, NoneFell, TimeWent};
 ghost use Rattle.durable_store.specs.declared.kept.Kept.{Kept};
 
 use crate::disks::Disks;
@@ -16,11 +17,10 @@ use crate::kept::{Kept, push_all};
 use crate::store::{Store, StoreFault};
 use batch_log::log::{BatchLog, LogFault, State};
 use batch_log::reading::Groups;
-use checkpoint_store::reading::is_odd;
+use checkpoint_store::reading::{generation_of, is_odd};
 use disk_model::disk::Disk;
 use smart_base::sequence::{Bytes, Sequence};
 use std::alloc::{AllocError, Global};
-use store_form::checkpoint::Checkpoint;
 
 /// Opens a store over four devices on which nothing is pending, and gives what it restores. A refused
 /// opening gives the devices back.
@@ -35,7 +35,13 @@ pub fn reopen<D: Disk>(
     ensures waiting { IfOk result (λ r. r.0.waiting ≡ []) }
     ensures generation { IfOk result (λ r. r.0.generation ≡ generation_of r.1.present) }
     ensures open { IfOk result (λ r. r.0.state ≡ State.Open) }
+    // No device is changed, so what the store may restore instead is what their bytes give.
+    ensures same { IfOk result (λ r. D.told → AreSame D.cells disks (devices r.0)) }
     ensures back { IfErr result (λ e. D.told → AreSame D.cells disks e.1) }
+    ensures time { IfOk result (λ r. D.told → TimeWent D.moment D.left_since D.cells disks (devices r.0)) }
+    ensures back_time { IfErr result (λ e. D.told → TimeWent D.moment D.left_since D.cells disks e.1) }
+    ensures later { IfOk result (λ r. NoneFell D.faults disks (devices r.0)) }
+    ensures back_later { IfErr result (λ e. NoneFell D.faults disks e.1) }
     ensures cause { IfErr result (λ e. e.0 ≡ LogFault.Disk false → DiskRose D.faults disks e.1) }
     ensures not_closed { IfErr result (λ e. e.0 ≡ LogFault.Disk true → ⊥) }
 {
@@ -104,6 +110,10 @@ fn open_log<D: Disk>(
     ensures open { IfOk result (λ r. r.0.state ≡ State.Open) }
     ensures same { IfOk result (λ r. D.told → D.cells r.0.device ≡ D.cells log) }
     ensures back { IfErr result (λ e. D.told → D.cells e.1 ≡ D.cells log) }
+    ensures time { IfOk result (λ r. D.told → Elapses (D.moment log) (D.moment r.0.device) (D.left_since log) (D.left_since r.0.device) (IsImage (D.cells r.0.device))) }
+    ensures back_time { IfErr result (λ e. D.told → Elapses (D.moment log) (D.moment e.1) (D.left_since log) (D.left_since e.1) (IsImage (D.cells e.1))) }
+    ensures later { IfOk result (λ r. D.faults log ≤ D.faults r.0.device) }
+    ensures back_later { IfErr result (λ e. D.faults log ≤ D.faults e.1) }
     ensures cause { IfErr result (λ e. e.0 ≡ LogFault.Disk false → Rose (D.faults log) (D.faults e.1)) }
     ensures not_closed { IfErr result (λ e. e.0 ≡ LogFault.Disk true → ⊥) }
 {
@@ -121,16 +131,6 @@ fn by_side<T>(as_given: bool, one: T, other: T) -> (T, T)
     ensures { result ≡ cond as_given (one, other) (other, one) }
 {
     if as_given { (one, other) } else { (other, one) }
-}
-
-/// The generation of the newest checkpoint, 0 without one.
-fn generation_of(present: &Option<Checkpoint>) -> u64
-    ensures { result ≡ generation_of present.now }
-{
-    match present {
-        Some(checkpoint) => checkpoint.generation,
-        None => 0,
-    }
 }
 
 /// The entries of groups, in their order.

@@ -8,8 +8,9 @@ ghost use Rattle.durable_store.specs.Turns.{rests};
 use crate::closing::{close_call, is_closing};
 use crate::disks::Disks;
 use crate::kept::push_all;
-use batch_log::job::Job as LogJob;
+use batch_log::job::{Job as LogJob, is_idle as is_log_idle};
 use batch_log::log::{BatchLog, LogFault, State};
+use checkpoint_store::job::is_idle as is_slot_idle;
 use checkpoint_store::reading::is_odd;
 use checkpoint_store::store::CheckpointStore;
 use disk_model::disk::Disk;
@@ -35,9 +36,9 @@ pub struct Tail {
 
 /// What a store is asked to do.
 #[derive(Drop)]
-pub struct Job {
+pub enum Job {
     /// Make these entries firm, in one group with all that wait.
-    pub entries: Sequence<Bytes>,
+    Append(Sequence<Bytes>),
 }
 
 /// A store that is open until a disk fails, or memory runs out inside a device call. Then it is to be
@@ -63,7 +64,7 @@ pub struct Store<D: Disk> {
 }
 
 impl<D: Disk> Store<D> {
-    ghost use Rattle.std.specs.Prelude.{◌≡◌, ◌≤◌, ◌<◌, ◌+◌, ◌-◌, ◌^◌, ◌⊎◌, List, ℕ, [], length, min, cond, ◌&&◌, ◌++◌, Option, IfOk, OnOk, OnErr, IsErrOf, false, true};
+    ghost use Rattle.std.specs.Prelude.{◌≡◌, ◌≤◌, ◌<◌, ◌+◌, ◌-◌, ◌^◌, ◌⊎◌, List, ℕ, [], length, min, take, cond, ◌&&◌, ◌++◌, Option, IfOk, OnOk, OnErr, IsErrOf, false, true};
     ghost use Rattle.faults.specs.Counts.{Rose};
     ghost use Rattle.disk_model.specs.Cells.{IsImage};
     ghost use Rattle.disk_model.specs.Calls.{Elapses};
@@ -75,9 +76,52 @@ impl<D: Disk> Store<D> {
     ghost use Rattle.checkpoint_store.specs.SlotJobs.{idle as slot_idle};
     ghost use Rattle.durable_store.specs.Restored.{Images, restores};
     ghost use Rattle.durable_store.specs.Turns.{closing, job_closed, other_closed, ends_group, job_started};
-    ghost use Rattle.durable_store.specs.Standing.{StoreStands, IsUnderWay, LeavesEither, some, added_by, waiting_after, firm_after, kept_after, others_after, at_stake, is_idle, is_due, calls_log};
-    ghost use Rattle.durable_store.specs.Calls.{LeftSince, NoneFalls, OneRose};
+    ghost use Rattle.durable_store.specs.Standing.{StoreStands, IsUnderWay, LeavesEither, some, added_by, waiting_after, adding_after, firm_after, kept_after, others_after, at_stake, is_idle, is_due, calls_log, together, to_come, running, with, AreImages};
+    ghost use Rattle.durable_store.specs.Calls.{LeftSince, NoneFalls, OneRose, NextJobs, CallsOne, TimeGoes};
     ghost use Rattle.durable_store.specs.declared.kept.Kept.{Kept};
+    ghost use Rattle.durable_store.specs.Given.{given};
+    ghost use Rattle.durable_store.specs.Wholes.{Grows, TimeLasts};
+
+    /// Makes entries firm, in one group with all that wait, and makes every call that is due before.
+    /// After `Ok` each crash restores what was kept with all of them. Where memory runs out and the
+    /// store stays open, these entries are not taken.
+    pub fn append(&mut self, alloc: Global, entries: Sequence<Bytes>) -> Result<(), StoreFault>
+        requires fit { AreEntries entries }
+        requires stands { self.old.state ≡ State.Open → D.told → IsUnderWay self.old }
+        ensures ok { OnOk result (D.told → (added : Group) (kept : Kept) (others : List Kept) → StoreStands self.old added kept others
+            → StoreStands self.new [] (with kept (running self.old added ++ (self.old.waiting ++ entries))) []) }
+        ensures restores { OnOk result (D.told → (added : Group) (kept : Kept) (others : List Kept) → StoreStands self.old added kept others
+            → (images : Images) → AreImages self.new images → restores images ≡ with kept (running self.old added ++ (self.old.waiting ++ entries))) }
+        ensures firm { OnOk result (self.new.firm ≡ min (self.old.firm + (to_come self.old + length entries)) (2 ^ 64 - 1)) }
+        ensures done { OnOk result ((is_due self.new ≡ false) × (self.new.waiting ≡ [])) }
+        // Whether it goes well or not, a crash restores what one before it might have restored, or what was kept with a whole group.
+        ensures crash { self.old.state ≡ State.Open → D.told → (added : Group) (kept : Kept) (others : List Kept) → StoreStands self.old added kept others
+            → (images : Images) → AreImages self.new images → Grows kept others (running self.old added) (running self.old added ++ (self.old.waiting ++ entries)) (restores images) }
+        // So it does at any moment of the call. Where slots are closed in it, `next_call` says so of each of its calls.
+        ensures any_moment { self.old.state ≡ State.Open → D.told → D.remembers → calls_log self.old ≡ true → (added : Group) (kept : Kept) (others : List Kept) → StoreStands self.old added kept others
+            → (images : Images) → LeftSince self.old self.new images → Grows kept others (running self.old added) (running self.old added ++ (self.old.waiting ++ entries)) (restores images) }
+        // However it ends, each crash restores as many entries as count as firm, or more.
+        ensures counted { D.told → calls_log self.old ≡ true → (added : Group) (kept : Kept) (others : List Kept) → StoreStands self.old added kept others
+            → (images : Images) → AreImages self.new images → self.new.firm ≤ length (restores images).entries }
+        ensures underway { self.new.state ≡ State.Open → D.told → IsUnderWay self.new }
+        ensures generation { self.new.generation ≡ self.old.generation }
+        ensures not_taken { OnErr result (self.new.state ≡ State.Open → self.new.waiting ≡ self.old.waiting) }
+        // Memory that runs out before any device call changes nothing.
+        ensures unchanged { OnErr result (self.new.state ≡ State.Open → calls_log self.old ≡ true → rests self.old.log.job ≡ true → self.new ≡ self.old) }
+        ensures untouched { (self.old.state ≡ State.Open → ⊥) → self.new ≡ self.old }
+        ensures time { TimeLasts self.old self.new }
+        ensures later { NoneFalls self.old self.new }
+        ensures cause { IsErrOf result (LogFault.Disk false) → OneRose self.old self.new }
+        ensures closes { Closes result self.old.state self.new.state }
+    {
+        let waited = self.waiting.len();
+        self.start(alloc, Job::Append(entries))?;
+        let answer = self.finish(alloc);
+        if answer.is_err() {
+            self.take_back(waited);
+        }
+        answer
+    }
 
     /// Makes the next device call, and tells whether no job runs then. Where none runs before, it
     /// starts the first that applies: the close of a slot, the repair of the log, the group of all
@@ -88,6 +132,9 @@ impl<D: Disk> Store<D> {
         ensures goes { OnOk result (D.told → (added : Group) (kept : Kept) (others : List Kept) → StoreStands self.old added kept others
             → StoreStands self.new (added_by self.old added) (kept_after self.old added kept) (others_after self.old added kept others)) }
         ensures underway { self.new.state ≡ State.Open → D.told → IsUnderWay self.new }
+        ensures done { IfOk result (λ done. done ≡ is_idle self.new) }
+        ensures jobs { OnOk result (NextJobs self.old self.new) }
+        ensures together { OnOk result ((added : Group) (kept : Kept) → together self.new (added_by self.old added) (kept_after self.old added kept) ≡ together self.old added kept) }
         // Whether it goes well or not, a crash restores what is kept, or what was at stake.
         ensures crash { self.old.state ≡ State.Open → D.told → (added : Group) (kept : Kept) (others : List Kept) → StoreStands self.old added kept others
             → LeavesEither self.new kept (at_stake self.old added kept others) }
@@ -95,16 +142,22 @@ impl<D: Disk> Store<D> {
         ensures any_moment { self.old.state ≡ State.Open → D.told → D.remembers → (added : Group) (kept : Kept) (others : List Kept) → StoreStands self.old added kept others
             → (images : Images) → LeftSince self.old self.new images → (restores images ≡ kept) ⊎ (restores images ≡ at_stake self.old added kept others) }
         ensures waiting { OnOk result (self.new.waiting ≡ waiting_after self.old) }
+        ensures adding { OnOk result (self.new.adding ≡ adding_after self.old) }
         ensures firm { OnOk result (self.new.firm ≡ firm_after self.old) }
+        ensures counts { OnOk result (min (self.new.firm + to_come self.new) (2 ^ 64 - 1) ≡ min (self.old.firm + to_come self.old) (2 ^ 64 - 1)) }
         ensures not_firm { OnErr result (self.new.firm ≡ self.old.firm) }
         ensures generation { self.new.generation ≡ self.old.generation }
         ensures untouched { (self.old.state ≡ State.Open → ⊥) → self.new ≡ self.old }
+        // Memory that runs out where a job of the log begins changes nothing.
+        ensures unchanged { OnErr result (self.new.state ≡ State.Open → (self.new ≡ self.old) × (idle self.old.log.job ≡ true)) }
+        ensures one { CallsOne self.old self.new }
+        ensures time { TimeGoes self.old self.new }
         ensures later { NoneFalls self.old self.new }
         ensures cause { IsErrOf result (LogFault.Disk false) → OneRose self.old self.new }
         ensures closes { Closes result self.old.state self.new.state }
     {
         let _ = tail;
-        self.state()?;
+        self.state.check()?;
         if is_closing(&self.slots.even.job) {
             return self.close_slot(EVEN);
         }
@@ -117,9 +170,9 @@ impl<D: Disk> Store<D> {
 
     /// Gives entries to the store. They wait for the next group.
     pub fn start(&mut self, alloc: Global, job: Job) -> Result<(), StoreFault>
-        requires { AreEntries job.entries }
-        ensures waiting { OnOk result (self.new.waiting ≡ self.old.waiting ++ job.entries) }
-        ensures err { OnErr result (self.new.waiting ≡ self.old.waiting) }
+        requires { AreEntries (given job) }
+        ensures waiting { OnOk result (self.new.waiting ≡ self.old.waiting ++ given job) }
+        ensures err { OnErr result (self.new ≡ self.old) }
         ensures slots { self.new.slots ≡ self.old.slots }
         ensures log { self.new.log ≡ self.old.log }
         ensures other_log { self.new.other_log ≡ self.old.other_log }
@@ -131,8 +184,10 @@ impl<D: Disk> Store<D> {
         ensures cause { IsErrOf result (LogFault.Disk false) → ⊥ }
         ensures closes { Closes result self.old.state self.new.state }
     {
-        self.state()?;
-        push_all(alloc, &mut self.waiting, job.entries)?;
+        self.state.check()?;
+        match job {
+            Job::Append(entries) => push_all(alloc, &mut self.waiting, entries)?,
+        }
         Ok(())
     }
 
@@ -158,7 +213,16 @@ impl<D: Disk> Store<D> {
         self.generation
     }
 
-    /// Whether there is a call to make.
+    /// Whether no job runs. One may be due all the same, where a gate is torn or entries wait.
+    pub fn is_idle(&self) -> bool
+        ensures { result ≡ is_idle self.now }
+    {
+        is_slot_idle(&self.slots.even.job)
+            && is_slot_idle(&self.slots.odd.job)
+            && is_log_idle(&self.log.job)
+    }
+
+    /// Whether there is a call to make: a job runs, or one begins. Where none is due no job runs.
     pub fn is_due(&self) -> bool
         ensures { result ≡ is_due self.now }
     {
@@ -200,6 +264,55 @@ impl<D: Disk> Store<D> {
         }
     }
 
+    /// Makes every call that is due.
+    fn finish(&mut self, alloc: Global) -> Result<(), StoreFault>
+        requires open { self.old.state ≡ State.Open }
+        requires stands { D.told → IsUnderWay self.old }
+        ensures ok { OnOk result (D.told → (added : Group) (kept : Kept) (others : List Kept) → StoreStands self.old added kept others
+            → StoreStands self.new [] (with kept (running self.old added ++ self.old.waiting)) []) }
+        ensures firm { OnOk result (self.new.firm ≡ min (self.old.firm + to_come self.old) (2 ^ 64 - 1)) }
+        ensures done { OnOk result ((is_due self.new ≡ false) × (self.new.waiting ≡ [])) }
+        ensures crash { D.told → (added : Group) (kept : Kept) (others : List Kept) → StoreStands self.old added kept others
+            → (images : Images) → AreImages self.new images → Grows kept others (running self.old added) (running self.old added ++ self.old.waiting) (restores images) }
+        ensures any_moment { D.told → D.remembers → calls_log self.old ≡ true → (added : Group) (kept : Kept) (others : List Kept) → StoreStands self.old added kept others
+            → (images : Images) → LeftSince self.old self.new images → Grows kept others (running self.old added) (running self.old added ++ self.old.waiting) (restores images) }
+        ensures counted { D.told → calls_log self.old ≡ true → (added : Group) (kept : Kept) (others : List Kept) → StoreStands self.old added kept others
+            → (images : Images) → AreImages self.new images → self.new.firm ≤ length (restores images).entries }
+        ensures underway { self.new.state ≡ State.Open → D.told → IsUnderWay self.new }
+        ensures generation { self.new.generation ≡ self.old.generation }
+        ensures held { OnErr result (self.new.state ≡ State.Open → self.new.waiting ≡ self.old.waiting) }
+        ensures unchanged { OnErr result (self.new.state ≡ State.Open → calls_log self.old ≡ true → rests self.old.log.job ≡ true → self.new ≡ self.old) }
+        ensures time { TimeLasts self.old self.new }
+        ensures later { NoneFalls self.old self.new }
+        ensures cause { IsErrOf result (LogFault.Disk false) → OneRose self.old self.new }
+        ensures closes { Closes result self.old.state self.new.state }
+    {
+        let tail = Tail {
+            made: 0,
+            entries: Sequence::new(alloc),
+        };
+        while self.is_due() {
+            self.next_call(alloc, &tail)?;
+        }
+        let _firm = self.firm;
+        Ok(())
+    }
+
+    /// Lets only the first of the entries wait, as many as `count`.
+    fn take_back(&mut self, count: usize)
+        ensures waiting { self.new.waiting ≡ take count self.old.waiting }
+        ensures slots { self.new.slots ≡ self.old.slots }
+        ensures log { self.new.log ≡ self.old.log }
+        ensures other_log { self.new.other_log ≡ self.old.other_log }
+        ensures generation { self.new.generation ≡ self.old.generation }
+        ensures firm { self.new.firm ≡ self.old.firm }
+        ensures adding { self.new.adding ≡ self.old.adding }
+        ensures state { self.new.state ≡ self.old.state }
+        ensures stands { (added : Group) (kept : Kept) (others : List Kept) → StoreStands self.old added kept others → StoreStands self.new added kept others }
+    {
+        self.waiting.truncate(count);
+    }
+
     /// Makes the next device call that closes a slot.
     fn close_slot(&mut self, generation: u64) -> Result<bool, StoreFault>
         requires some { 0 < generation }
@@ -209,6 +322,7 @@ impl<D: Disk> Store<D> {
         ensures goes { OnOk result (D.told → (next : Checkpoint) (has other : Option Checkpoint) → StandsAt D.cells generation self.old.slots next has other
             → StandsAt D.cells generation self.new.slots next has (other_closed (slot generation self.old.slots).job has other)) }
         ensures next { OnOk result ((slot generation self.new.slots).job ≡ job_closed (slot generation self.old.slots).job) }
+        ensures done { IfOk result (λ done. done ≡ is_idle self.new) }
         ensures crash { D.told → (next : Checkpoint) (has other : Option Checkpoint) → StandsAt D.cells generation self.old.slots next has other
             → LeavesAt D.cells generation self.new.slots has other }
         ensures beside { OnOk result (beside generation self.new.slots ≡ beside generation self.old.slots) }
@@ -227,7 +341,7 @@ impl<D: Disk> Store<D> {
         ensures closes { Closes result self.old.state self.new.state }
     {
         match close_call(&mut self.slots, generation) {
-            Ok(is_done) => Ok(is_done),
+            Ok(_) => Ok(self.is_idle()),
             Err(fault) => {
                 self.state = closed_by(fault);
                 Err(fault)
@@ -251,6 +365,7 @@ impl<D: Disk> Store<D> {
         ensures state { self.new.state ≡ self.old.state }
         ensures err_log { OnErr result ((self.new.log.job ≡ self.old.log.job) × (self.new.log.end ≡ self.old.log.end)) }
         ensures err { OnErr result ((self.new.waiting ≡ self.old.waiting) × (self.new.adding ≡ self.old.adding)) }
+        ensures unchanged { OnErr result ((self.new ≡ self.old) × (idle self.old.log.job ≡ true)) }
         ensures cause { IsErrOf result (LogFault.Disk false) → ⊥ }
         ensures closes { Closes result self.old.state self.new.state }
     {
@@ -278,6 +393,7 @@ impl<D: Disk> Store<D> {
         ensures state { self.new.state ≡ self.old.state }
         ensures err_log { OnErr result ((self.new.log.job ≡ self.old.log.job) × (self.new.log.end ≡ self.old.log.end)) }
         ensures err { OnErr result ((self.new.waiting ≡ self.old.waiting) × (self.new.adding ≡ self.old.adding)) }
+        ensures unchanged { OnErr result ((self.new ≡ self.old) × (idle self.old.log.job ≡ true)) }
         ensures cause { IsErrOf result (LogFault.Disk false) → ⊥ }
         ensures closes { Closes result self.old.state self.new.state }
     {
@@ -298,6 +414,7 @@ impl<D: Disk> Store<D> {
         ensures goes { OnOk result (D.told → (added : Group) (gs other : List Group) → Stands (D.cells self.old.log.device) self.old.log.end self.old.log.job added gs other
             → Stands (D.cells self.new.log.device) self.new.log.end self.new.log.job added (log_kept_after self.old.log.job added gs) (log_other_after self.old.log.job added gs other)) }
         ensures next { OnOk result (code self.new.log.job ≡ code_after self.old.log.job) }
+        ensures done { IfOk result (λ done. done ≡ is_idle self.new) }
         ensures crash { D.told → (added : Group) (gs other : List Group) → Stands (D.cells self.old.log.device) self.old.log.end self.old.log.job added gs other
             → LogLeaves (D.cells self.new.log.device) gs (log_at_stake self.old.log.job added gs other) }
         ensures firm { OnOk result (self.new.firm ≡ cond (ends_group self.old.log.job) (min (self.old.firm + self.old.adding) (2 ^ 64 - 1)) self.old.firm) }
@@ -314,33 +431,20 @@ impl<D: Disk> Store<D> {
         ensures closes { Closes result self.old.state self.new.state }
     {
         if is_resting(&self.log.job) {
-            return Ok(true);
+            return Ok(self.is_idle());
         }
         let ends_group = matches!(self.log.job, LogJob::SyncGate(_));
         match self.log.next_call() {
-            Ok(is_done) => {
+            Ok(_) => {
                 if ends_group {
                     self.firm = self.firm.saturating_add(self.adding);
                 }
-                Ok(is_done)
+                Ok(self.is_idle())
             }
             Err(fault) => {
                 self.state = closed_by(fault);
                 Err(fault)
             }
-        }
-    }
-
-    /// What a closed store answers.
-    fn state(&self) -> Result<(), StoreFault>
-        ensures closes { Closes result self.now.state self.now.state }
-        ensures not_now { IsErrOf result (LogFault.Disk false) → ⊥ }
-        ensures closed { OnErr result (self.now.state ≡ State.Open → ⊥) }
-    {
-        match self.state {
-            State::Open => Ok(()),
-            State::Failed => Err(LogFault::Disk { closed: true }),
-            State::NoMemory => Err(LogFault::NoMemory),
         }
     }
 }

@@ -5,6 +5,10 @@ use Rattle.smart_base.specs.Cuts.{Cut, Read, ◌>>=◌, number_at, text_at, byte
 use Rattle.store_form.specs.Spelling.{Group}
 use Rattle.store_form.specs.declared.checkpoint.Checkpoint.{Checkpoint}
 
+-- bytes from their first on
+abbrev pub all_of : List ℕ → Cut
+all_of bytes = record { at = 0; left = bytes }
+
 abbrev pub entry_at : Cut → Read (List ℕ)
 entry_at = contents bytes_at
 

@@ -1,8 +1,7 @@
 use Rattle.std.proofs.Common.{◌≡◌, ◌∷◌, ◌++◌, ◌<◌, List, ℕ, Ok, length, get_or, rules, sym, ap, subst, ◌∙◌, arith}
 use Rattle.smart_base.specs.Cuts.{Cut, IsBytes}
 use Rattle.store_form.specs.Spelling.{group_text}
-use Rattle.store_form.specs.Reading.{group_at}
-use Rattle.batch_log.specs.Log.{all_of}
+use Rattle.store_form.specs.Reading.{all_of, group_at}
 use Rattle.batch_log.proofs.Spelled.{takes_group, front_one}
 use Rattle.batch_log.proofs.reading.first_group.Goals as goal
 

@@ -1,4 +1,4 @@
-use Rattle.std.proofs.Common.{rules, ◌≡◌, sym, subst, ap, ◌∙◌, OnOk}
+use Rattle.std.proofs.Common.{◌≡◌, sym, subst, OnOk}
 use Rattle.checkpoint_store.specs.Stores.{slot}
 use Rattle.durable_store.specs.Turns.{job_begun}
 use Rattle.durable_store.proofs.closing.begin.Goals as goal

@@ -1,10 +1,8 @@
-use Rattle.std.proofs.Common.{◌≡◌, Option, sym, subst}
-use Rattle.store_form.specs.declared.checkpoint.Checkpoint.{Checkpoint}
+use Rattle.std.proofs.Common.{sym, subst}
 use Rattle.checkpoint_store.specs.Slots.{is_odd}
-use Rattle.checkpoint_store.specs.Stores.{slot, StandsAt}
-use Rattle.checkpoint_store.specs.SlotJobs.{SlotStands, has_after, other_after}
+use Rattle.checkpoint_store.specs.Stores.{slot}
+use Rattle.checkpoint_store.specs.SlotJobs.{SlotStands}
 use Rattle.checkpoint_store.proofs.Phases.{leaves}
-use Rattle.durable_store.specs.Turns.{other_closed}
 use Rattle.durable_store.proofs.Closings.{begins, goes, stake, on_ok}
 use Rattle.durable_store.proofs.closing.close_call.Goals as goal
 

@@ -1,4 +1,4 @@
-use Rattle.std.proofs.Common.{◌≡◌, ◌++◌}
+use Rattle.std.proofs.Common.{◌≡◌}
 use Rattle.durable_store.specs.Restored.{entries_of}
 use Rattle.durable_store.proofs.reopening.flattened.Given as goal
 

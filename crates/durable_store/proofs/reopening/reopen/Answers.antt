@@ -1,7 +1,6 @@
-use Rattle.std.proofs.Common.{◌≡◌, ◌∙◌, ap, false, true}
+use Rattle.std.proofs.Common.{◌∙◌, ap, false, true}
 use Rattle.batch_log.specs.Log.{restored}
-use Rattle.checkpoint_store.specs.Slots.{is_odd, slot_of}
-use Rattle.durable_store.specs.Restored.{generation_of}
+use Rattle.checkpoint_store.specs.Slots.{is_odd, slot_of, generation_of}
 use Rattle.durable_store.proofs.Opened.{opened, both_settled, kept_reads}
 use Rattle.durable_store.proofs.reopening.reopen.Goals as goal
 

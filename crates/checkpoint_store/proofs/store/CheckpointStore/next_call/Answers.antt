@@ -6,8 +6,8 @@ use Rattle.checkpoint_store.proofs.Phases.{stakes}
 use Rattle.checkpoint_store.proofs.Runs.{made_leaves, same_devices}
 use Rattle.checkpoint_store.proofs.store.CheckpointStore.next_call.Goals as goal
 
-pub returns-in_err-state-clause-crash : goal.returns-in_err-state-clause-crash
-returns-in_err-state-clause-crash g c = λ told next has other s.
+pub returns-in_err-check-clause-crash : goal.returns-in_err-check-clause-crash
+returns-in_err-check-clause-crash g c = λ told next has other s.
     stakes (is_odd c.args.generation) (g.D.Disk.cells (slot c.args.generation c.args.self.now).device) (slot c.args.generation c.args.self.now).job next has other s
 
 pub returns-in-Ok-clause-crash : goal.returns-in-Ok-clause-crash

@@ -10,23 +10,23 @@ use Rattle.disk_model.proofs.memory.MemDiskDisk.write_at.Goals as goal
 
 pub returns-then-not-has_room-clause-torn : goal.returns-then-not-has_room-clause-torn
 returns-then-not-has_room-clause-torn c =
-    λ told. begun c.args.at c.args.bytes.now (disk_cells c.args.self.now) (disk_cells c.is_to_fail-is_to_fail.new.self) (c.requires told) (ap (λ (p : Platter). cells_of p) c.is_to_fail-is_to_fail.ensures.platter)
+    begun c.args.at c.args.bytes.now (disk_cells c.args.self.now) (disk_cells c.is_to_fail-is_to_fail.new.self) c.requires (ap (λ (p : Platter). cells_of p) c.is_to_fail-is_to_fail.ensures.platter)
 
 pub returns-in-Ok-clause-torn : goal.returns-in-Ok-clause-torn
 returns-in-Ok-clause-torn c =
     let range : Range = record { from = c.args.at; upto = c.args.at + length c.args.bytes.now } in
     let old : disk_cells c.is_to_fail-is_to_fail.new.self ≡ disk_cells c.args.self.now = ap (λ (p : Platter). cells_of p) c.is_to_fail-is_to_fail.ensures.platter in
     let counted : disk_cells c.fault.new.self ≡ disk_cells c.make.new.self = ap (λ (p : Platter). cells_of p) c.fault.ensures.platter in
-    λ told. torn c.args.at c.args.bytes.now (disk_cells c.args.self.now) (disk_cells c.fault.new.self) (c.requires told) (counted ∙ c.in-Ok.ensures.ok ∙ ap (λ (s : Cells). torn_write range s) old)
+    torn c.args.at c.args.bytes.now (disk_cells c.args.self.now) (disk_cells c.fault.new.self) c.requires (counted ∙ c.in-Ok.ensures.ok ∙ ap (λ (s : Cells). torn_write range s) old)
 
 pub returns-in-Err-clause-torn : goal.returns-in-Err-clause-torn
 returns-in-Err-clause-torn c =
-    λ told. begun c.args.at c.args.bytes.now (disk_cells c.args.self.now) (disk_cells c.make.new.self) (c.requires told) (c.in-Err.ensures.err ∙ ap (λ (p : Platter). cells_of p) c.is_to_fail-is_to_fail.ensures.platter)
+    begun c.args.at c.args.bytes.now (disk_cells c.args.self.now) (disk_cells c.make.new.self) c.requires (c.in-Err.ensures.err ∙ ap (λ (p : Platter). cells_of p) c.is_to_fail-is_to_fail.ensures.platter)
 
 pub returns-in-Err-from_slice-clause-torn : goal.returns-in-Err-from_slice-clause-torn
 returns-in-Err-from_slice-clause-torn c =
-    λ told. begun c.args.at c.args.bytes.now (disk_cells c.args.self.now) (disk_cells c.is_to_fail-is_to_fail.new.self) (c.requires told) (ap (λ (p : Platter). cells_of p) c.is_to_fail-is_to_fail.ensures.platter)
+    begun c.args.at c.args.bytes.now (disk_cells c.args.self.now) (disk_cells c.is_to_fail-is_to_fail.new.self) c.requires (ap (λ (p : Platter). cells_of p) c.is_to_fail-is_to_fail.ensures.platter)
 
 pub returns-in-Err-make-clause-torn : goal.returns-in-Err-make-clause-torn
 returns-in-Err-make-clause-torn c =
-    λ told. begun c.args.at c.args.bytes.now (disk_cells c.args.self.now) (disk_cells c.make-2.new.self) (c.requires told) (c.in-Err-make.ensures.err ∙ ap (λ (p : Platter). cells_of p) c.is_to_fail-is_to_fail.ensures.platter)
+    begun c.args.at c.args.bytes.now (disk_cells c.args.self.now) (disk_cells c.make-2.new.self) c.requires (c.in-Err-make.ensures.err ∙ ap (λ (p : Platter). cells_of p) c.is_to_fail-is_to_fail.ensures.platter)

@@ -1,8 +1,8 @@
-use Rattle.std.proofs.Common.{◌≡◌, Option, Some, None, sym, ap, ◌∙◌}
+use Rattle.std.proofs.Common.{◌≡◌, Option, Some, None, IsSome, sym, ap, ◌∙◌, subst}
 use Rattle.disk_model.specs.Rooms.{address, address_of, cells_of_kept, noted_faults, cells_of_shelf, taken_of_shelf, faults_if_gone}
 use Rattle.disk_model.specs.declared.room.Shelf.{Shelf}
 use Rattle.disk_model.specs.declared.memory.MemDisk.{MemDisk}
-use Rattle.disk_model.proofs.Shelves.{none_there, found_there, pushed, pushed_other, changed}
+use Rattle.disk_model.proofs.Shelves.{none_there, found_there, pushed, pushed_other, changed, not_gone, not_both}
 use Rattle.disk_model.proofs.room.MemRoomDiskRoom.get.Goals as goal
 
 pub returns-in-Ok-clause-disk : goal.returns-in-Ok-clause-disk
@@ -70,3 +70,32 @@ returns-in-None-take-clause-refused_taken c =
     let is = changed here c.args.self.now.shelves.items c.in-Some.index c.index_mut.result.now c.take.new.shelf at c.index_mut.ensures.value (ap address_of c.take.ensures.shelf) in
     let gone : c.index_mut.result.now.disk ≡ None = sym c.take.ensures.disk ∙ c.in-None-take.is in
     rw c.fault.ensures.shelves (ap taken_of_shelf is.now ∙ (ap (λ (s : Shelf). taken_of_shelf (Some s)) c.take.ensures.shelf ∙ (ap (λ (disk : Option MemDisk). Some (noted_faults disk c.index_mut.result.now.faults)) gone ∙ (ap (λ (disk : Option MemDisk). faults_if_gone disk c.index_mut.result.now.faults) (sym gone) ∙ sym (ap taken_of_shelf is.before)))))
+
+pub returns-in-Ok-clause-free : goal.returns-in-Ok-clause-free
+returns-in-Ok-clause-free c =
+    let here = address c.args.dir.now c.args.member c.args.device in
+    ap taken_of_shelf (none_there here c.as_slice.result.now c.args.self.now.shelves.items c.index_at.result c.as_slice.ensures.value c.index_at.ensures c.in-None.is)
+
+pub returns-in-Ok-clause-not_twice : goal.returns-in-Ok-clause-not_twice
+returns-in-Ok-clause-not_twice c =
+    let here = address c.args.dir.now c.args.member c.args.device in
+    λ gone. absurd (not_gone c.args.self.now.shelves.items here gone (none_there here c.as_slice.result.now c.args.self.now.shelves.items c.index_at.result c.as_slice.ensures.value c.index_at.ensures c.in-None.is))
+
+pub returns-in-Err-clause-not_twice : goal.returns-in-Err-clause-not_twice
+returns-in-Err-clause-not_twice c =
+    let here = address c.args.dir.now c.args.member c.args.device in
+    λ gone. absurd (not_gone c.args.self.now.shelves.items here gone (none_there here c.as_slice.result.now c.args.self.now.shelves.items c.index_at.result c.as_slice.ensures.value c.index_at.ensures c.in-None.is))
+
+pub returns-in-Some-take-clause-free : goal.returns-in-Some-take-clause-free
+returns-in-Some-take-clause-free c =
+    let here = address c.args.dir.now c.args.member c.args.device in
+    let at = found_there here c.as_slice.result.now c.args.self.now.shelves.items c.index_at.result c.in-Some.index c.as_slice.ensures.value c.index_at.ensures c.in-Some.is in
+    let is = changed here c.args.self.now.shelves.items c.in-Some.index c.index_mut.result.now c.take.new.shelf at c.index_mut.ensures.value (ap address_of c.take.ensures.shelf) in
+    ap taken_of_shelf is.before ∙ ap (λ (disk : Option MemDisk). faults_if_gone disk c.index_mut.result.now.faults) (sym c.take.ensures.disk ∙ c.in-Some-take.is)
+
+pub returns-in-Some-take-clause-not_twice : goal.returns-in-Some-take-clause-not_twice
+returns-in-Some-take-clause-not_twice c =
+    let here = address c.args.dir.now c.args.member c.args.device in
+    let at = found_there here c.as_slice.result.now c.args.self.now.shelves.items c.index_at.result c.in-Some.index c.as_slice.ensures.value c.index_at.ensures c.in-Some.is in
+    let is = changed here c.args.self.now.shelves.items c.in-Some.index c.index_mut.result.now c.take.new.shelf at c.index_mut.ensures.value (ap address_of c.take.ensures.shelf) in
+    λ gone. absurd (not_both (subst IsSome (ap taken_of_shelf is.before ∙ ap (λ (disk : Option MemDisk). faults_if_gone disk c.index_mut.result.now.faults) (sym c.take.ensures.disk ∙ c.in-Some-take.is)) gone))

@@ -83,3 +83,12 @@ pub returns-in_default-clause-rose : goal.returns-in_default-clause-rose
 returns-in_default-clause-rose c =
     let here = address c.args.dir.now c.args.member c.args.device in
     absurd (not_gone c.args.self.now.shelves.items here c.requires (none_there here c.as_slice.result.now c.args.self.now.shelves.items c.index_at.result c.as_slice.ensures.value c.index_at.ensures (c.in_default.is)))
+
+pub returns-then-put_back-clause-steady : goal.returns-then-put_back-clause-steady
+returns-then-put_back-clause-steady c =
+    let here = address c.args.dir.now c.args.member c.args.device in
+    let at = found_there here c.as_slice.result.now c.args.self.now.shelves.items c.index_at.result c.in-Some.index c.as_slice.ensures.value c.index_at.ensures c.in-Some.is in
+    let is = changed here c.args.self.now.shelves.items c.in-Some.index c.index_mut.result.now c.put_back.new.shelf at c.index_mut.ensures.value (ap address_of c.put_back.ensures.shelf) in
+    λ before taken not_risen.
+    let noted : c.index_mut.result.now.faults ≡ before = gone_faults c.index_mut.result.now before (sym (ap taken_of_shelf is.before) ∙ taken) in
+    absurd (not_risen (subst (λ (n : ℕ). Rose n c.args.disk.faults) noted (c.put_back.ensures.rose c.if-put_back.true)))

@@ -1,15 +1,14 @@
-use Rattle.std.proofs.Common.{◌≡◌, ◌≤◌, ◌∙◌, inl, inr, subst, arith, Bool, true, false, cond, ◌&&◌, List, sym, ap, ⊎_elim}
+use Rattle.std.proofs.Common.{◌≡◌, ◌≤◌, ◌∙◌, inl, inr, subst, arith, true, false, cond, ◌&&◌, refl, sym, ap, ⊎_elim}
 use Rattle.faults.specs.Counts.{Rose}
-use Rattle.store_form.specs.Spelling.{Group}
 use Rattle.batch_log.specs.Ends.{Closes}
 use Rattle.durable_store.specs.Turns.{closing, rests}
-use Rattle.durable_store.specs.Standing.{some, at_stake, StoreStands, IsUnderWay}
-use Rattle.durable_store.specs.declared.kept.Kept.{Kept}
+use Rattle.durable_store.specs.Standing.{some, at_stake, StoreStands}
 use Rattle.durable_store.specs.Calls.{Goes}
 use Rattle.durable_store.proofs.Anytime.{even_moment, odd_moment, log_moment, still_moment}
 use Rattle.durable_store.proofs.Moves.{store_leaves}
 use Rattle.durable_store.proofs.Goes.{even_goes, odd_goes, begin_goes, call_goes}
-use Rattle.durable_store.proofs.Called.{ok_three, ok_or_err, even_crash, odd_crash, same_crash, log_crash, even_after, odd_after, log_after, even_stake, odd_stake, log_staked, not_begun, same_stands, on_all, on_none, on_ok, on_err, even_counts, odd_counts, log_firm, log_waiting, even_falls, odd_falls, log_falls}
+use Rattle.durable_store.proofs.Called.{ok_two, ok_three, ok_or_err, even_crash, odd_crash, same_crash, log_crash, even_after, odd_after, log_after, even_stake, odd_stake, log_staked, not_begun, same_stands, on_all, on_none, on_ok, on_err, even_counts, odd_counts, log_firm, log_waiting, even_falls, odd_falls, log_falls}
+use Rattle.durable_store.proofs.Given.{code_then, even_jobs, odd_jobs, log_jobs, even_together, odd_together, log_together, even_adding, odd_adding, log_adding, closed_counts, log_counts, none_calls, even_calls, odd_calls, log_calls, none_goes, even_times, odd_times, log_times}
 use Rattle.durable_store.proofs.store.Store.next_call.Goals as goal
 
 pub returns-then-is_closing-clause-goes : goal.returns-then-is_closing-clause-goes
@@ -33,7 +32,7 @@ returns-then-is_closing-clause-crash g c = λ is_open told added kept others h.
 
 pub returns-then-is_closing-clause-underway : goal.returns-then-is_closing-clause-underway
 returns-then-is_closing-clause-underway g c = λ is_open told.
-    let u = c.requires.stands c.in_ok-state.ensures.closes.0 told in
+    let u = c.requires.stands c.in_ok-check.ensures.closes.0 told in
     ⊎_elim (λ goes. record { added = _; kept = _; others = _; stands = goes told u.added u.kept u.others u.stands }) (λ shut. absurd (shut is_open))
     (ok_or_err c.close_slot.result _ _ (returns-then-is_closing-clause-goes g c) c.close_slot.ensures.shut)
 
@@ -60,7 +59,7 @@ returns-then-is_closing-2-clause-crash g c = λ is_open told added kept others h
 
 pub returns-then-is_closing-2-clause-underway : goal.returns-then-is_closing-2-clause-underway
 returns-then-is_closing-2-clause-underway g c = λ is_open told.
-    let u = c.requires.stands c.in_ok-state.ensures.closes.0 told in
+    let u = c.requires.stands c.in_ok-check.ensures.closes.0 told in
     ⊎_elim (λ goes. record { added = _; kept = _; others = _; stands = goes told u.added u.kept u.others u.stands }) (λ shut. absurd (shut is_open))
     (ok_or_err c.close_slot-then-is_closing-2.result _ _ (returns-then-is_closing-2-clause-goes g c) c.close_slot-then-is_closing-2.ensures.shut)
 
@@ -69,7 +68,7 @@ returns-in_err-begin-clause-underway g c = λ is_open told.
     let s = c.args.self.now in
     let t = c.begin.new.self in
     let e = c.in_err-begin.ensures in
-    let u = c.requires.stands c.in_ok-state.ensures.closes.0 told in
+    let u = c.requires.stands c.in_ok-check.ensures.closes.0 told in
     record {
       added = u.added;
       kept = u.kept;
@@ -104,7 +103,7 @@ returns-clause-goes g c =
 
 pub returns-clause-underway : goal.returns-clause-underway
 returns-clause-underway g c = λ is_open told.
-    let u = c.requires.stands c.in_ok-state.ensures.closes.0 told in
+    let u = c.requires.stands c.in_ok-check.ensures.closes.0 told in
     ⊎_elim (λ goes. record { added = _; kept = _; others = _; stands = goes told u.added u.kept u.others u.stands }) (λ shut. absurd (shut is_open))
     (ok_or_err c.call_log.result _ _ (returns-clause-goes g c) c.call_log.ensures.shut)
 
@@ -195,19 +194,19 @@ returns-clause-closes g c =
 
 pub returns-then-is_closing-clause-untouched : goal.returns-then-is_closing-clause-untouched
 returns-then-is_closing-clause-untouched g c =
-    λ shut. absurd (shut c.in_ok-state.ensures.closes.0)
+    λ shut. absurd (shut c.in_ok-check.ensures.closes.0)
 
 pub returns-then-is_closing-2-clause-untouched : goal.returns-then-is_closing-2-clause-untouched
 returns-then-is_closing-2-clause-untouched g c =
-    λ shut. absurd (shut c.in_ok-state.ensures.closes.0)
+    λ shut. absurd (shut c.in_ok-check.ensures.closes.0)
 
 pub returns-in_err-begin-clause-untouched : goal.returns-in_err-begin-clause-untouched
 returns-in_err-begin-clause-untouched g c =
-    λ shut. absurd (shut c.in_ok-state.ensures.closes.0)
+    λ shut. absurd (shut c.in_ok-check.ensures.closes.0)
 
 pub returns-clause-untouched : goal.returns-clause-untouched
 returns-clause-untouched g c =
-    λ shut. absurd (shut c.in_ok-state.ensures.closes.0)
+    λ shut. absurd (shut c.in_ok-check.ensures.closes.0)
 
 pub returns-then-is_closing-clause-later : goal.returns-then-is_closing-clause-later
 returns-then-is_closing-clause-later g c =
@@ -286,3 +285,141 @@ returns-clause-any_moment g c = λ is_open told remembers added kept others h im
     (not_begun s s s added kept others h calm too (store_leaves s added kept others h))
     (returns-clause-crash g c is_open told added kept others h) images left
     (subst (λ (d : _). Goes g.D.Disk d t.log.device) b.device e.time) (e.slots ∙ b.slots)
+
+-- ---- which job comes next, and what was given
+
+pub returns-then-is_closing-clause-jobs : goal.returns-then-is_closing-clause-jobs
+returns-then-is_closing-clause-jobs g c =
+    let is : closing c.args.self.now.slots.even.job ≡ true = sym c.is_closing.ensures ∙ c.if-is_closing.true in
+    let e = c.close_slot.ensures in
+    ok_two c.close_slot.result _ _ _ (λ next beside. even_jobs c.args.self.now c.close_slot.new.self is next beside e.log) e.next e.beside
+
+pub returns-then-is_closing-2-clause-jobs : goal.returns-then-is_closing-2-clause-jobs
+returns-then-is_closing-2-clause-jobs g c =
+    let calm : closing c.args.self.now.slots.even.job ≡ false = sym c.is_closing.ensures ∙ c.if-is_closing.false in
+    let is : closing c.args.self.now.slots.odd.job ≡ true = sym c.is_closing-2.ensures ∙ c.if-is_closing-2.true in
+    let e = c.close_slot-then-is_closing-2.ensures in
+    ok_two c.close_slot-then-is_closing-2.result _ _ _ (λ next beside. odd_jobs c.args.self.now c.close_slot-then-is_closing-2.new.self calm is next beside e.log) e.next e.beside
+
+pub returns-clause-jobs : goal.returns-clause-jobs
+returns-clause-jobs g c =
+    let s = c.args.self.now in
+    let m = c.begin.new.self in
+    let calm : closing s.slots.even.job ≡ false = sym c.is_closing.ensures ∙ c.if-is_closing.false in
+    let too : closing s.slots.odd.job ≡ false = sym c.is_closing-2.ensures ∙ c.if-is_closing-2.false in
+    let b = c.in_ok-begin.ensures in
+    let e = c.call_log.ensures in
+    on_ok c.call_log.result _ _ (λ next. log_jobs s c.call_log.new.self calm too (e.slots ∙ b.slots) (next ∙ code_then (some s.waiting) s.log.job m.log.job b.job)) e.next
+
+pub returns-then-is_closing-clause-together : goal.returns-then-is_closing-clause-together
+returns-then-is_closing-clause-together g c =
+    let is : closing c.args.self.now.slots.even.job ≡ true = sym c.is_closing.ensures ∙ c.if-is_closing.true in
+    on_all c.close_slot.result _ (even_together c.args.self.now c.close_slot.new.self is c.close_slot.ensures.log c.close_slot.ensures.waiting)
+
+pub returns-then-is_closing-2-clause-together : goal.returns-then-is_closing-2-clause-together
+returns-then-is_closing-2-clause-together g c =
+    let calm : closing c.args.self.now.slots.even.job ≡ false = sym c.is_closing.ensures ∙ c.if-is_closing.false in
+    let is : closing c.args.self.now.slots.odd.job ≡ true = sym c.is_closing-2.ensures ∙ c.if-is_closing-2.true in
+    let e = c.close_slot-then-is_closing-2.ensures in
+    on_all c.close_slot-then-is_closing-2.result _ (odd_together c.args.self.now c.close_slot-then-is_closing-2.new.self calm is e.log e.waiting)
+
+pub returns-clause-together : goal.returns-clause-together
+returns-clause-together g c =
+    let s = c.args.self.now in
+    let m = c.begin.new.self in
+    let calm : closing s.slots.even.job ≡ false = sym c.is_closing.ensures ∙ c.if-is_closing.false in
+    let too : closing s.slots.odd.job ≡ false = sym c.is_closing-2.ensures ∙ c.if-is_closing-2.false in
+    let b = c.in_ok-begin.ensures in
+    let e = c.call_log.ensures in
+    on_ok c.call_log.result _ _ (λ next. log_together s c.call_log.new.self calm too (next ∙ code_then (some s.waiting) s.log.job m.log.job b.job) (e.waiting ∙ b.waiting)) e.next
+
+pub returns-then-is_closing-clause-adding : goal.returns-then-is_closing-clause-adding
+returns-then-is_closing-clause-adding g c =
+    let is : closing c.args.self.now.slots.even.job ≡ true = sym c.is_closing.ensures ∙ c.if-is_closing.true in
+    on_all c.close_slot.result _ (even_adding c.args.self.now c.close_slot.new.self is c.close_slot.ensures.adding)
+
+pub returns-then-is_closing-2-clause-adding : goal.returns-then-is_closing-2-clause-adding
+returns-then-is_closing-2-clause-adding g c =
+    let calm : closing c.args.self.now.slots.even.job ≡ false = sym c.is_closing.ensures ∙ c.if-is_closing.false in
+    let is : closing c.args.self.now.slots.odd.job ≡ true = sym c.is_closing-2.ensures ∙ c.if-is_closing-2.true in
+    on_all c.close_slot-then-is_closing-2.result _ (odd_adding c.args.self.now c.close_slot-then-is_closing-2.new.self calm is c.close_slot-then-is_closing-2.ensures.adding)
+
+pub returns-clause-adding : goal.returns-clause-adding
+returns-clause-adding g c =
+    let calm : closing c.args.self.now.slots.even.job ≡ false = sym c.is_closing.ensures ∙ c.if-is_closing.false in
+    let too : closing c.args.self.now.slots.odd.job ≡ false = sym c.is_closing-2.ensures ∙ c.if-is_closing-2.false in
+    on_all c.call_log.result _ (log_adding c.args.self.now c.call_log.new.self calm too (c.call_log.ensures.adding ∙ c.in_ok-begin.ensures.adding))
+
+pub returns-then-is_closing-clause-counts : goal.returns-then-is_closing-clause-counts
+returns-then-is_closing-clause-counts g c =
+    let e = c.close_slot.ensures in
+    on_all c.close_slot.result _ (closed_counts c.args.self.now c.close_slot.new.self e.log e.waiting e.adding e.firm)
+
+pub returns-then-is_closing-2-clause-counts : goal.returns-then-is_closing-2-clause-counts
+returns-then-is_closing-2-clause-counts g c =
+    let e = c.close_slot-then-is_closing-2.ensures in
+    on_all c.close_slot-then-is_closing-2.result _ (closed_counts c.args.self.now c.close_slot-then-is_closing-2.new.self e.log e.waiting e.adding e.firm)
+
+pub returns-clause-counts : goal.returns-clause-counts
+returns-clause-counts g c =
+    let s = c.args.self.now in
+    let m = c.begin.new.self in
+    let calm : closing s.slots.even.job ≡ false = sym c.is_closing.ensures ∙ c.if-is_closing.false in
+    let too : closing s.slots.odd.job ≡ false = sym c.is_closing-2.ensures ∙ c.if-is_closing-2.false in
+    let b = c.in_ok-begin.ensures in
+    let e = c.call_log.ensures in
+    ok_two c.call_log.result _ _ _ (λ next firm. log_counts s c.call_log.new.self calm too (next ∙ code_then (some s.waiting) s.log.job m.log.job b.job)
+    (log_firm s m c.call_log.new.self calm too b.job b.firm b.adding firm) (e.adding ∙ b.adding) (e.waiting ∙ b.waiting))
+    e.next e.firm
+
+-- ---- the device that is called
+
+pub returns-then-is_closing-clause-one : goal.returns-then-is_closing-clause-one
+returns-then-is_closing-clause-one g c =
+    let is : closing c.args.self.now.slots.even.job ≡ true = sym c.is_closing.ensures ∙ c.if-is_closing.true in
+    let e = c.close_slot.ensures in
+    even_calls c.args.self.now c.close_slot.new.self e.other_log is e.apart e.log
+
+pub returns-then-is_closing-2-clause-one : goal.returns-then-is_closing-2-clause-one
+returns-then-is_closing-2-clause-one g c =
+    let calm : closing c.args.self.now.slots.even.job ≡ false = sym c.is_closing.ensures ∙ c.if-is_closing.false in
+    let is : closing c.args.self.now.slots.odd.job ≡ true = sym c.is_closing-2.ensures ∙ c.if-is_closing-2.true in
+    let e = c.close_slot-then-is_closing-2.ensures in
+    odd_calls c.args.self.now c.close_slot-then-is_closing-2.new.self e.other_log calm is e.apart e.log
+
+pub returns-in_err-begin-clause-one : goal.returns-in_err-begin-clause-one
+returns-in_err-begin-clause-one g c =
+    let b = c.in_err-begin.ensures in
+    none_calls c.args.self.now c.begin.new.self b.other_log (ap (λ q. q.even.device) b.slots) (ap (λ q. q.odd.device) b.slots) b.device
+
+pub returns-clause-one : goal.returns-clause-one
+returns-clause-one g c =
+    let calm : closing c.args.self.now.slots.even.job ≡ false = sym c.is_closing.ensures ∙ c.if-is_closing.false in
+    let too : closing c.args.self.now.slots.odd.job ≡ false = sym c.is_closing-2.ensures ∙ c.if-is_closing-2.false in
+    let b = c.in_ok-begin.ensures in
+    let e = c.call_log.ensures in
+    log_calls c.args.self.now c.call_log.new.self (e.other_log ∙ b.other_log) calm too (e.slots ∙ b.slots)
+
+pub returns-in_err-check-clause-time : goal.returns-in_err-check-clause-time
+returns-in_err-check-clause-time g c = none_goes c.args.self.now c.args.self.now refl refl refl refl
+
+pub returns-then-is_closing-clause-time : goal.returns-then-is_closing-clause-time
+returns-then-is_closing-clause-time g c =
+    let e = c.close_slot.ensures in
+    even_times c.args.self.now c.close_slot.new.self e.other_log e.time e.apart e.log
+
+pub returns-then-is_closing-2-clause-time : goal.returns-then-is_closing-2-clause-time
+returns-then-is_closing-2-clause-time g c =
+    let e = c.close_slot-then-is_closing-2.ensures in
+    odd_times c.args.self.now c.close_slot-then-is_closing-2.new.self e.other_log e.time e.apart e.log
+
+pub returns-in_err-begin-clause-time : goal.returns-in_err-begin-clause-time
+returns-in_err-begin-clause-time g c =
+    let b = c.in_err-begin.ensures in
+    none_goes c.args.self.now c.begin.new.self b.other_log (ap (λ q. q.even.device) b.slots) (ap (λ q. q.odd.device) b.slots) b.device
+
+pub returns-clause-time : goal.returns-clause-time
+returns-clause-time g c =
+    let b = c.in_ok-begin.ensures in
+    let e = c.call_log.ensures in
+    log_times c.args.self.now c.call_log.new.self (e.other_log ∙ b.other_log) (subst (λ (d : _). Goes g.D.Disk d c.call_log.new.self.log.device) b.device e.time) (e.slots ∙ b.slots)

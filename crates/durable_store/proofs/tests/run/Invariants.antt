@@ -1,0 +1,7 @@
+use Rattle.std.proofs.Common.{◌≡◌}
+use Rattle.batch_log.specs.declared.log.State.TheVariants.{Open}
+use Rattle.durable_store.specs.Standing.{IsUnderWay}
+use Rattle.durable_store.proofs.tests.run.Given as goal
+
+abbrev pub invariant-loop-turn : goal.invariant-loop-turn
+invariant-loop-turn l = record { underway : l.store.state ≡ Open → IsUnderWay l.store }

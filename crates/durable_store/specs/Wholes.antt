@@ -1,0 +1,32 @@
+-- What a run of calls makes of a store.
+use Rattle.std.specs.Prelude.{◌≡◌, ◌⊎◌, ◌≤◌, ℕ, List, [], ◌∷◌, ◌++◌}
+use Rattle.disk_model.specs.declared.disk.Disk.{Ghosts}
+use Rattle.store_form.specs.Spelling.{Group}
+use Rattle.durable_store.specs.Standing.{with}
+use Rattle.durable_store.specs.declared.kept.Kept.{Kept}
+use Rattle.durable_store.specs.declared.store.Store.{Store}
+
+-- the one list begins with the other
+abbrev pub IsFront : {A : Type 0} → List A → List A → Type 0
+IsFront front whole = (more : List _) × (whole ≡ front ++ more)
+
+abbrev pub IsOneOf : Kept → List Kept → Type 0
+IsOneOf x [] = ⊥
+IsOneOf x (y ∷ ys) = (x ≡ y) ⊎ IsOneOf x ys
+
+-- What was kept, or might have been restored instead; that with the group that ran already, `ran`; or with `all`: that
+-- group and the group of all that waited.
+abbrev pub Grows : Kept → List Kept → Group → List (List ℕ) → Kept → Type 0
+Grows kept others ran all x = (x ≡ kept) ⊎ (IsOneOf x others ⊎ ((x ≡ with kept ran) ⊎ (x ≡ with kept all)))
+
+-- The moment of a device does not fall, and what a crash might have left before might have been left since.
+pub record Lasts {D : Type 0} (g : Ghosts D) (old new : D) : Type 0 where
+  pub later : g.moment old ≤ g.moment new
+  pub keeps : (t : ℕ) (c : List ℕ) → t ≤ g.moment old → g.left_since old t c → g.left_since new t c
+
+module _ {D : Type 0} {g : Ghosts D} where
+  pub record TimeLasts (old new : Store D g) : Type 0 where
+    pub even_slot : Lasts g old.slots.even.device new.slots.even.device
+    pub odd_slot : Lasts g old.slots.odd.device new.slots.odd.device
+    pub log : Lasts g old.log.device new.log.device
+    pub other_log : Lasts g old.other_log new.other_log
