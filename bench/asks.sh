@@ -1,8 +1,9 @@
 #!/bin/sh
 # What an ask costs. Plays a script of N asks by so many clients with a flow after each has asked, and then one of 2N: the
 # seconds of a run and of an ask, the peak memory of a run, and the bytes of memory that an ask adds.
-# usage: bench/asks.sh [N [CLIENTS [PROGRAM]]]
-# Without N it is 2000, without CLIENTS 8, and without PROGRAM the proved program that ./prove makes. With 1000 clients most
+# usage: bench/asks.sh [N [CLIENTS [PROGRAM [EVERY]]]]
+# Without N it is 2000, without CLIENTS 8, and without PROGRAM the proved program that ./prove makes. With EVERY the leader is
+# replaced at every ask whose number it divides: the others ask for the next regency as time passes. With 1000 clients most
 # batches have 64 requests. Of three runs the fastest counts, and
 # the least peak. A line of ratios follows, of the run of 2N to that of N: near 2 where the work grows with the asks alone.
 # The status is 1 where the seconds' ratio is 2.3 or more. Memory is measured where there is a GNU time.
@@ -10,10 +11,11 @@ top=$(CDPATH= cd -- "$(dirname -- "$0")/.." && pwd) || exit 1
 n=${1:-2000}
 clients=${2:-8}
 program=${3:-$top/out/smart}
-for number in "$n" "$clients"; do
+every=${4:-4294967296}
+for number in "$n" "$clients" "$every"; do
     case $number in
     '' | 0* | *[!0-9]*)
-        echo "usage: bench/asks.sh [N [CLIENTS [PROGRAM]]]" >&2
+        echo "usage: bench/asks.sh [N [CLIENTS [PROGRAM [EVERY]]]]" >&2
         exit 2
         ;;
     esac
@@ -34,12 +36,22 @@ trap 'rm -rf "$folder"' EXIT
 
 # A script of so many asks.
 script() {
-    awk -v asks="$1" -v clients="$clients" 'BEGIN {
+    awk -v asks="$1" -v clients="$clients" -v every="$every" 'BEGIN {
+        leader = 1
         print "group 4 1"
         print "app count"
         for (i = 1; i <= asks; i++) {
+            if (i % every == 0) print "flow"
             print "ask", (i - 1) % clients + 1, i
-            if (i % clients == 0 || i == asks) print "flow"
+            if (i % every == 0) {
+                others = ""
+                for (m = 1; m <= 4; m++) if (m != leader) others = others " " m
+                print "flow" others
+                print "tick" others
+                print "tick" others
+                leader = leader % 4 + 1
+            }
+            if (i % clients == 0 || i % every == 0 || i == asks) print "flow"
         }
     }'
 }

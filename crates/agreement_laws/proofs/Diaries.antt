@@ -1,100 +1,79 @@
--- What a lawful book has once, and what stays so of its fronts and of longer books.
-use Rattle.std.proofs.Common.{◌≡◌, ⊎_elim, ℕ, true, List, [], ◌∷◌, ◌++◌, refl, sym, ◌∙◌, subst, append_assoc}
-use Rattle.std.specs.List.{list_any}
-use Rattle.smart_base.proofs.SameLists.{and_true}
-use Rattle.smart_base.specs.Lists.{same_bytes}
-use Rattle.smart_messages.specs.Equality.{same_slot}
-use Rattle.smart_messages.specs.Messages.{Batch}
-use Rattle.smart_messages.specs.declared.statement.Slot.{Slot}
-use Rattle.smart_messages.specs.declared.statement.Ballot.{Ballot}
-use Rattle.smart_messages.specs.declared.entry.LogEntry.{LogEntry}
-use Rattle.smart_messages.specs.declared.entry.LogEntry.TheVariants.{Opened, Wrote, Accepted, Decided}
-use Rattle.node_rules.specs.Seals.{digest_of}
-use Rattle.node_rules.specs.Nodes.{is_wrote, is_accepted}
-use Rattle.agreement_laws.specs.Statements.{Among, Statement, Asked, Proposed, Voted, Replied}
-use Rattle.agreement_laws.specs.Books.{writes_for, accepts_for, votes_for, decides_for, is_shown, MayWrite, MayAccept, Admits, Lawful}
-use Rattle.agreement_laws.proofs.Equal.{same_bytes-equal, same_slot-equal, slot-itself}
-use Rattle.agreement_laws.proofs.Lists.{passing, none_of, any_left, split_at, in_order, last_or_before}
+-- What a lawful diary has before a promise, and that it votes once.
+use Rattle.std.proofs.Common.{◌≡◌, ◌⊎◌, ⊎_elim, ℕ, ◌+◌, ◌-◌, ◌<◌, ◌≤◌, List, ◌∷◌, ◌++◌, Option, None, Some, refl, sym, ◌∙◌, arith}
+use Rattle.std.specs.Prelude.{option_map}
+use Rattle.smart_messages.specs.declared.report.LockCertificate.{LockCertificate}
+use Rattle.vote_book.specs.declared.entry.Write.{Write}
+use Rattle.vote_book.specs.declared.entry.Accept.{Accept}
+use Rattle.vote_book.specs.declared.entry.Promise.{Promise}
+use Rattle.vote_book.specs.declared.entry.LogEntry.{LogEntry}
+use Rattle.vote_book.specs.declared.entry.LogEntry.TheVariants.{Wrote, Accepted, Promised, Synced}
+use Rattle.vote_book.specs.Books.{last_made, Among, HasMade, IsBelow, HasBegun, MayWrite, MayAccept, Lawful}
+use Rattle.vote_book.specs.BookReports.{lock_of, certificate_of}
+use Rattle.vote_book.proofs.Locks.{made_most, lock_is, no_lock}
+use Rattle.agreement_laws.proofs.Lists.{Split, split_at, in_order, among_before}
 
--- books that grow
+pub wrote_once : (book : List LogEntry) (a b : Write) → Lawful 0 0 book → Among (Wrote a) book → Among (Wrote b) book → a.slot ≡ b.slot → a.digest ≡ b.digest
+wrote_once book a b lawful one two slot =
+    let x = split_at book (Wrote a) one in
+    let y = split_at book (Wrote b) two in
+    let may_one : MayWrite x.before a = lawful x.before (Wrote a) x.after x.is in
+    let may_two : MayWrite y.before b = lawful y.before (Wrote b) y.after y.is in
+    ⊎_elim (λ l. absurd (may_two.first a l slot)) (⊎_elim (λ (same : Wrote a ≡ Wrote b). let it : a ≡ b = cc in cc) (λ r. absurd (may_one.first b r (sym slot))))
+    (in_order x.before x.after (Wrote a) y.before y.after (Wrote b) (sym x.is ∙ y.is))
 
-pub Lawful-nil : Lawful []
-Lawful-nil [] entry after e = absurd (cc)
-Lawful-nil (z ∷ before) entry after e = absurd (cc)
+-- what a later promise would forbid stands before it
+pub accepted_before : (book : List LogEntry) (a : Accept) (promise : Promise) (before after : List LogEntry) → Lawful 0 0 book → Among (Accepted a) book
+    → book ≡ before ++ Promised promise ∷ after → IsBelow a.slot promise → Among (Accepted a) before
+accepted_before book a promise before after lawful there split below =
+    let x = split_at book (Accepted a) there in
+    let may : MayAccept x.before a = lawful x.before (Accepted a) x.after x.is in
+    ⊎_elim (λ l. l) (⊎_elim (λ (same : Accepted a ≡ Promised promise). absurd (cc)) (λ r. absurd (may.vote.promises promise r below)))
+    (in_order x.before x.after (Accepted a) before after (Promised promise) (sym x.is ∙ split))
 
-pub Lawful-push : (book : List LogEntry) (entry : LogEntry) → Lawful book → Admits book entry → Lawful (book ++ entry ∷ [])
-Lawful-push book entry lawful admitted before e after split =
-    ⊎_elim (λ l. lawful before e l.0 l.1)
-    (λ r. subst (λ (b : List LogEntry). Admits b e) r.0 (subst (λ (x : LogEntry). Admits book x) r.1 admitted))
-    (last_or_before book entry before e after split)
+-- who has accepted at a place has made the place before it
+low_or_high : (place : ℕ) → (place ≤ 1) ⊎ (1 < place)
+low_or_high place = grind arith
 
-pub Lawful-front : (book more : List LogEntry) → Lawful (book ++ more) → Lawful book
-Lawful-front book more lawful before entry after e =
-    let longer : book ++ more ≡ before ++ entry ∷ (after ++ more) = rw (e, append_assoc) in
-    lawful before entry (after ++ more) longer
+made_within : (book : List LogEntry) (entry : LogEntry) (x : Split entry book) (place : ℕ) → HasMade x.before (place - 1) → place ≤ last_made book + 1
+made_within book entry x place has =
+    let most : place - 1 ≤ last_made book = made_most book (place - 1) (record { entry = has.entry; there = among_before entry has.entry book x has.there; made = has.made }) in
+    omega (arith, most)
 
--- what a book shows, a longer one shows
-pub is_shown-more : (book more : List LogEntry) (statement : Statement) → is_shown book statement ≡ true → is_shown (book ++ more) statement ≡ true
-is_shown-more book more (Asked q) shown = refl
-is_shown-more book more (Proposed p) shown = refl
-is_shown-more book more (Voted b) shown = any_left (votes_for b.statement b.statement.kind) book more shown
-is_shown-more book more (Replied a) shown = any_left (decides_for a.statement) book more shown
+pub accepted_in_turn : (book : List LogEntry) (a : Accept) → Lawful 0 0 book → Among (Accepted a) book → a.slot.place ≤ last_made book + 1
+accepted_in_turn book a lawful there =
+    let x = split_at book (Accepted a) there in
+    let may : MayAccept x.before a = lawful x.before (Accepted a) x.after x.is in
+    ⊎_elim (λ (low : a.slot.place ≤ 1). omega (arith, low)) (λ (high : 1 < a.slot.place). made_within book (Accepted a) x a.slot.place (may.vote.in_turn high))
+    (low_or_high a.slot.place)
 
--- what a book has once
+-- there is a lock, of this regency at least
+pub record IsAtLeast (found : Option LockCertificate) (regency : ℕ) : Type 0 where
+  pub lock : LockCertificate
+  pub is : found ≡ Some lock
+  pub reached : regency ≤ lock.regency
 
-pub wrote_once : (book : List LogEntry) (slot : Slot) (d e : List ℕ) → Lawful book → Among (Wrote slot d) book → Among (Wrote slot e) book → d ≡ e
-wrote_once book slot d e lawful one two =
-    let a = split_at book (Wrote slot d) one in
-    let b = split_at book (Wrote slot e) two in
-    let may_one : MayWrite a.before slot = lawful a.before (Wrote slot d) a.after a.is in
-    let may_two : MayWrite b.before slot = lawful b.before (Wrote slot e) b.after b.is in
-    ⊎_elim (λ l. absurd (none_of (is_wrote slot) b.before (Wrote slot d) may_two.first l (slot-itself slot)))
-    (⊎_elim (λ (same : Wrote slot d ≡ Wrote slot e). cc) (λ r. absurd (none_of (is_wrote slot) a.before (Wrote slot e) may_one.first r (slot-itself slot))))
-    (in_order a.before a.after (Wrote slot d) b.before b.after (Wrote slot e) (sym a.is ∙ b.is))
+-- who has accepted at the place behind its last has a lock, of that regency at least
+pub accepted_is_lock : (book : List LogEntry) (view : ℕ) (a : Accept) → Among (Accepted a) book → a.slot.view ≡ view → a.slot.place ≡ last_made book + 1
+    → IsAtLeast (option_map certificate_of (lock_of view book)) a.slot.regency
+accepted_is_lock book view a there of_view next = by (lock_of view book) refl
+  where
+    by : (lock : Option Accept) → lock_of view book ≡ lock → IsAtLeast (option_map certificate_of lock) a.slot.regency
+    by None is = absurd (no_lock view book a is there of_view next)
+    by (Some b) is = let greatest = lock_is view book b is in record { lock = certificate_of b; is = refl; reached = greatest.greatest a there of_view next }
 
-pub accepted_once : (book : List LogEntry) (slot : Slot) (u v : List ℕ) (x y : Batch) → Lawful book → Among (Accepted slot u x) book → Among (Accepted slot v y) book → x ≡ y
-accepted_once book slot u v x y lawful one two =
-    let a = split_at book (Accepted slot u x) one in
-    let b = split_at book (Accepted slot v y) two in
-    let may_one : MayAccept a.before slot = lawful a.before (Accepted slot u x) a.after a.is in
-    let may_two : MayAccept b.before slot = lawful b.before (Accepted slot v y) b.after b.is in
-    ⊎_elim (λ l. absurd (none_of (is_accepted slot) b.before (Accepted slot u x) may_two.first l (slot-itself slot)))
-    (⊎_elim (λ (same : Accepted slot u x ≡ Accepted slot v y). cc)
-    (λ r. absurd (none_of (is_accepted slot) a.before (Accepted slot v y) may_one.first r (slot-itself slot))))
-    (in_order a.before a.after (Accepted slot u x) b.before b.after (Accepted slot v y) (sym a.is ∙ b.is))
-
--- the entries that show votes
-
--- a book has accepted a digest in a slot
-pub record HasAccepted (book : List LogEntry) (slot : Slot) (digest : List ℕ) : Type 0 where
-  pub voters : List ℕ
-  pub batch : Batch
-  pub there : Among (Accepted slot voters batch) book
-  pub named : digest_of batch ≡ digest
-
-written_by : (book : List LogEntry) (b : Ballot) (entry : LogEntry) → Among entry book → writes_for b entry ≡ true → Among (Wrote b.slot b.digest) book
-written_by book b Opened there shows = absurd (cc)
-written_by book b (Wrote s digest) there shows =
-    let same = and_true (same_slot s b.slot) (same_bytes digest b.digest) shows in
-    rw (← (same_slot-equal s b.slot same.0), ← (same_bytes-equal digest b.digest same.1)) there
-written_by book b (Accepted s voters batch) there shows = absurd (cc)
-written_by book b (Decided s voters batch) there shows = absurd (cc)
-
-accepted_by : (book : List LogEntry) (b : Ballot) (entry : LogEntry) → Among entry book → accepts_for b entry ≡ true → HasAccepted book b.slot b.digest
-accepted_by book b Opened there shows = absurd (cc)
-accepted_by book b (Wrote s digest) there shows = absurd (cc)
-accepted_by book b (Accepted s voters batch) there shows =
-    let same = and_true (same_slot s b.slot) (same_bytes (digest_of batch) b.digest) shows in
-    record {
-      voters = voters;
-      batch = batch;
-      there = subst (λ (t : Slot). Among (Accepted t voters batch) book) (same_slot-equal s b.slot same.0) there;
-      named = same_bytes-equal (digest_of batch) b.digest same.1;
+-- what is written in a regency after the first stands behind that regency's beginning, and keeps to it
+pub wrote_begun : (book : List LogEntry) (w : Write) → Lawful 0 0 book → Among (Wrote w) book → 0 < w.slot.regency → HasBegun book w.slot w.digest
+wrote_begun book w lawful there later =
+    let x = split_at book (Wrote w) there in
+    let may : MayWrite x.before w = lawful x.before (Wrote w) x.after x.is in
+    in_all x (may.vote.synced later)
+  where
+    in_all : (x : Split (Wrote w) book) → HasBegun x.before w.slot w.digest → HasBegun book w.slot w.digest
+    in_all x has = record {
+      start = has.start;
+      there = among_before (Wrote w) (Synced has.start) book x has.there;
+      view = has.view;
+      regency = has.regency;
+      reached = has.reached;
+      kept = has.kept;
     }
-accepted_by book b (Decided s voters batch) there shows = absurd (cc)
-
-pub has_written : (book : List LogEntry) (b : Ballot) → list_any (writes_for b) book ≡ true → Among (Wrote b.slot b.digest) book
-has_written book b shown = let found = passing (writes_for b) book shown in written_by book b found.value found.there found.passes
-
-pub has_accepted : (book : List LogEntry) (b : Ballot) → list_any (accepts_for b) book ≡ true → HasAccepted book b.slot b.digest
-has_accepted book b shown = let found = passing (accepts_for b) book shown in accepted_by book b found.value found.there found.passes

@@ -1,8 +1,11 @@
 pub mod Lists
-pub mod Equal
-pub mod Shared
+mod Shared
 pub mod Groups
-pub mod Diaries
-pub mod Decisions
-pub mod Growth
-pub mod Example
+mod Diaries
+mod Choices
+pub mod Regencies
+pub mod Closed
+mod Collects
+mod ExampleBooks
+mod Example
+pub mod Growing

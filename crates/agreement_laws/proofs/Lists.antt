@@ -1,37 +1,17 @@
--- Facts on tests, and on what stands where in a list.
-use Rattle.std.proofs.Common.{◌≡◌, ◌⊎◌, inl, inr, ⊎_elim, ℕ, Bool, true, false, not, ◌&&◌, ◌||◌, ◌==◌, List, [], ◌∷◌, ◌++◌, cond, refl, sym, ap, subst, eq-eqb, eqb-true}
-use Rattle.std.specs.List.{list_any}
+-- What stands where in a list.
+use Rattle.std.proofs.Common.{◌≡◌, ◌⊎◌, inl, inr, ⊎_elim, ℕ, Bool, true, false, ◌==◌, cond, List, [], ◌∷◌, ◌++◌, map, refl, sym, ap, subst, eq-eqb, eqb-true}
+use Rattle.std.specs.Prelude.{filter}
+use Rattle.std.specs.List.{list_any, flat_map}
 use Rattle.smart_base.specs.Lists.{Each}
-use Rattle.agreement_laws.specs.Statements.{Among}
-
--- tests
-
-pub and_true : (a b : Bool) → (a && b) ≡ true → (a ≡ true) × (b ≡ true)
-and_true true b is = (refl, is)
-and_true false b is = absurd (cc)
-
-pub or_true : (a b : Bool) → (a || b) ≡ true → (a ≡ true) ⊎ (b ≡ true)
-or_true true b is = inl refl
-or_true false b is = inr is
-
-pub or_left : (a b : Bool) → a ≡ true → (a || b) ≡ true
-or_left true b is = refl
-or_left false b is = absurd (cc)
-
-pub or_right : (a b : Bool) → b ≡ true → (a || b) ≡ true
-or_right true b is = refl
-or_right false b is = is
-
-pub not_true : (a : Bool) → not a ≡ true → a ≡ false
-not_true true is = absurd (cc)
-not_true false is = refl
+use Rattle.vote_book.specs.Books.{Among}
+use Rattle.vote_book.proofs.Tested.{passing, among_any}
 
 -- what holds of both branches of a choice
 pub either : {A : Type 0} (P : A → Type 0) (b : Bool) (x y : A) → P x → P y → P (cond b x y)
 either P true x y px py = px
 either P false x y px py = py
 
--- what is among values
+-- ---- values of lists that are put together
 
 pub among_left : {A : Type 0} (x : A) (xs ys : List A) → Among x xs → Among x (xs ++ ys)
 among_left x [] ys there = absurd there
@@ -47,54 +27,96 @@ among_either x [] ys there = inr there
 among_either x (z ∷ xs) ys (inl is) = inl (inl is)
 among_either x (z ∷ xs) ys (inr there) = ⊎_elim (λ l. inl (inr l)) (λ r. inr r) (among_either x xs ys there)
 
--- some value passes a test
-pub record Passing {A : Type 0} (p : A → Bool) (xs : List A) : Type 0 where
+pub among_map : {A B : Type 0} (f : A → B) (xs : List A) (x : A) → Among x xs → Among (f x) (map f xs)
+among_map f [] x there = there
+among_map f (y ∷ ys) x (inl is) = inl (ap f is)
+among_map f (y ∷ ys) x (inr there) = inr (among_map f ys x there)
+
+-- a value of a list is what a function gives of a value
+pub record Given {A B : Type 0} (f : A → B) (xs : List A) (y : B) : Type 0 where
   pub value : A
   pub there : Among value xs
-  pub passes : p value ≡ true
+  pub is : y ≡ f value
 
-pub passing : {A : Type 0} (p : A → Bool) (xs : List A) → list_any p xs ≡ true → Passing p xs
-passing p [] some = absurd (cc)
-passing p (x ∷ xs) some =
-    ⊎_elim (λ here. record { value = x; there = inl refl; passes = here })
-    (λ later. let found = passing p xs later in record { value = found.value; there = inr found.there; passes = found.passes })
-    (or_true (p x) (list_any p xs) some)
+pub given : {A B : Type 0} (f : A → B) (xs : List A) (y : B) → Among y (map f xs) → Given f xs y
+given f [] y there = absurd there
+given f (x ∷ xs) y (inl is) = record { value = x; there = inl refl; is = is }
+given f (x ∷ xs) y (inr there) = let rest = given f xs y there in record { value = rest.value; there = inr rest.there; is = rest.is }
 
-pub any_of : {A : Type 0} (p : A → Bool) (xs : List A) (x : A) → Among x xs → p x ≡ true → list_any p xs ≡ true
-any_of p [] x there passes = absurd there
-any_of p (y ∷ ys) x (inl is) passes = or_left (p y) (list_any p ys) (subst (λ z. p z ≡ true) is passes)
-any_of p (y ∷ ys) x (inr there) passes = or_right (p y) (list_any p ys) (any_of p ys x there passes)
+-- a value stands in what a function gives of a value
+pub record Within {A B : Type 0} (f : A → List B) (xs : List A) (y : B) : Type 0 where
+  pub value : A
+  pub there : Among value xs
+  pub within : Among y (f value)
 
--- no value passes a test, so none that is there does
-pub none_of : {A : Type 0} (p : A → Bool) (xs : List A) (x : A) → list_any p xs ≡ false → Among x xs → p x ≡ true → ⊥
-none_of p xs x none there passes = let some = any_of p xs x there passes in cc
+pub within_one : {A B : Type 0} (f : A → List B) (xs : List A) (y : B) → Among y (flat_map f xs) → Within f xs y
+within_one f [] y there = absurd there
+within_one f (x ∷ xs) y there =
+    ⊎_elim (λ here. record { value = x; there = inl refl; within = here })
+    (λ later. let rest = within_one f xs y later in record { value = rest.value; there = inr rest.there; within = rest.within })
+    (among_either y (f x) (flat_map f xs) there)
 
-pub any_left : {A : Type 0} (p : A → Bool) (xs ys : List A) → list_any p xs ≡ true → list_any p (xs ++ ys) ≡ true
-any_left p xs ys some = let found = passing p xs some in any_of p (xs ++ ys) found.value (among_left found.value xs ys found.there) found.passes
+pub among_flat : {A B : Type 0} (f : A → List B) (xs : List A) (x : A) (y : B) → Among x xs → Among y (f x) → Among y (flat_map f xs)
+among_flat f [] x y there within = absurd there
+among_flat f (z ∷ xs) x y (inl is) within = among_left y (f z) (flat_map f xs) (subst (λ w. Among y (f w)) is within)
+among_flat f (z ∷ xs) x y (inr there) within = among_right y (f z) (flat_map f xs) (among_flat f xs x y there within)
+
+-- ---- values that pass a test
+
+kept_at : {A : Type 0} (p : A → Bool) (y : A) (t : Bool) (x : A) (xs : List A) → Among y (cond t (x ∷ xs) xs) → (y ≡ x) ⊎ Among y xs
+kept_at p y true x xs there = there
+kept_at p y false x xs there = inr there
+
+-- what a filter leaves was there
+pub among_filtered : {A : Type 0} (p : A → Bool) (xs : List A) (y : A) → Among y (filter p xs) → Among y xs
+among_filtered p [] y there = there
+among_filtered p (x ∷ xs) y there = ⊎_elim (λ here. inl here) (λ later. inr (among_filtered p xs y later)) (kept_at p y (p x) x (filter p xs) there)
+
+keep_here : {A : Type 0} (y : A) (t : Bool) (x : A) (xs : List A) → t ≡ true → y ≡ x → Among y (cond t (x ∷ xs) xs)
+keep_here y true x xs passes is = inl is
+keep_here y false x xs passes is = absurd (cc)
+
+keep_later : {A : Type 0} (y : A) (t : Bool) (x : A) (xs : List A) → Among y xs → Among y (cond t (x ∷ xs) xs)
+keep_later y true x xs there = inr there
+keep_later y false x xs there = there
+
+-- and what passes is left
+pub among_filter : {A : Type 0} (p : A → Bool) (xs : List A) (y : A) → Among y xs → p y ≡ true → Among y (filter p xs)
+among_filter p [] y there passes = there
+among_filter p (x ∷ xs) y (inl is) passes = keep_here y (p x) x (filter p xs) (subst (λ z. p z ≡ true) is passes) is
+among_filter p (x ∷ xs) y (inr there) passes = keep_later y (p x) x (filter p xs) (among_filter p xs y there passes)
 
 -- numbers that a test finds among numbers
 pub number_among : (xs : List ℕ) (n : ℕ) → list_any (λ x. x == n) xs ≡ true → Among n xs
-number_among [] n some = absurd (cc)
-number_among (x ∷ xs) n some =
-    ⊎_elim (λ here. inl (sym (eqb-true x n here))) (λ later. inr (number_among xs n later)) (or_true (x == n) (list_any (λ x. x == n) xs) some)
+number_among xs n some = let found = passing (λ x. x == n) xs some in subst (λ (x : ℕ). Among x xs) (eqb-true found.value n found.passes) found.there
 
 pub among_number : (xs : List ℕ) (n : ℕ) → Among n xs → list_any (λ x. x == n) xs ≡ true
-among_number xs n there = any_of (λ x. x == n) xs n there (eq-eqb n n refl)
+among_number xs n there = among_any (λ x. x == n) n xs there (eq-eqb n n refl)
 
--- what holds of each value
+-- ---- what holds of each value
 
 pub each_among : {A : Type 0} (P : A → Type 0) (xs : List A) (x : A) → Each P xs → Among x xs → P x
 each_among P [] x each there = absurd there
 each_among P (y ∷ ys) x each (inl is) = subst P (sym is) each.0
 each_among P (y ∷ ys) x each (inr there) = each_among P ys x each.1 there
 
-pub each_weaker : {A : Type 0} (P Q : A → Type 0) → ((x : A) → P x → Q x) → (xs : List A) → Each P xs → Each Q xs
-each_weaker P Q weaker [] each = tt
-each_weaker P Q weaker (x ∷ xs) each = (weaker x each.0, each_weaker P Q weaker xs each.1)
+pub each_from : {A : Type 0} (P : A → Type 0) (xs : List A) → ((x : A) → Among x xs → P x) → Each P xs
+each_from P [] all = tt
+each_from P (x ∷ xs) all = (all x (inl refl), each_from P xs (λ y there. all y (inr there)))
 
 pub each_left : {A : Type 0} (P : A → Type 0) (xs ys : List A) → Each P (xs ++ ys) → Each P xs
 each_left P [] ys each = tt
 each_left P (x ∷ xs) ys each = (each.0, each_left P xs ys each.1)
+
+pub each_append : {A : Type 0} (P : A → Type 0) (xs ys : List A) → Each P xs → Each P ys → Each P (xs ++ ys)
+each_append P [] ys left right = right
+each_append P (x ∷ xs) ys left right = (left.0, each_append P xs ys left.1 right)
+
+pub each_map : {A B : Type 0} (P : B → Type 0) (f : A → B) (xs : List A) → Each (λ x. P (f x)) xs → Each P (map f xs)
+each_map P f [] each = tt
+each_map P f (x ∷ xs) each = (each.0, each_map P f xs each.1)
+
+-- ---- where a value stands
 
 -- a value stands between those before it and those behind it
 pub record Split {A : Type 0} (x : A) (xs : List A) : Type 0 where
@@ -109,6 +131,10 @@ split_at (y ∷ ys) x (inr there) =
     let rest = split_at ys x there in
     record { before = y ∷ rest.before; after = rest.after; is = ap (λ zs. y ∷ zs) rest.is }
 
+-- what stands before a value stands in the list
+pub among_before : {A : Type 0} (x y : A) (xs : List A) (s : Split x xs) → Among y s.before → Among y xs
+among_before x y xs s there = subst (λ zs. Among y zs) (sym s.is) (among_left y s.before (x ∷ s.after) there)
+
 -- of two values at their places in a list one stands before the other, or they are one
 pub in_order : {A : Type 0} (before after : List A) (x : A) (before' after' : List A) (y : A) → before ++ x ∷ after ≡ before' ++ y ∷ after'
     → Among x before' ⊎ (x ≡ y) ⊎ Among y before
@@ -118,18 +144,3 @@ in_order (w ∷ before) after x [] after' y e = inr (inr (inl cc))
 in_order (w ∷ before) after x (z ∷ before') after' y e =
     let tails : before ++ x ∷ after ≡ before' ++ y ∷ after' = cc in
     ⊎_elim (λ l. inl (inr l)) (⊎_elim (λ m. inr (inl m)) (λ r. inr (inr (inr r)))) (in_order before after x before' after' y tails)
-
--- a value of a list with one more at its end stands in the list, or is the one more
-pub last_or_before : {A : Type 0} (xs : List A) (x : A) (before : List A) (y : A) (after : List A) → xs ++ x ∷ [] ≡ before ++ y ∷ after
-    → ((after' : List A) × (xs ≡ before ++ y ∷ after')) ⊎ ((xs ≡ before) × (x ≡ y))
-last_or_before [] x [] y after e = inr (refl, cc)
-last_or_before [] x (z ∷ before) y after e = absurd (nothing_follows before y after cc)
-  where
-    nothing_follows : {A : Type 0} (before : List A) (y : A) (after : List A) → [] ≡ before ++ y ∷ after → ⊥
-    nothing_follows [] y after e = cc
-    nothing_follows (z ∷ before) y after e = cc
-last_or_before (w ∷ xs) x [] y after e = inl (xs, (let same : w ≡ y = cc in rw same))
-last_or_before (w ∷ xs) x (z ∷ before) y after e =
-    let same : w ≡ z = cc in
-    let tails : xs ++ x ∷ [] ≡ before ++ y ∷ after = cc in
-    ⊎_elim (λ l. inl (l.0, (let is = l.1 in cc))) (λ r. inr ((let is = r.0 in cc), r.1)) (last_or_before xs x before y after tails)

@@ -1,8 +1,9 @@
--- Quorums of a list of members share a member.
+-- Sets of members, given by tests, that are together more than all share a member.
 use Rattle.std.proofs.Common.{◌≡◌, inl, inr, suc, ◌+◌, ◌≤◌, ◌<◌, Bool, true, false, ◌&&◌, not, List, [], ◌∷◌, length, refl, arith, cond, ℕ}
 use Rattle.std.specs.Prelude.{filter}
-use Rattle.agreement_laws.specs.Statements.{Among}
-use Rattle.agreement_laws.proofs.Lists.{and_true, not_true, Passing}
+use Rattle.std.proofs.lemmas.Bool.{and_parts, not-true}
+use Rattle.vote_book.specs.Books.{Among}
+use Rattle.vote_book.proofs.Tested.{Passing}
 
 -- one more member
 one_more : {A : Type 0} (x : A) (xs ps qs both : List A) (a b : Bool) → length ps + length qs ≤ length xs + length both
@@ -25,20 +26,6 @@ some_passes p (x ∷ xs) some = here_or_later p x xs (filter p xs) (p x) refl (�
     here_or_later : {A : Type 0} (p : A → Bool) (x : A) (xs rest : List A) (b : Bool) → p x ≡ b → (0 < length rest → Passing p xs) → 0 < length (cond b (x ∷ rest) rest) → Passing p (x ∷ xs)
     here_or_later p x xs rest true is later some = record { value = x; there = inl refl; passes = is }
     here_or_later p x xs rest false is later some = let found = later some in record { value = found.value; there = inr found.there; passes = found.passes }
-
--- a member that passes two tests
-pub record Both {A : Type 0} (p q : A → Bool) (xs : List A) : Type 0 where
-  pub member : A
-  pub there : Among member xs
-  pub left : p member ≡ true
-  pub right : q member ≡ true
-
--- two sets of members that are together more than all share one
-pub two_meet : {A : Type 0} (p q : A → Bool) (xs : List A) → length xs < length (filter p xs) + length (filter q xs) → Both p q xs
-two_meet p q xs more =
-    let met = some_passes (λ x. p x && q x) xs (omega (arith, both_or_either p q xs)) in
-    let passes = and_true (p met.value) (q met.value) met.passes in
-    record { member = met.value; there = met.there; left = passes.0; right = passes.1 }
 
 -- those that pass are those that pass another test, too, and those that pass it not
 split_one : {A : Type 0} (x : A) (ps fs cs : List A) (a b : Bool) → length ps ≤ length fs + length cs
@@ -68,9 +55,9 @@ pub correct_meet : {A : Type 0} (p q faulty : A → Bool) (xs : List A) (f : ℕ
 correct_meet p q faulty xs f few more =
     let met = some_passes (λ x. (p x && q x) && not (faulty x)) xs
     (omega (arith, both_or_either p q xs, faulty_or_correct (λ x. p x && q x) faulty xs)) in
-    let outer = and_true (p met.value && q met.value) (not (faulty met.value)) met.passes in
-    let inner = and_true (p met.value) (q met.value) outer.0 in
-    record { member = met.value; there = met.there; left = inner.0; right = inner.1; correct = not_true (faulty met.value) outer.1 }
+    let outer = and_parts (p met.value && q met.value) (not (faulty met.value)) met.passes in
+    let inner = and_parts (p met.value) (q met.value) outer.0 in
+    record { member = met.value; there = met.there; left = inner.0; right = inner.1; correct = not-true (faulty met.value) outer.1 }
 
 -- members of a list, each once, are no more than those that a test finds among them
 

@@ -1,34 +1,63 @@
--- Votes of a quorum of a view, drawn from what has been stated.
-use Rattle.std.specs.Prelude.{ℕ, ◌≡◌, ◌≤◌, true, List}
-use Rattle.smart_base.specs.Lists.{Each, Distinct}
-use Rattle.smart_base.specs.Views.{View, is_member, weight_of, quorum}
-use Rattle.smart_messages.specs.declared.statement.Slot.{Slot}
-use Rattle.smart_messages.specs.declared.statement.VoteKind.{VoteKind}
-use Rattle.smart_messages.specs.declared.statement.VoteKind.TheVariants.{Write, Accept}
-use Rattle.smart_messages.specs.declared.entry.LogEntry.{LogEntry}
-use Rattle.smart_messages.specs.declared.entry.LogEntry.TheVariants.{Opened, Wrote, Accepted, Decided}
-use Rattle.node_rules.specs.Seals.{digest_of}
-use Rattle.agreement_laws.specs.Statements.{Among, Statement, Voted}
+-- Certificates and choices that rest on what has been stated.
+use Rattle.std.specs.Prelude.{◌≡◌, ℕ, ◌<◌, ◌≤◌, List, length, IfSome}
+use Rattle.smart_base.specs.Lists.{Each}
+use Rattle.smart_base.specs.Views.{View}
+use Rattle.smart_view.specs.Sizes.{collect_size}
+use Rattle.smart_messages.specs.Forms.{SignedBy}
+use Rattle.smart_messages.specs.Messages.{Batch}
+use Rattle.smart_messages.specs.Reports.{reports}
+use Rattle.smart_messages.specs.declared.statement.Ballot.{Ballot}
+use Rattle.smart_messages.specs.declared.report.Report.{Report}
+use Rattle.certificates.specs.Certificates.{AreSigned, IsCertificate, write_of, accept_of}
+use Rattle.certificates.specs.Collects.{slot_of, LockHolds}
+use Rattle.regency_sync.specs.Choices.{choice}
+use Rattle.vote_book.specs.declared.entry.Start.{Start}
+use Rattle.vote_book.specs.declared.entry.LogEntry.{LogEntry}
+use Rattle.vote_book.specs.declared.entry.LogEntry.TheVariants as entries
+use Rattle.vote_book.specs.Books.{Among}
+use Rattle.agreement_laws.specs.Statements.{Statement, Voted, Reported}
 
--- a member's vote is among what has been stated
-pub record HasVoted (stated : List Statement) (kind : VoteKind) (slot : Slot) (digest : List ℕ) (member : ℕ) : Type 0 where
-  pub tag : List ℕ
-  pub there : Among (Voted (record { signer = member; statement = record { kind = kind; slot = slot; digest = digest }; tag = tag })) stated
+-- the wanted vote by a quorum, each of whose votes has been stated
+pub record IsDrawn (secret : List ℕ) (view : View) (stated : List Statement) (wanted : Ballot) (votes : List (SignedBy Ballot)) : Type 0 where
+  pub holds : IsCertificate secret view wanted votes
+  pub drawn : Each (λ b. Among (Voted b) stated) votes
 
--- different members of the view, as many as a quorum needs, have voted alike
-pub record IsCertificate (view : View) (stated : List Statement) (kind : VoteKind) (slot : Slot) (digest : List ℕ) (voters : List ℕ) : Type 0 where
-  pub members : Each (λ v. is_member view v ≡ true) voters
-  pub once : Distinct voters
-  pub enough : quorum view ≤ weight_of view voters
-  pub voted : Each (HasVoted stated kind slot digest) voters
+-- a quorum of the view has written the digest at a place, in a regency
+abbrev pub IsWritten : List ℕ → View → List Statement → (place regency : ℕ) → List ℕ → List (SignedBy Ballot) → Type 0
+IsWritten secret view stated place regency digest writes = IsDrawn secret view stated (write_of (slot_of view place regency) digest) writes
 
--- a decision: a quorum has accepted
-abbrev pub IsDecision : View → List Statement → Slot → List ℕ → List ℕ → Type 0
-IsDecision view stated slot digest voters = IsCertificate view stated Accept slot digest voters
+-- a decision: a quorum of the view has accepted the digest
+abbrev pub IsDecision : List ℕ → View → List Statement → (place regency : ℕ) → List ℕ → List (SignedBy Ballot) → Type 0
+IsDecision secret view stated place regency digest accepts = IsDrawn secret view stated (accept_of (slot_of view place regency) digest) accepts
 
--- the votes that an entry names have been stated: writes where it accepts, a decision where it decides
-abbrev pub IsBacked : View → List Statement → LogEntry → Type 0
-IsBacked view stated Opened = Unit {0}
-IsBacked view stated (Wrote slot digest) = Unit {0}
-IsBacked view stated (Accepted slot voters batch) = IsCertificate view stated Write slot (digest_of batch) voters
-IsBacked view stated (Decided slot voters batch) = IsDecision view stated slot (digest_of batch) voters
+-- A report of a regency of a view, whose lock holds if it has one. That much of the reports of a collect agreement rests on, and not on their evidence.
+pub record IsLockedReport (secret : List ℕ) (view : View) (regency : ℕ) (s : Report) : Type 0 where
+  pub of_view : s.view ≡ view.number
+  pub of_regency : s.regency ≡ regency
+  pub lock : IfSome s.lock (LockHolds secret view s.last s.regency)
+
+-- such reports of as many members as answer for sure
+pub record IsLockedCollect (secret : List ℕ) (view : View) (regency : ℕ) (items : List (SignedBy Report)) : Type 0 where
+  pub signed : AreSigned Report secret reports view (IsLockedReport secret view regency) items
+  pub enough : collect_size view ≤ length items
+
+-- a regency begins as the choice of such a collect says, each of whose reports has been stated
+pub record IsChosen (secret : List ℕ) (view : View) (stated : List Statement) (start : Start) : Type 0 where
+  pub items : List (SignedBy Report)
+  pub collect : IsLockedCollect secret view start.regency items
+  pub drawn : Each (λ r. Among (Reported r) stated) items
+  pub choice_is : choice items ≡ record { base = start.base; bound = start.bound }
+
+-- What an entry of this view rests on has been stated: where it accepts, a certificate of writes; where it decides, a decision; where a regency after
+-- the first begins, the choice of a collect. An entry of another view owes nothing here.
+abbrev pub IsBacked : List ℕ → (Batch → List ℕ) → View → List Statement → LogEntry → Type 0
+IsBacked secret digest_of view stated (entries.Accepted a) =
+    a.slot.view ≡ view.number → IsWritten secret view stated a.slot.place a.slot.regency a.digest a.writes
+IsBacked secret digest_of view stated (entries.Synced s) = s.view ≡ view.number → 0 < s.regency → IsChosen secret view stated s
+IsBacked secret digest_of view stated (entries.Decided d) =
+    d.slot.view ≡ view.number → IsDecision secret view stated d.slot.place d.slot.regency (digest_of d.batch) d.accepts
+IsBacked secret digest_of view stated (entries.Opened o) = Unit {0}
+IsBacked secret digest_of view stated (entries.Wrote w) = Unit {0}
+IsBacked secret digest_of view stated (entries.Promised p) = Unit {0}
+IsBacked secret digest_of view stated (entries.Installed i) = Unit {0}
+IsBacked secret digest_of view stated (entries.Marked m) = Unit {0}

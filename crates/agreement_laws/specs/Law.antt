@@ -1,11 +1,13 @@
 -- What agreement asks of a view's members, and of all that has been stated, by whomever.
-use Rattle.std.specs.Prelude.{ℕ, ◌≡◌, ◌≤◌, Bool, true, false, List, length, filter}
+use Rattle.std.specs.Prelude.{ℕ, ◌+◌, ◌*◌, ◌≡◌, ◌≤◌, Bool, true, false, List, length, filter}
 use Rattle.smart_base.specs.Lists.{Each}
 use Rattle.smart_base.specs.Views.{View, is_member}
 use Rattle.smart_base.specs.declared.party.Party.TheVariants.{Member}
-use Rattle.smart_messages.specs.declared.entry.LogEntry.{LogEntry}
-use Rattle.agreement_laws.specs.Statements.{Among, Statement, signer_of}
-use Rattle.agreement_laws.specs.Books.{Lawful, is_shown}
+use Rattle.smart_messages.specs.Messages.{Batch}
+use Rattle.vote_book.specs.declared.entry.LogEntry.{LogEntry}
+use Rattle.vote_book.specs.Books.{Among, Lawful}
+use Rattle.agreement_laws.specs.Statements.{Statement, signer_of, IsClosed}
+use Rattle.agreement_laws.specs.Diaries.{IsShown}
 use Rattle.agreement_laws.specs.Certificates.{IsBacked}
 
 -- a member of the view that is not faulty
@@ -13,11 +15,19 @@ pub record IsCorrect (view : View) (faulty : ℕ → Bool) (member : ℕ) : Type
   pub within : is_member view member ≡ true
   pub correct : faulty member ≡ false
 
--- At most f members of the view are faulty. Of each correct one the diary, which is what no crash takes from its book, is lawful, rests on
--- votes that have been stated, and shows what the member has stated. Of the faulty nothing is said: they may state what they like.
-pub record Witnessed (view : View) (faulty : ℕ → Bool) (diary : ℕ → List LogEntry) (stated : List Statement) : Type 0 where
+-- the view has room for its faults, and no more of its members are faulty
+pub record FewFaulty (view : View) (faulty : ℕ → Bool) : Type 0 where
+  pub room : 3 * view.f + 1 ≤ length view.members
   pub few : length (filter faulty view.members) ≤ view.f
-  pub lawful : (member : ℕ) → IsCorrect view faulty member → Lawful (diary member)
-  pub backed : (member : ℕ) → IsCorrect view faulty member → Each (IsBacked view stated) (diary member)
+
+-- At most f members of the view are faulty. Of each correct one the diary, which is what no crash takes from its book, is lawful, rests on what has been
+-- stated, and shows what the member has stated. What stands in what has been stated has been stated. Of the faulty nothing is said: they may state what
+-- they like. The batches are named by any function.
+pub record Witnessed (secret : List ℕ) (digest_of : Batch → List ℕ) (view : View) (faulty : ℕ → Bool) (diary : ℕ → List LogEntry) (stated : List Statement)
+    : Type 0 where
+  pub few : FewFaulty view faulty
+  pub lawful : (member : ℕ) → IsCorrect view faulty member → Lawful 0 0 (diary member)
+  pub backed : (member : ℕ) → IsCorrect view faulty member → Each (IsBacked secret digest_of view stated) (diary member)
   pub shown : (member : ℕ) → IsCorrect view faulty member →
-      (statement : Statement) → Among statement stated → signer_of statement ≡ Member member → is_shown (diary member) statement ≡ true
+      (statement : Statement) → Among statement stated → signer_of statement ≡ Member member → IsShown digest_of (diary member) statement
+  pub closed : IsClosed secret stated

@@ -1,5 +1,6 @@
+pub mod Fronts
 pub mod Statements
-pub mod Books
+pub mod Diaries
 pub mod Certificates
 pub mod Law
 pub mod Example

@@ -130,7 +130,8 @@ pub fn check_lock(
         && check_write_cert(ring, view, slot, lock.digest, lock.writes.as_slice()).is_ok()
 }
 
-fn has_no_false_lock(
+/// Whether a lock, if there is one, holds. It takes no memory.
+pub fn has_no_false_lock(
     ring: &Ring,
     view: &View,
     last: Place,

@@ -10,7 +10,7 @@ use Rattle.smart_messages.specs.declared.message.Message.{Message}
 use Rattle.smart_messages.specs.declared.message.Message.TheVariants.{Ask, Propose, Vote, Reply}
 use Rattle.smart_messages.specs.declared.statement.Request.{Request}
 use Rattle.smart_messages.specs.declared.statement.Answer.{Answer}
-use Rattle.node_rules.specs.Seals.{is_verified}
+use Rattle.replica_rules.specs.Seals.{is_verified}
 use Rattle.client_quorum.specs.declared.asking.AskError.{AskError}
 use Rattle.client_quorum.specs.declared.asking.AskError.TheVariants.{Busy, NoMemory}
 use Rattle.client_quorum.specs.declared.client.Client.{Client}

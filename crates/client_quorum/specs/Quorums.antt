@@ -6,7 +6,7 @@ use Rattle.smart_messages.specs.Forms.{SignedBy}
 use Rattle.smart_messages.specs.Kinds.{answers}
 use Rattle.smart_messages.specs.declared.statement.Request.{Request}
 use Rattle.smart_messages.specs.declared.statement.Answer.{Answer}
-use Rattle.node_rules.specs.Seals.{is_verified}
+use Rattle.replica_rules.specs.Seals.{is_verified}
 use Rattle.client_quorum.specs.Clients.{same_answer, is_waited_for, acceptance, heard, after_heard}
 use Rattle.client_quorum.specs.declared.client.Client.{Client}
 use Rattle.client_quorum.specs.declared.client.Acceptance.{Acceptance}

@@ -1,7 +1,7 @@
 //! What a client asks.
 ghost use Rattle.std.specs.Prelude.{◌≡◌, ◌+◌, ◌^◌, ◌<◌, None, IfOk, IfErr, OnOk, OnErr, option_map};
 ghost use Rattle.smart_messages.specs.Kinds.{requests};
-ghost use Rattle.node_rules.specs.Seals.{signed};
+ghost use Rattle.replica_rules.specs.Seals.{signed};
 ghost use Rattle.client_quorum.specs.Clients.{request_of, asking, Refuses};
 ghost use Rattle.client_quorum.specs.declared.asking.AskError.TheVariants.{NoMemory};
 

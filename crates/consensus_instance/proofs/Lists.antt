@@ -1,19 +1,14 @@
 -- A filter followed value by value, and what holds of each value of a list.
-use Rattle.std.proofs.Common.{◌≡◌, ℕ, ◌+◌, ◌<◌, ◌++◌, Bool, true, false, drop, get_or, zero, suc, List, [], ◌∷◌, length, ap, sym, refl, ◌∙◌, cond, arith}
+use Rattle.std.proofs.Common.{◌≡◌, ℕ, ◌+◌, ◌<◌, ◌≤◌, ◌^◌, ◌++◌, Bool, true, false, drop, take, get_or, zero, suc, List, [], ◌∷◌, length, ap, sym, refl, ◌∙◌, cond, arith}
 use Rattle.std.specs.Prelude.{filter}
+use Rattle.std.proofs.lemmas.List.{length-take}
 use Rattle.smart_base.specs.Lists.{Each}
+use Rattle.smart_base.specs.Views.{View, is_view}
+use Rattle.smart_base.proofs.ViewLaws.{members-few}
 
 pub each_more : {A : Type 0} (P : A → Type 0) (xs : List A) (x : A) → Each P xs → P x → Each P (xs ++ x ∷ [])
 each_more P [] x all has = (has, tt)
 each_more P (y ∷ ys) x all has = (all.0, each_more P ys x all.1 has)
-
-each_if : {A : Type 0} (P : A → Type 0) (test : Bool) (x : A) (xs : List A) → P x → Each P xs → Each P (cond test (x ∷ xs) xs)
-each_if P true x xs has all = (has, all)
-each_if P false x xs has all = all
-
-pub each_filter : {A : Type 0} (P : A → Type 0) (p : A → Bool) (xs : List A) → Each P xs → Each P (filter p xs)
-each_filter P p [] all = all
-each_filter P p (x ∷ xs) all = each_if P (p x) x (filter p xs) all.0 (each_filter P p xs all.1)
 
 pub each_as : {A : Type 0} (P Q : A → Type 0) → ((x : A) → P x → Q x) → (xs : List A) → Each P xs → Each Q xs
 each_as P Q implies [] all = all
@@ -49,3 +44,17 @@ pub found_same : (p : ℕ → Bool) (xs found new all : List ℕ) (i x : ℕ) �
     → found ++ filter p (drop i xs) ≡ all → new ++ filter p (drop (i + 1) xs) ≡ all
 found_same p xs found new all i x within is fails same all_is =
     ap (λ ys. ys ++ filter p (drop (i + 1) xs)) same ∙ (ap (λ ys. found ++ ys) (sym (filter_passes p xs i x within is fails)) ∙ all_is)
+
+-- A QUORUM OF A VIEW IS SMALL
+
+filter-few : {A : Type 0} (p : A → Bool) (xs : List A) → length (filter p xs) ≤ length xs
+filter-few p [] = omega arith
+filter-few p (x ∷ xs) = by (p x) (filter-few p xs)
+  where
+    by : (t : Bool) → length (filter p xs) ≤ length xs → length (cond t (x ∷ filter p xs) (filter p xs)) ≤ length (x ∷ xs)
+    by true few = omega (arith, few)
+    by false few = omega (arith, few)
+
+pub taken_few : (v : View) (p : ℕ → Bool) (size : ℕ) (all found kept : List ℕ) → is_view v ≡ true → all ≡ v.members → found ≡ filter p all → kept ≡ take size found → length kept < 2 ^ 16
+taken_few v p size all found kept is same passed taken =
+    omega (arith, ap length taken, length-take size found, ap length passed, filter-few p all, ap length same, members-few v is)

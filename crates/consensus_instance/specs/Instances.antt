@@ -1,21 +1,16 @@
 -- The instance of consensus in which a member takes part (Mod-SMaRt, EDCC 2012), and what is due in it.
-use Rattle.std.specs.Prelude.{ℕ, ◌+◌, ◌^◌, ◌==◌, nat_lt, nat_le, Bool, true, false, not, ◌&&◌, ◌||◌, List, if◌then◌else◌, Option, Some, None, is_none, filter}
-use Rattle.smart_base.specs.Lists.{same_bytes}
+use Rattle.std.specs.Prelude.{ℕ, ◌+◌, ◌^◌, ◌==◌, nat_lt, nat_le, Bool, false, not, ◌&&◌, ◌||◌, List, if◌then◌else◌, Option, Some, None, is_none, filter, filter_map}
 use Rattle.smart_base.specs.Views.{View, is_member}
-use Rattle.smart_messages.specs.Messages.{Batch}
 use Rattle.smart_messages.specs.declared.statement.Slot.{Slot}
-use Rattle.smart_messages.specs.declared.statement.VoteKind.{VoteKind}
 use Rattle.smart_messages.specs.declared.statement.VoteKind.TheVariants as kinds
 use Rattle.smart_messages.specs.declared.message.Message.{Message}
 use Rattle.smart_messages.specs.declared.message.Proposed.{Proposed}
-use Rattle.node_rules.specs.Nodes.{has_quorum, proposal_of}
-use Rattle.node_rules.specs.Seals.{digest_of}
-use Rattle.kept_arrivals.specs.Kept.{is_needed}
-use Rattle.consensus_instance.specs.declared.lock.Lock.{Lock}
+use Rattle.node_rules.specs.Votes.{has_quorum, Named, named_in, accepted_in, proposed_for}
+use Rattle.node_rules.specs.Kept.{is_needed}
+use Rattle.node_rules.specs.Nodes.{is_within}
 use Rattle.consensus_instance.specs.declared.rule.Rule.{Rule}
-use Rattle.consensus_instance.specs.declared.rule.Rule.TheVariants.{Write, Accept, Decide}
+use Rattle.consensus_instance.specs.declared.rule.Rule.TheVariants.{Write, Accept}
 use Rattle.consensus_instance.specs.declared.start.Start.{Start}
-use Rattle.consensus_instance.specs.Locks.{is_locked_in}
 
 pub record Instance : Type 0 where
   -- the member that takes part
@@ -32,8 +27,21 @@ pub record Instance : Type 0 where
   pub arrivals : List Message
   -- the member has written in the open slot
   pub wrote : Bool
-  -- the batch that the member accepted at the place behind the last delivered one, in the greatest regency
-  pub accept : Option Lock
+  -- the member has accepted in the open slot
+  pub accepted : Bool
+
+-- the instance of the first place of a group that begins with a view: in regency 0, which starts with the view
+abbrev pub first_of : ℕ → View → List Message → Instance
+first_of id view arrivals = record {
+  id = id;
+  place = 0;
+  decided = false;
+  regency = 0;
+  start = Some (record { base = view.start; bound = None });
+  arrivals = arrivals;
+  wrote = false;
+  accepted = false;
+}
 
 -- the regency in force
 abbrev pub regency_of : Instance → ℕ
@@ -60,11 +68,6 @@ bound_at place (Some start) = if start.base == place then start.bound else None
 abbrev pub is_bound_to : ℕ → Instance → Option (List ℕ)
 is_bound_to place i = bound_at place i.start
 
--- a batch of a digest may get votes: there is no bound, or it is the bound
-abbrev pub is_within : Option (List ℕ) → List ℕ → Bool
-is_within None digest = true
-is_within (Some bound) digest = same_bytes bound digest
-
 -- a proposal of the regency in force for a batch to which its base is not bound
 abbrev pub is_unbound : Proposed → Instance → Bool
 is_unbound p i = (p.head.statement.slot.regency == i.regency) && not (is_within (is_bound_to p.head.statement.slot.place i) p.head.statement.digest)
@@ -77,30 +80,32 @@ open_slot view i = record { view = view.number; place = i.place + 1; regency = r
 abbrev pub is_open : View → Instance → Bool
 is_open view i = is_member view i.id && is_free i && has_begun (i.place + 1) i.start
 
--- the batch on which the member is locked: the one that it accepted at the place behind the last one that is delivered or decided. While a
--- decided batch waits, nothing was accepted behind it
-abbrev pub locked : Instance → Option Lock
-locked i = if i.decided then None else i.accept
-
--- a batch for which the member may vote in the open slot
-abbrev pub votable : Instance → Option Batch → Option Batch
+-- a proposal for whose batch the member may vote in the open slot
+abbrev pub votable : Instance → Option Proposed → Option Proposed
 votable i None = None
-votable i (Some batch) = if is_within (is_bound_to (i.place + 1) i) (digest_of batch) then Some batch else None
+votable i (Some p) = if is_within (is_bound_to (i.place + 1) i) p.head.statement.digest then Some p else None
 
--- a batch with a quorum of votes in the open slot
-abbrev pub backed : View → Instance → VoteKind → Option Batch → Option Batch
-backed view i kind None = None
-backed view i kind (Some batch) = if has_quorum i.arrivals view kind (open_slot view i) (digest_of batch) then Some batch else None
+-- a proposal for whose batch a quorum wrote in the open slot
+abbrev pub written : View → Instance → Option Proposed → Option Proposed
+written view i None = None
+written view i (Some p) = if has_quorum i.arrivals view kinds.Write (open_slot view i) p.head.statement.digest then Some p else None
 
--- the batch for which a rule is due: the one that was proposed for the open slot, which the member writes once, where it may vote for it;
--- which it accepts once, where a quorum wrote for it; and which is decided where a quorum accepted it
-unfoldable pub due_by : Rule → View → Instance → Option Batch
-due_by Write view i = if is_open view i && not i.wrote then votable i (proposal_of i.arrivals (open_slot view i)) else None
+-- the proposal for which a rule is due: that for the open slot, for whose batch the member writes once, where it may vote for it; and which it
+-- accepts once, where a quorum wrote for it
+unfoldable pub due_by : Rule → View → Instance → Option Proposed
+due_by Write view i = if is_open view i && not i.wrote then votable i (proposed_for i.arrivals (open_slot view i)) else None
 due_by Accept view i =
-    if is_open view i && not (is_locked_in (regency_of i) i.accept)
-    then backed view i kinds.Write (votable i (proposal_of i.arrivals (open_slot view i)))
+    if is_open view i && not i.accepted
+    then written view i (votable i (proposed_for i.arrivals (open_slot view i)))
     else None
-due_by Decide view i = if is_free i then backed view i kinds.Accept (proposal_of i.arrivals (open_slot view i)) else None
+
+-- what a proposal names
+abbrev pub name_of : Proposed → Named
+name_of p = record { digest = p.head.statement.digest; batch = p.batch }
+
+-- the first proposal's, of those for a slot's place in its view, in the regency in force or a later one, whose batch a quorum accepted in the slot
+abbrev pub accepted_named : View → Slot → Instance → Option Named
+accepted_named view slot i = accepted_in view slot i.arrivals (filter_map (named_in slot.view slot.place i.regency) i.arrivals)
 
 -- the instance that keeps only what is still needed in a view of a number
 unfoldable pub trimmed : ℕ → Instance → Instance
@@ -108,16 +113,21 @@ trimmed view i = record i { arrivals = filter (is_needed view (decided_place i) 
 
 -- the instance of the next place, in the same view and regency
 abbrev pub moved_on : Instance → Instance
-moved_on i = record i { place = i.place + 1; decided = false; wrote = false; accept = None }
+moved_on i = record i { place = i.place + 1; decided = false; wrote = false; accepted = false }
 
--- the instance in a later regency, which is not synced, and in which nothing is written. The lock stays
+-- the instance in a later regency, which is not synced, and in which nothing is written or accepted
 abbrev pub promising : ℕ → Instance → Instance
-promising regency i = record i { regency = regency; start = None; wrote = false }
+promising regency i = record i { regency = regency; start = None; wrote = false; accepted = false }
 
 -- a regency is later, or it is the one in force and not synced
 abbrev pub is_unsynced : ℕ → Instance → Bool
 is_unsynced regency i = nat_lt i.regency regency || ((i.regency == regency) && is_none i.start)
 
--- the instance in a regency that is synced. Of a regency that is in force already, what is written stays
+-- the instance in a regency that is synced. Of a regency that is in force already, what is written and accepted stays
 abbrev pub syncing : ℕ → Start → Instance → Instance
-syncing regency start i = record i { regency = regency; start = Some start; wrote = i.wrote && (i.regency == regency) }
+syncing regency start i = record i {
+  regency = regency;
+  start = Some start;
+  wrote = i.wrote && (i.regency == regency);
+  accepted = i.accepted && (i.regency == regency);
+}

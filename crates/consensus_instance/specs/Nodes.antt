@@ -1,72 +1,68 @@
 -- Which instance a node takes part in.
-use Rattle.std.specs.Prelude.{ℕ, ◌≡◌, ◌+◌, ◌≤◌, List, Option, Some, None, is_some}
+use Rattle.std.specs.Prelude.{ℕ, ◌≡◌, ◌+◌, ◌≤◌, List, Option, is_some, option_map}
 use Rattle.std.specs.List.{list_any}
 use Rattle.smart_base.specs.Lists.{Each}
+use Rattle.smart_base.specs.Views.{View}
 use Rattle.smart_messages.specs.Messages.{Batch}
 use Rattle.smart_messages.specs.declared.statement.Slot.{Slot}
 use Rattle.smart_messages.specs.declared.message.Message.{Message}
-use Rattle.smart_messages.specs.declared.message.Message.TheVariants.{Ask, Propose, Vote, Reply}
-use Rattle.smart_messages.specs.declared.entry.LogEntry.{LogEntry}
-use Rattle.smart_messages.specs.declared.entry.LogEntry.TheVariants.{Opened, Wrote, Accepted, Decided}
-use Rattle.node_rules.specs.Seals.{digest_of}
-use Rattle.node_rules.specs.Nodes as nodes
-use Rattle.node_rules.specs.Nodes.{Node, view_of, decided_place, is_wrote}
-use Rattle.node_rules.specs.Rules.{writing, accepting, deciding}
+use Rattle.smart_messages.specs.declared.message.Proposed.{Proposed}
+use Rattle.vote_book.specs.Admission.{writes_in, accepts_in}
+use Rattle.vote_book.specs.declared.entry.Start.{Start as Beginning}
+use Rattle.vote_book.specs.declared.entry.LogEntry.{LogEntry}
+use Rattle.vote_book.specs.declared.entry.LogEntry.TheVariants.{Opened, Wrote, Accepted, Promised, Synced, Decided, Installed, Marked}
+use Rattle.node_rules.specs.Nodes.{Node, view_of, greatest_regency, start_at}
+use Rattle.node_rules.specs.Rules.{writing, accepting}
 use Rattle.consensus_instance.specs.declared.rule.Rule.{Rule}
-use Rattle.consensus_instance.specs.declared.rule.Rule.TheVariants.{Write, Accept, Decide}
+use Rattle.consensus_instance.specs.declared.rule.Rule.TheVariants.{Write, Accept}
 use Rattle.consensus_instance.specs.declared.start.Start.{Start}
 use Rattle.consensus_instance.specs.Instances.{Instance}
-use Rattle.consensus_instance.specs.Locks.{lock_of}
 
--- a message states the digest of the batch in it
-abbrev pub Bears : Message → Type 0
-Bears (Ask q) = Unit {0}
-Bears (Propose p) = p.head.statement.digest ≡ digest_of p.batch
-Bears (Vote b) = Unit {0}
-Bears (Reply a) = Unit {0}
+-- the slot behind a place
+abbrev pub slot_behind : ℕ → ℕ → ℕ → Slot
+slot_behind view place regency = record { view = view; place = place + 1; regency = regency }
 
--- an entry speaks of no later place than a slot's, and of no later regency
+-- a slot, where it is of a view, is of no later place than another, and of no later regency
+abbrev pub IsWithin : Slot → Slot → Type 0
+IsWithin slot s = s.view ≡ slot.view → (s.place ≤ slot.place) × (s.regency ≤ slot.regency)
+
+-- an entry that is a vote in a slot's view is of no later place and no later regency, and one that begins a regency there begins no later one
 abbrev pub UpTo : Slot → LogEntry → Type 0
-UpTo slot Opened = Unit {0}
-UpTo slot (Wrote s digest) = (s.place ≤ slot.place) × (s.regency ≤ slot.regency)
-UpTo slot (Accepted s voters batch) = (s.place ≤ slot.place) × (s.regency ≤ slot.regency)
-UpTo slot (Decided s voters batch) = (s.place ≤ slot.place) × (s.regency ≤ slot.regency)
+UpTo slot (Opened o) = Unit {0}
+UpTo slot (Wrote w) = IsWithin slot w.slot
+UpTo slot (Accepted a) = IsWithin slot a.slot
+UpTo slot (Promised p) = Unit {0}
+UpTo slot (Synced s) = s.view ≡ slot.view → s.regency ≤ slot.regency
+UpTo slot (Decided d) = Unit {0}
+UpTo slot (Installed i) = Unit {0}
+UpTo slot (Marked m) = Unit {0}
 
--- a regency is synced, its base is at most a place, and it is bound to no batch
-abbrev pub StartsFree : ℕ → Option Start → Type 0
-StartsFree place None = ⊥
-StartsFree place (Some start) = (start.base ≤ place) × (start.bound ≡ None)
+-- where a regency starts, by the entry that says so
+abbrev pub start_by : Beginning → Start
+start_by s = record { base = s.base; bound = s.bound }
 
--- the slot behind a place. So far a node knows regency 0 alone
-abbrev pub slot_behind : ℕ → ℕ → Slot
-slot_behind view place = record { view = view; place = place + 1; regency = 0 }
-
--- An instance is that of a member whose last delivered place, batch that waits, kept messages and book these are, in the view of a number.
-pub record IsInstance (id view place : ℕ) (waiting : Option Batch) (arrivals : List Message) (entries : List LogEntry) (i : Instance) : Type 0 where
+-- An instance is that of a member whose last delivered place, batch that waits, kept messages and book these are, in a view.
+pub record IsInstance (id : ℕ) (view : View) (place : ℕ) (waiting : Option Batch) (arrivals : List Message) (entries : List LogEntry) (i : Instance) : Type 0 where
   pub id_same : i.id ≡ id
   pub place_same : i.place ≡ place
   pub decided_same : i.decided ≡ is_some waiting
-  -- the node's regency is in force, and a vote may be given in it for any batch at the next place
-  pub regency_same : i.regency ≡ 0
-  pub starts_free : StartsFree (place + 1) i.start
+  -- the regency in force is the greatest that the book promises in the view
+  pub regency_same : i.regency ≡ greatest_regency view.number entries
+  -- it starts where the book says
+  pub start_same : i.start ≡ option_map start_by (start_at view i.regency entries)
   pub arrivals_same : i.arrivals ≡ arrivals
   -- the book has a write for the open slot
-  pub wrote_same : i.wrote ≡ list_any (is_wrote (slot_behind view place)) entries
-  -- what is accepted in the open slot's instance is the accept of the greatest regency in the book
-  pub accept_same : i.accept ≡ lock_of (slot_behind view place) entries
-  -- the book has nothing of later places or regencies
-  pub none_later : Each (UpTo (slot_behind view place)) entries
+  pub wrote_same : i.wrote ≡ list_any (writes_in (slot_behind view.number place i.regency)) entries
+  -- the book has an accept for the open slot
+  pub accepted_same : i.accepted ≡ list_any (accepts_in (slot_behind view.number place i.regency)) entries
+  -- the book votes in no later place or regency of the view, and none of a later regency begins there
+  pub none_later : Each (UpTo (slot_behind view.number place i.regency)) entries
 
 -- A node has an instance.
 abbrev pub HasInstance : {S : Type 0} → Node S → Instance → Type 0
-HasInstance n i = IsInstance n.id (view_of n).number n.replica.place n.waiting n.arrivals n.entries i
+HasInstance n i = IsInstance n.id (view_of n) n.replica.place n.waiting n.arrivals n.entries i
 
--- the slot behind the last place that is delivered or decided, of which a node's lock is
-abbrev pub lock_slot : {S : Type 0} → Node S → Slot
-lock_slot n = record { view = (view_of n).number; place = decided_place n + 1; regency = nodes.regency_of n }
-
--- the batch for which a rule is due at a node
-abbrev pub due_at : {S : Type 0} → Rule → Node S → Option Batch
+-- the proposal for which a rule is due at a node
+abbrev pub due_at : {S : Type 0} → Rule → Node S → Option Proposed
 due_at Write n = writing n
 due_at Accept n = accepting n
-due_at Decide n = deciding n

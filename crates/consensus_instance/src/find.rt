@@ -1,22 +1,23 @@
 //! What a member looks up in what it keeps.
-ghost use Rattle.std.specs.Prelude.{◌≡◌, IfOk, IfSome, filter, length, option_map};
+ghost use Rattle.std.specs.Prelude.{◌≡◌, ◌<◌, ◌^◌, IfOk, filter, filter_map, length, option_map};
 ghost use Rattle.std.specs.List.{list_any};
 ghost use Rattle.std.specs.Option.{option_copied};
-ghost use Rattle.smart_base.specs.Lists.{Each};
-ghost use Rattle.smart_messages.specs.declared.message.Proposed.{Proposed};
-ghost use Rattle.node_rules.specs.Nodes.{is_vote, has_vote, has_quorum, certificate, proposal_of};
-ghost use Rattle.node_rules.specs.Seals.{digest_of};
+ghost use Rattle.node_rules.specs.Votes.{is_vote, has_vote, has_quorum, certificate};
 ghost use Rattle.node_rules.specs.Arrivals.{is_same_proposal, is_same_vote};
-ghost use Rattle.consensus_instance.specs.Nodes.{Bears};
+ghost use Rattle.node_rules.specs.Votes.{vote_in, first_vote, certificate_votes, proposed_in, proposed_for, named_in, accepted_in};
+ghost use Rattle.consensus_instance.specs.Instances.{name_of};
 
 use smart_base::bytes::Digest32;
+use smart_base::duplicate::Duplicate;
 use smart_base::equality::same_bytes;
 use smart_base::name::MemberId;
+use smart_base::number::Regency;
 use smart_base::sequence::Sequence;
 use smart_base::view::View;
 use smart_messages::equality::{same_kind, same_slot};
 use smart_messages::message::{Message, Proposed};
 use smart_messages::signed::Signed;
+use smart_messages::signed_list::SignedList;
 use smart_messages::statement::{Ballot, Slot, VoteKind};
 use std::alloc::{AllocError, Global};
 
@@ -89,15 +90,15 @@ pub fn has_quorum(
 fn voters(
     alloc: Global,
     arrivals: &[Message],
-    view: &View,
+    members: &[MemberId],
     kind: VoteKind,
     slot: &Slot,
     digest: &Digest32,
 ) -> Result<Sequence<MemberId>, AllocError>
-    ensures { IfOk result (λ found. found ≡ filter (λ member. list_any (is_vote kind member slot.now digest.now) arrivals.now) view.now.members) }
+    ensures { IfOk result (λ found. found ≡ filter (λ member. list_any (is_vote kind member slot.now digest.now) arrivals.now) members.now) }
 {
     let mut found = Sequence::new(alloc);
-    for member in view.members() {
+    for member in members {
         if has_vote(arrivals, kind, slot, digest, *member) {
             found.push(*member)?;
         }
@@ -106,7 +107,7 @@ fn voters(
 }
 
 /// The first members, ascending, whose votes make a quorum.
-pub fn certificate(
+fn certificate(
     alloc: Global,
     arrivals: &[Message],
     view: &View,
@@ -114,22 +115,144 @@ pub fn certificate(
     slot: &Slot,
     digest: &Digest32,
 ) -> Result<Sequence<MemberId>, AllocError>
-    ensures { IfOk result (λ members. members ≡ certificate arrivals.now view.now kind slot.now digest.now) }
+    ensures value { IfOk result (λ members. members ≡ certificate arrivals.now view.now kind slot.now digest.now) }
+    ensures few { IfOk result (λ members. length members < 2 ^ 16) }
 {
-    let mut members = voters(alloc, arrivals, view, kind, slot, digest)?;
+    let all = view.members();
+    let mut members = voters(alloc, arrivals, all, kind, slot, digest)?;
     members.truncate(view.quorum());
     Ok(members)
 }
 
-/// The first proposal for a slot.
-pub fn proposal_of<'a>(arrivals: &'a [Message], slot: &Slot) -> Option<&'a Proposed>
-    requires { Each Bears arrivals.now }
-    ensures batch { option_map (λ (p : Proposed). p.batch) (option_copied result) ≡ proposal_of arrivals.now slot.now }
-    ensures digest { IfSome result (λ p. p.now.head.statement.digest ≡ digest_of p.now.batch) }
+/// A message as a member's vote of a kind for a slot and a digest.
+fn vote_in<'a>(
+    kind: VoteKind,
+    slot: &Slot,
+    digest: &Digest32,
+    member: MemberId,
+    message: &'a Message,
+) -> Option<&'a Signed<Ballot>>
+    ensures { option_copied result ≡ vote_in kind slot.now digest.now member message.now }
+{
+    match message {
+        Message::Vote(ballot) if is_vote(kind, member, slot, digest, message) => Some(ballot),
+        Message::Ask(_) | Message::Propose(_) | Message::Vote(_) | Message::Reply(_) => None,
+    }
+}
+
+/// The first vote of a member.
+fn first_vote<'a>(
+    arrivals: &'a [Message],
+    kind: VoteKind,
+    slot: &Slot,
+    digest: &Digest32,
+    member: MemberId,
+) -> Option<&'a Signed<Ballot>>
+    ensures { option_copied result ≡ first_vote arrivals.now kind slot.now digest.now member }
 {
     for message in arrivals {
-        if let Message::Propose(proposed) = message {
-            if same_slot(proposed.head.statement().slot, *slot) {
+        let found = vote_in(kind, slot, digest, member, message);
+        if found.is_some() {
+            return found;
+        }
+    }
+    None
+}
+
+/// Copies of the first votes of some members.
+fn votes_by(
+    alloc: Global,
+    arrivals: &[Message],
+    members: &[MemberId],
+    kind: VoteKind,
+    slot: &Slot,
+    digest: &Digest32,
+) -> Result<SignedList<Ballot>, AllocError>
+    requires { length members.now < 2 ^ 16 }
+    ensures { IfOk result (λ votes. votes ≡ filter_map (first_vote arrivals.now kind slot.now digest.now) members.now) }
+{
+    let mut votes = SignedList::new(alloc);
+    for member in members {
+        match first_vote(arrivals, kind, slot, digest, *member) {
+            None => {}
+            Some(vote) => votes.push(vote.duplicate(alloc)?)?,
+        }
+    }
+    Ok(votes)
+}
+
+/// Copies of the votes of the first members, ascending, that make a quorum: of all that voted so
+/// where they are fewer.
+pub fn certificate_votes(
+    alloc: Global,
+    arrivals: &[Message],
+    view: &View,
+    kind: VoteKind,
+    slot: &Slot,
+    digest: &Digest32,
+) -> Result<SignedList<Ballot>, AllocError>
+    ensures { IfOk result (λ votes. votes ≡ certificate_votes arrivals.now view.now kind slot.now digest.now) }
+{
+    let members = certificate(alloc, arrivals, view, kind, slot, digest)?;
+    votes_by(alloc, arrivals, members.as_slice(), kind, slot, digest)
+}
+
+/// A message as a proposal for a slot.
+fn proposed_in<'a>(slot: &Slot, message: &'a Message) -> Option<&'a Proposed>
+    ensures { option_copied result ≡ proposed_in slot.now message.now }
+{
+    match message {
+        Message::Propose(proposed) if same_slot(proposed.head.statement().slot, *slot) => {
+            Some(proposed)
+        }
+        Message::Ask(_) | Message::Propose(_) | Message::Vote(_) | Message::Reply(_) => None,
+    }
+}
+
+/// The first proposal for a slot.
+pub fn proposed_for<'a>(arrivals: &'a [Message], slot: &Slot) -> Option<&'a Proposed>
+    ensures { option_copied result ≡ proposed_for arrivals.now slot.now }
+{
+    for message in arrivals {
+        let found = proposed_in(slot, message);
+        if found.is_some() {
+            return found;
+        }
+    }
+    None
+}
+
+/// A message as a proposal for a slot's place in its view, in a regency or a later one.
+fn named_in<'a>(slot: &Slot, regency: Regency, message: &'a Message) -> Option<&'a Proposed>
+    ensures { option_map name_of (option_copied result) ≡ named_in slot.now.view slot.now.place regency message.now }
+{
+    match message {
+        Message::Propose(proposed) => {
+            let other = proposed.head.statement().slot;
+            if other.view == slot.view && other.place == slot.place && regency <= other.regency {
+                Some(proposed)
+            } else {
+                None
+            }
+        }
+        Message::Ask(_) | Message::Vote(_) | Message::Reply(_) => None,
+    }
+}
+
+/// The first proposal for a slot's place in its view, in a regency or a later one, whose batch a
+/// quorum accepted in the slot.
+pub fn accepted_proposal<'a>(
+    arrivals: &'a [Message],
+    view: &View,
+    regency: Regency,
+    slot: &Slot,
+) -> Option<&'a Proposed>
+    ensures { option_map name_of (option_copied result) ≡ accepted_in view.now slot.now arrivals.now (filter_map (named_in slot.now.view slot.now.place regency) arrivals.now) }
+{
+    for message in arrivals {
+        if let Some(proposed) = named_in(slot, regency, message) {
+            let digest = &proposed.head.statement().digest;
+            if has_quorum(arrivals, view, VoteKind::Accept, slot, digest) {
                 return Some(proposed);
             }
         }

@@ -1,17 +1,18 @@
 //! The instance itself.
-ghost use Rattle.std.specs.Prelude.{◌≡◌, ◌+◌, ◌<◌, ◌++◌, ◌∷◌, [], true, false, Some, None, IfOk, IfSome, IsSome, OnOk, OnErr, option_map, is_some};
+ghost use Rattle.std.specs.Prelude.{◌≡◌, ◌+◌, ◌<◌, ◌++◌, ◌∷◌, [], true, false, Some, None, IfOk, IsSome, OnOk, OnErr, option_map};
 ghost use Rattle.std.specs.List.{list_any};
 ghost use Rattle.std.specs.Option.{option_copied};
 ghost use Rattle.smart_messages.specs.declared.message.Message.TheVariants as messages;
-ghost use Rattle.smart_messages.specs.declared.message.Proposed.{Proposed};
-ghost use Rattle.node_rules.specs.Nodes.{certificate, proposal_of};
-ghost use Rattle.node_rules.specs.Seals.{digest_of};
+ghost use Rattle.smart_messages.specs.declared.statement.VoteKind.TheVariants as kinds;
+ghost use Rattle.node_rules.specs.Votes.{has_quorum};
 ghost use Rattle.node_rules.specs.Arrivals.{is_same_proposal, is_same_vote};
-ghost use Rattle.consensus_instance.specs.Instances.{Instance, regency_of, decided_place, is_free, has_begun, is_bound_to, is_within, is_unbound, is_open, open_slot, locked, votable, backed, due_by, trimmed, moved_on, promising, is_unsynced, syncing};
-ghost use Rattle.consensus_instance.specs.Locks.{is_locked_in};
+ghost use Rattle.node_rules.specs.Nodes.{is_within};
+ghost use Rattle.node_rules.specs.Votes.{certificate_votes, proposed_for};
+ghost use Rattle.consensus_instance.specs.Instances.{Instance, first_of, regency_of, decided_place, is_free, has_begun, is_bound_to, is_unbound, is_open, open_slot, votable, written, due_by, name_of, accepted_named, trimmed, moved_on, promising, is_unsynced, syncing};
 
-use crate::find::{certificate, has_quorum, proposal_of, repeats_proposal, repeats_vote};
-use crate::lock::Lock;
+use crate::find::{
+    accepted_proposal, certificate_votes, has_quorum, proposed_for, repeats_proposal, repeats_vote,
+};
 use crate::needed::keep_needed;
 use crate::rule::Rule;
 use crate::start::Start;
@@ -19,19 +20,18 @@ use smart_base::bytes::Digest32;
 use smart_base::equality::same_bytes;
 use smart_base::name::MemberId;
 use smart_base::number::{Place, Regency, ViewNo};
-use smart_base::sequence::Sequence;
 use smart_base::view::View;
 use smart_messages::batch::Batch;
 use smart_messages::message::{Message, Proposed};
 use smart_messages::signed::Signed;
+use smart_messages::signed_list::SignedList;
 use smart_messages::statement::{Ballot, Proposal, Slot, VoteKind};
 use std::alloc::{AllocError, Global};
 use std::marker::Model;
 
 /// The instance of consensus in which a member takes part, that of its next place (Mod-SMaRt, EDCC
-/// 2012). The view in force is lent to each call that needs it: it changes only as a place is
-/// delivered. Each proposal that is kept states the digest of its batch, so that no batch is
-/// digested again. Regency 0 is synced from the first.
+/// 2012). The view in force is lent to each call that needs it. A batch goes by the digest that its
+/// proposal states: none is digested here. Regency 0 is synced from the first.
 #[derive(Drop)]
 pub struct Instance {
     id: MemberId,
@@ -46,16 +46,13 @@ pub struct Instance {
     arrivals: Vec<Message>,
     /// Whether the member has written in the open slot.
     wrote: bool,
-    /// What the member has accepted at the place behind the last one delivered, in the greatest
-    /// regency.
-    accept: Option<Lock>,
+    /// Whether the member has accepted in the open slot.
+    accepted: bool,
 }
 
 impl Model for Instance {
     ghost use Rattle.std.specs.Prelude.{◌≡◌, ◌+◌, ◌<◌, ◌^◌, true, IsSome};
-    ghost use Rattle.smart_base.specs.Lists.{Each};
     ghost use Rattle.consensus_instance.specs.Instances.{Instance};
-    ghost use Rattle.consensus_instance.specs.Nodes.{Bears};
 
     ghost Value = { Instance };
 
@@ -67,16 +64,17 @@ impl Model for Instance {
       start = i.start;
       arrivals = i.arrivals.items;
       wrote = i.wrote;
-      accept = i.accept;
+      accepted = i.accepted;
     } };
 
-    ghost invariant = { λ i. (i.decided ≡ true → i.place + 1 < 2 ^ 63) × Each Bears i.arrivals.items × (i.regency ≡ 0 → IsSome i.start) };
+    ghost invariant = { λ i. (i.decided ≡ true → i.place + 1 < 2 ^ 63) × (i.regency ≡ 0 → IsSome i.start) };
 }
 
 impl Instance {
-    /// The instance of the first place, in regency 0, which starts there. It takes no memory.
-    pub fn begin(alloc: Global, id: MemberId) -> Self
-        ensures { result ≡ record { id = id; place = 0; decided = false; regency = 0; start = Some (record { base = 1; bound = None }); arrivals = []; wrote = false; accept = None } }
+    /// The instance of the first place of a group that begins with a view, in regency 0, which starts
+    /// with the view. It takes no memory.
+    pub fn begin(alloc: Global, id: MemberId, view: &View) -> Self
+        ensures { result ≡ first_of id view.now [] }
     {
         Instance {
             id,
@@ -84,12 +82,12 @@ impl Instance {
             decided: false,
             regency: Regency::new(0),
             start: Some(Start {
-                base: 1,
+                base: view.start(),
                 bound: None,
             }),
             arrivals: Vec::new(alloc),
             wrote: false,
-            accept: None,
+            accepted: false,
         }
     }
 
@@ -181,19 +179,8 @@ impl Instance {
         }
     }
 
-    /// The batch that the member accepted, in the greatest regency, at the place behind the last one
-    /// that is delivered or decided, if it accepted one (Mod-SMaRt, EDCC 2012). While a decided batch
-    /// waits for its delivery there is none: nothing was accepted behind it.
-    pub fn lock(&self) -> Option<Lock>
-        ensures { result ≡ locked self.now }
-    {
-        if self.decided { None } else { self.accept }
-    }
-
-    /// Keeps a proposal that states its batch's digest. Without memory nothing is kept.
-    #[tactic(auto, using(crate::proofs::Lists::each_more))]
+    /// Keeps a proposal. Without memory nothing is kept.
     pub fn on_propose(&mut self, propose: Signed<Proposal>, batch: Batch) -> Result<(), AllocError>
-        requires { propose.statement.digest ≡ digest_of batch }
         ensures ok { OnOk result (self.new ≡ record self.old { arrivals = self.old.arrivals ++ messages.Propose (record { head = propose; batch = batch }) ∷ [] }) }
         ensures err { OnErr result (self.new ≡ self.old) }
     {
@@ -206,7 +193,6 @@ impl Instance {
     }
 
     /// Keeps a vote. Without memory nothing is kept.
-    #[tactic(auto, using(crate::proofs::Lists::each_more))]
     pub fn on_vote(&mut self, vote: Signed<Ballot>) -> Result<(), AllocError>
         ensures ok { OnOk result (self.new ≡ record self.old { arrivals = self.old.arrivals ++ messages.Vote vote ∷ [] }) }
         ensures err { OnErr result (self.new ≡ self.old) }
@@ -229,39 +215,55 @@ impl Instance {
         repeats_vote(self.arrivals.as_slice(), ballot)
     }
 
-    /// The proposal for which a rule is due now, if it is. It states the digest of its batch.
+    /// The proposal for which a rule is due now, if it is.
     #[tactic(auto, unfolding(crate::specs::Instances::due_by))]
     pub fn due(&self, view: &View, rule: Rule) -> Option<&Proposed>
-        ensures batch { option_map (λ (p : Proposed). p.batch) (option_copied result) ≡ due_by rule view.now self.now }
-        ensures digest { IfSome result (λ p. p.now.head.statement.digest ≡ digest_of p.now.batch) }
+        ensures proposal { option_copied result ≡ due_by rule view.now self.now }
         ensures free { IsSome result → is_free self.now ≡ true }
     {
         match rule {
             Rule::Write if self.is_open(view) && !self.wrote => self.votable(view),
-            Rule::Accept if self.is_open(view) && !self.has_accepted() => {
-                self.backed(view, VoteKind::Write, self.votable(view))
+            Rule::Accept if self.is_open(view) && !self.accepted => {
+                self.written(view, self.votable(view))
             }
-            Rule::Decide if self.is_free() => {
-                self.backed(view, VoteKind::Accept, self.proposal(view))
-            }
-            Rule::Write | Rule::Accept | Rule::Decide => None,
+            Rule::Write | Rule::Accept => None,
         }
     }
 
-    /// The first members, ascending, whose votes for a digest in the open slot make a quorum: all
-    /// that voted so where they are fewer.
-    pub fn certificate(
+    /// Copies of the votes of the first members, ascending, whose votes for a digest in a slot make a
+    /// quorum: of all that voted so where they are fewer.
+    pub fn votes(
         &self,
         alloc: Global,
         view: &View,
         kind: VoteKind,
+        slot: &Slot,
         digest: &Digest32,
-    ) -> Result<Sequence<MemberId>, AllocError>
-        requires { is_free self.now ≡ true }
-        ensures { IfOk result (λ members. members ≡ certificate self.now.arrivals view.now kind (open_slot view.now self.now) digest.now) }
+    ) -> Result<SignedList<Ballot>, AllocError>
+        ensures { IfOk result (λ votes. votes ≡ certificate_votes self.now.arrivals view.now kind slot.now digest.now) }
     {
-        let arrivals = self.arrivals.as_slice();
-        certificate(alloc, arrivals, view, kind, &self.open_slot(view), digest)
+        certificate_votes(alloc, self.arrivals.as_slice(), view, kind, slot, digest)
+    }
+
+    /// Whether a quorum accepted the batch of a digest in a slot.
+    pub fn is_accepted(&self, view: &View, slot: &Slot, digest: &Digest32) -> bool
+        ensures { result ≡ has_quorum self.now.arrivals view.now kinds.Accept slot.now digest.now }
+    {
+        has_quorum(
+            self.arrivals.as_slice(),
+            view,
+            VoteKind::Accept,
+            slot,
+            digest,
+        )
+    }
+
+    /// The first proposal for a slot's place in its view, in the regency in force or a later one,
+    /// whose batch a quorum accepted in the slot. The slot may be of another regency.
+    pub fn accepted_proposal(&self, view: &View, slot: &Slot) -> Option<&Proposed>
+        ensures { option_map name_of (option_copied result) ≡ accepted_named view.now slot.now self.now }
+    {
+        accepted_proposal(self.arrivals.as_slice(), view, self.regency, slot)
     }
 
     /// The member has written in the open slot.
@@ -271,14 +273,11 @@ impl Instance {
         self.wrote = true;
     }
 
-    /// The member has accepted the batch of a digest in the open slot.
-    pub fn accepted(&mut self, digest: Digest32)
-        ensures { self.new ≡ record self.old { accept = Some (record { regency = regency_of self.old; digest = digest }) } }
+    /// The member has accepted in the open slot.
+    pub fn accepted(&mut self)
+        ensures { self.new ≡ record self.old { accepted = true } }
     {
-        self.accept = Some(Lock {
-            regency: self.regency(),
-            digest,
-        });
+        self.accepted = true;
     }
 
     /// The batch of the next place is decided.
@@ -297,11 +296,11 @@ impl Instance {
         self.place = self.place.next();
         self.decided = false;
         self.wrote = false;
-        self.accept = None;
+        self.accepted = false;
     }
 
-    /// The member has promised a later regency. It is not synced, and nothing is written in it yet. The
-    /// lock stays.
+    /// The member has promised a later regency. It is not synced, and nothing is written or accepted in
+    /// it yet.
     pub fn promised(&mut self, regency: Regency)
         requires { self.old.regency < regency }
         ensures { self.new ≡ promising regency self.old }
@@ -309,6 +308,7 @@ impl Instance {
         self.regency = regency;
         self.start = None;
         self.wrote = false;
+        self.accepted = false;
     }
 
     /// A regency is synced, a later one or that in force: it starts there. A later one is so promised
@@ -318,12 +318,13 @@ impl Instance {
         ensures { self.new ≡ syncing regency start self.old }
     {
         self.wrote = self.wrote && self.regency == regency;
+        self.accepted = self.accepted && self.regency == regency;
         self.regency = regency;
         self.start = Some(start);
     }
 
     /// Drops the proposals and votes that are not needed any more in a view.
-    #[tactic(auto, unfolding(crate::specs::Instances::trimmed), using(crate::proofs::Lists::each_filter))]
+    #[tactic(auto, unfolding(crate::specs::Instances::trimmed))]
     pub fn trim(&mut self, view: ViewNo)
         ensures { self.new ≡ trimmed view self.old }
     {
@@ -353,32 +354,12 @@ impl Instance {
         }
     }
 
-    /// Whether the member has accepted in the open slot.
-    fn has_accepted(&self) -> bool
-        ensures { result ≡ is_locked_in (regency_of self.now) self.now.accept }
-    {
-        match self.accept {
-            None => false,
-            Some(accept) => accept.regency == self.regency(),
-        }
-    }
-
-    /// The first proposal for the open slot.
-    fn proposal(&self, view: &View) -> Option<&Proposed>
-        requires { is_free self.now ≡ true }
-        ensures batch { option_map (λ (p : Proposed). p.batch) (option_copied result) ≡ proposal_of self.now.arrivals (open_slot view.now self.now) }
-        ensures digest { IfSome result (λ p. p.now.head.statement.digest ≡ digest_of p.now.batch) }
-    {
-        proposal_of(self.arrivals.as_slice(), &self.open_slot(view))
-    }
-
     /// The first proposal for the open slot, if the member may vote for it.
     fn votable(&self, view: &View) -> Option<&Proposed>
         requires { is_free self.now ≡ true }
-        ensures batch { option_map (λ (p : Proposed). p.batch) (option_copied result) ≡ votable self.now (proposal_of self.now.arrivals (open_slot view.now self.now)) }
-        ensures digest { IfSome result (λ p. p.now.head.statement.digest ≡ digest_of p.now.batch) }
+        ensures { option_copied result ≡ votable self.now (proposed_for self.now.arrivals (open_slot view.now self.now)) }
     {
-        match self.proposal(view) {
+        match proposed_for(self.arrivals.as_slice(), &self.open_slot(view)) {
             None => None,
             Some(proposed) => {
                 if self.may_have(self.place.next(), &proposed.head.statement().digest) {
@@ -390,24 +371,23 @@ impl Instance {
         }
     }
 
-    /// A proposal, if a quorum votes for it in the open slot.
-    fn backed<'a>(
-        &self,
-        view: &View,
-        kind: VoteKind,
-        proposed: Option<&'a Proposed>,
-    ) -> Option<&'a Proposed>
-        requires free { is_free self.now ≡ true }
-        requires digest { IfSome proposed (λ p. p.now.head.statement.digest ≡ digest_of p.now.batch) }
-        ensures batch { option_map (λ (p : Proposed). p.batch) (option_copied result) ≡ backed view.now self.now kind (option_map (λ (p : Proposed). p.batch) (option_copied proposed.entry)) }
-        ensures digest { IfSome result (λ p. p.now.head.statement.digest ≡ digest_of p.now.batch) }
+    /// A proposal, if a quorum wrote for it in the open slot.
+    fn written<'a>(&self, view: &View, proposed: Option<&'a Proposed>) -> Option<&'a Proposed>
+        requires { is_free self.now ≡ true }
+        ensures { option_copied result ≡ written view.now self.now (option_copied proposed.entry) }
     {
         match proposed {
             None => None,
             Some(proposed) => {
                 let slot = self.open_slot(view);
                 let digest = &proposed.head.statement().digest;
-                if has_quorum(self.arrivals.as_slice(), view, kind, &slot, digest) {
+                if has_quorum(
+                    self.arrivals.as_slice(),
+                    view,
+                    VoteKind::Write,
+                    &slot,
+                    digest,
+                ) {
                     Some(proposed)
                 } else {
                     None

@@ -1,15 +1,13 @@
 //! What an instance says of the node that has it.
-ghost use Rattle.std.specs.Prelude.{◌≡◌, List, Some, None};
-ghost use Rattle.smart_base.specs.Lists.{Each};
-ghost use Rattle.smart_messages.specs.declared.statement.Slot.{Slot};
-ghost use Rattle.smart_messages.specs.declared.entry.LogEntry.{LogEntry};
-ghost use Rattle.node_rules.specs.Nodes.{Node, view_of};
-ghost use Rattle.node_rules.specs.Rules.{writing, accepting, deciding};
-ghost use Rattle.consensus_instance.specs.declared.lock.Lock.{Lock};
-ghost use Rattle.consensus_instance.specs.declared.rule.Rule.TheVariants.{Write, Accept, Decide};
-ghost use Rattle.consensus_instance.specs.Instances.{Instance, locked, due_by};
-ghost use Rattle.consensus_instance.specs.Locks.{lock_in, lock_of, IsGreatest};
-ghost use Rattle.consensus_instance.specs.Nodes.{HasInstance, lock_slot};
+ghost use Rattle.std.specs.Prelude.{◌≡◌, ℕ, ◌==◌, nat_lt, not, ◌&&◌, ◌||◌, is_some, option_map};
+ghost use Rattle.smart_messages.specs.declared.message.Proposed.{Proposed};
+ghost use Rattle.node_rules.specs.Nodes as nodes;
+ghost use Rattle.node_rules.specs.Nodes.{Node, view_of, start_of, is_synced};
+ghost use Rattle.node_rules.specs.Arrivals as arrivals;
+ghost use Rattle.node_rules.specs.Rules.{writing, accepting};
+ghost use Rattle.consensus_instance.specs.declared.rule.Rule.TheVariants.{Write, Accept};
+ghost use Rattle.consensus_instance.specs.Instances.{Instance, decided_place, is_free, is_open, open_slot, is_bound_to, is_unbound, is_unsynced, due_by};
+ghost use Rattle.consensus_instance.specs.Nodes.{HasInstance, start_by};
 
 use smart_service::service::Service;
 
@@ -17,14 +15,18 @@ use smart_service::service::Service;
 pub fn due_in_an_instance_is_due_at_its_node<S: Service>()
     ensures write { (n : Node S) (i : Instance) → HasInstance n i → due_by Write (view_of n) i ≡ writing n }
     ensures accept { (n : Node S) (i : Instance) → HasInstance n i → due_by Accept (view_of n) i ≡ accepting n }
-    ensures decide { (n : Node S) (i : Instance) → HasInstance n i → due_by Decide (view_of n) i ≡ deciding n }
 {}
 
-/// The lock of an instance is the accept of the greatest regency in the book of each node that has
-/// it, in the view in force and at the place behind the last one that is delivered or decided. Where
-/// there is no lock, the book accepts nothing there.
-pub fn the_lock_is_the_greatest_accept<S: Service>()
-    ensures lock { (n : Node S) (i : Instance) → HasInstance n i → locked i ≡ lock_of (lock_slot n) n.entries }
-    ensures some { (slot : Slot) (entries : List LogEntry) (lock : Lock) → lock_of slot entries ≡ Some lock → IsGreatest slot entries lock }
-    ensures none { (slot : Slot) (entries : List LogEntry) → lock_of slot entries ≡ None → Each (λ e. lock_in slot e ≡ None) entries }
+/// An instance stands where each node stands that has it.
+pub fn an_instance_stands_where_its_node_does<S: Service>()
+    ensures regency { (n : Node S) (i : Instance) → HasInstance n i → i.regency ≡ nodes.regency_of n }
+    ensures start { (n : Node S) (i : Instance) → HasInstance n i → i.start ≡ option_map start_by (start_of n) }
+    ensures synced { (n : Node S) (i : Instance) → HasInstance n i → is_some i.start ≡ is_synced n }
+    ensures unsynced { (n : Node S) (i : Instance) (regency : ℕ) → HasInstance n i → is_unsynced regency i ≡ (nat_lt (nodes.regency_of n) regency || ((nodes.regency_of n == regency) && not (is_synced n))) }
+    ensures decided_place { (n : Node S) (i : Instance) → HasInstance n i → decided_place i ≡ nodes.decided_place n }
+    ensures free { (n : Node S) (i : Instance) → HasInstance n i → is_free i ≡ nodes.is_free n }
+    ensures open { (n : Node S) (i : Instance) → HasInstance n i → is_open (view_of n) i ≡ nodes.is_open n }
+    ensures open_slot { (n : Node S) (i : Instance) → HasInstance n i → open_slot (view_of n) i ≡ nodes.open_slot n }
+    ensures bound { (n : Node S) (i : Instance) (place : ℕ) → HasInstance n i → is_bound_to place i ≡ nodes.bound_at place (start_of n) }
+    ensures unbound { (n : Node S) (i : Instance) (p : Proposed) → HasInstance n i → is_unbound p i ≡ arrivals.is_unbound n p }
 {}

@@ -1,6 +1,6 @@
 //! What is still needed past a place.
 ghost use Rattle.std.specs.Prelude.{◌≡◌, filter};
-ghost use Rattle.kept_arrivals.specs.Kept.{is_ahead, is_needed};
+ghost use Rattle.node_rules.specs.Kept.{is_ahead, is_needed};
 
 use smart_base::number::{Place, Regency, ViewNo};
 use smart_messages::message::Message;

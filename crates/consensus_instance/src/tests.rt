@@ -1,9 +1,5 @@
 //! An instance from a proposal to the next place.
-ghost use Rattle.std.specs.Prelude.{◌≡◌, IfOk};
-ghost use Rattle.node_rules.specs.Seals.{digest_of};
-
 use crate::instance::Instance;
-use crate::lock::Lock;
 use crate::rule::Rule;
 use crate::start::Start;
 use smart_base::bytes::{Digest32, Payload};
@@ -19,7 +15,7 @@ use smart_messages::batch::Batch;
 use smart_messages::message::Proposed;
 use smart_messages::signed::{Signed, Statement};
 use smart_messages::statement::{Ballot, Proposal, Request, Slot, VoteKind};
-use std::alloc::{AllocError, Global};
+use std::alloc::Global;
 use std::test::Fail;
 
 fn view(alloc: Global) -> Result<View, Fail> {
@@ -35,9 +31,7 @@ fn signed<S: Statement>(
     who: Party,
     signer: u16,
     statement: S,
-) -> Result<Signed<S>, Fail>
-    ensures { IfOk result (λ s. s.statement ≡ statement) }
-{
+) -> Result<Signed<S>, Fail> {
     let ring = Ring::from_secret(Bytes::from_slice(alloc, b"world")?);
     let mut key = ring.sealer(who);
     Ok(
@@ -60,13 +54,6 @@ fn batch(alloc: Global) -> Result<Batch, Fail> {
     Ok(Batch::single(alloc, request)?)
 }
 
-#[tactic(auto, unfolding(node_rules::specs::Seals::digest_of))]
-fn digest_of(alloc: Global, batch: &Batch) -> Result<Digest32, AllocError>
-    ensures { IfOk result (λ digest. digest ≡ digest_of batch.now) }
-{
-    Ok(Sha::digest(batch.text(alloc)?.as_slice()))
-}
-
 /// A slot of the first place.
 fn slot_in(regency: u32) -> Slot {
     Slot {
@@ -76,23 +63,16 @@ fn slot_in(regency: u32) -> Slot {
     }
 }
 
-/// The first slot of the view.
-fn slot() -> Slot {
-    slot_in(0)
-}
-
-/// A member's vote for a digest in the first slot.
+/// A member's vote for a digest at the first place.
 fn vote(
     alloc: Global,
     kind: VoteKind,
+    regency: u32,
     member: u16,
     digest: Digest32,
 ) -> Result<Signed<Ballot>, Fail> {
-    let ballot = Ballot {
-        kind,
-        slot: slot(),
-        digest,
-    };
+    let slot = slot_in(regency);
+    let ballot = Ballot { kind, slot, digest };
     signed(alloc, Party::Member(MemberId::new(member)), member, ballot)
 }
 
@@ -101,21 +81,21 @@ fn hear(
     alloc: Global,
     instance: &mut Instance,
     kind: VoteKind,
+    regency: u32,
     count: u16,
     digest: Digest32,
 ) -> Result<(), Fail> {
     for number in 0..count {
-        instance.on_vote(vote(alloc, kind, number.saturating_add(1), digest)?)?;
+        let member = number.saturating_add(1);
+        instance.on_vote(vote(alloc, kind, regency, member, digest)?)?;
     }
     Ok(())
 }
 
 /// Member 1's proposal for the first place, which states the digest of its batch.
-fn proposal(alloc: Global, regency: u32) -> Result<Proposed, Fail>
-    ensures { IfOk result (λ p. p.head.statement.digest ≡ digest_of p.batch) }
-{
+fn proposal(alloc: Global, regency: u32) -> Result<Proposed, Fail> {
     let batch = batch(alloc)?;
-    let digest = digest_of(alloc, &batch)?;
+    let digest = Sha::digest(batch.text(alloc)?.as_slice());
     let slot = slot_in(regency);
     let proposal = Proposal { slot, digest };
     let head = signed(alloc, Party::Member(MemberId::new(1)), 1, proposal)?;
@@ -123,27 +103,23 @@ fn proposal(alloc: Global, regency: u32) -> Result<Proposed, Fail>
 }
 
 /// The instance of member 2 that has kept the proposal of a regency, and the digest of its batch.
-fn proposed_in(alloc: Global, regency: u32) -> Result<(Instance, Digest32), Fail> {
+fn proposed(alloc: Global, view: &View, regency: u32) -> Result<(Instance, Digest32), Fail> {
     let Proposed { head, batch } = proposal(alloc, regency)?;
     let digest = head.statement().digest;
-    let mut instance = Instance::begin(alloc, MemberId::new(2));
+    let mut instance = Instance::begin(alloc, MemberId::new(2), view);
     instance.on_propose(head, batch)?;
     Ok((instance, digest))
-}
-
-/// The instance of member 2 that has kept the leader's proposal, and the digest of its batch.
-fn proposed(alloc: Global) -> Result<(Instance, Digest32), Fail> {
-    proposed_in(alloc, 0)
 }
 
 /// The instance of member 2 that has kept the proposal of regency 1, which starts so, and the digest
 /// of its batch.
 fn started(
     alloc: Global,
+    view: &View,
     base: u64,
     bound: Option<Digest32>,
 ) -> Result<(Instance, Digest32), Fail> {
-    let (mut instance, digest) = proposed_in(alloc, 1)?;
+    let (mut instance, digest) = proposed(alloc, view, 1)?;
     start(&mut instance, base, bound);
     Ok((instance, digest))
 }
@@ -161,79 +137,61 @@ fn other(alloc: Global) -> Result<Digest32, Fail> {
     Ok(Sha::digest(Bytes::from_slice(alloc, b"other")?.as_slice()))
 }
 
-/// How many members a write certificate has.
-fn writers(
-    alloc: Global,
-    instance: &Instance,
-    view: &View,
-    digest: &Digest32,
-) -> Result<usize, Fail> {
-    if instance.is_free() {
-        let voters = instance.certificate(alloc, view, VoteKind::Write, digest)?;
-        Ok(voters.len())
-    } else {
-        Ok(0)
-    }
-}
-
 fn is_due(instance: &Instance, view: &View, rule: Rule) -> bool {
     instance.due(view, rule).is_some()
 }
 
-#[test]
-fn a_proposal_is_written_for_once(rt: HostRuntime) -> Result<(), Fail> {
-    let alloc = rt.alloc();
-    let view = view(alloc)?;
-    let (mut instance, digest) = proposed(alloc)?;
-    assert!(rt; is_due(&instance, &view, Rule::Write));
-    assert!(rt; !is_due(&instance, &view, Rule::Accept));
-    instance.wrote();
-    assert!(rt; !is_due(&instance, &view, Rule::Write));
-    Ok(())
+/// The digest that the proposal has which a quorum accepted in a regency.
+fn accepted_in(instance: &Instance, view: &View, regency: u32) -> Option<Digest32> {
+    match instance.accepted_proposal(view, &slot_in(regency)) {
+        None => None,
+        Some(proposed) => Some(proposed.head.statement().digest),
+    }
 }
 
 #[test]
 fn a_quorum_of_writes_is_accepted_once(rt: HostRuntime) -> Result<(), Fail> {
     let alloc = rt.alloc();
     let view = view(alloc)?;
-    let (mut instance, digest) = proposed(alloc)?;
-    hear(alloc, &mut instance, VoteKind::Write, 2, digest)?;
+    let (mut instance, digest) = proposed(alloc, &view, 0)?;
+    assert!(rt; is_due(&instance, &view, Rule::Write));
+    instance.wrote();
+    assert!(rt; !is_due(&instance, &view, Rule::Write));
+    hear(alloc, &mut instance, VoteKind::Write, 0, 2, digest)?;
     assert!(rt; !is_due(&instance, &view, Rule::Accept));
-    hear(alloc, &mut instance, VoteKind::Write, 4, digest)?;
+    hear(alloc, &mut instance, VoteKind::Write, 0, 4, digest)?;
     assert!(rt; is_due(&instance, &view, Rule::Accept));
-    assert!(rt; !is_due(&instance, &view, Rule::Decide));
-    assert_eq!(rt; writers(alloc, &instance, &view, &digest)?, 3);
-    instance.accepted(digest);
+    let votes = instance.votes(alloc, &view, VoteKind::Write, &slot_in(0), &digest)?;
+    let mut signers = Vec::new(alloc);
+    for vote in votes.as_slice() {
+        signers.push(vote.signer())?;
+    }
+    assert_eq!(rt; signers.as_slice(), [1, 2, 3].as_slice());
+    instance.accepted();
     assert!(rt; !is_due(&instance, &view, Rule::Accept));
-    let lock = Lock {
-        regency: Regency::new(0),
-        digest,
-    };
-    assert_eq!(rt; instance.lock(), Some(lock));
     Ok(())
 }
 
 #[test]
-fn a_quorum_of_accepts_decides_and_the_next_place_begins(rt: HostRuntime) -> Result<(), Fail> {
+fn a_quorum_of_accepts_is_of_one_regency(rt: HostRuntime) -> Result<(), Fail> {
     let alloc = rt.alloc();
     let view = view(alloc)?;
-    let (mut instance, digest) = proposed(alloc)?;
-    instance.accepted(digest);
-    hear(alloc, &mut instance, VoteKind::Accept, 3, digest)?;
-    assert!(rt; is_due(&instance, &view, Rule::Decide));
-    let again = vote(alloc, VoteKind::Accept, 3, digest)?;
+    let (mut instance, digest) = proposed(alloc, &view, 0)?;
+    hear(alloc, &mut instance, VoteKind::Accept, 0, 2, digest)?;
+    hear(alloc, &mut instance, VoteKind::Accept, 1, 3, digest)?;
+    assert_eq!(rt; accepted_in(&instance, &view, 0), None);
+    assert_eq!(rt; accepted_in(&instance, &view, 1), Some(digest));
+    assert!(rt; instance.is_accepted(&view, &slot_in(1), &digest));
+    let again = vote(alloc, VoteKind::Accept, 1, 3, digest)?;
     assert!(rt; instance.repeats_vote(&again));
     if instance.is_free() {
         instance.decided();
-        assert!(rt; !is_due(&instance, &view, Rule::Decide));
-        assert_eq!(rt; instance.decided_place().get(), 1);
-        assert_eq!(rt; instance.lock(), None);
         instance.delivered();
     }
     assert_eq!(rt; instance.place().get(), 1);
     instance.trim(view.number());
     assert!(rt; !instance.repeats_vote(&again));
-    assert_eq!(rt; instance.lock(), None);
+    assert_eq!(rt; accepted_in(&instance, &view, 1), None);
     Ok(())
 }
 
@@ -241,7 +199,7 @@ fn a_quorum_of_accepts_decides_and_the_next_place_begins(rt: HostRuntime) -> Res
 fn no_vote_is_open_below_the_base(rt: HostRuntime) -> Result<(), Fail> {
     let alloc = rt.alloc();
     let view = view(alloc)?;
-    let (mut instance, digest) = started(alloc, 2, None)?;
+    let (mut instance, digest) = started(alloc, &view, 2, None)?;
     assert!(rt; !instance.is_open(&view));
     assert!(rt; !is_due(&instance, &view, Rule::Write));
     if instance.is_free() {
@@ -249,7 +207,7 @@ fn no_vote_is_open_below_the_base(rt: HostRuntime) -> Result<(), Fail> {
         instance.delivered();
     }
     assert!(rt; instance.is_open(&view));
-    let (instance, digest) = started(alloc, 1, None)?;
+    let (instance, digest) = started(alloc, &view, 1, None)?;
     assert!(rt; is_due(&instance, &view, Rule::Write));
     Ok(())
 }
@@ -260,12 +218,12 @@ fn at_a_bound_base_only_the_bound_is_written_for(rt: HostRuntime) -> Result<(), 
     let view = view(alloc)?;
     let proposed = proposal(alloc, 1)?;
     let digest = proposed.head.statement().digest;
-    let (instance, kept) = started(alloc, 1, Some(digest))?;
+    let (instance, kept) = started(alloc, &view, 1, Some(digest))?;
     assert!(rt; is_due(&instance, &view, Rule::Write));
     assert!(rt; !instance.is_unbound(&proposed));
     assert_eq!(rt; instance.is_bound_to(Place::new(1)), Some(&digest));
     assert_eq!(rt; instance.is_bound_to(Place::new(2)), None);
-    let (instance, kept) = started(alloc, 1, Some(other(alloc)?))?;
+    let (instance, kept) = started(alloc, &view, 1, Some(other(alloc)?))?;
     assert!(rt; instance.is_open(&view));
     assert!(rt; !is_due(&instance, &view, Rule::Write));
     assert!(rt; instance.is_unbound(&proposed));
@@ -277,21 +235,18 @@ fn at_a_bound_base_only_the_bound_is_written_for(rt: HostRuntime) -> Result<(), 
 fn a_promise_closes_the_vote_until_it_is_synced(rt: HostRuntime) -> Result<(), Fail> {
     let alloc = rt.alloc();
     let view = view(alloc)?;
-    let (mut instance, digest) = proposed_in(alloc, 1)?;
+    let (mut instance, digest) = proposed(alloc, &view, 1)?;
     instance.wrote();
-    instance.accepted(digest);
+    instance.accepted();
     if instance.regency().get() == 0 {
         instance.promised(Regency::new(1));
     }
     assert_eq!(rt; instance.start(), None);
     assert!(rt; !instance.is_open(&view));
-    let lock = Lock {
-        regency: Regency::new(0),
-        digest,
-    };
-    assert_eq!(rt; instance.lock(), Some(lock));
     start(&mut instance, 1, Some(digest));
     assert!(rt; !instance.is_unsynced(Regency::new(1)));
     assert!(rt; is_due(&instance, &view, Rule::Write));
+    hear(alloc, &mut instance, VoteKind::Write, 1, 3, digest)?;
+    assert!(rt; is_due(&instance, &view, Rule::Accept));
     Ok(())
 }

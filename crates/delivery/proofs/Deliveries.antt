@@ -12,7 +12,7 @@ use Rattle.smart_messages.specs.declared.statement.Request.{Request}
 use Rattle.smart_service.specs.Services.{Meaning}
 use Rattle.smart_service.specs.declared.table.TableLine.{TableLine}
 use Rattle.smart_service.specs.declared.replica.Replica.{Replica}
-use Rattle.node_rules.specs.Replicas.{is_next, line_of, execute, execute_all, line_made, lines_of, at_next, delivered, executed_lines, empty, after_batches, state, executions_from, executions, first_line, answer}
+use Rattle.replica_rules.specs.Replicas.{is_next, line_of, execute, execute_all, line_made, lines_of, at_next, delivered, executed_lines, empty, after_batches, state, executions_from, executions, first_line, answer}
 use Rattle.delivery.proofs.Lists.{each_append, each_right, each_weaker, each_both}
 
 -- the place

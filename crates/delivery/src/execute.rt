@@ -1,6 +1,6 @@
 //! Requests executed on a replica.
 ghost use Rattle.std.specs.Prelude.{◌≡◌, IfOk, OnOk};
-ghost use Rattle.node_rules.specs.Replicas.{line_made, execute, execute_all, lines_of};
+ghost use Rattle.replica_rules.specs.Replicas.{line_made, execute, execute_all, lines_of};
 
 use smart_base::duplicate::Duplicate;
 use smart_base::sequence::Sequence;
@@ -13,7 +13,7 @@ use std::alloc::{AllocError, Global};
 
 /// Executes a request where it is its client's next, and gives the line that it made. Any other is
 /// passed over.
-#[tactic(auto, unfolding(node_rules::specs::Replicas::execute))]
+#[tactic(auto, unfolding(replica_rules::specs::Replicas::execute))]
 fn execute<S: Service>(
     alloc: Global,
     replica: &mut Replica<S>,
@@ -22,6 +22,7 @@ fn execute<S: Service>(
 ) -> Result<Option<TableLine>, AllocError>
     ensures state { OnOk result (replica.new ≡ execute S.meaning replica.old index request.now) }
     ensures place { replica.new.place ≡ replica.old.place }
+    ensures views { replica.new.views ≡ replica.old.views }
     ensures line { IfOk result (λ line. line ≡ line_made S.meaning replica.old index request.now) }
 {
     if !replica.table.is_next(request.client, request.seq) {
@@ -50,6 +51,7 @@ pub fn execute_all<S: Service>(
 ) -> Result<Sequence<TableLine>, AllocError>
     ensures state { OnOk result (replica.new ≡ execute_all S.meaning replica.old 0 batch.now) }
     ensures place { replica.new.place ≡ replica.old.place }
+    ensures views { replica.new.views ≡ replica.old.views }
     ensures lines { IfOk result (λ lines. lines ≡ lines_of S.meaning replica.old 0 batch.now) }
 {
     let mut lines = Sequence::new(alloc);

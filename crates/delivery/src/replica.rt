@@ -1,7 +1,7 @@
 //! A member's replica, to which batches are delivered.
 ghost use Rattle.std.specs.Prelude.{◌≡◌, ◌+◌, ◌^◌, ◌<◌, false, IfOk, OnOk};
 ghost use Rattle.std.specs.Result.{is_err};
-ghost use Rattle.node_rules.specs.Replicas.{delivered, executed_lines, empty};
+ghost use Rattle.replica_rules.specs.Replicas.{delivered, executed_lines, empty};
 
 use crate::execute::execute_all;
 use smart_base::number::Place;
@@ -75,7 +75,7 @@ impl<S: Service> KeptReplica<S> {
 /// Executes a batch at the next place, and gives the lines of the requests that were executed, in
 /// order: those whose number is their client's next; any other is passed over. Each line has the
 /// reply that goes to its client. After want of memory the replica is spent.
-#[tactic(auto, unfolding(node_rules::specs::Replicas::delivered, node_rules::specs::Replicas::executed_lines))]
+#[tactic(auto, unfolding(replica_rules::specs::Replicas::delivered, replica_rules::specs::Replicas::executed_lines))]
 pub fn deliver<S: Service>(
     alloc: Global,
     replica: &mut KeptReplica<S>,
@@ -86,6 +86,7 @@ pub fn deliver<S: Service>(
     ensures state { OnOk result (replica.new.replica ≡ delivered S.meaning replica.old.replica batch.now) }
     ensures spent { replica.new.spent ≡ is_err result }
     ensures place { replica.new.replica.place ≡ replica.old.replica.place + 1 }
+    ensures views { replica.new.replica.views ≡ replica.old.replica.views }
     ensures lines { IfOk result (λ lines. lines ≡ executed_lines S.meaning replica.old.replica batch.now) }
 {
     replica.spent = true;

@@ -1,4 +1,6 @@
 pub mod Filters
 pub mod Needed
 pub mod Rules
+pub mod Changes
+pub mod Arrivals
 pub mod Steps

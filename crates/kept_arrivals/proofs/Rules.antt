@@ -1,167 +1,223 @@
--- Each rule on what is needed.
-use Rattle.std.proofs.Common.{◌≡◌, ℕ, ◌+◌, ◌++◌, Bool, true, false, not, ◌&&◌, ◌==◌, List, [], ◌∷◌, length, refl, ap, sym, ◌∙◌, cond, arith, nat_le, Option, Some, None, is_some, take}
+-- Each rule by which requests are ordered and answered, on what is needed.
+use Rattle.std.proofs.Common.{◌≡◌, ℕ, ◌+◌, ◌^◌, ◌≤◌, Bool, true, false, not, ◌&&◌, ◌==◌, nat_lt, List, [], ◌∷◌, refl, ap, sym, ◌∙◌, cond, arith, Option, Some, None, is_some}
 use Rattle.std.specs.Prelude.{filter}
 use Rattle.std.specs.List.{list_any}
 use Rattle.smart_base.specs.Lists.{or_else}
-use Rattle.smart_base.specs.Views.{View, quorum, leader, present}
+use Rattle.smart_base.specs.Views.{View, leader, present}
 use Rattle.smart_base.proofs.SameLists.{and_true}
 use Rattle.smart_messages.specs.Forms.{SignedBy}
-use Rattle.smart_messages.specs.Kinds.{proposals, ballots}
+use Rattle.smart_messages.specs.Kinds.{proposals}
 use Rattle.smart_messages.specs.Messages.{Batch}
 use Rattle.smart_messages.specs.Equality.{same_slot}
 use Rattle.smart_messages.specs.declared.statement.Request.{Request}
-use Rattle.smart_messages.specs.declared.statement.Slot.{Slot}
-use Rattle.smart_messages.specs.declared.message.Proposed.{Proposed}
 use Rattle.smart_messages.specs.declared.statement.Ballot.{Ballot}
-use Rattle.smart_messages.specs.declared.statement.Answer.{Answer}
-use Rattle.smart_messages.specs.declared.statement.VoteKind.{VoteKind}
+use Rattle.smart_messages.specs.declared.statement.Slot.{Slot}
 use Rattle.smart_messages.specs.declared.statement.VoteKind.TheVariants.{Write, Accept}
-use Rattle.smart_messages.specs.declared.message.Message.{Message}
 use Rattle.smart_messages.specs.declared.message.Message.TheVariants.{Ask, Propose, Vote, Reply}
-use Rattle.smart_messages.specs.declared.entry.LogEntry.TheVariants.{Accepted, Decided}
+use Rattle.smart_messages.specs.declared.message.Proposed.{Proposed}
+use Rattle.smart_messages.specs.declared.any.AnyMessage.{AnyMessage}
+use Rattle.smart_messages.specs.declared.any.AnyMessage.TheVariants.{Plain, Change}
 use Rattle.smart_service.specs.Services.{Meaning}
 use Rattle.smart_service.specs.declared.table.TableLine.{TableLine}
 use Rattle.smart_service.specs.declared.replica.Replica.{Replica}
-use Rattle.node_rules.specs.Replicas.{is_next, execute, execute_all, at_next, delivered}
-use Rattle.node_rules.specs.Nodes.{Node, view_of, regency_of, next_place, decided_place, open_slot, is_free, is_open, holding, recording, proposal_of}
-use Rattle.node_rules.specs.Seals.{signed, is_verified, digest_of}
-use Rattle.node_rules.specs.Arrivals.{slot_why, signer_why, is_valid, why_ask, why_propose, why_vote, why_reply, why_dropped, noted, kept}
-use Rattle.node_rules.specs.Pools.{offered, settled, gathered}
-use Rattle.node_rules.specs.Rules.{reply_of, replying, lines_to_answer, deliver_batch, delivery, delivers, proposing, propose_batch, proposes, ballot, writing, write_batch, writes, backed, backers, accepting, accept_batch, accepts, deciding, decide_batch, decides, answering, answer_line, answers_again}
-use Rattle.node_rules.specs.declared.node.Why.{Why}
-use Rattle.node_rules.specs.declared.node.Why.TheVariants.{NotLeader, InvalidBatch, Repeated}
+use Rattle.vote_book.specs.declared.entry.Decision.{Decision}
+use Rattle.vote_book.specs.declared.entry.LogEntry.TheVariants.{Wrote, Accepted, Decided}
+use Rattle.regency_sync.specs.Synchronizers.{batch_of, trimmed as sync_trimmed}
+use Rattle.regency_sync.proofs.Lists.{any_filter, filter_end}
+use Rattle.regency_sync.proofs.Needs.{batch_same}
+use Rattle.replica_rules.specs.Replicas.{is_next, execute, execute_all, at_next, delivered}
+use Rattle.replica_rules.specs.Seals.{signed, digest_of}
+use Rattle.replica_rules.specs.Pools.{settled}
+use Rattle.node_rules.specs.Rules.{reply_of, replying, lines_to_answer, deliver_batch, delivery, delivers, batch_under, proposing, propose_batch, proposes, ballot, votable, writing, write_batch, writes, written, accepting, slot_in, accept_batch, accepts, decision_in, decision_ahead, deciding, decide_batch, decides, answering, answer_line, answers_again}
+use Rattle.node_rules.specs.Nodes.{Node, view_of, regency_of, start_of, next_place, decided_place, open_slot, is_free, is_open, bound_at, synchronizer_of, greatest_regency, holding, recording}
+use Rattle.node_rules.specs.Votes.{certificate_votes, proposed_for, accepted_under}
 use Rattle.node_rules.specs.declared.node.Target.TheVariants as targets
-use Rattle.kept_arrivals.specs.Kept.{ahead_of, needed_by, trimmed}
-use Rattle.kept_arrivals.proofs.Filters.{filter_end, one_kept, where_true}
-use Rattle.kept_arrivals.proofs.Needed.{guard_passed, open_ahead, free_free, open_free, proposal_same, proposed_same, voters_same, ahead_where, vote_repeats, proposal_repeats, trim, trim_later}
+use Rattle.node_rules.specs.Kept.{ahead_of, needed_by, trimmed}
+use Rattle.kept_arrivals.proofs.Filters.{where_true, and_where, guard_passed}
+use Rattle.kept_arrivals.proofs.Needed.{proposed_needed, proposal_kept, quorum_kept, certificate_kept, decision_kept, free_free, open_free, next_past, slot_ahead, open_ahead, trim, trimmed_behind, trimmed_twice, regency_grows}
 
-and_where : (a b c : Bool) → (a ≡ true → b ≡ c) → (a && b) ≡ (a && c)
-and_where true b c same = same refl
-and_where false b c same = refl
+-- a rule that goes on over what is needed as over all
+abbrev pub Keeps : {S : Type 0} → (Node S → Node S) → Type 0
+Keeps {S} rule = (n : Node S) → trimmed (rule (trimmed n)) ≡ trimmed (rule n)
 
-pub trimmed_twice : {S : Type 0} (n : Node S) → trimmed (trimmed n) ≡ trimmed n
-unfolding trimmed
-trimmed_twice n =
-    trim_later (view_of n).number (decided_place n) (regency_of n) (view_of n).number (decided_place n) (regency_of n) n (omega arith) (omega arith) (omega arith)
+-- a rule by which what is needed stays what is needed
+pub exactly : {S : Type 0} (rule : Node S → Node S) → ((n : Node S) → rule (trimmed n) ≡ trimmed (rule n)) → Keeps rule
+exactly rule same n = ap (λ x. trimmed x) (same n) ∙ trimmed_twice (rule n)
+
+-- what a node is as the one who changes the regency
+pub synchronizer_same : {S : Type 0} (n : Node S) → synchronizer_of (trimmed n) ≡ sync_trimmed (view_of n) (synchronizer_of n)
+unfolding trimmed sync_trimmed regency_of
+synchronizer_same n = refl
 
 -- PROPOSE
 
+batch_under_same : {S : Type 0} (n : Node S) (bound : Option (List ℕ)) → batch_under (trimmed n) bound ≡ batch_under n bound
+unfolding batch_under trimmed regency_of
+batch_under_same n None = refl
+batch_under_same n (Some digest) =
+    ap (λ (found : Option Batch). or_else found (accepted_under (view_of n).number (next_place n) digest n.entries))
+    (ap (λ s. batch_of (view_of n) s digest) (synchronizer_same n) ∙ batch_same (view_of n) (synchronizer_of n) digest)
+
+proposed_same : {S : Type 0} (n : Node S) → n.waiting ≡ None → list_any (same_slot (open_slot n)) (filter (ahead_of n) n.proposed) ≡ list_any (same_slot (open_slot n)) n.proposed
+proposed_same n free =
+    any_filter (same_slot (open_slot n)) (ahead_of n) (proposed_needed (view_of n).number (decided_place n) (regency_of n) (open_slot n) (open_ahead n free)) n.proposed
+
 pub proposing_same : {S : Type 0} (n : Node S) → proposing (trimmed n) ≡ proposing n
-unfolding proposing trimmed
+unfolding proposing trimmed regency_of start_of
 proposing_same n =
-    ap (λ test. cond test (gathered n.pool (next_place n)) None)
+    ap (λ test. cond test (batch_under (trimmed n) (bound_at (next_place n) (start_of n))) None)
     (and_where (is_open n && (leader (view_of n) (regency_of n) == n.id)) _ _ (λ may. ap not (proposed_same n (open_free n (and_true (is_open n) _ may).0))))
+    ∙ ap (λ batch. cond (is_open n && (leader (view_of n) (regency_of n) == n.id) && not (list_any (same_slot (open_slot n)) n.proposed)) batch None)
+    (batch_under_same n (bound_at (next_place n) (start_of n)))
 
 proposes_free : {S : Type 0} (n : Node S) → is_some (proposing n) ≡ true → n.waiting ≡ None
 unfolding proposing
 proposes_free n some = open_free n (and_true (is_open n) _ (and_true _ (not (list_any (same_slot (open_slot n)) n.proposed)) (guard_passed _ _ some)).0).0
 
 propose_same : {S : Type 0} (n : Node S) (batch : Option Batch) → (is_some batch ≡ true → n.waiting ≡ None) → propose_batch (trimmed n) batch ≡ trimmed (propose_batch n batch)
-unfolding propose_batch trimmed
+unfolding propose_batch trimmed regency_of
 propose_same n None free = refl
 propose_same n (Some batch) free =
-    ap (λ (slots : List Slot). holding (record n { arrivals = filter (needed_by n) n.arrivals; proposed = slots }) targets.View (Propose (record { head = signed proposals n.secret n.id (record { slot = open_slot n; digest = digest_of batch }); batch = batch })))
-    (sym (filter_end (ahead_of n) n.proposed (open_slot n ∷ []) ∙ ap (λ slots. filter (ahead_of n) n.proposed ++ slots) (one_kept (ahead_of n) (open_slot n) (open_ahead n (free refl)))))
+    ap (λ (slots : List Slot). holding (record (trim (view_of n).number (decided_place n) (regency_of n) n) { proposed = slots }) targets.View
+    (Plain (Propose (record { head = signed proposals n.secret n.id (record { slot = open_slot n; digest = digest_of batch }); batch = batch }))))
+    (filter_end (ahead_of n) n.proposed (open_slot n) (open_ahead n (free refl)))
 
-pub proposes_same : {S : Type 0} (n : Node S) → proposes (trimmed n) ≡ trimmed (proposes n)
+proposes_exact : {S : Type 0} (n : Node S) → proposes (trimmed n) ≡ trimmed (proposes n)
 unfolding proposes
-proposes_same n = ap (λ b. propose_batch (trimmed n) b) (proposing_same n) ∙ propose_same n (proposing n) (proposes_free n)
+proposes_exact n = ap (λ b. propose_batch (trimmed n) b) (proposing_same n) ∙ propose_same n (proposing n) (proposes_free n)
+
+pub proposes_same : {S : Type 0} (n : Node S) → trimmed (proposes (trimmed n)) ≡ trimmed (proposes n)
+proposes_same n = exactly proposes proposes_exact n
 
 -- WRITE
 
+proposal_same : {S : Type 0} (n : Node S) → n.waiting ≡ None → proposed_for (filter (needed_by n) n.arrivals) (open_slot n) ≡ proposed_for n.arrivals (open_slot n)
+proposal_same n free = proposal_kept (view_of n).number (decided_place n) (regency_of n) (open_slot n) (open_ahead n free) n.arrivals
+
+votable_same : {S : Type 0} (n : Node S) (found : Option Proposed) → votable (trimmed n) found ≡ votable n found
+unfolding trimmed regency_of start_of
+votable_same n None = refl
+votable_same n (Some p) = refl
+
+votable_proposal : {S : Type 0} (n : Node S) → n.waiting ≡ None
+    → votable (trimmed n) (proposed_for (filter (needed_by n) n.arrivals) (open_slot n)) ≡ votable n (proposed_for n.arrivals (open_slot n))
+votable_proposal n free = ap (λ found. votable (trimmed n) found) (proposal_same n free) ∙ votable_same n (proposed_for n.arrivals (open_slot n))
+
 pub writing_same : {S : Type 0} (n : Node S) → writing (trimmed n) ≡ writing n
-unfolding writing trimmed
-writing_same n = where_true _ _ _ None (λ may. proposal_same n (open_free n (and_true (is_open n) _ may).0))
+unfolding writing trimmed regency_of start_of
+writing_same n = where_true _ _ _ None (λ may. votable_proposal n (open_free n (and_true (is_open n) _ may).0))
 
-write_same : {S : Type 0} (n : Node S) (batch : Option Batch) → write_batch (trimmed n) batch ≡ trimmed (write_batch n batch)
-unfolding write_batch trimmed
-write_same n None = refl
-write_same n (Some batch) = refl
+write_same : {S : Type 0} (n : Node S) (found : Option Proposed) → trimmed (write_batch (trimmed n) found) ≡ trimmed (write_batch n found)
+unfolding write_batch trimmed regency_of
+write_same n None = trimmed_twice n
+write_same n (Some p) =
+    trimmed_behind (decided_place n) (regency_of n) (write_batch n (Some p)) (omega arith)
+    (regency_grows (view_of n).number n.entries (Wrote (record { slot = open_slot n; digest = p.head.statement.digest }) ∷ []))
 
-pub writes_same : {S : Type 0} (n : Node S) → writes (trimmed n) ≡ trimmed (writes n)
+pub writes_same : {S : Type 0} (n : Node S) → trimmed (writes (trimmed n)) ≡ trimmed (writes n)
 unfolding writes
-writes_same n = ap (λ b. write_batch (trimmed n) b) (writing_same n) ∙ write_same n (writing n)
+writes_same n = ap (λ found. trimmed (write_batch (trimmed n) found)) (writing_same n) ∙ write_same n (writing n)
 
 -- ACCEPT
 
-backers_same : {S : Type 0} (n : Node S) (kind : VoteKind) (batch : Batch) → n.waiting ≡ None → backers (trimmed n) kind batch ≡ backers n kind batch
-unfolding trimmed
-backers_same n kind batch free = ap (λ (members : List ℕ). take (quorum (view_of n)) members) (voters_same n kind (digest_of batch) free)
-
-backed_same : {S : Type 0} (n : Node S) (kind : VoteKind) (batch : Option Batch) → n.waiting ≡ None → backed (trimmed n) kind batch ≡ backed n kind batch
-unfolding trimmed
-backed_same n kind None free = refl
-backed_same n kind (Some batch) free = ap (λ (members : List ℕ). cond (nat_le (quorum (view_of n)) (length members)) (Some batch) None) (voters_same n kind (digest_of batch) free)
-
-proposal_backed : {S : Type 0} (n : Node S) (kind : VoteKind) → n.waiting ≡ None
-    → backed (trimmed n) kind (proposal_of (filter (needed_by n) n.arrivals) (open_slot n)) ≡ backed n kind (proposal_of n.arrivals (open_slot n))
-proposal_backed n kind free = ap (λ b. backed (trimmed n) kind b) (proposal_same n free) ∙ backed_same n kind (proposal_of n.arrivals (open_slot n)) free
+written_same : {S : Type 0} (n : Node S) (found : Option Proposed) → n.waiting ≡ None → written (trimmed n) found ≡ written n found
+unfolding trimmed regency_of
+written_same n None free = refl
+written_same n (Some p) free =
+    ap (λ (test : Bool). cond test (Some p) None)
+    (quorum_kept (view_of n).number (decided_place n) (regency_of n) (view_of n) Write (open_slot n) p.head.statement.digest (open_ahead n free) n.arrivals)
 
 pub accepting_same : {S : Type 0} (n : Node S) → accepting (trimmed n) ≡ accepting n
-unfolding accepting trimmed
-accepting_same n = where_true _ _ _ None (λ may. proposal_backed n Write (open_free n (and_true (is_open n) _ may).0))
+unfolding accepting trimmed regency_of start_of
+accepting_same n =
+    where_true _ _ _ None (λ may.
+    let free = open_free n (and_true (is_open n) _ may).0 in
+    ap (λ found. written (trimmed n) found) (votable_proposal n free) ∙ written_same n (votable n (proposed_for n.arrivals (open_slot n))) free)
 
 accepts_free : {S : Type 0} (n : Node S) → is_some (accepting n) ≡ true → n.waiting ≡ None
 unfolding accepting
 accepts_free n some = open_free n (and_true (is_open n) _ (guard_passed _ _ some)).0
 
-accept_same : {S : Type 0} (n : Node S) (batch : Option Batch) → (is_some batch ≡ true → n.waiting ≡ None) → accept_batch (trimmed n) batch ≡ trimmed (accept_batch n batch)
-unfolding accept_batch trimmed
-accept_same n None free = refl
-accept_same n (Some batch) free =
-    ap (λ (members : List ℕ). trimmed (holding (recording n (Accepted (open_slot n) members batch)) targets.View (ballot n Accept batch))) (backers_same n Write batch (free refl))
+accept_same : {S : Type 0} (n : Node S) (found : Option Proposed) → (is_some found ≡ true → n.waiting ≡ None)
+    → trimmed (accept_batch (trimmed n) found) ≡ trimmed (accept_batch n found)
+unfolding accept_batch trimmed regency_of
+accept_same n None free = trimmed_twice n
+accept_same n (Some p) free =
+    ap (λ (votes : List (SignedBy Ballot)). trimmed (holding
+    (recording (trimmed n) (Accepted (record { slot = open_slot n; digest = p.head.statement.digest; writes = votes; batch = p.batch }))) targets.View
+    (ballot n Accept p.head.statement.digest)))
+    (certificate_kept (view_of n).number (decided_place n) (regency_of n) (view_of n) Write (open_slot n) p.head.statement.digest (open_ahead n (free refl)) n.arrivals)
+    ∙ trimmed_behind (decided_place n) (regency_of n) (accept_batch n (Some p)) (omega arith)
+    (regency_grows (view_of n).number n.entries (Accepted (record {
+      slot = open_slot n;
+      digest = p.head.statement.digest;
+      writes = certificate_votes n.arrivals (view_of n) Write (open_slot n) p.head.statement.digest;
+      batch = p.batch;
+    }) ∷ []))
 
-pub accepts_same : {S : Type 0} (n : Node S) → accepts (trimmed n) ≡ trimmed (accepts n)
+pub accepts_same : {S : Type 0} (n : Node S) → trimmed (accepts (trimmed n)) ≡ trimmed (accepts n)
 unfolding accepts
-accepts_same n = ap (λ b. accept_batch (trimmed n) b) (accepting_same n) ∙ accept_same n (accepting n) (accepts_free n)
+accepts_same n = ap (λ found. trimmed (accept_batch (trimmed n) found)) (accepting_same n) ∙ accept_same n (accepting n) (accepts_free n)
 
 -- DECIDE
 
+decision_same : {S : Type 0} (n : Node S) (regency : ℕ) → n.waiting ≡ None → regency_of n ≤ regency → decision_in (trimmed n) regency ≡ decision_in n regency
+unfolding decision_in trimmed regency_of
+decision_same n regency free later =
+    decision_kept (view_of n).number (decided_place n) (regency_of n) (next_place n) (view_of n) (slot_in n regency) (slot_ahead n regency free later) (next_past n free)
+    n.arrivals n.entries
+
+decision_ahead_same : {S : Type 0} (n : Node S) → n.waiting ≡ None → decision_ahead (trimmed n) ≡ decision_ahead n
+unfolding trimmed regency_of
+decision_ahead_same n free =
+    ap (λ (found : Option Decision). cond (nat_lt (regency_of n + 1) (2 ^ 32)) found None) (decision_same n (regency_of n + 1) free (omega arith))
+
+decisions_same : {S : Type 0} (n : Node S) → n.waiting ≡ None
+    → or_else (decision_in (trimmed n) (regency_of n)) (decision_ahead (trimmed n)) ≡ or_else (decision_in n (regency_of n)) (decision_ahead n)
+decisions_same n free =
+    ap (λ (found : Option Decision). or_else found (decision_ahead (trimmed n))) (decision_same n (regency_of n) free (omega arith))
+    ∙ ap (λ (found : Option Decision). or_else (decision_in n (regency_of n)) found) (decision_ahead_same n free)
+
 pub deciding_same : {S : Type 0} (n : Node S) → deciding (trimmed n) ≡ deciding n
-unfolding deciding trimmed
-deciding_same n = where_true _ _ _ None (λ free. proposal_backed n Accept (free_free n free))
+unfolding deciding trimmed regency_of
+deciding_same n = where_true (is_free n) _ _ None (λ free. decisions_same n (free_free n free))
 
 decides_free : {S : Type 0} (n : Node S) → is_some (deciding n) ≡ true → n.waiting ≡ None
 unfolding deciding
 decides_free n some = free_free n (guard_passed (is_free n) _ some)
 
-decide_same-none : {S : Type 0} (n : Node S) → trimmed (decide_batch (trimmed n) None) ≡ trimmed (decide_batch n None)
-unfolding decide_batch
-decide_same-none n = trimmed_twice n
+decide_same : {S : Type 0} (n : Node S) (found : Option Decision) → (is_some found ≡ true → n.waiting ≡ None)
+    → trimmed (decide_batch (trimmed n) found) ≡ trimmed (decide_batch n found)
+unfolding decide_batch trimmed regency_of
+decide_same n None free = trimmed_twice n
+decide_same n (Some d) free =
+    trimmed_behind (decided_place n) (regency_of n) (decide_batch n (Some d)) (rw (free refl) (omega arith)) (regency_grows (view_of n).number n.entries (Decided d ∷ []))
 
-decide_same-some : {S : Type 0} (n : Node S) (batch : Batch) → n.waiting ≡ None → trimmed (decide_batch (trimmed n) (Some batch)) ≡ trimmed (decide_batch n (Some batch))
-unfolding decide_batch trimmed
-decide_same-some n batch free =
-    ap (λ (members : List ℕ). trimmed (record (recording (trimmed n) (Decided (open_slot n) members batch)) { waiting = Some batch })) (backers_same n Accept batch free)
-    ∙ trim_later (view_of n).number (decided_place n) (regency_of n) (view_of n).number (next_place n) (regency_of n) (record (recording n (Decided (open_slot n) (backers n Accept batch) batch)) { waiting = Some batch })
-    (omega arith) (rw free (omega arith)) (omega arith)
-
-decide_same : {S : Type 0} (n : Node S) (batch : Option Batch) → (is_some batch ≡ true → n.waiting ≡ None) → trimmed (decide_batch (trimmed n) batch) ≡ trimmed (decide_batch n batch)
-decide_same n None free = decide_same-none n
-decide_same n (Some batch) free = decide_same-some n batch (free refl)
-
--- the place moves, so nothing more than what is needed then is the same
 pub decides_same : {S : Type 0} (n : Node S) → trimmed (decides (trimmed n)) ≡ trimmed (decides n)
 unfolding decides
-decides_same n = ap (λ b. trimmed (decide_batch (trimmed n) b)) (deciding_same n) ∙ decide_same n (deciding n) (decides_free n)
+decides_same n = ap (λ found. trimmed (decide_batch (trimmed n) found)) (deciding_same n) ∙ decide_same n (deciding n) (decides_free n)
 
 -- ANSWER
 
-pub answering_same : {S : Type 0} (n : Node S) (message : Message) → answering (trimmed n) message ≡ answering n message
+pub answering_same : {S : Type 0} (n : Node S) (message : AnyMessage) → answering (trimmed n) message ≡ answering n message
 unfolding answering trimmed
-answering_same n (Ask q) = refl
-answering_same n (Propose p) = refl
-answering_same n (Vote b) = refl
-answering_same n (Reply a) = refl
+answering_same n (Plain (Ask q)) = refl
+answering_same n (Plain (Propose p)) = refl
+answering_same n (Plain (Vote b)) = refl
+answering_same n (Plain (Reply a)) = refl
+answering_same n (Change m) = refl
 
 answer_same : {S : Type 0} (n : Node S) (line : Option TableLine) → answer_line (trimmed n) line ≡ trimmed (answer_line n line)
-unfolding answer_line trimmed
+unfolding answer_line trimmed regency_of
 answer_same n None = refl
 answer_same n (Some line) = refl
 
-pub answers_same : {S : Type 0} (n : Node S) (message : Message) → answers_again (trimmed n) message ≡ trimmed (answers_again n message)
+answers_exact : {S : Type 0} (message : AnyMessage) (n : Node S) → answers_again (trimmed n) message ≡ trimmed (answers_again n message)
 unfolding answers_again
-answers_same n message = ap (λ line. answer_line (trimmed n) line) (answering_same n message) ∙ answer_same n (answering n message)
+answers_exact message n = ap (λ line. answer_line (trimmed n) line) (answering_same n message) ∙ answer_same n (answering n message)
+
+pub answers_same : {S : Type 0} (n : Node S) (message : AnyMessage) → trimmed (answers_again (trimmed n) message) ≡ trimmed (answers_again n message)
+answers_same n message = exactly (λ x. answers_again x message) (answers_exact message) n
 
 -- DELIVER
 
@@ -197,43 +253,41 @@ pub views_delivered : {S : Type 0} (m : Meaning S) (r : Replica S) (batch : Batc
 unfolding delivered
 views_delivered m r batch = views-execute_all m (at_next r) 0 batch
 
-holding_same : {S : Type 0} (n : Node S) (l : TableLine) → holding (trimmed n) (targets.Client l.client) (reply_of n.secret n.id l) ≡ trimmed (holding n (targets.Client l.client) (reply_of n.secret n.id l))
-unfolding trimmed
+holding_same : {S : Type 0} (n : Node S) (l : TableLine)
+    → holding (trimmed n) (targets.Client l.client) (Plain (reply_of n.secret n.id l)) ≡ trimmed (holding n (targets.Client l.client) (Plain (reply_of n.secret n.id l)))
+unfolding trimmed regency_of
 holding_same n l = refl
 
 replying_same : {S : Type 0} (n : Node S) (lines : List TableLine) → replying (trimmed n) lines ≡ trimmed (replying n lines)
 unfolding trimmed
 replying_same n [] = refl
-replying_same n (l ∷ ls) = ap (λ x. replying x ls) (holding_same n l) ∙ replying_same (holding n (targets.Client l.client) (reply_of n.secret n.id l)) ls
-
-deliver_same-none : {S : Type 0} (m : Meaning S) (n : Node S) → deliver_batch m (trimmed n) None ≡ trimmed (deliver_batch m n None)
-unfolding deliver_batch
-deliver_same-none m n = refl
+replying_same n (l ∷ ls) = ap (λ x. replying x ls) (holding_same n l) ∙ replying_same (holding n (targets.Client l.client) (Plain (reply_of n.secret n.id l))) ls
 
 decided-delivered : {S : Type 0} (m : Meaning S) (n : Node S) (batch : Batch) → n.waiting ≡ Some batch → decided_place n ≡ (delivered m n.replica batch).place
 decided-delivered m n batch is = rw is (sym (place_delivered m n.replica batch))
 
--- the place that counts as past and the view are the same before and after
-deliver_same-some : {S : Type 0} (m : Meaning S) (n : Node S) (batch : Batch) → n.waiting ≡ Some batch → deliver_batch m (trimmed n) (Some batch) ≡ trimmed (deliver_batch m n (Some batch))
-unfolding deliver_batch trimmed
-deliver_same-some {S = S} m n batch is =
-    let after : Node S = record n { replica = delivered m n.replica batch; waiting = None; pool = settled (delivered m n.replica batch).table n.pool } in
+-- the place that counts as past, the view and the regency are the same before and after
+deliver_same : {S : Type 0} (m : Meaning S) (n : Node S) (batch : Option Batch) → n.waiting ≡ batch → deliver_batch m (trimmed n) batch ≡ trimmed (deliver_batch m n batch)
+unfolding deliver_batch trimmed regency_of
+deliver_same m n None is = refl
+deliver_same {S = S} m n (Some batch) is =
+    let after : Node S = record n { replica = delivered m n.replica batch; waiting = None; pool = settled (delivered m n.replica batch).table n.pool; impatient = false } in
     let lines : List TableLine = lines_to_answer m n batch in
     ap (λ (c : ℕ). replying (trim (view_of n).number c (regency_of n) after) lines) (decided-delivered m n batch is)
-    ∙ (ap (λ (views : List View). replying (trim (present views).number (delivered m n.replica batch).place (regency_of n) after) lines) (sym (views_delivered m n.replica batch))
+    ∙ (ap (λ (views : List View). replying (trim (present views).number (delivered m n.replica batch).place (greatest_regency (present views).number n.entries) after) lines)
+    (sym (views_delivered m n.replica batch))
     ∙ replying_same after lines)
-
-deliver_same : {S : Type 0} (m : Meaning S) (n : Node S) (batch : Option Batch) → n.waiting ≡ batch → deliver_batch m (trimmed n) batch ≡ trimmed (deliver_batch m n batch)
-deliver_same m n None is = deliver_same-none m n
-deliver_same m n (Some batch) is = deliver_same-some m n batch is
 
 waiting_same : {S : Type 0} (n : Node S) → (trimmed n).waiting ≡ n.waiting
 unfolding trimmed
 waiting_same n = refl
 
-pub delivers_same : {S : Type 0} (m : Meaning S) (n : Node S) → delivers m (trimmed n) ≡ trimmed (delivers m n)
+delivers_exact : {S : Type 0} (m : Meaning S) (n : Node S) → delivers m (trimmed n) ≡ trimmed (delivers m n)
 unfolding delivers
-delivers_same m n = ap (λ b. deliver_batch m (trimmed n) b) (waiting_same n) ∙ deliver_same m n n.waiting refl
+delivers_exact m n = ap (λ b. deliver_batch m (trimmed n) b) (waiting_same n) ∙ deliver_same m n n.waiting refl
+
+pub delivers_same : {S : Type 0} (m : Meaning S) (n : Node S) → trimmed (delivers m (trimmed n)) ≡ trimmed (delivers m n)
+delivers_same m n = exactly (λ x. delivers m x) (delivers_exact m) n
 
 delivery_same-of : {S : Type 0} (m : Meaning S) (n : Node S) (batch : Option Batch) → delivery m (trimmed n) batch ≡ delivery m n batch
 unfolding delivery trimmed
@@ -242,98 +296,3 @@ delivery_same-of m n (Some batch) = refl
 
 pub delivery_same : {S : Type 0} (m : Meaning S) (n : Node S) → delivery m (trimmed n) (trimmed n).waiting ≡ delivery m n n.waiting
 delivery_same m n = ap (λ b. delivery m (trimmed n) b) (waiting_same n) ∙ delivery_same-of m n n.waiting
-
--- ARRIVALS
-
-or_else_where : {A : Type 0} (first x y : Option A) → (first ≡ None → x ≡ y) → or_else first x ≡ or_else first y
-or_else_where None x y same = same refl
-or_else_where (Some a) x y same = refl
-
-or_else-none : {A : Type 0} (first rest : Option A) → or_else first rest ≡ None → (first ≡ None) × (rest ≡ None)
-or_else-none None rest none = (refl, none)
-or_else-none (Some a) rest none = absurd (cc)
-
-why_vote_same : {S : Type 0} (n : Node S) (b : SignedBy Ballot) → why_vote (trimmed n) b ≡ why_vote n b
-unfolding why_vote signer_why slot_why trimmed
-why_vote_same n b =
-    ap (λ (why : Option Why). or_else (signer_why n (is_verified ballots n.secret b) b.signer) why)
-    (or_else_where (slot_why n b.statement.slot) _ _ (λ none. ap (λ (again : Bool). cond again (Some Repeated) None) (vote_repeats n b none)))
-
-why_propose_same : {S : Type 0} (n : Node S) (p : Proposed) → why_propose (trimmed n) p ≡ why_propose n p
-unfolding why_propose signer_why slot_why trimmed
-why_propose_same n p =
-    ap (λ (why : Option Why). or_else (signer_why n (is_verified proposals n.secret p.head) p.head.signer) why)
-    (or_else_where (slot_why n p.head.statement.slot) _ _ (λ none.
-    ap (λ (again : Bool). cond (not (p.head.signer == leader (view_of n) p.head.statement.slot.regency)) (Some NotLeader) (cond (not (is_valid n.secret p)) (Some InvalidBatch) (cond again (Some Repeated) None)))
-    (proposal_repeats n p none)))
-
-why_ask_same : {S : Type 0} (n : Node S) (q : SignedBy Request) → why_ask (trimmed n) q ≡ why_ask n q
-unfolding why_ask trimmed
-why_ask_same n q = refl
-
-why_reply_same : {S : Type 0} (n : Node S) (a : SignedBy Answer) → why_reply (trimmed n) a ≡ why_reply n a
-unfolding why_reply signer_why trimmed
-why_reply_same n a = refl
-
-pub why_same : {S : Type 0} (n : Node S) (message : Message) → why_dropped (trimmed n) message ≡ why_dropped n message
-why_same n (Ask q) = why_ask_same n q
-why_same n (Propose p) = why_propose_same n p
-why_same n (Vote b) = why_vote_same n b
-why_same n (Reply a) = why_reply_same n a
-
--- that a node is behind gives no reason
-pub why_noted : {S : Type 0} (n : Node S) (behind : Bool) (message : Message) → why_dropped (record n { behind = behind }) message ≡ why_dropped n message
-unfolding why_ask why_propose why_vote why_reply signer_why slot_why
-why_noted n behind (Ask q) = refl
-why_noted n behind (Propose p) = refl
-why_noted n behind (Vote b) = refl
-why_noted n behind (Reply a) = refl
-
-pub noted_same : {S : Type 0} (n : Node S) (message : Message) → noted (trimmed n) message ≡ trimmed (noted n message)
-unfolding noted signer_why trimmed
-noted_same n (Ask q) = refl
-noted_same n (Propose p) = refl
-noted_same n (Vote b) = refl
-noted_same n (Reply a) = refl
-
-vote_ahead : {S : Type 0} (n : Node S) (b : SignedBy Ballot) → why_vote n b ≡ None → ahead_of n b.statement.slot ≡ true
-unfolding why_vote
-vote_ahead n b none = ahead_where n b.statement.slot (or_else-none (slot_why n b.statement.slot) _ (or_else-none (signer_why n (is_verified ballots n.secret b) b.signer) _ none).1).0
-
-propose_ahead : {S : Type 0} (n : Node S) (p : Proposed) → why_propose n p ≡ None → ahead_of n p.head.statement.slot ≡ true
-unfolding why_propose
-propose_ahead n p none = ahead_where n p.head.statement.slot (or_else-none (slot_why n p.head.statement.slot) _ (or_else-none (signer_why n (is_verified proposals n.secret p.head) p.head.signer) _ none).1).0
-
--- what is needed comes to the needed ones
-added : {S : Type 0} (n : Node S) (message : Message) → needed_by n message ≡ true
-    → record (trimmed n) { arrivals = filter (needed_by n) n.arrivals ++ message ∷ [] } ≡ trimmed (record n { arrivals = n.arrivals ++ message ∷ [] })
-unfolding trimmed
-added n message needed =
-    ap (λ (ms : List Message). record n { arrivals = ms; proposed = filter (ahead_of n) n.proposed })
-    (sym (filter_end (needed_by n) n.arrivals (message ∷ []) ∙ ap (λ ms. filter (needed_by n) n.arrivals ++ ms) (one_kept (needed_by n) message needed)))
-
-trimmed-if : {S : Type 0} (test : Bool) (x y : Node S) → cond test (trimmed x) (trimmed y) ≡ trimmed (cond test x y)
-trimmed-if true x y = refl
-trimmed-if false x y = refl
-
-kept_ask : {S : Type 0} (n : Node S) (q : SignedBy Request) → kept (trimmed n) (Ask q) ≡ trimmed (kept n (Ask q))
-unfolding kept trimmed
-kept_ask n q = trimmed-if (is_next n.replica.table q.statement) (record n { pool = offered n.pool q }) n
-
-kept_propose : {S : Type 0} (n : Node S) (p : Proposed) → ahead_of n p.head.statement.slot ≡ true → kept (trimmed n) (Propose p) ≡ trimmed (kept n (Propose p))
-unfolding kept trimmed
-kept_propose n p ahead = added n (Propose p) ahead
-
-kept_vote : {S : Type 0} (n : Node S) (b : SignedBy Ballot) → ahead_of n b.statement.slot ≡ true → kept (trimmed n) (Vote b) ≡ trimmed (kept n (Vote b))
-unfolding kept trimmed
-kept_vote n b ahead = added n (Vote b) ahead
-
-kept_reply : {S : Type 0} (n : Node S) (a : SignedBy Answer) → kept (trimmed n) (Reply a) ≡ trimmed (kept n (Reply a))
-unfolding kept trimmed
-kept_reply n a = refl
-
-pub kept_same : {S : Type 0} (n : Node S) (message : Message) → why_dropped n message ≡ None → kept (trimmed n) message ≡ trimmed (kept n message)
-kept_same n (Ask q) none = kept_ask n q
-kept_same n (Propose p) none = kept_propose n p (propose_ahead n p none)
-kept_same n (Vote b) none = kept_vote n b (vote_ahead n b none)
-kept_same n (Reply a) none = kept_reply n a

@@ -1,103 +1,176 @@
 -- A step on what is needed, and a core's steps.
-use Rattle.std.proofs.Common.{◌≡◌, ℕ, ◌++◌, List, [], ◌∷◌, refl, ap, sym, ◌∙◌, Option, Some, None, Result, Ok, Err}
+use Rattle.std.proofs.Common.{◌≡◌, ℕ, ◌++◌, Bool, List, [], ◌∷◌, refl, ap, sym, ◌∙◌, Option, Some, None, Result, Ok, Err}
 use Rattle.smart_base.specs.Views.{View}
-use Rattle.smart_messages.specs.Messages.{decoded}
-use Rattle.smart_messages.specs.declared.message.Message.{Message}
+use Rattle.smart_messages.specs.Forms.{SignedBy}
+use Rattle.smart_messages.specs.RegencyMessages.{any_decoded}
+use Rattle.smart_messages.specs.declared.report.Report.{Report}
+use Rattle.smart_messages.specs.declared.regency.Sync.{Sync}
+use Rattle.smart_messages.specs.declared.any.AnyMessage.{AnyMessage}
 use Rattle.smart_messages.specs.declared.entry.NodeEvent.{NodeEvent}
 use Rattle.smart_messages.specs.declared.entry.NodeEvent.TheVariants.{Arrive, Tick, Deliver, Firm}
 use Rattle.smart_service.specs.Services.{Meaning}
-use Rattle.node_rules.specs.Nodes.{Node, next_place}
+use Rattle.vote_book.specs.declared.entry.Promise.{Promise}
+use Rattle.node_rules.specs.Nodes.{Node, regency_of, next_place}
 use Rattle.node_rules.specs.Arrivals.{why_dropped, noted, kept}
-use Rattle.node_rules.specs.Rules.{delivers, delivery, proposing, proposes, writing, writes, accepting, accepts, deciding, decides, answering, answers_again, fired_answer, fired_if}
-use Rattle.node_rules.specs.Steps.{Outcome, votes, fired_votes, passes, fired_pass, outcome_from, answered, arrival_outcome, reading_outcome, step_of, released, opened}
+use Rattle.node_rules.specs.Rules.{fired_if, delivers, delivery, proposing, proposes, writing, writes, accepting, accepts, deciding, decides, answering, answers_again}
+use Rattle.node_rules.specs.Changes.{fired_when, fired_adopt, adoption, adopts, joining, joins, next_promise, promising, promises, leading, leads, timing, times}
+use Rattle.node_rules.specs.Steps.{Outcome, turns, fired_turns, votes, fired_votes, passes, fired_pass, outcome_from, answered, timed, arrival_outcome, reading_outcome, step_of, released, opened}
 use Rattle.node_rules.specs.declared.node.Why.{Why}
 use Rattle.node_rules.specs.declared.node.Held.{Held}
 use Rattle.node_rules.specs.declared.node.Fired.{Fired}
 use Rattle.node_rules.specs.declared.node.Fired.TheVariants as fires
-use Rattle.kept_arrivals.specs.Kept.{trimmed, Stands, core_step, StepStands, core_after, node_after}
-use Rattle.kept_arrivals.proofs.Rules.{trimmed_twice, proposing_same, proposes_same, writing_same, writes_same, accepting_same, accepts_same, deciding_same, decides_same, delivers_same, delivery_same, answering_same, answers_same, why_same, why_noted, noted_same, kept_same}
+use Rattle.node_rules.specs.Kept.{trimmed, Stands, core_step, StepStands, core_after, node_after}
+use Rattle.kept_arrivals.proofs.Needed.{trimmed_twice}
+use Rattle.kept_arrivals.proofs.Rules.{Keeps, proposing_same, proposes_same, writing_same, writes_same, accepting_same, accepts_same, deciding_same, decides_same, delivers_same, delivery_same, answering_same, answers_same}
+use Rattle.kept_arrivals.proofs.Changes.{adoption_same, adopts_same, joining_same, joins_same, next_promise_same, promising_same, promises_same, leading_same, leads_same, timing_same, times_same}
+use Rattle.kept_arrivals.proofs.Arrivals.{why_same, why_noted, noted_same, kept_same}
 
-votes_same : {S : Type 0} (n : Node S) → votes (trimmed n) ≡ trimmed (votes n)
+-- Two nodes need the same. A rule of a pass may raise the regency and a decision the place, so what goes on behind it is what two nodes that
+-- need the same do, and neither of them has to be the trimmed of the other.
+abbrev pub Agree : {S : Type 0} → Node S → Node S → Type 0
+Agree few all = trimmed few ≡ trimmed all
+
+-- they need the same behind a rule
+pub goes_on : {S : Type 0} (rule : Node S → Node S) → Keeps rule → (few all : Node S) → Agree few all → Agree (rule few) (rule all)
+goes_on rule same few all agree = sym (same few) ∙ (ap (λ x. trimmed (rule x)) agree ∙ same all)
+
+-- and tell the same, where it is told by what is needed
+pub told : {S A : Type 0} (tell : Node S → A) → ((n : Node S) → tell (trimmed n) ≡ tell n) → (few all : Node S) → Agree few all → tell few ≡ tell all
+told tell same few all agree = sym (same few) ∙ (ap tell agree ∙ same all)
+
+-- ---- a pass
+
+behind_adopts : {S : Type 0} (few all : Node S) → Agree few all → Agree (adopts few) (adopts all)
+behind_adopts few all agree = goes_on adopts adopts_same few all agree
+
+behind_joins : {S : Type 0} (few all : Node S) → Agree few all → Agree (joins (adopts few)) (joins (adopts all))
+behind_joins few all agree = goes_on joins joins_same (adopts few) (adopts all) (behind_adopts few all agree)
+
+behind_promises : {S : Type 0} (few all : Node S) → Agree few all → Agree (promises (joins (adopts few))) (promises (joins (adopts all)))
+behind_promises few all agree = goes_on promises promises_same (joins (adopts few)) (joins (adopts all)) (behind_joins few all agree)
+
+behind_turns : {S : Type 0} (few all : Node S) → Agree few all → Agree (turns few) (turns all)
+unfolding turns
+behind_turns few all agree = goes_on leads leads_same (promises (joins (adopts few))) (promises (joins (adopts all))) (behind_promises few all agree)
+
+behind_proposes : {S : Type 0} (few all : Node S) → Agree few all → Agree (proposes few) (proposes all)
+behind_proposes few all agree = goes_on proposes proposes_same few all agree
+
+behind_writes : {S : Type 0} (few all : Node S) → Agree few all → Agree (writes (proposes few)) (writes (proposes all))
+behind_writes few all agree = goes_on writes writes_same (proposes few) (proposes all) (behind_proposes few all agree)
+
+behind_votes : {S : Type 0} (few all : Node S) → Agree few all → Agree (votes few) (votes all)
 unfolding votes
-votes_same n = ap (λ x. accepts (writes x)) (proposes_same n) ∙ (ap (λ x. accepts x) (writes_same (proposes n)) ∙ accepts_same (writes (proposes n)))
+behind_votes few all agree = goes_on accepts accepts_same (writes (proposes few)) (writes (proposes all)) (behind_writes few all agree)
 
-passes_same : {S : Type 0} (n : Node S) → trimmed (passes (trimmed n)) ≡ trimmed (passes n)
+behind_passes : {S : Type 0} (few all : Node S) → Agree few all → Agree (passes few) (passes all)
 unfolding passes
-passes_same n = ap (λ x. trimmed (decides x)) (votes_same n) ∙ decides_same (votes n)
+behind_passes few all agree = goes_on decides decides_same (votes (turns few)) (votes (turns all)) (behind_votes (turns few) (turns all) (behind_turns few all agree))
 
-fired_votes_same : {S : Type 0} (n : Node S) → fired_votes (trimmed n) ≡ fired_votes n
+-- ---- what a pass tells
+
+turns_told : {a b : Option (SignedBy Sync)} {c d : Bool} {p q : Promise} {e f : Bool} {g h : Option (List (SignedBy Report))} → a ≡ b → c ≡ d → p ≡ q → e ≡ f → g ≡ h
+    → fired_adopt a ++ (fired_when fires.Joined c ++ (fired_when (fires.Promised p) e ++ fired_if fires.Led g))
+    ≡ fired_adopt b ++ (fired_when fires.Joined d ++ (fired_when (fires.Promised q) f ++ fired_if fires.Led h))
+turns_told adopted joined promise promised led = rw (adopted, joined, promise, promised, led) refl
+
+fired_turns_same : {S : Type 0} (few all : Node S) → Agree few all → fired_turns few ≡ fired_turns all
+unfolding fired_turns
+fired_turns_same few all agree =
+    turns_told (told adoption adoption_same few all agree) (told joining joining_same (adopts few) (adopts all) (behind_adopts few all agree))
+    (told next_promise next_promise_same (joins (adopts few)) (joins (adopts all)) (behind_joins few all agree))
+    (told promising promising_same (joins (adopts few)) (joins (adopts all)) (behind_joins few all agree))
+    (told leading leading_same (promises (joins (adopts few))) (promises (joins (adopts all))) (behind_promises few all agree))
+
+three_told : {A B C : Type 0} {a b : Option A} {c d : Option B} {e f : Option C} → a ≡ b → c ≡ d → e ≡ f
+    → fired_if fires.Proposed a ++ (fired_if fires.Wrote c ++ fired_if fires.Accepted e) ≡ fired_if fires.Proposed b ++ (fired_if fires.Wrote d ++ fired_if fires.Accepted f)
+three_told proposed wrote accepted = rw (proposed, wrote, accepted) refl
+
+fired_votes_same : {S : Type 0} (few all : Node S) → Agree few all → fired_votes few ≡ fired_votes all
 unfolding fired_votes
-fired_votes_same n =
-    let wrote = ap (λ x. writing x) (proposes_same n) ∙ writing_same (proposes n) in
-    let accepted = ap (λ x. accepting (writes x)) (proposes_same n) ∙ (ap (λ x. accepting x) (writes_same (proposes n)) ∙ accepting_same (writes (proposes n))) in
-    ap (λ b. fired_if fires.Proposed b ++ (fired_if fires.Wrote (writing (proposes (trimmed n))) ++ fired_if fires.Accepted (accepting (writes (proposes (trimmed n)))))) (proposing_same n)
-    ∙ (ap (λ b. fired_if fires.Proposed (proposing n) ++ (fired_if fires.Wrote b ++ fired_if fires.Accepted (accepting (writes (proposes (trimmed n)))))) wrote
-    ∙ ap (λ b. fired_if fires.Proposed (proposing n) ++ (fired_if fires.Wrote (writing (proposes n)) ++ fired_if fires.Accepted b)) accepted)
+fired_votes_same few all agree =
+    three_told (told proposing proposing_same few all agree) (told writing writing_same (proposes few) (proposes all) (behind_proposes few all agree))
+    (told accepting accepting_same (writes (proposes few)) (writes (proposes all)) (behind_writes few all agree))
 
 next_same : {S : Type 0} (n : Node S) → next_place (trimmed n) ≡ next_place n
 unfolding trimmed
 next_same n = refl
 
-fired_pass_same : {S : Type 0} (n : Node S) → fired_pass (trimmed n) ≡ fired_pass n
+pass_told : {A : Type 0} {a b c d : List Fired} {p q : ℕ} {e f : Option A} → a ≡ b → c ≡ d → p ≡ q → e ≡ f
+    → a ++ (c ++ fired_if (fires.Decided p) e) ≡ b ++ (d ++ fired_if (fires.Decided q) f)
+pass_told turned voted place decided = rw (turned, voted, place, decided) refl
+
+fired_pass_same : {S : Type 0} (few all : Node S) → Agree few all → fired_pass few ≡ fired_pass all
 unfolding fired_pass
-fired_pass_same n =
-    ap (λ fired. fired ++ fired_if (fires.Decided (next_place (votes (trimmed n)))) (deciding (votes (trimmed n)))) (fired_votes_same n)
-    ∙ (ap (λ x. fired_votes n ++ fired_if (fires.Decided (next_place x)) (deciding x)) (votes_same n)
-    ∙ (ap (λ place. fired_votes n ++ fired_if (fires.Decided place) (deciding (trimmed (votes n)))) (next_same (votes n))
-    ∙ ap (λ b. fired_votes n ++ fired_if (fires.Decided (next_place (votes n))) b) (deciding_same (votes n))))
+fired_pass_same few all agree =
+    let turned = behind_turns few all agree in
+    let voted = behind_votes (turns few) (turns all) turned in
+    pass_told (fired_turns_same few all agree) (fired_votes_same (turns few) (turns all) turned)
+    (told next_place next_same (votes (turns few)) (votes (turns all)) voted) (told deciding deciding_same (votes (turns few)) (votes (turns all)) voted)
+
+-- ---- a step
 
 -- Two outcomes tell the same and leave the same needed.
 pub record Alike {S : Type 0} (few all : Outcome S) : Type 0 where
-  pub node : trimmed few.node ≡ trimmed all.node
+  pub node : Agree few.node all.node
   pub fired : few.fired ≡ all.fired
   pub dropped : few.dropped ≡ all.dropped
 
-alike_from : {S : Type 0} (few all : Node S) (f g : List Fired) → few ≡ trimmed all → f ≡ g → Alike (outcome_from few f) (outcome_from all g)
-alike_from few all f g same told = record {
-  node = ap (λ x. trimmed (passes x)) same ∙ passes_same all;
-  fired = ap (λ h. h ++ fired_pass few) told ∙ ap (λ h. g ++ h) (ap (λ x. fired_pass x) same ∙ fired_pass_same all);
-  dropped = refl;
-}
+both_told : {a b c d : List Fired} → a ≡ b → c ≡ d → a ++ c ≡ b ++ d
+both_told first second = rw (first, second) refl
 
--- the answer is the same behind passes that leave the same needed
-answering_alike : {S : Type 0} (few all : Node S) (message : Message) → trimmed few ≡ trimmed all → answering few message ≡ answering all message
-answering_alike few all message same = sym (answering_same few message) ∙ (ap (λ x. answering x message) same ∙ answering_same all message)
+alike_from : {S : Type 0} (few all : Node S) (f g : List Fired) → Agree few all → f ≡ g → Alike (outcome_from few f) (outcome_from all g)
+alike_from few all f g agree same = record { node = behind_passes few all agree; fired = both_told same (fired_pass_same few all agree); dropped = refl }
 
-alike_answered : {S : Type 0} (few all : Outcome S) (message : Message) → Alike few all → Alike (answered few message) (answered all message)
+alike_answered : {S : Type 0} (few all : Outcome S) (message : AnyMessage) → Alike few all → Alike (answered few message) (answered all message)
 alike_answered few all message alike = record {
-  node = sym (answers_same few.node message) ∙ (ap (λ x. answers_again x message) alike.node ∙ answers_same all.node message);
-  fired = ap (λ told. told ++ fired_answer (answering few.node message)) alike.fired ∙ ap (λ line. all.fired ++ fired_answer line) (answering_alike few.node all.node message alike.node);
+  node = goes_on (λ x. answers_again x message) (λ x. answers_same x message) few.node all.node alike.node;
+  fired = both_told alike.fired (ap (λ line. fired_if fires.Answered line) (told (λ x. answering x message) (λ x. answering_same x message) few.node all.node alike.node));
   dropped = refl;
 }
 
-kept_noted : {S : Type 0} (n : Node S) (message : Message) → why_dropped n message ≡ None → kept (noted (trimmed n) message) message ≡ trimmed (kept (noted n message) message)
+alike_timed : {S : Type 0} (few all : Outcome S) → Alike few all → Alike (timed few) (timed all)
+alike_timed few all alike = record {
+  node = goes_on times times_same few.node all.node alike.node;
+  fired = both_told alike.fired (ap (λ test. fired_when fires.Timed test) (told timing timing_same few.node all.node alike.node));
+  dropped = refl;
+}
+
+-- what needs the same as another's trimmed needs the same as that one
+agree_with : {S : Type 0} (few all : Node S) → few ≡ trimmed all → Agree few all
+agree_with few all same = ap (λ x. trimmed x) same ∙ trimmed_twice all
+
+kept_noted : {S : Type 0} (n : Node S) (message : AnyMessage) → why_dropped n message ≡ None → kept (noted (trimmed n) message) message ≡ trimmed (kept (noted n message) message)
 unfolding noted
 kept_noted n message is = ap (λ x. kept x message) (noted_same n message) ∙ kept_same (noted n message) message (why_noted n (noted n message).behind message ∙ is)
 
-alike_arrival : {S : Type 0} (n : Node S) (message : Message) (why : Option Why) → why_dropped n message ≡ why
+alike_arrival : {S : Type 0} (n : Node S) (message : AnyMessage) (why : Option Why) → why_dropped n message ≡ why
     → Alike (arrival_outcome (trimmed n) message why) (arrival_outcome n message why)
 alike_arrival n message None is =
     alike_answered (outcome_from (kept (noted (trimmed n) message) message) []) (outcome_from (kept (noted n message) message) []) message
-    (alike_from (kept (noted (trimmed n) message) message) (kept (noted n message) message) [] [] (kept_noted n message is) refl)
-alike_arrival n message (Some why) is = record { node = ap (λ x. trimmed x) (noted_same n message) ∙ trimmed_twice (noted n message); fired = refl; dropped = refl }
+    (alike_from (kept (noted (trimmed n) message) message) (kept (noted n message) message) [] []
+    (agree_with (kept (noted (trimmed n) message) message) (kept (noted n message) message) (kept_noted n message is)) refl)
+alike_arrival n message (Some why) is = record { node = agree_with (noted (trimmed n) message) (noted n message) (noted_same n message); fired = refl; dropped = refl }
 
-alike_reading : {S : Type 0} (n : Node S) (read : Result Message ℕ) → Alike (reading_outcome (trimmed n) read) (reading_outcome n read)
+alike_reading : {S : Type 0} (n : Node S) (read : Result AnyMessage ℕ) → Alike (reading_outcome (trimmed n) read) (reading_outcome n read)
 alike_reading n (Ok message) = rw (why_same n message) (alike_arrival n message (why_dropped n message) refl)
 alike_reading n (Err at) = record { node = trimmed_twice n; fired = refl; dropped = refl }
 
 firm_same : {S : Type 0} (n : Node S) (count : ℕ) → record (trimmed n) { firm = count } ≡ trimmed (record n { firm = count })
-unfolding trimmed
+unfolding trimmed regency_of
 firm_same n count = refl
 
 -- a step from what is needed and a step from all
 pub steps_alike : {S : Type 0} (m : Meaning S) (n : Node S) (event : NodeEvent) → Alike (step_of m (trimmed n) event) (step_of m n event)
 unfolding step_of
-steps_alike m n (Arrive bytes) = alike_reading n (decoded bytes)
-steps_alike m n Tick = alike_from (trimmed n) n [] [] refl refl
+steps_alike m n (Arrive bytes) = alike_reading n (any_decoded bytes)
+steps_alike m n Tick = alike_timed (outcome_from (trimmed n) []) (outcome_from n []) (alike_from (trimmed n) n [] [] (trimmed_twice n) refl)
 steps_alike m n Deliver = alike_from (delivers m (trimmed n)) (delivers m n) (delivery m (trimmed n) (trimmed n).waiting) (delivery m n n.waiting) (delivers_same m n) (delivery_same m n)
-steps_alike m n (Firm count) = alike_from (record (trimmed n) { firm = count }) (record n { firm = count }) [] [] (firm_same n count) refl
+steps_alike m n (Firm count) =
+    alike_from (record (trimmed n) { firm = count }) (record n { firm = count }) [] []
+    (agree_with (record (trimmed n) { firm = count }) (record n { firm = count }) (firm_same n count)) refl
 
--- THE CORE'S STEP
+-- ---- the core's step
 
 -- from the trimmed node, a core's step is the node's step, trimmed
 pub core_step_trimmed : {S : Type 0} (m : Meaning S) (n : Node S) (event : NodeEvent) → StepStands m (trimmed n) n event
@@ -110,26 +183,26 @@ core_step_trimmed m n event =
 pub core_step_stands : {S : Type 0} (m : Meaning S) (core n : Node S) (event : NodeEvent) → Stands core n → StepStands m core n event
 core_step_stands m core n event stands = rw stands.same (core_step_trimmed m n event)
 
-opened_same : {S : Type 0} (m : Meaning S) (secret : List ℕ) (id : ℕ) (view : View) → opened m secret id view ≡ trimmed (opened m secret id view)
+opened_same : {S : Type 0} (m : Meaning S) (secret : List ℕ) (id : ℕ) (view : View) (period : ℕ) → opened m secret id view period ≡ trimmed (opened m secret id view period)
 unfolding trimmed
-opened_same m secret id view = refl
+opened_same m secret id view period = refl
 
-pub opened_stands : {S : Type 0} (m : Meaning S) (secret : List ℕ) (id : ℕ) (view : View) → Stands (opened m secret id view) (opened m secret id view)
-opened_stands m secret id view = record { same = opened_same m secret id view }
+pub opened_stands : {S : Type 0} (m : Meaning S) (secret : List ℕ) (id : ℕ) (view : View) (period : ℕ) → Stands (opened m secret id view period) (opened m secret id view period)
+opened_stands m secret id view period = record { same = opened_same m secret id view period }
 
 pub after_stands : {S : Type 0} (m : Meaning S) (core n : Node S) (events : List NodeEvent) → Stands core n → Stands (core_after m core events) (node_after m n events)
 after_stands m core n [] stands = stands
 after_stands m core n (e ∷ es) stands = after_stands m (core_step m core e).node (step_of m n e).node es (core_step_stands m core n e stands).node
 
--- RELEASE
+-- ---- release
 
 -- what is held leaves the core as it leaves the node
 pub held_trimmed : {S : Type 0} (n : Node S) (held : List Held) → record (trimmed n) { held = held } ≡ trimmed (record n { held = held })
-unfolding trimmed
+unfolding trimmed regency_of
 held_trimmed n held = refl
 
 pub released_trimmed : {S : Type 0} (n : Node S) → released (trimmed n) ≡ trimmed (released n)
-unfolding trimmed
+unfolding trimmed regency_of
 released_trimmed n = refl
 
 pub released_stands : {S : Type 0} (core n : Node S) → Stands core n → Stands (released core) (released n)

@@ -4,7 +4,7 @@ ghost use Rattle.smart_base.specs.Views.{View};
 ghost use Rattle.smart_messages.specs.declared.entry.NodeEvent.{NodeEvent};
 ghost use Rattle.node_rules.specs.Nodes.{Node};
 ghost use Rattle.node_rules.specs.Steps.{opened};
-ghost use Rattle.kept_arrivals.specs.Kept.{Stands, StepStands, core_after, node_after};
+ghost use Rattle.node_rules.specs.Kept.{Stands, StepStands, core_after, node_after};
 
 use smart_service::service::Service;
 
@@ -15,6 +15,6 @@ pub fn a_core_steps_as_its_node<S: Service>()
 
 /// Whatever comes, a core that began with an empty book stands for the node that keeps all.
 pub fn a_core_stands_for_its_node<S: Service>()
-    ensures { (secret : List ℕ) (id : ℕ) (view : View) (events : List NodeEvent) →
-        Stands (core_after S.meaning (opened S.meaning secret id view) events) (node_after S.meaning (opened S.meaning secret id view) events) }
+    ensures { (secret : List ℕ) (id : ℕ) (view : View) (period : ℕ) (events : List NodeEvent) →
+        Stands (core_after S.meaning (opened S.meaning secret id view period) events) (node_after S.meaning (opened S.meaning secret id view period) events) }
 {}

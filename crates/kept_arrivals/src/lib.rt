@@ -1,4 +1,4 @@
-//! A node that keeps only what its rules still need.
+//! A node that keeps only what its rules still need, with changes of the regency.
 #![tactic(auto)]
 
 pub mod laws;

@@ -1,6 +1,6 @@
 -- What becomes of an arrival before the rules pass.
 use Rattle.std.specs.Prelude.{[], Bool, if◌then◌else◌, Option, Some, None}
-use Rattle.smart_messages.specs.declared.message.Message.{Message}
+use Rattle.smart_messages.specs.declared.any.AnyMessage.{AnyMessage}
 use Rattle.request_pool.specs.declared.pool.Offer.{Offer}
 use Rattle.request_pool.specs.declared.pool.Offer.TheVariants as offers
 use Rattle.node_rules.specs.Nodes.{Node}
@@ -19,7 +19,7 @@ why_offered offers.BadTag older = Some BadTag
 why_offered offers.Stranger older = Some Stranger
 
 -- the node that keeps an arrival, unless it is dropped
-abbrev pub kept_unless : {S : Type 0} → Option Why → Node S → Message → Node S
+abbrev pub kept_unless : {S : Type 0} → Option Why → Node S → AnyMessage → Node S
 kept_unless None n message = kept n message
 kept_unless (Some why) n message = n
 

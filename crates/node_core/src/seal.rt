@@ -6,19 +6,17 @@ ghost use Rattle.smart_base.specs.declared.keys.SignRefused.TheVariants.{NoMemor
 ghost use Rattle.smart_keys.specs.Keys.{hmac};
 ghost use Rattle.smart_messages.specs.Forms.{Form};
 ghost use Rattle.smart_messages.specs.Messages.{batch_text};
-ghost use Rattle.node_rules.specs.Seals.{signed, is_verified, digest_of, request_fits, is_managers, fits};
-ghost use Rattle.node_rules.specs.Arrivals.{is_valid};
+ghost use Rattle.replica_rules.specs.Seals.{signed, is_verified, digest_of, request_fits, is_managers, fits};
+ghost use Rattle.node_rules.specs.Arrivals.{is_batch_for};
 
 use smart_base::bytes::{Digest32, Tag};
 use smart_base::equality::same_bytes;
 use smart_base::keys::{Digester, SignRefused, Signer};
 use smart_base::name::MemberId;
-use smart_base::number::Place;
 use smart_base::party::Party;
 use smart_keys::hash::Sha;
 use smart_keys::ring::{Ring, Sealer};
 use smart_messages::batch::{BATCH_BYTES, Batch};
-use smart_messages::message::Proposed;
 use smart_messages::signed::{Signed, Statement};
 use smart_messages::statement::Request;
 use std::alloc::{AllocError, Global};
@@ -136,7 +134,7 @@ pub fn is_verified<S: Statement>(ring: &Ring, signed: &Signed<S>) -> bool
 }
 
 /// What names a batch in votes.
-#[tactic(auto, unfolding(node_rules::specs::Seals::digest_of))]
+#[tactic(auto, unfolding(replica_rules::specs::Seals::digest_of))]
 pub fn digest_of(alloc: Global, batch: &Batch) -> Result<Digest32, AllocError>
     ensures { IfOk result (λ digest. digest ≡ digest_of batch.now) }
 {
@@ -144,14 +142,14 @@ pub fn digest_of(alloc: Global, batch: &Batch) -> Result<Digest32, AllocError>
     Ok(Sha::digest(text.as_slice()))
 }
 
-fn request_fits(ring: &Ring, place: Place, request: &Signed<Request>) -> bool
+fn request_fits(ring: &Ring, place: u64, request: &Signed<Request>) -> bool
     ensures { result ≡ request_fits ring.now place request.now }
 {
     let asked = request.statement();
-    asked.client.get() <= 1024 && asked.after < place.get() && is_verified(ring, request)
+    asked.client.get() <= 1024 && asked.after < place && is_verified(ring, request)
 }
 
-fn all_fit(ring: &Ring, place: Place, batch: &[Signed<Request>]) -> bool
+fn all_fit(ring: &Ring, place: u64, batch: &[Signed<Request>]) -> bool
     ensures { result ≡ list_all (request_fits ring.now place) batch.now }
 {
     batch
@@ -172,8 +170,8 @@ fn has_managers(batch: &[Signed<Request>]) -> bool
 }
 
 /// Whether a batch of so many bytes may stand at a place.
-#[tactic(auto, unfolding(node_rules::specs::Seals::fits))]
-fn fits(ring: &Ring, batch: &[Signed<Request>], bytes: usize, place: Place) -> bool
+#[tactic(auto, unfolding(replica_rules::specs::Seals::fits))]
+fn fits(ring: &Ring, batch: &[Signed<Request>], bytes: usize, place: u64) -> bool
     requires { bytes ≡ length (batch_text batch.now) }
     ensures { result ≡ fits ring.now batch.now place }
 {
@@ -184,15 +182,20 @@ fn fits(ring: &Ring, batch: &[Signed<Request>], bytes: usize, place: Place) -> b
         && (batch.len() <= 1 || !has_managers(batch))
 }
 
-/// Whether a proposal's batch may stand at its place, and is the one that the proposal names.
-#[tactic(auto, unfolding(node_rules::specs::Seals::digest_of))]
-pub fn is_valid(alloc: Global, ring: &Ring, proposed: &Proposed) -> Result<bool, AllocError>
-    ensures { IfOk result (λ valid. valid ≡ is_valid ring.now proposed.now) }
+/// Whether a batch may stand at a place, and is the one of a digest.
+#[tactic(auto, unfolding(replica_rules::specs::Seals::digest_of, node_rules::specs::Arrivals::is_batch_for))]
+pub fn is_batch_for(
+    alloc: Global,
+    ring: &Ring,
+    place: u64,
+    digest: &Digest32,
+    batch: &Batch,
+) -> Result<bool, AllocError>
+    ensures { IfOk result (λ valid. valid ≡ is_batch_for ring.now place digest.now batch.now) }
 {
-    let proposal = proposed.head.statement();
-    let batch = proposed.batch.as_slice();
-    let text = proposed.batch.text(alloc)?;
-    let fits = fits(ring, batch, text.len(), proposal.slot.place);
-    let digest = Sha::digest(text.as_slice());
-    Ok(fits && !has_managers(batch) && same_bytes(digest.as_slice(), proposal.digest.as_slice()))
+    let requests = batch.as_slice();
+    let text = batch.text(alloc)?;
+    let fits = fits(ring, requests, text.len(), place);
+    let named = Sha::digest(text.as_slice());
+    Ok(fits && !has_managers(requests) && same_bytes(named.as_slice(), digest.as_slice()))
 }

@@ -1,35 +1,44 @@
 -- Which arrivals a node drops, and what it keeps of the others.
-use Rattle.std.specs.Prelude.{ℕ, ◌+◌, ◌==◌, nat_lt, nat_le, Bool, false, not, ◌&&◌, ◌||◌, List, [], ◌∷◌, ◌++◌, if◌then◌else◌, Option, Some, None, is_none}
+use Rattle.std.specs.Prelude.{ℕ, ◌+◌, ◌==◌, nat_lt, nat_le, Bool, true, false, not, ◌&&◌, ◌||◌, List, [], ◌∷◌, ◌++◌, if◌then◌else◌, Option, Some, None, is_none}
 use Rattle.std.specs.List.{list_any}
 use Rattle.smart_base.specs.Lists.{or_else, same_bytes}
 use Rattle.smart_base.specs.Views.{is_member, leader}
 use Rattle.smart_messages.specs.Equality.{same_slot, same_kind}
 use Rattle.smart_messages.specs.Forms.{SignedBy}
 use Rattle.smart_messages.specs.Kinds.{requests, proposals, ballots, answers}
+use Rattle.smart_messages.specs.Messages.{Batch}
+use Rattle.smart_messages.specs.Reports.{reports}
+use Rattle.smart_messages.specs.Regencies.{stops, syncs}
 use Rattle.smart_messages.specs.declared.statement.Request.{Request}
 use Rattle.smart_messages.specs.declared.statement.Slot.{Slot}
 use Rattle.smart_messages.specs.declared.statement.Ballot.{Ballot}
 use Rattle.smart_messages.specs.declared.statement.Answer.{Answer}
+use Rattle.smart_messages.specs.declared.report.Evidence.{Evidence}
+use Rattle.smart_messages.specs.declared.report.Evidence.TheVariants as evidence
+use Rattle.smart_messages.specs.declared.report.LockCertificate.{LockCertificate}
+use Rattle.smart_messages.specs.declared.report.Report.{Report}
+use Rattle.smart_messages.specs.declared.regency.Stop.{Stop}
+use Rattle.smart_messages.specs.declared.regency.Sync.{Sync}
+use Rattle.smart_messages.specs.declared.regency.Reported.{Reported}
+use Rattle.smart_messages.specs.declared.regency.RegencyMessage.{RegencyMessage}
+use Rattle.smart_messages.specs.declared.regency.RegencyMessage.TheVariants as changes
 use Rattle.smart_messages.specs.declared.message.Message.{Message}
 use Rattle.smart_messages.specs.declared.message.Message.TheVariants.{Ask, Propose, Vote, Reply}
 use Rattle.smart_messages.specs.declared.message.Proposed.{Proposed}
+use Rattle.smart_messages.specs.declared.any.AnyMessage.{AnyMessage}
+use Rattle.smart_messages.specs.declared.any.AnyMessage.TheVariants.{Plain, Change}
 use Rattle.smart_service.specs.Tables.{last_seq}
-use Rattle.node_rules.specs.Replicas.{is_next}
-use Rattle.node_rules.specs.Seals.{is_verified, digest_of, is_managers, fits}
-use Rattle.node_rules.specs.Nodes.{Node, view_of, regency_of, decided_place}
-use Rattle.node_rules.specs.Pools.{offered}
+use Rattle.certificates.specs.Collects.{evidence_holds, has_no_false_lock, collect_fault}
+use Rattle.regency_sync.specs.Choices.{choice}
+use Rattle.regency_sync.specs.Synchronizers.{repeats_stop, repeats_report, repeats_sync}
+use Rattle.replica_rules.specs.Replicas.{is_next}
+use Rattle.replica_rules.specs.Seals.{is_verified, digest_of, is_managers, fits}
+use Rattle.replica_rules.specs.Pools.{offered}
+use Rattle.node_rules.specs.Nodes.{Node, view_of, regency_of, start_of, bound_at, is_within, decided_place, synchronizer_of}
 use Rattle.node_rules.specs.declared.node.Why.{Why}
-use Rattle.node_rules.specs.declared.node.Why.TheVariants.{NotMember, BadTag, Stranger, OldView, NewView, OldPlace, FarPlace, NewRegency, OldSeq, FarSeq, NotLeader, InvalidBatch, Unasked, Repeated}
+use Rattle.node_rules.specs.declared.node.Why.TheVariants.{NotMember, BadTag, Stranger, OldView, NewView, OldPlace, FarPlace, OldRegency, NewRegency, OldSeq, FarSeq, NotLeader, InvalidBatch, BadProof, Unbound, Unasked, Repeated}
 
--- the first reason that a slot gives
-unfoldable pub slot_why : {S : Type 0} → Node S → Slot → Option Why
-slot_why n slot =
-    if nat_lt slot.view (view_of n).number then Some OldView
-    else if nat_lt (view_of n).number slot.view then Some NewView
-    else if nat_le slot.place (decided_place n) then Some OldPlace
-    else if nat_lt (decided_place n + 2) slot.place then Some FarPlace
-    else if nat_lt (regency_of n + 1) slot.regency then Some NewRegency
-    else None
+-- ---- reasons that several kinds of messages share
 
 -- the first reason that the node's own membership, a member's tag and its name give
 unfoldable pub signer_why : {S : Type 0} → Node S → Bool → ℕ → Option Why
@@ -38,6 +47,31 @@ signer_why n verified signer =
     else if not verified then Some BadTag
     else if not (is_member (view_of n) signer) then Some Stranger
     else None
+
+abbrev pub view_why : {S : Type 0} → Node S → ℕ → Option Why
+view_why n view =
+    if nat_lt view (view_of n).number then Some OldView
+    else if nat_lt (view_of n).number view then Some NewView
+    else None
+
+abbrev pub place_why : {S : Type 0} → Node S → ℕ → Option Why
+place_why n place =
+    if nat_le place (decided_place n) then Some OldPlace
+    else if nat_lt (decided_place n + 2) place then Some FarPlace
+    else None
+
+-- a regency that is over, or further ahead than the next
+abbrev pub regency_why : {S : Type 0} → Node S → ℕ → Option Why
+regency_why n regency =
+    if nat_lt regency (regency_of n) then Some OldRegency
+    else if nat_lt (regency_of n + 1) regency then Some NewRegency
+    else None
+
+-- the first reason that a slot gives
+unfoldable pub slot_why : {S : Type 0} → Node S → Slot → Option Why
+slot_why n slot = or_else (view_why n slot.view) (or_else (place_why n slot.place) (regency_why n slot.regency))
+
+-- ---- what repeats another
 
 abbrev pub is_same_proposal : Proposed → Message → Bool
 is_same_proposal p (Ask q) = false
@@ -51,7 +85,7 @@ is_same_vote b (Propose o) = false
 is_same_vote b (Vote o) = same_kind o.statement.kind b.statement.kind && (o.signer == b.signer) && same_slot o.statement.slot b.statement.slot
 is_same_vote b (Reply a) = false
 
--- the first reason that drops an arrival, message kind by message kind
+-- ---- what orders requests
 
 -- until views change, the view manager is a stranger
 unfoldable pub why_ask : {S : Type 0} → Node S → SignedBy Request → Option Why
@@ -63,18 +97,23 @@ why_ask n q =
     else if nat_lt (last_seq n.replica.table q.statement.client + 1) q.statement.seq then Some FarSeq
     else None
 
--- a batch that may stand at the proposal's place, and that the proposal names. Until views change, none of the view manager's may
-abbrev pub is_valid : List ℕ → Proposed → Bool
-is_valid secret p =
-    fits secret p.batch p.head.statement.slot.place && not (list_any is_managers p.batch)
-    && same_bytes (digest_of p.batch) p.head.statement.digest
+-- a batch that may stand at a place, and that is the one of a digest. Until views change, none of the view manager's may
+unfoldable pub is_batch_for : List ℕ → ℕ → List ℕ → Batch → Bool
+is_batch_for secret place digest batch = fits secret batch place && not (list_any is_managers batch) && same_bytes (digest_of batch) digest
+
+-- a proposal of the regency in force for another batch than the one that binds at its place
+abbrev pub is_unbound : {S : Type 0} → Node S → Proposed → Bool
+is_unbound n p =
+    (p.head.statement.slot.regency == regency_of n)
+    && not (is_within (bound_at p.head.statement.slot.place (start_of n)) p.head.statement.digest)
 
 unfoldable pub why_propose : {S : Type 0} → Node S → Proposed → Option Why
 why_propose n p =
     or_else (signer_why n (is_verified proposals n.secret p.head) p.head.signer)
     (or_else (slot_why n p.head.statement.slot)
     (if not (p.head.signer == leader (view_of n) p.head.statement.slot.regency) then Some NotLeader
-    else if not (is_valid n.secret p) then Some InvalidBatch
+    else if not (is_batch_for n.secret p.head.statement.slot.place p.head.statement.digest p.batch) then Some InvalidBatch
+    else if is_unbound n p then Some Unbound
     else if list_any (is_same_proposal p) n.arrivals then Some Repeated
     else None))
 
@@ -87,30 +126,132 @@ why_vote n b =
 unfoldable pub why_reply : {S : Type 0} → Node S → SignedBy Answer → Option Why
 why_reply n a = or_else (signer_why n (is_verified answers n.secret a) a.signer) (Some Unasked)
 
-abbrev pub why_dropped : {S : Type 0} → Node S → Message → Option Why
-why_dropped n (Ask q) = why_ask n q
-why_dropped n (Propose p) = why_propose n p
-why_dropped n (Vote b) = why_vote n b
-why_dropped n (Reply a) = why_reply n a
+abbrev pub why_plain : {S : Type 0} → Node S → Message → Option Why
+why_plain n (Ask q) = why_ask n q
+why_plain n (Propose p) = why_propose n p
+why_plain n (Vote b) = why_vote n b
+why_plain n (Reply a) = why_reply n a
+
+-- ---- what changes the regency
+
+-- a regency that is in force, or over, or further ahead than the next
+abbrev pub wish_why : {S : Type 0} → Node S → ℕ → Option Why
+wish_why n regency =
+    if nat_le regency (regency_of n) then Some OldRegency
+    else if nat_lt (regency_of n + 1) regency then Some NewRegency
+    else None
+
+unfoldable pub why_stop : {S : Type 0} → Node S → SignedBy Stop → Option Why
+why_stop n s =
+    or_else (signer_why n (is_verified stops n.secret s) s.signer)
+    (or_else (view_why n s.statement.view)
+    (or_else (wish_why n s.statement.regency)
+    (if repeats_stop (synchronizer_of n) s then Some Repeated else None)))
+
+abbrev pub is_marks : Evidence → Bool
+is_marks evidence.Nothing = false
+is_marks (evidence.Decided p) = false
+is_marks (evidence.Marked m) = true
+
+-- marks are what shows a report's last place. Until members mark their replicas, none is shown so
+abbrev pub rests_on_marks : Report → Bool
+rests_on_marks s = not (s.last == 0) && is_marks s.evidence
+
+-- the batch on which a report's signer is locked comes with it, and may stand behind the last place
+abbrev pub bears_lock : List ℕ → ℕ → Option LockCertificate → Option Batch → Bool
+bears_lock secret place None batch = true
+bears_lock secret place (Some lock) None = false
+bears_lock secret place (Some lock) (Some batch) = is_batch_for secret place lock.digest batch
+
+unfoldable pub is_proven : {S : Type 0} → Node S → Reported → Bool
+is_proven n r =
+    evidence_holds n.secret n.replica.views r.head.statement.last r.head.statement.evidence
+    && not (rests_on_marks r.head.statement)
+    && has_no_false_lock n.secret (view_of n) r.head.statement.last r.head.statement.regency r.head.statement.lock
+    && bears_lock n.secret (r.head.statement.last + 1) r.head.statement.lock r.batch
+
+unfoldable pub why_report : {S : Type 0} → Node S → Reported → Option Why
+why_report n r =
+    or_else (signer_why n (is_verified reports n.secret r.head) r.head.signer)
+    (or_else (view_why n r.head.statement.view)
+    (or_else (regency_why n r.head.statement.regency)
+    (if not (leader (view_of n) r.head.statement.regency == n.id) then Some NotLeader
+    else if not (is_proven n r) then Some BadProof
+    else if repeats_report (synchronizer_of n) r.head then Some Repeated
+    else None)))
+
+-- reports that are a collect
+unfoldable pub is_collect : {S : Type 0} → Node S → Sync → Bool
+is_collect n s =
+    is_none (collect_fault n.secret n.replica.views s.regency s.collect)
+    && not (list_any (λ (r : SignedBy Report). rests_on_marks r.statement) s.collect)
+
+unfoldable pub why_sync : {S : Type 0} → Node S → SignedBy Sync → Option Why
+why_sync n s =
+    or_else (signer_why n (is_verified syncs n.secret s) s.signer)
+    (or_else (view_why n s.statement.view)
+    (if nat_lt s.statement.regency (regency_of n) then Some OldRegency
+    else if not (s.signer == leader (view_of n) s.statement.regency) then Some NotLeader
+    else if not (is_collect n s.statement) then Some BadProof
+    else if repeats_sync (synchronizer_of n) s then Some Repeated
+    else None))
+
+abbrev pub why_change : {S : Type 0} → Node S → RegencyMessage → Option Why
+why_change n (changes.Stop s) = why_stop n s
+why_change n (changes.StopData r) = why_report n r
+why_change n (changes.Sync s) = why_sync n s
+
+abbrev pub why_dropped : {S : Type 0} → Node S → AnyMessage → Option Why
+why_dropped n (Plain m) = why_plain n m
+why_dropped n (Change m) = why_change n m
+
+-- ---- what tells a node that it is behind
+
+-- a view that is not yet in force
+abbrev pub is_newer : {S : Type 0} → Node S → ℕ → Bool
+is_newer n view = nat_lt (view_of n).number view
 
 -- a slot that the node does not reach by votes: of a newer view, or more than one place past the last decided one
 abbrev pub is_beyond : {S : Type 0} → Node S → Slot → Bool
-is_beyond n slot =
-    nat_lt (view_of n).number slot.view || ((slot.view == (view_of n).number) && nat_lt (decided_place n + 1) slot.place)
+is_beyond n slot = is_newer n slot.view || ((slot.view == (view_of n).number) && nat_lt (decided_place n + 1) slot.place)
 
 -- a member's message tells the node that it is behind, whether a later reason drops it or not
-abbrev pub tells_behind : {S : Type 0} → Node S → Message → Bool
-tells_behind n (Ask q) = false
-tells_behind n (Propose p) = is_none (signer_why n (is_verified proposals n.secret p.head) p.head.signer) && is_beyond n p.head.statement.slot
-tells_behind n (Vote b) = is_none (signer_why n (is_verified ballots n.secret b) b.signer) && is_beyond n b.statement.slot
-tells_behind n (Reply a) = false
+abbrev pub tells_plain : {S : Type 0} → Node S → Message → Bool
+tells_plain n (Ask q) = false
+tells_plain n (Propose p) = is_none (signer_why n (is_verified proposals n.secret p.head) p.head.signer) && is_beyond n p.head.statement.slot
+tells_plain n (Vote b) = is_none (signer_why n (is_verified ballots n.secret b) b.signer) && is_beyond n b.statement.slot
+tells_plain n (Reply a) = false
 
-unfoldable pub noted : {S : Type 0} → Node S → Message → Node S
+abbrev pub tells_change : {S : Type 0} → Node S → RegencyMessage → Bool
+tells_change n (changes.Stop s) = is_none (signer_why n (is_verified stops n.secret s) s.signer) && is_newer n s.statement.view
+tells_change n (changes.StopData r) = is_none (signer_why n (is_verified reports n.secret r.head) r.head.signer) && is_newer n r.head.statement.view
+tells_change n (changes.Sync s) = is_none (signer_why n (is_verified syncs n.secret s) s.signer) && is_newer n s.statement.view
+
+abbrev pub tells_behind : {S : Type 0} → Node S → AnyMessage → Bool
+tells_behind n (Plain m) = tells_plain n m
+tells_behind n (Change m) = tells_change n m
+
+unfoldable pub noted : {S : Type 0} → Node S → AnyMessage → Node S
 noted n message = record n { behind = n.behind || tells_behind n message }
 
+-- ---- what is kept
+
+unfoldable pub kept_plain : {S : Type 0} → Node S → Message → Node S
+kept_plain n (Ask q) = if is_next n.replica.table q.statement then record n { pool = offered n.pool q } else n
+kept_plain n (Propose p) = record n { arrivals = n.arrivals ++ Propose p ∷ [] }
+kept_plain n (Vote b) = record n { arrivals = n.arrivals ++ Vote b ∷ [] }
+kept_plain n (Reply a) = n
+
+-- the beginning of a regency past the next place tells the node that it is behind
+unfoldable pub kept_change : {S : Type 0} → Node S → RegencyMessage → Node S
+kept_change n (changes.Stop s) = record n { stops = n.stops ++ s ∷ [] }
+kept_change n (changes.StopData r) = record n { reports = n.reports ++ r ∷ [] }
+kept_change n (changes.Sync s) = record n {
+  syncs = n.syncs ++ s ∷ [];
+  behind = n.behind || nat_lt (decided_place n + 1) (choice s.statement.collect).base;
+}
+
 -- the node with an arrival that is not dropped
-unfoldable pub kept : {S : Type 0} → Node S → Message → Node S
-kept n (Ask q) = if is_next n.replica.table q.statement then record n { pool = offered n.pool q } else n
-kept n (Propose p) = record n { arrivals = n.arrivals ++ Propose p ∷ [] }
-kept n (Vote b) = record n { arrivals = n.arrivals ++ Vote b ∷ [] }
-kept n (Reply a) = n
+abbrev pub kept : {S : Type 0} → Node S → AnyMessage → Node S
+kept n (Plain m) = kept_plain n m
+kept n (Change m) = kept_change n m

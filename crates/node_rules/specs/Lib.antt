@@ -1,7 +1,7 @@
-pub mod Replicas
-pub mod Seals
 pub mod Nodes
-pub mod Pools
+pub mod Votes
 pub mod Arrivals
 pub mod Rules
+pub mod Changes
 pub mod Steps
+pub mod Kept

@@ -4,7 +4,7 @@ ghost use Rattle.node_rules.specs.Steps.{first_leaving, after_first, leaving, st
 
 use node_rules::node::{Held, Target};
 use smart_base::sequence::Sequence;
-use smart_messages::message::Message;
+use smart_messages::any::AnyMessage;
 use std::alloc::{AllocError, Global};
 use std::collections::VecDeque;
 use std::marker::Model;
@@ -40,7 +40,7 @@ impl Outbox {
 
     /// Holds a message behind all others, until as many entries are firm as it needs. Without memory
     /// it is not held.
-    pub fn hold(&mut self, to: Target, message: Message, needs: u64) -> Result<(), AllocError>
+    pub fn hold(&mut self, to: Target, message: AnyMessage, needs: u64) -> Result<(), AllocError>
         ensures ok { OnOk result (self.new ≡ self.old ++ record { to = to; message = message; needs = needs } ∷ []) }
         ensures err { OnErr result (self.new ≡ self.old) }
     {

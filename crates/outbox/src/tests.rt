@@ -6,6 +6,7 @@ use smart_base::name::ClientId;
 use smart_base::party::Party;
 use smart_base::sequence::Bytes;
 use smart_keys::ring::Ring;
+use smart_messages::any::AnyMessage;
 use smart_messages::message::Message;
 use smart_messages::signed::Signed;
 use smart_messages::statement::Request;
@@ -13,7 +14,7 @@ use std::alloc::Global;
 use std::test::Fail;
 
 /// A message of a client.
-fn message(alloc: Global, client: u16) -> Result<Message, Fail> {
+fn message(alloc: Global, client: u16) -> Result<AnyMessage, Fail> {
     let ring = Ring::from_secret(Bytes::from_slice(alloc, b"world")?);
     let client = ClientId::new(client);
     let mut key = ring.sealer(Party::Client(client));
@@ -24,7 +25,8 @@ fn message(alloc: Global, client: u16) -> Result<Message, Fail> {
         op: Payload::new(Bytes::from_slice(alloc, b"5")?),
     };
     let signed = Signed::seal(alloc, &mut key, client.get(), request);
-    Ok(Message::Ask(signed.ok().ok_or("not signed")?))
+    let signed = signed.ok().ok_or("not signed")?;
+    Ok(AnyMessage::Plain(Message::Ask(signed)))
 }
 
 /// An outbox that holds a message for each client, from client 1 on, with these needs.
@@ -46,7 +48,7 @@ fn holding(alloc: Global, needs: &[u64]) -> Result<Outbox, Fail> {
 fn client_of(held: &Held) -> u16 {
     match held.to {
         Target::Client(client) => client.get(),
-        Target::View => 0,
+        Target::Node(_) | Target::View => 0,
     }
 }
 

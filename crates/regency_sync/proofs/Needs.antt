@@ -13,11 +13,7 @@ use Rattle.smart_messages.specs.declared.regency.Sync.{Sync}
 use Rattle.smart_messages.specs.declared.regency.Reported.{Reported}
 use Rattle.regency_sync.specs.declared.rule.Rule.{Rule}
 use Rattle.regency_sync.specs.declared.rule.Rule.TheVariants.{Adopt, Join, Promise, Collect}
-use Rattle.regency_sync.specs.Synchronizers.{Synchronizer, is_synced, is_needed, needs_stop, needs_report, needs_sync, is_same_stop, is_same_report}
-use Rattle.regency_sync.specs.Synchronizers.{is_same_sync, is_synced_in, repeats_stop, repeats_report, repeats_sync, is_adoptable, adopting, is_stop, has_next}
-use Rattle.regency_sync.specs.Synchronizers.{stoppers, is_joining, is_promising, is_report, first_report, reporters, is_collecting, collect, collecting}
-use Rattle.regency_sync.specs.Synchronizers.{is_due, due, is_lock_of, bears, batch_in, batch_of, with_stop, with_report, with_sync}
-use Rattle.regency_sync.specs.Synchronizers.{adopted, stopped, promised, led, moved, trimmed, HasNothingOf}
+use Rattle.regency_sync.specs.Synchronizers.{Synchronizer, is_synced, is_needed, needs_stop, needs_report, needs_sync, is_same_stop, is_same_report, is_same_sync, is_synced_in, repeats_stop, repeats_report, repeats_sync, is_adoptable, adopting, is_stop, has_next, stoppers, is_joining, is_promising, is_report, first_report, reporters, is_collecting, collect, collecting, is_due, due, is_lock_of, bears, batch_in, batch_of, with_stop, with_report, with_sync, adopted, stopped, promised, led, moved, trimmed, HasNothingOf}
 use Rattle.regency_sync.proofs.Lists.{any_filter, find_filter, filter_filter, filter_end, filter_none, each_filter, each_as, filter_alike, find_alike, filter_map_alike}
 
 -- ---- which are needed

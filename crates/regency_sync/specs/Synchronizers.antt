@@ -1,7 +1,6 @@
 -- How the members of a view change the regency (the synchronisation phase of Mod-SMaRt, EDCC 2012): what a member has heard and done, what is
 -- due by that, and what becomes of it.
-use Rattle.std.specs.Prelude.{ℕ, ◌≡◌, ◌+◌, ◌^◌, ◌==◌, nat_lt, nat_le, Bool, false, true, not, ◌&&◌, ◌||◌, if◌then◌else◌}
-use Rattle.std.specs.Prelude.{List, [], ◌∷◌, ◌++◌, length, take, filter, find, filter_map, Option, Some, None, is_some, option_map}
+use Rattle.std.specs.Prelude.{ℕ, ◌≡◌, ◌+◌, ◌^◌, ◌==◌, nat_lt, nat_le, Bool, false, true, not, ◌&&◌, ◌||◌, if◌then◌else◌, List, [], ◌∷◌, ◌++◌, length, take, filter, find, filter_map, Option, Some, None, is_some, option_map}
 use Rattle.std.specs.List.{list_any}
 use Rattle.smart_base.specs.Lists.{same_bytes, Each}
 use Rattle.smart_base.specs.Views.{View, leader}
@@ -192,6 +191,10 @@ stopped s = record s { stop_made = true }
 -- the next regency is promised: its leader has to begin it
 abbrev pub promised : Synchronizer → Synchronizer
 promised s = record s { regency = s.regency + 1; synced = false; stop_made = false; sync_made = false }
+
+-- a later regency is promised
+abbrev pub promised_to : ℕ → Synchronizer → Synchronizer
+promised_to regency s = record s { regency = regency; synced = false; stop_made = false; sync_made = false }
 
 -- the member has begun its regency
 abbrev pub led : Synchronizer → Synchronizer

@@ -4,7 +4,7 @@ ghost use Rattle.std.specs.Option.{option_copied};
 ghost use Rattle.regency_sync.specs.Synchronizers.{Synchronizer, is_synced, is_synced_in, repeats_stop, repeats_report, repeats_sync, is_adoptable};
 ghost use Rattle.regency_sync.specs.Synchronizers.{adopting, has_next, stoppers, is_joining, is_promising, reporters, is_collecting, collect, collecting};
 ghost use Rattle.regency_sync.specs.Synchronizers.{due, bears, batch_of, begun, with_stop, with_report, with_sync};
-ghost use Rattle.regency_sync.specs.Synchronizers.{adopted, stopped, promised, led, moved, trimmed};
+ghost use Rattle.regency_sync.specs.Synchronizers.{adopted, stopped, promised, promised_to, led, moved, trimmed};
 
 use crate::find::{
     carries, collect, count_reporters, count_stoppers, has_same_report, has_same_stop,
@@ -28,8 +28,8 @@ use std::marker::Model;
 /// A member's part in changing the regency (the synchronisation phase of Mod-SMaRt, EDCC 2012). Who
 /// calls it has checked what it keeps: that the signers are members, and that reports and the
 /// beginnings of regencies bear their proofs. The view in force is lent to each call that needs it.
-/// What is of another view or of an earlier regency than the member's counts for nothing, and is
-/// dropped as the regency or the view changes.
+/// What is of another view or of an earlier regency than the member's counts for nothing: `trim`
+/// drops it.
 #[derive(Drop)]
 pub struct Synchronizer {
     id: MemberId,
@@ -233,17 +233,15 @@ impl Synchronizer {
         }
     }
 
-    /// The member has adopted the reports with which a regency begins: it takes part in that one. What
-    /// is older is dropped.
-    pub fn adopted(&mut self, view: &View, regency: Regency)
-        ensures { self.new ≡ trimmed view.now (adopted regency self.old) }
+    /// The member has adopted the reports with which a regency begins: it takes part in that one.
+    pub fn adopted(&mut self, regency: Regency)
+        ensures { self.new ≡ adopted regency self.old }
     {
         let is_same = regency == self.regency;
         self.stop_made = self.stop_made && is_same;
         self.sync_made = self.sync_made && is_same;
         self.regency = regency;
         self.synced = true;
-        self.trim(view);
     }
 
     /// The member has asked for the next regency.
@@ -253,17 +251,25 @@ impl Synchronizer {
         self.stop_made = true;
     }
 
-    /// The member has promised the next regency, which its leader has to begin. What is older is
-    /// dropped.
-    pub fn promised(&mut self, view: &View)
+    /// The member has promised the next regency, which its leader has to begin.
+    pub fn promised(&mut self)
         requires { self.old.regency + 1 < 2 ^ 32 }
-        ensures { self.new ≡ trimmed view.now (promised self.old) }
+        ensures { self.new ≡ promised self.old }
     {
         self.regency = Regency::new(self.regency.get() + 1);
         self.synced = false;
         self.stop_made = false;
         self.sync_made = false;
-        self.trim(view);
+    }
+
+    /// The member has promised a later regency, which that one's leader has to begin.
+    pub fn promised_to(&mut self, regency: Regency)
+        ensures { self.new ≡ promised_to regency self.old }
+    {
+        self.regency = regency;
+        self.synced = false;
+        self.stop_made = false;
+        self.sync_made = false;
     }
 
     /// The member has begun its regency.
@@ -287,7 +293,7 @@ impl Synchronizer {
 
     /// Drops what is of another view or of an earlier regency.
     #[tactic(auto, unfolding(crate::specs::Synchronizers::trimmed))]
-    fn trim(&mut self, view: &View)
+    pub fn trim(&mut self, view: &View)
         ensures { self.new ≡ trimmed view.now self.old }
     {
         let number = view.number();

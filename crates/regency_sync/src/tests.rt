@@ -187,22 +187,27 @@ impl Play {
             b"S" => self.member.stop_made(),
             b"P" => {
                 if self.member.regency().get() < u32::MAX {
-                    self.member.promised(&self.view);
+                    self.member.promised();
+                    self.member.trim(&self.view);
                 }
             }
             b"B" => self.member.sync_made(),
-            b"L" => self.member.adopted(&self.view, Regency::new(u32::MAX)),
+            b"L" => self.adopt(Regency::new(u32::MAX)),
             b"V" => {
                 self.view = view(alloc, 1)?;
                 self.member.moved(&self.view);
             }
             [b'A', regency] => {
-                let regency = Regency::new(u32::from(digit(*regency)));
-                self.member.adopted(&self.view, regency);
+                self.adopt(Regency::new(u32::from(digit(*regency))));
             }
             _ => return Ok(false),
         }
         Ok(true)
+    }
+
+    fn adopt(&mut self, regency: Regency) {
+        self.member.adopted(regency);
+        self.member.trim(&self.view);
     }
 
     /// The member behind the words of a text.

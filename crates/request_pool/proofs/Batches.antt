@@ -11,7 +11,7 @@ use Rattle.smart_messages.specs.Messages.{Batch, batch_text}
 use Rattle.smart_messages.specs.Spelling.{signed}
 use Rattle.smart_messages.specs.declared.statement.Request.{Request}
 use Rattle.std.specs.List.{flat_map}
-use Rattle.node_rules.specs.Pools.{is_within}
+use Rattle.replica_rules.specs.Pools.{is_within}
 
 pub text_of_one : (q : SignedBy Request) → length (batch_text (q ∷ [])) ≡ 2 + length (signed requests q)
 unfolding batch_text

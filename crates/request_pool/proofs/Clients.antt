@@ -6,7 +6,7 @@ use Rattle.std.specs.List.{list_any}
 use Rattle.smart_base.specs.Lists.{Distinct}
 use Rattle.smart_messages.specs.Forms.{SignedBy}
 use Rattle.smart_messages.specs.declared.statement.Request.{Request}
-use Rattle.node_rules.specs.Pools.{offered}
+use Rattle.replica_rules.specs.Pools.{offered}
 use Rattle.request_pool.specs.Offers.{clients_of}
 use Rattle.request_pool.specs.Orders.{IsSubsequence}
 

@@ -9,7 +9,7 @@ use Rattle.indexmap.specs.IndexMap.{insert_entry}
 use Rattle.smart_base.specs.Lists.{Distinct}
 use Rattle.smart_messages.specs.Forms.{SignedBy}
 use Rattle.smart_messages.specs.declared.statement.Request.{Request}
-use Rattle.node_rules.specs.Pools.{offered}
+use Rattle.replica_rules.specs.Pools.{offered}
 use Rattle.request_pool.specs.Offers.{clients_of, has_client}
 use Rattle.request_pool.proofs.Clients.{distinct_offered, distinct_filtered}
 

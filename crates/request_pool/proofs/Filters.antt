@@ -4,7 +4,7 @@ use Rattle.std.proofs.lemmas.List.{drop_more}
 use Rattle.std.specs.Prelude.{filter}
 use Rattle.smart_messages.specs.Forms.{SignedBy}
 use Rattle.smart_messages.specs.declared.statement.Request.{Request}
-use Rattle.node_rules.specs.Seals.{is_managers}
+use Rattle.replica_rules.specs.Seals.{is_managers}
 
 -- the requests that may stand beside others at a place
 abbrev pub besides : ℕ → List (SignedBy Request) → List (SignedBy Request)

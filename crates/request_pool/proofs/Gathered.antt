@@ -8,8 +8,8 @@ use Rattle.smart_base.specs.Lists.{Each}
 use Rattle.smart_messages.specs.Forms.{SignedBy}
 use Rattle.smart_messages.specs.Messages.{Batch, batch_text}
 use Rattle.smart_messages.specs.declared.statement.Request.{Request}
-use Rattle.node_rules.specs.Seals.{request_fits, is_managers, fits}
-use Rattle.node_rules.specs.Pools.{is_within, filled, batch_of, gathered}
+use Rattle.replica_rules.specs.Seals.{request_fits, is_managers, fits}
+use Rattle.replica_rules.specs.Pools.{is_within, filled, batch_of, gathered}
 use Rattle.request_pool.specs.Offers.{IsSound}
 use Rattle.request_pool.specs.Orders.{IsSubsequence}
 use Rattle.request_pool.proofs.Batches.{within_limits}

@@ -11,9 +11,9 @@ use Rattle.smart_messages.specs.Messages.{batch_text}
 use Rattle.smart_messages.specs.Spelling.{request, FitsSigned, FitsRequest}
 use Rattle.smart_messages.specs.declared.statement.Request.{Request}
 use Rattle.smart_service.specs.declared.table.TableLine.{TableLine}
-use Rattle.node_rules.specs.Seals.{is_verified}
-use Rattle.node_rules.specs.Replicas.{is_next}
-use Rattle.node_rules.specs.Pools.{offered, settled}
+use Rattle.replica_rules.specs.Seals.{is_verified}
+use Rattle.replica_rules.specs.Replicas.{is_next}
+use Rattle.replica_rules.specs.Pools.{offered, settled}
 use Rattle.request_pool.specs.Offers.{IsSound, has_client, offer_of, pool_after}
 use Rattle.request_pool.specs.declared.pool.Offer.TheVariants.{Kept, Replaced, Old, Ahead, BadTag, Stranger}
 use Rattle.request_pool.proofs.Batches.{text_of_one}

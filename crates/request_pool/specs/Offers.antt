@@ -5,8 +5,8 @@ use Rattle.smart_messages.specs.Forms.{SignedBy}
 use Rattle.smart_messages.specs.Kinds.{requests}
 use Rattle.smart_messages.specs.Messages.{batch_text}
 use Rattle.smart_messages.specs.declared.statement.Request.{Request}
-use Rattle.node_rules.specs.Seals.{is_verified}
-use Rattle.node_rules.specs.Pools.{offered}
+use Rattle.replica_rules.specs.Seals.{is_verified}
+use Rattle.replica_rules.specs.Pools.{offered}
 use Rattle.request_pool.specs.declared.pool.Offer.{Offer}
 use Rattle.request_pool.specs.declared.pool.Offer.TheVariants.{Kept, Replaced, Old, Ahead, BadTag, Stranger}
 

@@ -1,8 +1,8 @@
 //! The batch that a pool gives.
 ghost use Rattle.std.specs.Prelude.{◌≡◌, ◌^◌, ◌<◌, ◌==◌, ◌∷◌, ◌++◌, [], Some, not, nat_lt, filter, length, true, IfOk, OnOk};
 ghost use Rattle.smart_messages.specs.Messages.{batch_text};
-ghost use Rattle.node_rules.specs.Seals.{is_managers};
-ghost use Rattle.node_rules.specs.Pools.{is_within, filled, batch_of, gathered};
+ghost use Rattle.replica_rules.specs.Seals.{is_managers};
+ghost use Rattle.replica_rules.specs.Pools.{is_within, filled, batch_of, gathered};
 
 use smart_base::duplicate::Duplicate;
 use smart_base::number::Place;
@@ -122,7 +122,7 @@ fn batch_from(
 }
 
 /// The batch for a place.
-#[tactic(auto, unfolding(node_rules::specs::Pools::gathered))]
+#[tactic(auto, unfolding(replica_rules::specs::Pools::gathered))]
 pub fn gathered(
     alloc: Global,
     pool: &[Signed<Request>],

@@ -8,8 +8,8 @@ ghost use Rattle.smart_messages.specs.Messages.{Batch, batch_text};
 ghost use Rattle.smart_messages.specs.Spelling.{FitsSigned, FitsRequest};
 ghost use Rattle.smart_messages.specs.declared.statement.Request.{Request};
 ghost use Rattle.smart_service.specs.declared.table.TableLine.{TableLine};
-ghost use Rattle.node_rules.specs.Seals.{fits};
-ghost use Rattle.node_rules.specs.Pools.{offered, settled, gathered};
+ghost use Rattle.replica_rules.specs.Seals.{fits};
+ghost use Rattle.replica_rules.specs.Pools.{offered, settled, gathered};
 ghost use Rattle.request_pool.specs.Offers.{clients_of, offer_of, pool_after, IsSound};
 ghost use Rattle.request_pool.specs.Orders.{IsSubsequence};
 

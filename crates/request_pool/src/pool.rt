@@ -1,8 +1,8 @@
 //! The pool, and what becomes of a request that is offered to it.
 ghost use Rattle.std.specs.Prelude.{◌≡◌, ◌==◌, [], length, slice_get, option_copied, IfOk, OnOk, OnErr};
 ghost use Rattle.smart_base.specs.Lists.{Distinct};
-ghost use Rattle.node_rules.specs.Pools.{offered, settled, gathered};
-ghost use Rattle.node_rules.specs.Replicas.{is_next};
+ghost use Rattle.replica_rules.specs.Pools.{offered, settled, gathered};
+ghost use Rattle.replica_rules.specs.Replicas.{is_next};
 ghost use Rattle.request_pool.specs.Offers.{clients_of, has_client, offer_of, pool_after};
 
 use crate::gather::gathered;

@@ -1,7 +1,6 @@
 -- The view in force is the last.
 use Rattle.std.proofs.Common.{◌≡◌, ℕ, ◌+◌, List, [], ◌∷◌, length, get_or, zero, suc, refl, arith}
-use Rattle.smart_base.specs.Views.{present}
-use Rattle.smart_base.specs.Views.{View}
+use Rattle.smart_base.specs.Views.{present, View}
 
 pub present-last : (views : List View) (i : ℕ) (d : View) → i + 1 ≡ length views → get_or views i d ≡ present views
 present-last [] i d last = absurd (omega arith)

@@ -1,5 +1,5 @@
 //! Views of a group.
-ghost use Rattle.std.specs.Prelude.{◌≡◌, [], ◌∷◌, IfOk, Option, if◌then◌else◌, Some, None, true, length, ◌≤◌};
+ghost use Rattle.std.specs.Prelude.{◌≡◌, [], ◌∷◌, IfOk, Option, if◌then◌else◌, Some, None, true, length, ◌<◌, ◌≤◌};
 ghost use Rattle.smart_base.specs.Views.{is_view, ascends, quorum, is_member, leader, present};
 
 use crate::duplicate::Duplicate;
@@ -183,6 +183,14 @@ impl Views {
         let mut list = Vec::new(alloc);
         list.push(view)?;
         Ok(Views { list })
+    }
+
+    /// All of them, in their order.
+    pub fn as_slice(&self) -> &[View]
+        ensures value { result.now ≡ self.now }
+        ensures some { 0 < length result.now }
+    {
+        self.list.as_slice()
     }
 
     /// The view that is in force.

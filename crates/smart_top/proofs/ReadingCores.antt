@@ -6,7 +6,7 @@ use Rattle.smart_service.specs.Services.{Meaning}
 use Rattle.app_count.specs.Counts.{counting}
 use Rattle.app_kv.specs.Snapshots.{keeping}
 use Rattle.node_rules.specs.Steps.{step_of}
-use Rattle.kept_arrivals.specs.Kept.{core_step}
+use Rattle.node_rules.specs.Kept.{core_step}
 use Rattle.world_rules.specs.Worlds.{World}
 use Rattle.world_rules.specs.Plays.{Play, is_there, line_played, rested}
 use Rattle.world_rules.specs.Scripts.{is_printed, is_short, is_nothing, line_of, group_line, app_line}

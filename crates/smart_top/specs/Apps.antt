@@ -9,7 +9,7 @@ use Rattle.app_kv.specs.declared.store.Entry.{Entry}
 use Rattle.app_kv.specs.Snapshots.{keeping}
 use Rattle.node_rules.specs.Nodes.{Node}
 use Rattle.node_rules.specs.Steps.{Outcome, step_of}
-use Rattle.kept_arrivals.specs.Kept.{core_step}
+use Rattle.node_rules.specs.Kept.{core_step}
 use Rattle.world_rules.specs.Worlds.{World, begun}
 use Rattle.world_rules.specs.Plays.{Play, is_there, line_played, rested}
 use Rattle.world_rules.specs.declared.message.Ending.{Ending}

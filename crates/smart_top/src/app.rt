@@ -1,6 +1,6 @@
 //! The play of a script over the service that its header names.
 ghost use Rattle.std.specs.Prelude.{◌≡◌, false, IfOk, OnOk, IsErrOf, length};
-ghost use Rattle.kept_arrivals.specs.Kept.{core_step};
+ghost use Rattle.node_rules.specs.Kept.{core_step};
 ghost use Rattle.smart_top.specs.Apps.{core_steps, play_after, play_answer, app_begun, app_after, app_answer, is_over, sent_count};
 
 use crate::status::Refusal;

@@ -5,3 +5,5 @@ pub mod Locks
 pub mod Pushes
 pub mod Reports
 pub mod Tested
+pub mod Pending
+pub mod Tidy

@@ -267,7 +267,7 @@ greatest_append view place (x ∷ xs) ys =
     ap (λ (o : Option OpenAccept). greater_open (open_for view place x) o) (greatest_append view place xs ys)
     ∙ sym (greater_assoc (open_for view place x) (greatest_open view place xs) (greatest_open view place ys))
 
-get_middle : (front : List LogEntry) (e : LogEntry) (rest : List LogEntry) → slice_get (front ++ e ∷ rest) (length front) ≡ Some e
+pub get_middle : (front : List LogEntry) (e : LogEntry) (rest : List LogEntry) → slice_get (front ++ e ∷ rest) (length front) ≡ Some e
 get_middle [] e rest = refl
 get_middle (x ∷ xs) e rest = get_middle xs e rest
 

@@ -3,3 +3,4 @@ pub mod BookIndex
 pub mod BookReports
 pub mod Books
 pub mod Entries
+pub mod Tidy

@@ -1,10 +1,10 @@
 //! A member's book.
-ghost use Rattle.std.specs.Prelude.{◌≡◌, ◌-◌, ◌||◌, Some, nat_le, slice_get, option_copied, OnOk, OnErr};
+ghost use Rattle.std.specs.Prelude.{◌≡◌, ◌-◌, ◌<◌, ◌||◌, Some, nat_le, slice_get, filter_map, option_copied, OnOk, OnErr};
 ghost use Rattle.std.specs.List.{list_any};
 ghost use Rattle.vote_book.specs.Books.{begun, pushed, ended, restored_of, latest_made, last_made};
 ghost use Rattle.vote_book.specs.Admission.{writes_in, accepts_in, makes, forbids, begins, may_vote, follows, is_above, may_install, admits_next};
 ghost use Rattle.vote_book.specs.BookIndex.{as_accept, accept_found};
-ghost use Rattle.vote_book.specs.BookReports.{last_maker, lock_of};
+ghost use Rattle.vote_book.specs.BookReports.{last_maker, accept_for, lock_of};
 ghost use Rattle.vote_book.specs.declared.entry.LogEntry.{LogEntry};
 
 mod accepts;
@@ -139,13 +139,15 @@ impl Book {
         self.index.has_begun(slot, digest)
     }
 
-    fn has_written(&self, slot: &Slot) -> bool
+    /// Whether there is a write in a slot.
+    pub fn has_written(&self, slot: &Slot) -> bool
         ensures { result ≡ list_any (writes_in slot.now) self.now.entries }
     {
         self.index.written.has(slot)
     }
 
-    fn has_accepted(&self, slot: &Slot) -> bool
+    /// Whether there is an accept in a slot.
+    pub fn has_accepted(&self, slot: &Slot) -> bool
         ensures { result ≡ list_any (accepts_in slot.now) self.now.entries }
     {
         self.index.accepted.has(slot)
@@ -206,6 +208,26 @@ impl Book {
         ensures { accept_found self.now.entries result ≡ lock_of view self.now.entries }
     {
         self.index.pending.greatest(view, self.index.last.get() + 1)
+    }
+
+    /// The accept at an index among those in a view for a place past the last, in the order of the
+    /// entries. It takes no memory, and walks the accepts past the last place alone.
+    pub fn accept_for(&self, view: ViewNo, place: Place, index: usize) -> Option<&Accept>
+        requires { last_made self.now.entries < place }
+        ensures { option_copied result ≡ slice_get (filter_map (accept_for view place) self.now.entries) index }
+    {
+        match self.open_for(view, place, index) {
+            Some(found) => self.accept_at(found.index),
+            None => None,
+        }
+    }
+
+    /// The same by the index of its entry.
+    fn open_for(&self, view: ViewNo, place: Place, index: usize) -> Option<OpenAccept>
+        requires { last_made self.now.entries < place }
+        ensures { accept_found self.now.entries result ≡ slice_get (filter_map (accept_for view place) self.now.entries) index }
+    {
+        self.index.pending.nth(view, place.get(), index)
     }
 
     /// The accept of an index, if there is one.

@@ -5,6 +5,7 @@ ghost use Rattle.vote_book.specs.declared.entry.LogEntry.{LogEntry};
 ghost use Rattle.vote_book.specs.declared.entry.LogEntry.TheVariants.{Accepted};
 ghost use Rattle.vote_book.specs.Books.{Book, begun, pushed, ended, place_made, last_made, Among, HasMade, Admits, Lawful, IsLawful};
 ghost use Rattle.vote_book.specs.Admission.{admits, admits_next};
+ghost use Rattle.vote_book.specs.Tidy.{IsTidyAfter, IsTidy};
 ghost use Rattle.vote_book.specs.BookReports.{last_maker, lock_of, IsGreatestAccept};
 
 /// The test admits an entry exactly where it may stand behind the others.
@@ -24,6 +25,18 @@ pub fn a_book_is_lawful_where_it_admitted_all()
     ensures begun { (place : ℕ) → IsLawful (begun place) }
     ensures pushed { (book : Book) (entry : LogEntry) → IsLawful (pushed book entry) ↔ (IsLawful book × (admits_next book entry ≡ true)) }
     ensures ended { (book : Book) → IsLawful (ended book) ↔ IsLawful book }
+{}
+
+/// Entries are tidy with one more exactly where they are without it and it is tidy after them.
+pub fn a_tidy_list_grows_by_what_is_tidy_after_it()
+    ensures begun { IsTidy [] }
+    ensures grown { (entries : List LogEntry) (entry : LogEntry) → IsTidy (entries ++ entry ∷ []) ↔ (IsTidy entries × IsTidyAfter entries entry) }
+{}
+
+/// What holds of entries holds of their fronts.
+pub fn fronts_stay_lawful_and_tidy()
+    ensures lawful { (opening restored : ℕ) (front rest : List LogEntry) → Lawful opening restored (front ++ rest) → Lawful opening restored front }
+    ensures tidy { (front rest : List LogEntry) → IsTidy (front ++ rest) → IsTidy front }
 {}
 
 /// Each place that entries make is at most the last, and an entry that made the last is found where

@@ -3,7 +3,7 @@ use Rattle.std.proofs.Common.{◌≡◌, Option, Some, None, refl}
 use Rattle.std.specs.Prelude.{option_map}
 use Rattle.smart_messages.specs.Kinds.{requests}
 use Rattle.smart_messages.specs.declared.statement.Request.{Request}
-use Rattle.node_rules.specs.Seals.{signed}
+use Rattle.replica_rules.specs.Seals.{signed}
 use Rattle.client_quorum.specs.declared.client.Client.{Client}
 use Rattle.world_rules.specs.Secrets.{group_secret}
 use Rattle.world_rules.specs.Worlds.{World, client_repeats}

@@ -4,3 +4,4 @@ pub mod Played
 pub mod Hearing
 pub mod Asking
 pub mod Idling
+pub mod Giving

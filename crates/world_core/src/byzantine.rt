@@ -4,7 +4,7 @@ ghost use Rattle.world_rules.specs.Premises.{is_among, too_many};
 ghost use Rattle.world_rules.specs.Worlds.{declares_faulty, declares_rogue, injects_content, injects};
 
 use crate::host::is_among;
-use crate::state::WorldState;
+use crate::state::{WorldState, let_go};
 use smart_base::name::{ClientId, MemberId};
 use smart_base::view::View;
 use smart_service::service::Service;
@@ -64,17 +64,24 @@ impl<S: Service> WorldState<S> {
         ensures { OnOk result (self.new ≡ injects_content self.old (Some content)) }
     {
         let (faulty, rogue) = (self.faulty.as_slice(), self.rogue.as_slice());
-        if self.sent.is_forged(self.alloc, faulty, rogue, &content)? {
-            self.ending = Some(Ending::Premise(Premise::Forged));
-            return Ok(());
+        match self.sent.is_forged(self.alloc, faulty, rogue, &content) {
+            Err(error) => {
+                let_go(content);
+                return Err(error);
+            }
+            Ok(true) => {
+                let_go(content);
+                self.ending = Some(Ending::Premise(Premise::Forged));
+                return Ok(());
+            }
+            Ok(false) => {}
         }
         let sent = Sent {
             origin: Origin::Script,
             to: None,
             content,
         };
-        self.post(sent)?;
-        Ok(())
+        self.post(sent)
     }
 
     /// The script injects a message.

@@ -4,7 +4,9 @@ ghost use Rattle.std.specs.List.{flat_map};
 ghost use Rattle.world_rules.specs.Secrets.{group_secret};
 ghost use Rattle.client_quorum.specs.Clients.{after_heard};
 ghost use Rattle.world_rules.specs.Clients.{heard};
-ghost use Rattle.world_rules.specs.Worlds.{acceptance_in, told_heard, client_takes, asks, repeats, learns, tells, shown_client};
+ghost use Rattle.smart_messages.specs.declared.any.AnyMessage.TheVariants as messages;
+ghost use Rattle.smart_messages.specs.declared.message.Message.TheVariants as plains;
+ghost use Rattle.world_rules.specs.Worlds.{sends, acceptance_in, told_heard, client_takes, asks, repeats, learns, tells, shown_client};
 ghost use Rattle.world_core.specs.Replies.{takes_reply};
 ghost use Rattle.world_core.specs.Asking.{repeats_by, repeats_found};
 
@@ -18,6 +20,7 @@ use smart_base::name::ClientId;
 use smart_base::number::Place;
 use smart_base::view::View;
 use smart_keys::ring::Ring;
+use smart_messages::any::AnyMessage;
 use smart_messages::message::Message;
 use smart_messages::signed::Signed;
 use smart_messages::statement::{Answer, Request};
@@ -173,7 +176,7 @@ impl<S: Service> WorldState<S> {
         }
         match self.clients[i].ask(self.alloc, self.ring.get(), op) {
             Ok(request) => {
-                self.send(Origin::Client(client), Target::View, Message::Ask(request))?;
+                self.send_ask(client, request)?;
                 Ok(())
             }
             // None waits: its only want is memory.
@@ -217,8 +220,16 @@ impl<S: Service> WorldState<S> {
     {
         match request {
             None => self.tell(OutLine::IdleClient { client: id }),
-            Some(request) => self.send(Origin::Client(id), Target::View, Message::Ask(request)),
+            Some(request) => self.send_ask(id, request),
         }
+    }
+
+    /// A client's request leaves.
+    fn send_ask(&mut self, client: ClientId, request: Signed<Request>) -> Result<(), AllocError>
+        ensures { OnOk result (self.new ≡ sends self.old (Origin.Client client) Target.View (messages.Plain (plains.Ask request))) }
+    {
+        let message = AnyMessage::Plain(Message::Ask(request));
+        self.send(Origin::Client(client), Target::View, message)
     }
 
     /// The client at an index is told of a place.

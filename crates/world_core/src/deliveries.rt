@@ -1,8 +1,8 @@
-//! Deliveries one by one.
+//! Deliveries one by one, and time that passes.
 ghost use Rattle.std.specs.Prelude.{◌≡◌, OnOk};
 ghost use Rattle.smart_messages.specs.declared.entry.NodeEvent.TheVariants.{Arrive};
-ghost use Rattle.kept_arrivals.specs.Kept.{core_step};
-ghost use Rattle.world_rules.specs.Worlds.{node_takes, settle, at_member, arrives, arrives_at, give_number, telling_all, deliver_at, deliver_each};
+ghost use Rattle.node_rules.specs.Kept.{core_step};
+ghost use Rattle.world_rules.specs.Worlds.{node_takes, settle, at_member, arrives, arrives_at, give_number, telling_all, tries_at, tries_each, deliver_each, tick_each};
 ghost use Rattle.world_core.specs.Idling.{idle_lines};
 
 use crate::host::host_index;
@@ -96,10 +96,11 @@ impl<S: Service> WorldState<S> {
         Ok(())
     }
 
-    /// The node at an index delivers the batch that waits, unless it is gone.
-    #[tactic(auto, using(crate::proofs::Idling::told_idle_is), unfolding(world_rules::specs::Worlds::deliver_at))]
-    fn deliver_at(&mut self, i: usize) -> Result<(), AllocError>
-        ensures { OnOk result (self.new ≡ deliver_at (core_step S.meaning) i self.old) }
+    /// The node at an index is to deliver the batch that waits, or time passes there, unless it is
+    /// gone.
+    #[tactic(auto, using(crate::proofs::Idling::told_idle_is), unfolding(world_rules::specs::Worlds::tries_at))]
+    fn try_at(&mut self, i: usize, event: &NodeEvent) -> Result<(), AllocError>
+        ensures { OnOk result (self.new ≡ tries_at (core_step S.meaning) event.now i self.old) }
     {
         if self.ending.is_some() || i >= self.hosts.len() {
             return Ok(());
@@ -108,18 +109,28 @@ impl<S: Service> WorldState<S> {
         if self.is_gone(id) {
             return Ok(());
         }
-        let idle = self.step_at(i, &NodeEvent::Deliver)?;
+        let idle = self.step_at(i, event)?;
         self.tell_idle(id, idle)?;
         Ok(())
     }
 
-    fn deliver_member(&mut self, member: MemberId) -> Result<(), AllocError>
-        ensures { OnOk result (self.new ≡ at_member (deliver_at (core_step S.meaning)) member self.old) }
+    fn try_member(&mut self, member: MemberId, event: &NodeEvent) -> Result<(), AllocError>
+        ensures { OnOk result (self.new ≡ at_member (tries_at (core_step S.meaning) event.now) member self.old) }
     {
         if self.is_gone(member) {
             self.tell(OutLine::Absent { member })?;
         } else if let Some(i) = host_index(self.hosts.as_slice(), member) {
-            self.deliver_at(i)?;
+            self.try_at(i, event)?;
+        }
+        Ok(())
+    }
+
+    /// So it is at each of some members, in order.
+    fn try_each(&mut self, members: &[MemberId], event: &NodeEvent) -> Result<(), AllocError>
+        ensures { OnOk result (self.new ≡ tries_each (core_step S.meaning) event.now members.now self.old) }
+    {
+        for member in members {
+            self.try_member(*member, event)?;
         }
         Ok(())
     }
@@ -128,9 +139,13 @@ impl<S: Service> WorldState<S> {
     pub(crate) fn deliver(&mut self, members: &[MemberId]) -> Result<(), AllocError>
         ensures { OnOk result (self.new ≡ deliver_each (core_step S.meaning) members.now self.old) }
     {
-        for member in members {
-            self.deliver_member(*member)?;
-        }
-        Ok(())
+        self.try_each(members, &NodeEvent::Deliver)
+    }
+
+    /// Time passes at each of some members, in order.
+    pub(crate) fn tick(&mut self, members: &[MemberId]) -> Result<(), AllocError>
+        ensures { OnOk result (self.new ≡ tick_each (core_step S.meaning) members.now self.old) }
+    {
+        self.try_each(members, &NodeEvent::Tick)
     }
 }

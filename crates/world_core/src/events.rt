@@ -1,10 +1,10 @@
 //! Events of nodes: what is due at them, and what is given to those that a line lists.
 ghost use Rattle.std.specs.Prelude.{◌≡◌, ◌<◌, IfOk, OnOk, length, slice_get, false};
-ghost use Rattle.kept_arrivals.specs.Kept.{core_step};
-ghost use Rattle.world_rules.specs.Worlds.{told_absent, settle_present, node_takes, settle_once, settle, settle_all, give_all, is_listed, at_listed, telling_all};
+ghost use Rattle.node_rules.specs.Kept.{core_step};
+ghost use Rattle.world_rules.specs.Worlds.{told_absent, settle_present, node_takes, settle_once, settle, settle_all, give_all, give_one, is_listed, at_listed, at_index, host_index, telling_all};
 ghost use Rattle.world_core.specs.Idling.{steps, is_idle_at};
 
-use crate::host::{is_among, step_host};
+use crate::host::{host_index, is_among, step_host};
 use crate::state::WorldState;
 use smart_base::name::MemberId;
 use smart_base::sequence::Bytes;
@@ -172,5 +172,34 @@ impl<S: Service> WorldState<S> {
             self.give_listed(members, i, &arrival)?;
         }
         Ok(())
+    }
+
+    /// The node of a member takes an event and settles, if the member is listed.
+    fn give_member(
+        &mut self,
+        members: &[MemberId],
+        member: MemberId,
+        event: &NodeEvent,
+    ) -> Result<(), AllocError>
+        ensures { OnOk result (self.new ≡ at_index (at_listed members.now (λ i w. settle (core_step S.meaning) i (node_takes (core_step S.meaning) i event.now w))) self.old (host_index self.old.hosts member)) }
+    {
+        if let Some(i) = host_index(self.hosts.as_slice(), member) {
+            self.give_listed(members, i, event)?;
+        }
+        Ok(())
+    }
+
+    /// The node of a member takes the bytes of a message and settles, if the member is listed.
+    #[tactic(auto, using(crate::proofs::Giving::given_one))]
+    pub(crate) fn give_one(
+        &mut self,
+        members: &[MemberId],
+        bytes: Bytes,
+        member: MemberId,
+    ) -> Result<(), AllocError>
+        ensures { OnOk result (self.new ≡ give_one (core_step S.meaning) members.now bytes member self.old) }
+    {
+        let arrival = NodeEvent::Arrive(bytes);
+        self.give_member(members, member, &arrival)
     }
 }

@@ -1,6 +1,6 @@
 //! Messages that flow to those that they are for.
 ghost use Rattle.std.specs.Prelude.{◌≡◌, IfOk, OnOk, Some, false};
-ghost use Rattle.kept_arrivals.specs.Kept.{core_step};
+ghost use Rattle.node_rules.specs.Kept.{core_step};
 ghost use Rattle.world_rules.specs.Repeats.{until_rest};
 ghost use Rattle.world_rules.specs.Premises.{bytes_of};
 ghost use Rattle.world_rules.specs.Worlds.{goes, flow_once, flows};
@@ -31,6 +31,10 @@ impl<S: Service> WorldState<S> {
         match to {
             Target::View => {
                 self.give_all(members, bytes)?;
+                Ok(())
+            }
+            Target::Node(id) => {
+                self.give_one(members, bytes, id)?;
                 Ok(())
             }
             Target::Client(id) => {

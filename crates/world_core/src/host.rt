@@ -3,7 +3,7 @@ ghost use Rattle.std.specs.Prelude.{◌≡◌, ◌+◌, ◌++◌, ◌==◌, [], 
 ghost use Rattle.std.specs.List.{flat_map};
 ghost use Rattle.std.specs.Option.{option_copied};
 ghost use Rattle.node_rules.specs.Nodes.{next_place};
-ghost use Rattle.kept_arrivals.specs.Kept.{core_step};
+ghost use Rattle.node_rules.specs.Kept.{core_step};
 ghost use Rattle.node_rules.specs.Steps.{leaving, released, opened};
 ghost use Rattle.world_rules.specs.Worlds.{due, told_drop, told_fired, delivery_in, chosen_with, host_after, host_index, shown_host};
 ghost use Rattle.world_rules.specs.Premises.{is_among};
@@ -19,11 +19,15 @@ use smart_base::sequence::Sequence;
 use smart_base::view::View;
 use smart_keys::ring::Ring;
 use smart_messages::batch::Batch;
-use smart_messages::entry::{LogEntry, NodeEvent};
+use smart_messages::entry::NodeEvent;
 use smart_service::service::Service;
 use std::alloc::{AllocError, Global};
 use std::marker::Model;
+use vote_book::entry::LogEntry;
 use world_rules::line::OutLine;
+
+/// How often a place is marked.
+const PERIOD: u32 = 1024;
 
 /// A member's host: its node, and the batches that it ever delivered.
 #[derive(Drop)]
@@ -37,7 +41,7 @@ impl<S> Model for Host<S> {
 
     ghost Value = { Host S };
 
-    ghost view = { λ h. record { node = h.node; delivered = h.delivered.items } };
+    ghost view = { λ h. record { node = h.node.node; delivered = h.delivered.items } };
 }
 
 /// What a node's step tells: why an arrival was dropped, or the rules that a transcript names.
@@ -68,11 +72,32 @@ fn tell_rule(told: &mut Vec<OutLine>, id: MemberId, rule: &Fired) -> Result<(), 
             };
             told.push(line)?;
         }
+        Fired::Adopted(start) => {
+            let line = OutLine::Synced {
+                member: id,
+                view: start.view,
+                regency: start.regency,
+                base: start.base,
+                bound: start.bound.is_some(),
+            };
+            told.push(line)?;
+        }
+        Fired::Promised(promise) => told.push(OutLine::Promised {
+            member: id,
+            view: promise.view,
+            regency: promise.regency,
+        })?,
         Fired::Decided(place) => told.push(OutLine::Decided {
             member: id,
             place: *place,
         })?,
-        Fired::Proposed | Fired::Wrote | Fired::Accepted | Fired::Answered => {}
+        Fired::Joined
+        | Fired::Led
+        | Fired::Proposed
+        | Fired::Wrote
+        | Fired::Accepted
+        | Fired::Timed
+        | Fired::Answered => {}
     }
     Ok(())
 }
@@ -128,10 +153,10 @@ fn is_idle(fired: &[Fired]) -> bool
 impl<S: Service> Host<S> {
     /// A host whose node has an empty book.
     pub fn begin(alloc: Global, id: MemberId, view: View, ring: Ring) -> Result<Self, AllocError>
-        ensures { IfOk result (λ h. h ≡ record { node = opened S.meaning ring id view; delivered = [] }) }
+        ensures { IfOk result (λ h. h ≡ record { node = opened S.meaning ring id view 1024; delivered = [] }) }
     {
         Ok(Host {
-            node: NodeCore::begin(alloc, id, view, ring)?,
+            node: NodeCore::begin(alloc, id, view, PERIOD, ring)?,
             delivered: Vec::new(alloc),
         })
     }
@@ -236,7 +261,8 @@ pub struct Left {
 }
 
 /// A host's node takes an event. The messages that leave are given, what the step tells and the
-/// batch that it has chosen are added.
+/// batch that it has chosen are added. A node that a want of memory broke takes none: it says once
+/// more that memory ran out.
 pub fn step_host<S: Service>(
     alloc: Global,
     host: &mut Host<S>,
@@ -250,6 +276,9 @@ pub fn step_host<S: Service>(
     ensures left { IfOk result (λ left. let after = (core_step S.meaning host.old.node event.now).node in left.messages ≡ leaving after.firm after.held) }
     ensures idle { IfOk result (λ left. left.idle ≡ is_idle (core_step S.meaning host.old.node event.now).fired) }
 {
+    if host.node.broken() {
+        return Err(AllocError);
+    }
     let id = host.node.id();
     let outcome = host.node.step(event)?;
     tell_step(told, id, outcome.dropped, outcome.fired.as_slice())?;

@@ -1,7 +1,7 @@
 //! Lines of a script.
 ghost use Rattle.std.specs.Prelude.{◌≡◌, OnOk};
 ghost use Rattle.std.specs.List.{list_all};
-ghost use Rattle.kept_arrivals.specs.Kept.{core_step};
+ghost use Rattle.node_rules.specs.Kept.{core_step};
 ghost use Rattle.world_rules.specs.Worlds.{shows};
 ghost use Rattle.world_rules.specs.Plays.{has_member, has_party, is_there, line_played};
 
@@ -56,9 +56,9 @@ impl<S: Service> WorldState<S> {
             | Line::SettleAll
             | Line::Show
             | Line::Rogue { .. } => true,
-            Line::Flow { members } | Line::Deliver { members } => self.has_members(
-                members.as_slice(),
-            ),
+            Line::Flow { members } | Line::Deliver { members } | Line::Tick { members } => {
+                self.has_members(members.as_slice())
+            }
             Line::Give { number, to } => {
                 1 <= *number
                     && *number <= self.sent.as_slice().len() as u64
@@ -111,6 +111,10 @@ impl<S: Service> WorldState<S> {
             }
             Line::Deliver { members } => {
                 self.deliver(members.as_slice())?;
+                Ok(())
+            }
+            Line::Tick { members } => {
+                self.tick(members.as_slice())?;
                 Ok(())
             }
             Line::Settle { member } => {

@@ -15,8 +15,8 @@ use smart_base::name::{ClientId, MemberId};
 use smart_base::sequence::Sequence;
 use smart_base::view::View;
 use smart_keys::ring::Ring;
+use smart_messages::any::AnyMessage;
 use smart_messages::batch::Batch;
-use smart_messages::message::Message;
 use smart_service::service::Service;
 use std::alloc::{AllocError, Global};
 use std::marker::Model;
@@ -72,6 +72,9 @@ impl<S> Model for WorldState<S> {
     } };
 }
 
+/// Lets a value go.
+pub(crate) fn let_go<T: Drop>(_value: T) {}
+
 /// A limit is told only of a play that nothing has ended.
 fn or_limit(ending: Option<Ending>) -> Option<Ending>
     ensures { result ≡ or_else ending (Some Ending.Limit) }
@@ -96,7 +99,7 @@ fn first_host<S: Service>(
     id: MemberId,
 ) -> Result<Host<S>, AllocError>
     requires { ring.now ≡ group_secret }
-    ensures { IfOk result (λ h. h ≡ record { node = opened S.meaning group_secret id view.now; delivered = [] }) }
+    ensures { IfOk result (λ h. h ≡ record { node = opened S.meaning group_secret id view.now 1024; delivered = [] }) }
 {
     let view = view.duplicate(alloc)?;
     let ring = ring.duplicate(alloc)?;
@@ -178,19 +181,30 @@ impl<S: Service> WorldState<S> {
     pub(crate) fn post(&mut self, sent: Sent) -> Result<(), AllocError>
         ensures { OnOk result (self.new ≡ posts self.old sent) }
     {
-        if self.sent.collides(self.alloc, &sent.content)? {
-            self.ending = Some(Ending::Premise(Premise::Collision));
-            return Ok(());
+        match self.sent.collides(self.alloc, &sent.content) {
+            Err(error) => {
+                let_go(sent);
+                return Err(error);
+            }
+            Ok(true) => {
+                let_go(sent);
+                self.ending = Some(Ending::Premise(Premise::Collision));
+                return Ok(());
+            }
+            Ok(false) => {}
         }
         let count = self.sent.as_slice().len();
         if count >= MESSAGES {
+            let_go(sent);
             self.ending = or_limit(self.ending);
             return Ok(());
         }
         let line = sent_line(count as u64 + 1, &sent.origin, &sent.content);
-        self.told.push(line)?;
-        self.sent.push(self.alloc, sent)?;
-        Ok(())
+        if let Err(error) = self.tell(line) {
+            let_go(sent);
+            return Err(error);
+        }
+        self.sent.push(self.alloc, sent)
     }
 
     /// A message leaves.
@@ -198,7 +212,7 @@ impl<S: Service> WorldState<S> {
         &mut self,
         origin: Origin,
         to: Target,
-        message: Message,
+        message: AnyMessage,
     ) -> Result<(), AllocError>
         ensures { OnOk result (self.new ≡ sends self.old origin to message) }
     {
@@ -207,8 +221,7 @@ impl<S: Service> WorldState<S> {
             to: Some(to),
             content: Content::Message(message),
         };
-        self.post(sent)?;
-        Ok(())
+        self.post(sent)
     }
 
     pub(crate) fn send_all(&mut self, id: MemberId, held: Sequence<Held>) -> Result<(), AllocError>

@@ -1,7 +1,7 @@
 //! The play of a script.
 ghost use Rattle.std.specs.Prelude.{◌≡◌, ◌++◌, [], ◌∷◌, true, false, None, Some, IfOk, IfErr, OnOk, IsErrOf, option_map};
 ghost use Rattle.std.specs.Option.{option_copied};
-ghost use Rattle.kept_arrivals.specs.Kept.{core_step};
+ghost use Rattle.node_rules.specs.Kept.{core_step};
 ghost use Rattle.world_rules.specs.Worlds.{begun, host_of};
 ghost use Rattle.world_rules.specs.Plays.{is_there, line_played, rested, IsPlay};
 ghost use Rattle.world_rules.specs.declared.message.Ending.TheVariants as endings;
@@ -16,10 +16,10 @@ use smart_base::name::MemberId;
 use smart_base::sequence::Sequence;
 use smart_base::view::View;
 use smart_messages::batch::Batch;
-use smart_messages::entry::LogEntry;
 use smart_service::service::Service;
 use std::alloc::{AllocError, Global};
 use std::marker::Model;
+use vote_book::entry::LogEntry;
 use world_rules::line::{Line, OutLine};
 use world_rules::message::{Ending, Premise, Sent};
 
@@ -57,7 +57,7 @@ pub struct World<S: Service> {
 }
 
 impl<S: Service> Model for World<S> {
-    ghost use Rattle.kept_arrivals.specs.Kept.{core_step};
+    ghost use Rattle.node_rules.specs.Kept.{core_step};
     ghost use Rattle.world_rules.specs.Plays.{Play, IsPlay};
 
     ghost Value = { Play S };

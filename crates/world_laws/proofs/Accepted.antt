@@ -1,7 +1,7 @@
 -- Each reply that a client accepted is the right one: the service's answer at its request's one place in the list.
 use Rattle.std.proofs.Common.{◌≤◌, ◌&&◌, Bool, true, false, filter, eqb-true, inl, inr, ◌≡◌, ℕ, ◌+◌, ◌<◌, ◌==◌, ◌++◌, List, [], ◌∷◌, length, refl, ap, ◌∙◌, sym, Option, Some, None, subst, append-nil, ◌⊎◌}
-use Rattle.smart_base.specs.Lists.{Each}
-use Rattle.smart_base.specs.Views.{View}
+use Rattle.smart_base.specs.Lists.{Each, same_bytes}
+use Rattle.smart_base.specs.Views.{View, quorum}
 use Rattle.smart_messages.specs.Forms.{SignedBy}
 use Rattle.smart_messages.specs.Messages.{Batch}
 use Rattle.smart_messages.specs.declared.statement.Request.{Request}
@@ -9,10 +9,10 @@ use Rattle.smart_messages.specs.declared.statement.Answer.{Answer}
 use Rattle.smart_messages.specs.declared.message.Message.TheVariants.{Reply}
 use Rattle.smart_service.specs.Services.{Meaning}
 use Rattle.smart_service.specs.declared.table.TableLine.{TableLine}
-use Rattle.node_rules.specs.Replicas.{executions}
+use Rattle.replica_rules.specs.Replicas.{executions}
 use Rattle.node_rules.specs.Nodes.{next_place}
 use Rattle.node_rules.specs.Steps.{Outcome, step_of, leaving}
-use Rattle.client_quorum.specs.Clients.{acceptance}
+use Rattle.client_quorum.specs.Clients.{acceptance, same_answer, has_answer, have, is_waited_for}
 use Rattle.world_rules.specs.Clients.{heard}
 use Rattle.world_rules.specs.Promises.{HasAsked, IsRight, IsRogue}
 use Rattle.world_rules.specs.Worlds.{Host, World, posts, chosen_with, stepped, acceptance_in, hearing, begun}
@@ -20,23 +20,21 @@ use Rattle.client_quorum.specs.declared.client.Client.{Client}
 use Rattle.client_quorum.specs.declared.client.Acceptance.{Acceptance}
 use Rattle.client_quorum.specs.declared.client.Heard.{Heard}
 use Rattle.client_quorum.specs.declared.client.Heard.TheVariants as hears
-use Rattle.world_laws.specs.Lines.{HasLine}
+use Rattle.replica_laws.specs.Lines.{HasLine}
 use Rattle.world_laws.proofs.Lists.{and_true, either, each_end, each_weaker, each_both, each_get, or_true}
 use Rattle.world_laws.proofs.Equal.{same_bytes-equal}
 use Rattle.std.proofs.lemmas.Bool.{leb-true}
 use Rattle.std.specs.Prelude.{slice_get}
-use Rattle.smart_base.specs.Views.{quorum}
-use Rattle.smart_base.specs.Lists.{same_bytes}
 use Rattle.smart_messages.specs.Kinds.{answers}
-use Rattle.node_rules.specs.Seals.{is_verified}
-use Rattle.client_quorum.specs.Clients.{same_answer, has_answer, have, is_waited_for}
+use Rattle.replica_rules.specs.Seals.{is_verified}
 use Rattle.world_rules.specs.Secrets.{group_secret}
 use Rattle.world_rules.specs.Premises.{is_among}
 use Rattle.agreement_laws.proofs.Groups.{quorums_share}
-use Rattle.world_laws.proofs.Keeps.{HasMessage, ask_of, asked_by, by-posts, keeps-sends_all, Keeps, ReadsSent, read_has, signed_by, from_node, from_client, from_script}
+use Rattle.smart_messages.specs.declared.any.AnyMessage.TheVariants.{Plain}
+use Rattle.world_laws.proofs.Keeps.{HasMessage, ask_of, asked_by, by-posts, keeps-sends_all, Keeps, ReadsSent, heard_has, signed_by, from_node, from_client, from_script}
 use Rattle.world_laws.proofs.Aligned.{line_told, IsExecuted}
-use Rattle.world_laws.proofs.OnePlace.{place_of-line, answer-line}
-use Rattle.world_laws.proofs.Executions.{executions-more, IsOfRequest, request-line, view-line}
+use Rattle.replica_laws.proofs.OnePlace.{place_of-line, answer-line}
+use Rattle.replica_laws.proofs.Executions.{executions-more, IsOfRequest, request-line, view-line}
 use Rattle.world_laws.proofs.Given.{IsKept, ClientKeeps, kept_last}
 use Rattle.world_laws.proofs.Replied.{WasSent}
 use Rattle.world_laws.proofs.Asked.{RequestsAsked, StandsRight, stands_right}
@@ -94,7 +92,7 @@ pub record Telling {S : Type 0} (m : Meaning S) (w : World S) : Type 0 where
   pub reads : ReadsSent w
   pub keeps : Each (ClientKeeps (WasSent w.sent)) w.clients
   pub few : length (filter (is_among w.faulty) w.view.members) ≤ w.view.f
-  pub executed : (r : SignedBy Answer) → HasMessage w.sent (Reply r) → is_verified answers group_secret r ≡ true → is_among w.faulty r.signer ≡ false → IsExecuted m w.view w.chosen r.statement
+  pub executed : (r : SignedBy Answer) → HasMessage w.sent (Plain (Reply r)) → is_verified answers group_secret r ≡ true → is_among w.faulty r.signer ≡ false → IsExecuted m w.view w.chosen r.statement
 
 -- lines of the same numbers are one
 lines_one : (a b : TableLine) → a.client ≡ b.client → a.seq ≡ b.seq → a.place ≡ b.place → a.index ≡ b.index → a.view ≡ b.view → a.reply ≡ b.reply → a ≡ b
@@ -132,7 +130,7 @@ told_given {S = S} m w q a member (r ∷ rs) known correct kept is =
     ]
 
 -- of the members that gave the reply that a client accepts, one is not faulty
-told_accepted : {S : Type 0} (m : Meaning S) (w : World S) (c : Client) (a : SignedBy Answer) (acc : Acceptance) → Telling m w → HasMessage w.sent (Reply a) → ClientKeeps (WasSent w.sent) c
+told_accepted : {S : Type 0} (m : Meaning S) (w : World S) (c : Client) (a : SignedBy Answer) (acc : Acceptance) → Telling m w → HasMessage w.sent (Plain (Reply a)) → ClientKeeps (WasSent w.sent) c
     → Accepts w.view c a acc → IsTold m w.view w.chosen acc
 told_accepted {S = S} m w c a acc known has kept taken =
     let q : Request = taken.request in
@@ -146,7 +144,7 @@ told_accepted {S = S} m w c a acc known has kept taken =
     subst (IsTold m w.view w.chosen) (sym taken.is) (told_given m w q a.statement met.member replies known met.is.correct all met.left)
 
 -- what a client makes of a reply
-told-heard : {S : Type 0} (m : Meaning S) (w : World S) (c : Client) (a : SignedBy Answer) (h : Heard) → heard w.view c a ≡ h → Telling m w → HasMessage w.sent (Reply a) → ClientKeeps (WasSent w.sent) c
+told-heard : {S : Type 0} (m : Meaning S) (w : World S) (c : Client) (a : SignedBy Answer) (h : Heard) → heard w.view c a ≡ h → Telling m w → HasMessage w.sent (Plain (Reply a)) → ClientKeeps (WasSent w.sent) c
     → Each (IsTold m w.view w.chosen) w.accepted → Each (IsTold m w.view w.chosen) (w.accepted ++ acceptance_in h)
 told-heard m w c a (hears.Counted count need) is known has kept told = rw append-nil told
 told-heard m w c a (hears.Ignored why) is known has kept told = rw append-nil told
@@ -154,7 +152,7 @@ told-heard m w c a (hears.Accepted acc) is known has kept told =
     each_end (IsTold m w.view w.chosen) w.accepted acc told (told_accepted m w c a acc known has kept (accepts_waiting w.view c a acc is))
 
 -- a client hears a reply
-told-hearing : {S : Type 0} (m : Meaning S) (w : World S) (i : ℕ) (c : Client) (a : SignedBy Answer) → slice_get w.clients i ≡ Some c → Telling m w → HasMessage w.sent (Reply a) → AcceptedTold m w
+told-hearing : {S : Type 0} (m : Meaning S) (w : World S) (i : ℕ) (c : Client) (a : SignedBy Answer) → slice_get w.clients i ≡ Some c → Telling m w → HasMessage w.sent (Plain (Reply a)) → AcceptedTold m w
     → AcceptedTold m (hearing w i c a (heard w.view c a))
 unfolding hearing
 told-hearing m w i c a at known has told =
@@ -167,7 +165,7 @@ keeps-told m P telling k =
       event = λ w i h event there at may p. (k.event w i h event there at may p.0, told-stepped m w i h (step_of m h.node event) p.1);
       hear = λ w i c x a at has read p. (
         k.hear w i c x a at has read p.0,
-        (let known = telling w p.0 in told-hearing m w i c a at known (read_has w x (Reply a) known.reads has read) p.1),
+        (let known = telling w p.0 in told-hearing m w i c a at known (heard_has w x (Reply a) known.reads has read) p.1),
       );
       ask = λ w i c op at free few brief p. (
         k.ask w i c op at free few brief p.0,

@@ -6,9 +6,9 @@ use Rattle.smart_messages.specs.Messages.{Batch}
 use Rattle.smart_messages.specs.declared.statement.Answer.{Answer}
 use Rattle.smart_service.specs.Services.{Meaning}
 use Rattle.smart_service.specs.declared.table.TableLine.{TableLine}
-use Rattle.node_rules.specs.Replicas.{state, batch_at, executions}
+use Rattle.replica_rules.specs.Replicas.{state, batch_at, executions}
 use Rattle.world_rules.specs.Worlds.{Host, World}
-use Rattle.world_laws.specs.Lines.{HasLine}
+use Rattle.replica_laws.specs.Lines.{HasLine}
 
 -- a host's replica is the state of a front of the list, and the batch that waits is the list's next
 pub record Aligned {S : Type 0} (m : Meaning S) (view : View) (chosen : List Batch) (h : Host S) : Type 0 where

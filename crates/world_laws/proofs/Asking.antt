@@ -7,6 +7,7 @@ use Rattle.smart_messages.specs.Forms.{SignedBy}
 use Rattle.smart_messages.specs.declared.statement.Request.{Request}
 use Rattle.smart_messages.specs.declared.statement.Answer.{Answer}
 use Rattle.smart_messages.specs.declared.message.Message.TheVariants.{Ask, Propose, Vote, Reply}
+use Rattle.smart_messages.specs.declared.any.AnyMessage.TheVariants.{Plain, Change}
 use Rattle.smart_messages.specs.declared.entry.NodeEvent.{NodeEvent}
 use Rattle.smart_service.specs.Services.{Meaning}
 use Rattle.node_rules.specs.Nodes.{Node}
@@ -28,7 +29,7 @@ use Rattle.world_rules.specs.declared.message.Sent.{Sent}
 use Rattle.world_laws.proofs.Lists.{some-equal, each_end, each_weaker}
 use Rattle.world_laws.proofs.Numbered.{EachAt, each_at_get, each_at_weaker, each_at_set}
 use Rattle.world_laws.proofs.Keeps.{ask_of, asked_by, by-posts-ended, KeepsLive, live-world_after, signed_by, from_node, from_client, from_script, keeps-sends_all}
-use Rattle.world_laws.proofs.Asked.{asked_end, asked_now, sent_ask}
+use Rattle.world_laws.proofs.Asks.{asked_end, asked_now, sent_ask}
 use Rattle.world_laws.proofs.Hearing.{Accepts, accepts_waiting}
 use Rattle.world_rules.specs.declared.message.Content.{Content}
 use Rattle.world_rules.specs.declared.message.Content.TheVariants as contents
@@ -92,10 +93,11 @@ client_asks_one : (sent : List Sent) (c : Client) (new q : Request) → HasAsked
 client_asks_one sent c new q asked = elim (asks_one sent (from_client c (signed_by c new)) q asked) [ inl before ↦ inl before | inr now ↦ inr (sym (ap (λ (s : Sent). statement s.content new) now)) ]
   where
     statement : Content → Request → Request
-    statement (contents.Message (Ask a)) r = a.statement
-    statement (contents.Message (Propose p)) r = r
-    statement (contents.Message (Vote v)) r = r
-    statement (contents.Message (Reply a)) r = r
+    statement (contents.Message (Plain (Ask a))) r = a.statement
+    statement (contents.Message (Plain (Propose p))) r = r
+    statement (contents.Message (Plain (Vote v))) r = r
+    statement (contents.Message (Plain (Reply a))) r = r
+    statement (contents.Message (Change m)) r = r
     statement (contents.Raw bytes) r = r
 
 -- messages leave

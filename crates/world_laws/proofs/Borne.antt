@@ -1,13 +1,13 @@
 -- What a member has sent rests on entries that are firm at its node.
-use Rattle.std.proofs.Common.{◌≡◌, ℕ, zero, suc, ◌+◌, ◌≤◌, ◌++◌, ◌==◌, Bool, true, ◌&&◌, List, [], ◌∷◌, length, refl, ap, ◌∙◌, sym, arith, Option, Some, None, is_some, inl, inr, subst, eq-eqb, eqb-true, take, length-append}
+use Rattle.std.proofs.Common.{◌≡◌, ℕ, zero, suc, ◌+◌, ◌≤◌, ◌++◌, List, [], ◌∷◌, length, refl, ap, ◌∙◌, sym, arith, Option, Some, None, is_some, inl, inr, ⊎_elim, subst, take, length-append}
 use Rattle.std.specs.Prelude.{slice_get, slice_set}
-use Rattle.std.specs.List.{list_any}
 use Rattle.smart_base.specs.Lists.{Each}
 use Rattle.smart_base.specs.Views.{View}
-use Rattle.smart_messages.specs.declared.entry.LogEntry.{LogEntry}
+use Rattle.smart_messages.specs.declared.any.AnyMessage.{AnyMessage}
 use Rattle.smart_messages.specs.declared.entry.NodeEvent.{NodeEvent}
 use Rattle.smart_messages.specs.declared.entry.NodeEvent.TheVariants.{Arrive, Tick, Deliver, Firm}
 use Rattle.smart_service.specs.Services.{Meaning}
+use Rattle.vote_book.specs.declared.entry.LogEntry.{LogEntry}
 use Rattle.node_rules.specs.Nodes.{Node}
 use Rattle.node_rules.specs.Steps.{Outcome, step_of, leaving}
 use Rattle.node_rules.specs.declared.node.Held.{Held}
@@ -18,16 +18,16 @@ use Rattle.world_rules.specs.Plays.{world_after}
 use Rattle.world_rules.specs.declared.line.Line.{Line}
 use Rattle.world_rules.specs.declared.message.Origin.{Origin}
 use Rattle.world_rules.specs.declared.message.Origin.TheVariants as origins
-use Rattle.world_rules.specs.declared.message.Sent.{Sent}
-use Rattle.world_laws.specs.Sending.{IsOwn, rests_on, IsBorne, SentFirm, IsOwnSent, is_rested}
-use Rattle.world_laws.specs.Settling.{flow_begins, flow_goes, message_goes, node_goes, settles_present}
-use Rattle.world_laws.proofs.Lists.{and_true, either, some-equal, each_end, each_weaker, each_set, each_get, repeated_keeps, each_from_keeps, or_left, or_right, or_true}
-use Rattle.world_laws.proofs.Equal.{and_intro}
-use Rattle.world_laws.proofs.Keeps.{MayCome, ask_of, asked_by, by-posts, Keeps, KeepsLive, live, keeps-world_after, live-settle_once, live-settle, live-settle_all, live-flow_once, at_listed-keeps, signed_by, from_node, from_client, from_script, live-settles_present}
-use Rattle.world_laws.proofs.Leaving.{leaving_rest}
-use Rattle.world_laws.proofs.Onward.{Includes, includes-take, includes-longer, rests-more, NodeRests, Onward, onward-step, rests-released, rests-opened}
 use Rattle.world_rules.specs.declared.message.Content.{Content}
 use Rattle.world_rules.specs.declared.message.Content.TheVariants as contents
+use Rattle.world_rules.specs.declared.message.Sent.{Sent}
+use Rattle.replica_laws.specs.Sending.{IsOwn, RestsOn}
+use Rattle.replica_laws.proofs.Leaving.{leaving_rest}
+use Rattle.replica_laws.proofs.Onward.{longer-take, longer-front, rests-more, NodeRests, Onward, onward-step, rests-released, rests-opened}
+use Rattle.world_laws.specs.Sending.{IsRested, Bears, IsBorneAt, IsBorne, SentFirm, IsOwnSent}
+use Rattle.world_laws.specs.Settling.{flow_begins, flow_goes, message_goes, node_goes, settles_present}
+use Rattle.world_laws.proofs.Lists.{either, some-equal, each_end, each_weaker, each_set, each_get, repeated_keeps, each_from_keeps}
+use Rattle.world_laws.proofs.Keeps.{MayCome, ask_of, asked_by, by-posts, Keeps, KeepsLive, live, keeps-world_after, live-settle_once, live-settle, live-settle_all, live-flow_once, at_listed-keeps, signed_by, from_node, from_client, from_script, live-settles_present}
 
 -- worlds
 
@@ -60,7 +60,7 @@ borne-stays {S = S} w s o x borne = by-posts (λ (v : World S). IsBorne v.hosts 
 
 -- what a node lets go is its own and borne
 abbrev LeavesRight : {S : Type 0} → ℕ → List (Host S) → Held → Type 0
-LeavesRight id hosts h = IsOwn (origins.Node id) h.to h.message × IsBorne hosts (origins.Node id) (contents.Message h.message)
+LeavesRight id hosts h = IsOwn id h.to h.message × IsBorne hosts (origins.Node id) (contents.Message h.message)
 
 -- messages of a node leave
 borne-sends_all : {S : Type 0} (id : ℕ) (w : World S) (held : List Held) → Each (LeavesRight id w.hosts) held → Borne w → Borne (sends_all id w held)
@@ -73,49 +73,41 @@ borne-sends_all {S = S} id w (h ∷ hs) each is =
 
 -- a host in another's place
 
--- a test that the one host passes only where the other does
-any_set : {S : Type 0} (p : Host S → Bool) (hs : List (Host S)) (i : ℕ) (h h' : Host S) → slice_get hs i ≡ Some h → (p h ≡ true → p h' ≡ true) → list_any p hs ≡ true → list_any p (slice_set hs i h') ≡ true
-any_set p [] i h h' at more is = absurd (cc)
-any_set {S = S} p (x ∷ hs) zero h h' at more is =
-    elim (or_true (p x) (list_any p hs) is) [
-      | inl here ↦ or_left (p h') (list_any p hs) (more (subst (λ (y : Host S). p y ≡ true) (some-equal x h at) here))
-      | inr later ↦ or_right (p h') (list_any p hs) later
-    ]
-any_set p (x ∷ hs) (suc i) h h' at more is =
-    elim (or_true (p x) (list_any p hs) is) [
-      | inl here ↦ or_left (p x) (list_any p (slice_set hs i h')) here
-      | inr later ↦ or_right (p x) (list_any p (slice_set hs i h')) (any_set p hs i h h' at more later)
-    ]
+-- what is borne at a host is borne where a later one stands in its place
+borne_set : {S : Type 0} (id : ℕ) (x : Content) (hs : List (Host S)) (i : ℕ) (h h' : Host S) → slice_get hs i ≡ Some h → (Bears id x h → Bears id x h') → IsBorneAt hs id x → IsBorneAt (slice_set hs i h') id x
+borne_set id x [] i h h' at more is = absurd (cc)
+borne_set {S = S} id x (y ∷ hs) zero h h' at more is =
+    ⊎_elim {C = IsBorneAt (h' ∷ hs) id x} (λ here. inl (more (subst (λ (g : Host S). Bears id x g) (some-equal y h at) here))) (λ later. inr later) is
+borne_set {S = S} id x (y ∷ hs) (suc i) h h' at more is =
+    ⊎_elim {C = IsBorneAt (y ∷ slice_set hs i h') id x} (λ here. inl here) (λ later. inr (borne_set id x hs i h h' at more later)) is
 
--- a test that the host passes
-any_here : {S : Type 0} (p : Host S → Bool) (hs : List (Host S)) (i : ℕ) (h h' : Host S) → slice_get hs i ≡ Some h → p h' ≡ true → list_any p (slice_set hs i h') ≡ true
-any_here p [] i h h' at is = absurd (cc)
-any_here p (x ∷ hs) zero h h' at is = or_left (p h') (list_any p hs) is
-any_here p (x ∷ hs) (suc i) h h' at is = or_right (p x) (list_any p (slice_set hs i h')) (any_here p hs i h h' at is)
+-- so is what the later one bears
+borne_here : {S : Type 0} (id : ℕ) (x : Content) (hs : List (Host S)) (i : ℕ) (h h' : Host S) → slice_get hs i ≡ Some h → Bears id x h' → IsBorneAt (slice_set hs i h') id x
+borne_here id x [] i h h' at is = absurd (cc)
+borne_here id x (y ∷ hs) zero h h' at is = inl is
+borne_here id x (y ∷ hs) (suc i) h h' at is = inr (borne_here id x hs i h h' at is)
 
 -- a host with a longer book, of which more is firm
 record Later {S : Type 0} (n n' : Node S) : Type 0 where
   id : n'.id ≡ n.id
-  firm : Includes (take n.firm n.entries) (take n'.firm n'.entries)
+  firm : (x : AnyMessage) → RestsOn (take n.firm n.entries) x → RestsOn (take n'.firm n'.entries) x
   low : n'.firm ≤ length n'.entries
   rests : NodeRests n'
 
 -- what rests on a book rests on a longer one
-rested-more : (xs ys : List LogEntry) → Includes xs ys → (x : Content) → is_rested xs x ≡ true → is_rested ys x ≡ true
-rested-more xs ys more (contents.Message message) rests = rests-more xs ys more message rests
-rested-more xs ys more (contents.Raw bytes) rests = absurd (cc)
+rested-more : (xs ys : List LogEntry) → ((x : AnyMessage) → RestsOn xs x → RestsOn ys x) → (x : Content) → IsRested xs x → IsRested ys x
+rested-more xs ys more (contents.Message message) rests = more message rests
+rested-more xs ys more (contents.Raw bytes) rests = rests
 
 -- what is borne stays so with a later host in its place
-borne-set : {S : Type 0} (hs : List (Host S)) (i : ℕ) (h h' : Host S) → slice_get hs i ≡ Some h → h'.node.id ≡ h.node.id → Includes (take h.node.firm h.node.entries) (take h'.node.firm h'.node.entries)
+borne-set : {S : Type 0} (hs : List (Host S)) (i : ℕ) (h h' : Host S) → slice_get hs i ≡ Some h → h'.node.id ≡ h.node.id
+    → ((x : AnyMessage) → RestsOn (take h.node.firm h.node.entries) x → RestsOn (take h'.node.firm h'.node.entries) x)
     → (origin : Origin) (x : Content) → IsBorne hs origin x → IsBorne (slice_set hs i h') origin x
 borne-set hs i h h' at same more origins.Script x borne = tt
 borne-set hs i h h' at same more (origins.Client id) x borne = tt
-borne-set {S = S} hs i h h' at same more (origins.Node id) x borne =
-    any_set (λ (g : Host S). (g.node.id == id) && is_rested (take g.node.firm g.node.entries) x) hs i h h' at
-    (λ is. let parts = and_true (h.node.id == id) (is_rested (take h.node.firm h.node.entries) x) is in
-    and_intro (h'.node.id == id) (is_rested (take h'.node.firm h'.node.entries) x)
-    (eq-eqb h'.node.id id (same ∙ eqb-true h.node.id id parts.0))
-    (rested-more (take h.node.firm h.node.entries) (take h'.node.firm h'.node.entries) more x parts.1)) borne
+borne-set hs i h h' at same more (origins.Node id) x borne =
+    borne_set id x hs i h h' at
+    (λ is. record { member = same ∙ is.member; rested = rested-more (take h.node.firm h.node.entries) (take h'.node.firm h'.node.entries) more x is.rested }) borne
 
 -- what may come of firmness: that all entries are firm
 abbrev FirmAll : {S : Type 0} → Node S → NodeEvent → Type 0
@@ -126,13 +118,14 @@ FirmAll n (Firm count) = count ≡ length n.entries
 
 -- a node with a longer book
 later-onward : {S : Type 0} (n a n' : Node S) → a.id ≡ n.id → a.entries ≡ n.entries → n.firm ≤ a.firm → a.firm ≤ length n.entries → Onward a n' → Later n n'
-later-onward n a n' id entries firm low f =
+later-onward {S = S} n a n' id entries firm low f =
     let book : n'.entries ≡ n.entries ++ f.more = f.book ∙ ap (λ es. es ++ f.more) entries in
     let longer : length n'.entries ≡ length n.entries + length f.more = ap (λ (es : List LogEntry). length es) book ∙ length-append n.entries f.more in
     record {
       id = f.id ∙ id;
-      firm = λ p is. subst (λ (es : List LogEntry). list_any p (take n'.firm es) ≡ true) (sym book)
-          (includes-longer n.firm n'.firm (n.entries ++ f.more) (omega (arith, firm, f.firm)) p (includes-take n.firm n.entries f.more p is));
+      firm = λ x is. subst (λ (es : List LogEntry). RestsOn (take n'.firm es) x) (sym book)
+          (rests-more (take n.firm (n.entries ++ f.more)) (take n'.firm (n.entries ++ f.more)) (longer-front n.firm n'.firm (n.entries ++ f.more) (omega (arith, firm, f.firm))) x
+          (rests-more (take n.firm n.entries) (take n.firm (n.entries ++ f.more)) (longer-take n.firm n.entries f.more) x is));
       low = omega (arith, low, f.firm, longer);
       rests = f.rests;
     }
@@ -151,12 +144,11 @@ unfolding stepped
 borne-stepped {S = S} w i h o at later is =
     let h' : Host S = host_after h o in
     borne-sends_all h.node.id _ (leaving o.node.firm o.node.held)
-    (each_weaker (λ (x : Held). IsOwn (origins.Node o.node.id) x.to x.message × (rests_on (take o.node.firm o.node.entries) x.message ≡ true))
+    (each_weaker (λ (x : Held). IsOwn o.node.id x.to x.message × RestsOn (take o.node.firm o.node.entries) x.message)
     (LeavesRight h.node.id (slice_set w.hosts i h'))
     (λ x right. (
-      subst (λ (k : ℕ). IsOwn (origins.Node k) x.to x.message) later.id right.0,
-      any_here (λ (g : Host S). (g.node.id == h.node.id) && rests_on (take g.node.firm g.node.entries) x.message) w.hosts i h h' at
-          (and_intro (o.node.id == h.node.id) (rests_on (take o.node.firm o.node.entries) x.message) (eq-eqb o.node.id h.node.id later.id) right.1),
+      subst (λ (k : ℕ). IsOwn k x.to x.message) later.id right.0,
+      borne_here h.node.id (contents.Message x.message) w.hosts i h h' at (record { member = later.id; rested = right.1 }),
     ))
     (leaving o.node.firm o.node.held) (leaving_rest o.node.id o.node.firm o.node.entries o.node.held later.rests.held))
     (record {
@@ -187,9 +179,9 @@ keeps-borne m =
       event = λ w i h event there at may is. borne-event m w i h event at (may-firm w h event may) is;
       hear = λ w i c x a at has read is. record { hosts = is.hosts; sent = record { own = is.sent.own; borne = is.sent.borne } };
       ask = λ w i c op at free few brief is.
-          borne-posts (asked_by w i c op) (from_client c (ask_of c op)) refl tt
+          borne-posts (asked_by w i c op) (from_client c (ask_of c op)) (refl, refl) tt
           (record { hosts = is.hosts; sent = record { own = is.sent.own; borne = is.sent.borne } });
-      again = λ w i c q at waits is. borne-posts w (from_client c (signed_by c q)) refl tt is;
+      again = λ w i c q at waits is. borne-posts w (from_client c (signed_by c q)) (refl, refl) tt is;
       learn = λ w i j c d at other is. record { hosts = is.hosts; sent = record { own = is.sent.own; borne = is.sent.borne } };
       inject = λ w x read fine is. borne-posts w (from_script x) refl tt is;
       declare = λ w faulty rogue ending how is. record { hosts = is.hosts; sent = record { own = is.sent.own; borne = is.sent.borne } };
@@ -204,7 +196,7 @@ borne-live m = live (step_of m) Borne (keeps-borne m)
 -- hosts that have just opened rest
 hosts_rest : {S : Type 0} (m : Meaning S) (view : View) (ids : List ℕ) → Each HostRests (hosts_from m view ids)
 hosts_rest m view [] = tt
-hosts_rest m view (id ∷ ids) = (record { rests = rests-opened m group_secret id view; low = omega arith }, hosts_rest m view ids)
+hosts_rest m view (id ∷ ids) = (record { rests = rests-opened m group_secret id view 1024; low = omega arith }, hosts_rest m view ids)
 
 -- at the beginning
 pub borne-begun : {S : Type 0} (m : Meaning S) (view : View) → Borne (begun m view)

@@ -4,22 +4,26 @@ use Rattle.std.specs.Prelude.{slice_get}
 use Rattle.smart_base.specs.Lists.{Each}
 use Rattle.smart_base.specs.Views.{View}
 use Rattle.smart_messages.specs.Messages.{Batch}
-use Rattle.smart_messages.specs.declared.statement.Slot.{Slot}
-use Rattle.smart_messages.specs.declared.statement.VoteKind.TheVariants.{Accept}
-use Rattle.node_rules.specs.Seals.{digest_of}
+use Rattle.replica_rules.specs.Seals.{digest_of}
 use Rattle.agreement_laws.specs.Statements.{Statement}
 use Rattle.agreement_laws.specs.Certificates.{IsDecision}
-use Rattle.agreement_laws.proofs.Growth.{IsCertificate-more}
-use Rattle.world_laws.specs.Stated.{slot_at, Certified, AllCertified}
+use Rattle.certificates.specs.Certificates.{accept_of}
+use Rattle.certificates.specs.Collects.{slot_of}
+use Rattle.agreement_laws.proofs.Growing.{IsDrawn-more}
+use Rattle.world_rules.specs.Secrets.{group_secret}
+use Rattle.smart_messages.specs.Forms.{SignedBy}
+use Rattle.smart_messages.specs.declared.statement.Ballot.{Ballot}
+use Rattle.world_laws.specs.Stated.{Certified, AllCertified}
 use Rattle.world_laws.proofs.Lists.{some-equal}
 
--- two decisions of one slot have one digest
+-- two decisions of one place have one digest, whatever their regencies
 pub record DecidesOnce (stated : List Statement) (view : View) : Type 0 where
-  pub one : (slot : Slot) (first second left right : List ℕ) → IsDecision view stated slot first left → IsDecision view stated slot second right → first ≡ second
+  pub one : (place regency later : ℕ) (first second : List ℕ) (left right : List (SignedBy Ballot)) → IsDecision group_secret view stated place regency first left
+      → IsDecision group_secret view stated place later second right → first ≡ second
 
 -- so two digests that are certified for one place are one
 pub one_certified : (stated : List Statement) (view : View) (place : ℕ) (a b : List ℕ) → DecidesOnce stated view → Certified stated view place a → Certified stated view place b → a ≡ b
-one_certified stated view place a b one ca cb = one.one (slot_at view place) a b ca.voters cb.voters ca.decision cb.decision
+one_certified stated view place a b one ca cb = one.one place ca.regency cb.regency a b ca.accepts cb.accepts ca.decision cb.decision
 
 -- batches that are one where their digests are
 pub record Exact (M : Batch → Type 0) : Type 0 where
@@ -39,7 +43,7 @@ certified-front stated M view place (x ∷ xs) (y ∷ ys) one exact mx my cx cy 
 
 certified_more : (stated more : List Statement) (view : View) (place : ℕ) (digest : List ℕ) → Certified stated view place digest → Certified (stated ++ more) view place digest
 certified_more stated more view place digest c =
-    record { voters = c.voters; decision = IsCertificate-more view stated more Accept (slot_at view place) digest c.voters c.decision }
+    record { regency = c.regency; accepts = c.accepts; decision = IsDrawn-more group_secret view stated more (accept_of (slot_of view place c.regency) digest) c.accepts c.decision }
 
 pub all_certified_more : (stated more : List Statement) (view : View) (place : ℕ) (batches : List Batch) → AllCertified stated view place batches → AllCertified (stated ++ more) view place batches
 all_certified_more stated more view place [] all = tt

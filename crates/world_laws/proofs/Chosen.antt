@@ -1,66 +1,70 @@
 -- The list of chosen batches: each is certified, and every host stands along it.
-use Rattle.std.proofs.Common.{◌≡◌, ℕ, ◌+◌, ◌≤◌, ◌++◌, ◌==◌, true, false, List, [], ◌∷◌, length, ◌∙◌, sym, arith, Option, Some, None, subst, take, length-append, eqb-true, eq-eqb, append-nil, ap}
-use Rattle.std.specs.Prelude.{map}
-use Rattle.std.proofs.lemmas.Grind.{flat_map-append}
-use Rattle.smart_base.specs.Lists.{Each, Distinct}
+use Rattle.std.proofs.Common.{◌≡◌, ◌⊎◌, inl, inr, ℕ, ◌+◌, ◌≤◌, ◌++◌, ◌==◌, true, false, List, [], ◌∷◌, length, refl, ◌∙◌, sym, arith, Option, Some, None, subst, take, length-append, eqb-true, eq-eqb, append-nil, ap}
+use Rattle.std.specs.Prelude.{map, slice_get, IfSome}
+use Rattle.smart_base.specs.Lists.{Each}
 use Rattle.smart_base.specs.Views.{View, is_view}
-use Rattle.smart_base.proofs.ViewFacts.{view-distinct}
 use Rattle.smart_messages.specs.Messages.{Batch}
 use Rattle.smart_service.specs.Services.{Meaning}
-use Rattle.node_rules.specs.Replicas.{batch_at}
-use Rattle.node_rules.specs.Seals.{digest_of}
-use Rattle.node_rules.specs.Nodes.{Node, next_place}
+use Rattle.vote_book.specs.declared.entry.Decision.{Decision}
+use Rattle.vote_book.specs.declared.entry.LogEntry.{LogEntry}
+use Rattle.vote_book.specs.declared.entry.LogEntry.TheVariants.{Opened, Wrote, Accepted, Promised, Synced, Decided, Installed, Marked}
+use Rattle.replica_rules.specs.Replicas.{batch_at}
+use Rattle.replica_rules.specs.Seals.{digest_of}
 use Rattle.node_rules.specs.declared.node.Delivery.{Delivery}
+use Rattle.node_rules.specs.Nodes.{Node, next_place, regency_of}
+use Rattle.agreement_laws.specs.Fronts.{IsFront}
 use Rattle.agreement_laws.specs.Statements.{Statement}
+use Rattle.agreement_laws.specs.Certificates.{IsBacked, IsDecision}
 use Rattle.agreement_laws.specs.Law.{Witnessed}
-use Rattle.agreement_laws.proofs.Decisions.{decided_once}
+use Rattle.agreement_laws.proofs.Lists.{each_among}
+use Rattle.agreement_laws.proofs.Regencies.{decided_once}
+use Rattle.node_laws.specs.Sound.{IsWithin, IsSound, HasDecided}
+use Rattle.node_laws.proofs.More.{sound_more}
+use Rattle.world_rules.specs.Secrets.{group_secret}
 use Rattle.world_rules.specs.Premises.{is_among, too_many}
 use Rattle.world_rules.specs.Worlds.{Host, World, chosen_with}
 use Rattle.world_rules.specs.Promises.{AtPlaces}
-use Rattle.world_rules.specs.declared.message.Content.TheVariants as contents
 use Rattle.world_rules.specs.declared.message.Sent.{Sent}
-use Rattle.world_laws.specs.Books.{decided_of, DeliversInOrder}
+use Rattle.replica_laws.specs.Books.{decided_of, DeliversInOrder}
+use Rattle.replica_laws.proofs.InOrder.{get-end}
+use Rattle.replica_laws.proofs.Follows.{DecidesNext, WasDue}
 use Rattle.world_laws.specs.Stated.{stated_in, stated, diary, Certified, AllCertified}
-use Rattle.world_laws.proofs.Lists.{each_weaker, either, either_by}
+use Rattle.world_laws.proofs.Lists.{each_weaker, either, either_by, some-equal}
 use Rattle.world_laws.proofs.Fronts.{front-same, front-append, front-length, front-get, front-batch_at, batch_at-next}
-use Rattle.world_laws.proofs.Keeps.{HasMessage, has_end}
 use Rattle.world_laws.proofs.Certified.{DecidesOnce, Exact, certified-front, all_certified_more, certified-end, certified-get}
-use Rattle.world_laws.proofs.Sound.{Sound}
-use Rattle.world_laws.proofs.Booked.{Booked}
-use Rattle.world_laws.proofs.Voters as voters
-use Rattle.world_laws.proofs.Follows.{DecidesNext, WasDue}
-use Rattle.world_laws.proofs.Borne.{Borne}
-use Rattle.world_laws.proofs.Grounded.{NodeMet, Grounded}
-use Rattle.world_laws.proofs.Witnessing.{HostStands, witnessing}
-use Rattle.world_laws.proofs.Unforged.{Unforged, member_states}
+use Rattle.world_laws.proofs.Grounded.{EntryMet, NodeMet, Grounded}
+use Rattle.world_laws.proofs.Witnessing.{HostStands, witnessing, AllShown, stated-end, stated-grows, among-all}
+use Rattle.world_laws.proofs.Unforged.{Unforged}
 
 -- a batch that was delivered is the list's batch at its place
 abbrev pub DeliveredIs : List Batch → Delivery → Type 0
 DeliveredIs chosen d = batch_at chosen d.place ≡ Some d.batch
 
--- a host whose node is sound and delivers in order, whose book is lawful and rests on votes, which decided no more than the list has, and
--- delivered a batch for each place, the list's
+-- a host of the group whose node is sound and delivers in order, which decided what is certified, and no more than the list has, and delivered a batch for
+-- each place, the list's
 pub record HostRight {S : Type 0} (sent : List Sent) (m : Meaning S) (view : View) (chosen : List Batch) (h : Host S) : Type 0 where
-  pub sound : Sound sent view h.node
-  pub voted : voters.Voted view h.node
-  pub booked : Booked h.node
+  pub sound : IsSound (stated sent) view h.node
+  pub shared : h.node.secret ≡ group_secret
+  pub low : h.node.firm ≤ length h.node.entries
+  pub decided : AllCertified (stated sent) view 1 (decided_of h.node.entries)
   pub order : DeliversInOrder m view h.node
   pub within : length (decided_of h.node.entries) ≤ length chosen
   pub count : length h.delivered ≡ h.node.replica.place
   pub places : AtPlaces 1 h.delivered
   pub agrees : Each (DeliveredIs chosen) h.delivered
 
--- a world in which all hosts are right, each member has one host, each chosen batch is certified, and few are faulty
+-- a world in which all hosts are right, each member has one host, each chosen batch is certified, few are faulty, and what has been stated is shown
 pub record WorldRight {S : Type 0} (m : Meaning S) (w : World S) : Type 0 where
   pub right : Each (HostRight w.sent m w.view w.chosen) w.hosts
   pub ids : map (λ h. h.node.id) w.hosts ≡ w.view.members
   pub viewed : is_view w.view ≡ true
   pub certified : AllCertified (stated w.sent) w.view 1 w.chosen
   pub few : too_many w.view w.faulty ≡ false
+  pub shown : AllShown w.faulty (stated w.sent) w.hosts
 
--- all batches were met, and are one where their digests are; what was sent is each one's own, rests on firm entries, and is not forged
+-- all batches were met, and are one where their digests are; what was sent is read, and is not forged
 abbrev pub Based : {S : Type 0} → World S → Type 0
-Based w = (Grounded w × Borne w) × Unforged w
+Based w = Grounded w × Unforged w
 
 abbrev pub ChosenRight : {S : Type 0} → Meaning S → World S → Type 0
 ChosenRight m w = Based w × WorldRight m w
@@ -100,25 +104,111 @@ certified-step T m view chosen n (Some batch) at d own all =
     (λ is. certified-end T view 1 chosen batch all (subst (λ (k : ℕ). Certified T view k (digest_of batch)) (eqb-true (next_place n) (length chosen + 1) is) c))
     (λ isnt. all)
 
+-- what a node decides is certified
+
+-- a decision in a sound node's book
+entry-certified : {S : Type 0} (T : List Statement) (view : View) (n : Node S) (place : ℕ) (batch : Batch) → n.secret ≡ group_secret → IsSound T view n → HasDecided n.entries place batch
+    → Certified T view place (digest_of batch)
+entry-certified {S = S} T view n place batch shared is has =
+    let d : Decision = has.decision in
+    let of = (each_among (IsWithin view (next_place n) (regency_of n)) n.entries (Decided d) is.within has.there).of_view in
+    let drawn = each_among (IsBacked n.secret digest_of view T) n.entries (Decided d) is.backed has.there of in
+    record {
+      regency = d.slot.regency;
+      accepts = d.accepts;
+      decision = subst (λ (k : List ℕ). IsDecision k view T place d.slot.regency (digest_of batch) d.accepts) shared
+          (subst (λ (b : Batch). IsDecision n.secret view T place d.slot.regency (digest_of b) d.accepts) has.batch_is
+          (subst (λ (k : ℕ). IsDecision n.secret view T k d.slot.regency (digest_of d.batch) d.accepts) has.place_is drawn));
+    }
+
+-- what waits at one
+waits-certified : {S : Type 0} (T : List Statement) (view : View) (n : Node S) (batch : Batch) → n.secret ≡ group_secret → IsSound T view n → n.waiting ≡ Some batch → Certified T view (next_place n) (digest_of batch)
+waits-certified {S = S} T view n batch shared is at = entry-certified T view n (next_place n) batch shared is (by n.waiting at is.waiting)
+  where
+    by : (waiting : Option Batch) → waiting ≡ Some batch → IfSome waiting (HasDecided n.entries (next_place n)) → HasDecided n.entries (next_place n) batch
+    by None at has = absurd (cc)
+    by (Some b) at has = subst (λ (x : Batch). HasDecided n.entries (next_place n) x) (some-equal b batch at) has
+
+-- what a longer book decides
+decided-more : (es more : List LogEntry) → decided_of (es ++ more) ≡ decided_of es ++ decided_of more
+decided-more [] more = refl
+decided-more (Opened o ∷ es) more = decided-more es more
+decided-more (Wrote w ∷ es) more = decided-more es more
+decided-more (Accepted a ∷ es) more = decided-more es more
+decided-more (Promised p ∷ es) more = decided-more es more
+decided-more (Synced s ∷ es) more = decided-more es more
+decided-more (Decided d ∷ es) more = ap (λ (bs : List Batch). d.batch ∷ bs) (decided-more es more)
+decided-more (Installed i ∷ es) more = decided-more es more
+decided-more (Marked m ∷ es) more = decided-more es more
+
+-- nothing, or one value
+one_or_none : (bs : List Batch) → length bs ≤ 1 → (bs ≡ []) ⊎ ((b : Batch) × (bs ≡ b ∷ []))
+one_or_none [] le = inl refl
+one_or_none (b ∷ []) le = inr (b, refl)
+one_or_none (b ∷ c ∷ bs) le = absurd (omega (arith, le))
+
+-- the one more that a node has decided waits there
+pub decided-step : {S : Type 0} (T : List Statement) (m : Meaning S) (view : View) (n n' : Node S) → n'.secret ≡ group_secret → IsSound T view n' → IsFront n.entries n'.entries → DecidesNext n n' → DeliversInOrder m view n'
+    → AllCertified T view 1 (decided_of n.entries) → AllCertified T view 1 (decided_of n'.entries)
+decided-step {S = S} T m view n n' shared is book next order all =
+    let more : List Batch = decided_of book.rest in
+    let whole : decided_of n'.entries ≡ decided_of n.entries ++ more = ap decided_of book.is ∙ decided-more n.entries book.rest in
+    let long : length (decided_of n'.entries) ≡ length (decided_of n.entries) + length more = ap (λ (bs : List Batch). length bs) whole ∙ length-append (decided_of n.entries) more in
+    subst (λ (bs : List Batch). AllCertified T view 1 bs) (sym whole) (by more whole long n'.waiting refl (one_or_none more (omega (arith, next.most, long))))
+  where
+    nothing : (more : List Batch) → more ≡ [] → AllCertified T view 1 (decided_of n.entries ++ more)
+    nothing more none = subst (λ (bs : List Batch). AllCertified T view 1 (decided_of n.entries ++ bs)) (sym none) (subst (λ (bs : List Batch). AllCertified T view 1 bs) (sym (append-nil (decided_of n.entries))) all)
+
+    by : (more : List Batch) → decided_of n'.entries ≡ decided_of n.entries ++ more → length (decided_of n'.entries) ≡ length (decided_of n.entries) + length more → (waiting : Option Batch) → n'.waiting ≡ waiting
+        → (more ≡ []) ⊎ ((b : Batch) × (more ≡ b ∷ [])) → AllCertified T view 1 (decided_of n.entries ++ more)
+    by more whole long waiting at (inl none) = nothing more none
+    by more whole long None at (inr one) = let longer = ap (λ (bs : List Batch). length bs) one.1 in absurd (omega (arith, next.rest at, long, longer))
+    by more whole long (Some batch) at (inr one) =
+        let full : length (decided_of n'.entries) ≡ n'.replica.place + 1 = rw at at order.count in
+        let longer = ap (λ (bs : List Batch). length bs) one.1 in
+        let place : length (decided_of n.entries) ≡ n'.replica.place = omega (arith, full, long, longer) in
+        let last : slice_get (decided_of n'.entries) n'.replica.place ≡ Some one.0 =
+        ap (λ (bs : List Batch). slice_get bs n'.replica.place) (whole ∙ ap (λ (bs : List Batch). decided_of n.entries ++ bs) one.1)
+        ∙ (ap (λ (k : ℕ). slice_get (decided_of n.entries ++ one.0 ∷ []) k) (sym place) ∙ get-end (decided_of n.entries) one.0) in
+        let same : batch ≡ one.0 = some-equal batch one.0 (sym at ∙ (order.waiting ∙ last)) in
+        let c : Certified T view (next_place n') (digest_of batch) = waits-certified T view n' batch shared is at in
+        let here : Certified T view (length (decided_of n.entries) + 1) (digest_of one.0) =
+        subst (λ (b : Batch). Certified T view (length (decided_of n.entries) + 1) (digest_of b)) same
+        (subst (λ (k : ℕ). Certified T view (k + 1) (digest_of batch)) (sym place) c) in
+        subst (λ (bs : List Batch). AllCertified T view 1 (decided_of n.entries ++ bs)) (sym one.1) (certified-end T view 1 (decided_of n.entries) one.0 all here)
+
 -- what has been stated in a right world
 
 -- what members have stated is witnessed
-pub right-witnessed : {S : Type 0} (m : Meaning S) (w : World S) → ChosenRight m w → Witnessed w.view (is_among w.faulty) (diary w) (stated w.sent)
+pub right-witnessed : {S : Type 0} (m : Meaning S) (w : World S) → WorldRight m w → Witnessed group_secret digest_of w.view (is_among w.faulty) (diary w) (stated w.sent)
 right-witnessed {S = S} m w r =
-    witnessing w r.1.few
-    (each_weaker (HostRight w.sent m w.view w.chosen) (HostStands w.sent w.view) (λ h right. record { sound = right.sound; voted = right.voted; booked = right.booked }) w.hosts r.1.right)
-    (subst Distinct (sym r.1.ids) (view-distinct w.view r.1.viewed)) r.0.0.1.sent.borne
-    (λ x there id who correct. member_states w id x r.0.0.0.fit.sent r.0.0.1.sent.own r.0.1 correct who there)
+    witnessing w r.viewed r.few
+    (each_weaker (HostRight w.sent m w.view w.chosen) (HostStands (stated w.sent) w.view) (λ h right. record { sound = right.sound; shared = right.shared }) w.hosts r.right) r.ids r.shown
 
--- so a slot has one decision
-pub right-once : {S : Type 0} (m : Meaning S) (w : World S) → ChosenRight m w → DecidesOnce (stated w.sent) w.view
-right-once m w r = record { one = decided_once w.view (is_among w.faulty) (diary w) (stated w.sent) (right-witnessed m w r) }
+-- so a place has one decision
+pub right-once : {S : Type 0} (m : Meaning S) (w : World S) → WorldRight m w → DecidesOnce (stated w.sent) w.view
+right-once m w r = record {
+  one = λ place regency later first second left right one other.
+      decided_once group_secret digest_of w.view (is_among w.faulty) (diary w) (stated w.sent) (right-witnessed m w r) place regency later first second left right one other;
+}
+
+-- the batches that a book has decided were met
+pub decided-met : (M : Batch → Type 0) (es : List LogEntry) → Each (EntryMet M) es → Each M (decided_of es)
+decided-met M [] each = tt
+decided-met M (Opened o ∷ es) each = decided-met M es each.1
+decided-met M (Wrote w ∷ es) each = decided-met M es each.1
+decided-met M (Accepted a ∷ es) each = decided-met M es each.1
+decided-met M (Promised p ∷ es) each = decided-met M es each.1
+decided-met M (Synced s ∷ es) each = decided-met M es each.1
+decided-met M (Decided d ∷ es) each = (each.0, decided-met M es each.1)
+decided-met M (Installed i ∷ es) each = decided-met M es each.1
+decided-met M (Marked m ∷ es) each = decided-met M es each.1
 
 -- what a host has decided is a front of the list
 pub host-front : {S : Type 0} (m : Meaning S) (M : Batch → Type 0) (view : View) (sent : List Sent) (chosen : List Batch) (h : Host S) → Exact M → Each M chosen → NodeMet M h.node
     → DecidesOnce (stated sent) view → AllCertified (stated sent) view 1 chosen → HostRight sent m view chosen h → take (length (decided_of h.node.entries)) chosen ≡ decided_of h.node.entries
 host-front m M view sent chosen h exact all met one certified right =
-    certified-front (stated sent) M view 1 (decided_of h.node.entries) chosen one exact met.decided all right.sound.decided certified right.within
+    certified-front (stated sent) M view 1 (decided_of h.node.entries) chosen one exact (decided-met M h.node.entries met.entries) all right.decided certified right.within
 
 -- the batch that waits at a host is the list's at the next place
 pub waiting-at : {S : Type 0} (m : Meaning S) (view : View) (chosen : List Batch) (n : Node S) (batch : Batch) → DeliversInOrder m view n → take (length (decided_of n.entries)) chosen ≡ decided_of n.entries
@@ -138,8 +228,9 @@ pub host_longer : {S : Type 0} (sent : List Sent) (m : Meaning S) (view : View) 
 host_longer sent m view chosen more front h r =
     record {
       sound = r.sound;
-      voted = r.voted;
-      booked = r.booked;
+      shared = r.shared;
+      low = r.low;
+      decided = r.decided;
       order = r.order;
       within = omega (arith, r.within, front-length chosen more front);
       count = r.count;
@@ -148,9 +239,6 @@ host_longer sent m view chosen more front h r =
     }
 
 -- more is sent
-
-stated-end : (sent : List Sent) (s : Sent) → stated (sent ++ s ∷ []) ≡ stated sent ++ stated_in s.content
-stated-end sent s = flat_map-append (λ (t : Sent). stated_in t.content) sent (s ∷ []) ∙ ap (λ (xs : List Statement). stated sent ++ xs) (append-nil (stated_in s.content))
 
 -- what is certified stays so
 pub certified_sent : (sent : List Sent) (s : Sent) (view : View) (place : ℕ) (batches : List Batch) → AllCertified (stated sent) view place batches → AllCertified (stated (sent ++ s ∷ [])) view place batches
@@ -161,13 +249,10 @@ certified_sent sent s view place batches all =
 pub host_sent : {S : Type 0} (sent : List Sent) (s : Sent) (m : Meaning S) (view : View) (chosen : List Batch) (h : Host S) → HostRight sent m view chosen h → HostRight (sent ++ s ∷ []) m view chosen h
 host_sent sent s m view chosen h r =
     record {
-      sound = record {
-        shared = r.sound.shared;
-        heard = each_weaker (HasMessage sent) (HasMessage (sent ++ s ∷ [])) (λ x has. has_end sent s (contents.Message x) has) h.node.arrivals r.sound.heard;
-        decided = certified_sent sent s view 1 (decided_of h.node.entries) r.sound.decided;
-      };
-      voted = r.voted;
-      booked = r.booked;
+      sound = sound_more (stated sent) (stated (sent ++ s ∷ [])) (among-all (stated sent) (stated (sent ++ s ∷ [])) (stated-grows sent s)) view h.node r.sound;
+      shared = r.shared;
+      low = r.low;
+      decided = certified_sent sent s view 1 (decided_of h.node.entries) r.decided;
       order = r.order;
       within = r.within;
       count = r.count;

@@ -9,19 +9,20 @@ use Rattle.smart_messages.specs.declared.statement.Request.{Request}
 use Rattle.smart_messages.specs.declared.message.Message.{Message}
 use Rattle.smart_messages.specs.declared.message.Message.TheVariants.{Ask, Propose, Vote, Reply}
 use Rattle.smart_messages.specs.declared.entry.NodeEvent.{NodeEvent}
-use Rattle.smart_messages.specs.declared.entry.NodeEvent.TheVariants.{Arrive, Deliver}
+use Rattle.smart_messages.specs.declared.entry.NodeEvent.TheVariants.{Arrive, Tick, Deliver}
 use Rattle.smart_service.specs.Services.{Meaning}
 use Rattle.node_rules.specs.Nodes.{Node, next_place}
 use Rattle.node_rules.specs.Steps.{Outcome, step_of, leaving, opened}
 use Rattle.node_rules.specs.declared.node.Held.{Held}
 use Rattle.node_rules.specs.declared.node.Target.{Target}
 use Rattle.node_rules.specs.declared.node.Target.TheVariants as targets
-use Rattle.kept_arrivals.specs.Kept.{trimmed, core_step}
+use Rattle.node_rules.specs.Kept.{trimmed, core_step}
+use Rattle.node_rules.specs.Nodes as nodes
 use Rattle.kept_arrivals.proofs.Steps.{core_step_trimmed, opened_stands}
 use Rattle.world_rules.specs.Repeats.{repeated, turns, until_rest, each_from}
 use Rattle.world_rules.specs.Secrets.{group_secret}
 use Rattle.world_rules.specs.Premises.{collides, too_many, is_forged, bytes_of}
-use Rattle.world_rules.specs.Worlds.{Host, World, sends_all, told_drop, told_fired, chosen_with, host_after, stepped, host_takes, node_takes, due, takes_due, settle_once, settle, settle_all, gives, give_all, hearing, client_hears, hears_bytes, client_takes, client_asks, ask_found, asks, client_repeats, repeat_found, repeats, learns, learns_from, tells, goes, flow_sent, flow_once, flows, hosts_from, begun, is_listed, where_listed, at_listed, each_listed, host_index, at_index, at_member, arrives, arrives_at, sent_arrives, give_number, told_idle, telling_all, host_delivers, deliver_at, deliver_each, shown_host, shown_client, shows, posts, is_gone, is_rogue, settle_present, declares_faulty, declares_rogue, injects_content, injects}
+use Rattle.world_rules.specs.Worlds.{Host, World, sends_all, told_drop, told_fired, chosen_with, host_after, stepped, host_takes, node_takes, due, takes_due, settle_once, settle, settle_all, gives, give_all, hearing, client_hears, hears_bytes, client_takes, client_asks, ask_found, asks, client_repeats, repeat_found, repeats, learns, learns_from, tells, goes, flow_sent, flow_once, flows, hosts_from, begun, is_listed, where_listed, at_listed, each_listed, host_index, at_index, at_member, arrives, arrives_at, sent_arrives, give_number, told_idle, telling_all, host_tries, tries_at, tries_each, give_one, shown_host, shown_client, shows, posts, is_gone, is_rogue, settle_present, declares_faulty, declares_rogue, injects_content, injects}
 use Rattle.world_rules.specs.Plays.{has_member, has_party, is_there, line_played, rested, world_after, lines_told}
 use Rattle.client_quorum.specs.declared.client.Client.{Client}
 use Rattle.world_rules.specs.declared.message.Sent.{Sent}
@@ -105,14 +106,9 @@ core_step_same m n event = let is = core_step_trimmed m n event in equal _ _ is.
     equal a b node fired dropped =
         ap (λ n. record a { node = n }) node ∙ (ap (λ f. record b { fired = f; dropped = a.dropped }) fired ∙ ap (λ d. record b { dropped = d }) dropped)
 
--- a host behind a step
-host_after_same : {S : Type 0} (h : Host S) (o : Outcome S) → host_after (trimmed_host h) (trimmed_outcome o) ≡ trimmed_host (host_after h o)
-unfolding trimmed_host trimmed
-host_after_same h o = refl
-
 -- a node's step
 stepped_same : {S : Type 0} (w : World S) (i : ℕ) (h : Host S) (o : Outcome S) → stepped (trimmed_world w) i (trimmed_host h) (trimmed_outcome o) ≡ trimmed_world (stepped w i h o)
-unfolding stepped trimmed_world trimmed_host trimmed
+unfolding stepped trimmed_world trimmed_host trimmed nodes.regency_of
 stepped_same {S} w i h o =
     let behind : List (Host S) → World S = λ hosts. record w {
       hosts = hosts;
@@ -125,7 +121,7 @@ stepped_same {S} w i h o =
 -- a host that is found takes an event
 host_takes_same : {S : Type 0} (m : Meaning S) (i : ℕ) (event : NodeEvent) (w : World S) (found : Option (Host S))
     → host_takes (core_step m) i event (trimmed_world w) (option_map trimmed_host found) ≡ trimmed_world (host_takes (step_of m) i event w found)
-unfolding trimmed_host trimmed_world trimmed
+unfolding trimmed_host trimmed_world trimmed nodes.regency_of
 host_takes_same m i event w None = refl
 host_takes_same m i event w (Some h) =
     choice_same trimmed_world (is_gone w h.node.id) _ _ _ _ refl
@@ -140,7 +136,7 @@ node_takes_same m i event w =
 
 -- what is due at a host
 due_same : {S : Type 0} (h : Host S) → due (trimmed_host h) ≡ due h
-unfolding trimmed_host trimmed
+unfolding trimmed_host trimmed nodes.regency_of
 due_same h = refl
 
 -- what is due at a host, if there is one
@@ -176,7 +172,7 @@ Alike {S} f g = (i : ℕ) (w : World S) → f i (trimmed_world w) ≡ trimmed_wo
 -- if its member is listed
 where_listed_same : {S : Type 0} (members : List ℕ) (f g : ℕ → World S → World S) → Alike f g → (i : ℕ) (w : World S) (found : Option (Host S))
     → where_listed members f i (trimmed_world w) (option_map trimmed_host found) ≡ trimmed_world (where_listed members g i w found)
-unfolding trimmed_host trimmed
+unfolding trimmed_host trimmed nodes.regency_of
 where_listed_same members f g same i w None = refl
 where_listed_same members f g same i w (Some h) = choice_same trimmed_world (is_listed members h.node.id) (g i w) w (f i (trimmed_world w)) (trimmed_world w) (same i w) refl
 
@@ -195,7 +191,7 @@ each_listed_same members f g same w =
 
 -- it stands at the same index
 position_same : {S : Type 0} (hosts : List (Host S)) (member : ℕ) → position_or_len (λ (h : Host S). h.node.id == member) (map trimmed_host hosts) ≡ position_or_len (λ (h : Host S). h.node.id == member) hosts
-unfolding trimmed_host trimmed
+unfolding trimmed_host trimmed nodes.regency_of
 position_same [] member = refl
 position_same (h ∷ hs) member = ap (λ k. cond (not (h.node.id == member)) (1 + k) 0) (position_same hs member)
 
@@ -218,7 +214,7 @@ at_member_same f g same member w =
 -- a host that is found settles, unless its node is gone
 settle_present_same : {S : Type 0} (m : Meaning S) (members : List ℕ) (i : ℕ) (w : World S) (found : Option (Host S))
     → settle_present (core_step m) members i (trimmed_world w) (option_map trimmed_host found) ≡ trimmed_world (settle_present (step_of m) members i w found)
-unfolding trimmed_host trimmed_world trimmed
+unfolding trimmed_host trimmed_world trimmed nodes.regency_of
 settle_present_same m members i w None = refl
 settle_present_same m members i w (Some h) = choice_same trimmed_world (is_gone w h.node.id) _ _ _ _ refl (settle_same m i w)
 
@@ -242,6 +238,13 @@ gives_same m bytes i w =
 -- all listed nodes take bytes
 give_all_same : {S : Type 0} (m : Meaning S) (members : List ℕ) (bytes : List ℕ) (w : World S) → give_all (core_step m) members bytes (trimmed_world w) ≡ trimmed_world (give_all (step_of m) members bytes w)
 give_all_same m members bytes w = each_listed_same members (gives (core_step m) bytes) (gives (step_of m) bytes) (gives_same m bytes) w
+
+-- the node of a member does, if it is listed
+give_one_same : {S : Type 0} (m : Meaning S) (members : List ℕ) (bytes : List ℕ) (member : ℕ) (w : World S) → give_one (core_step m) members bytes member (trimmed_world w) ≡ trimmed_world (give_one (step_of m) members bytes member w)
+unfolding trimmed_world
+give_one_same m members bytes member w =
+    ap (λ found. at_index (at_listed members (gives (core_step m) bytes)) (trimmed_world w) found) (host_index_same w.hosts member)
+    ∙ at_index_same (at_listed members (gives (core_step m) bytes)) (at_listed members (gives (step_of m) bytes)) (at_listed_same members (gives (core_step m) bytes) (gives (step_of m) bytes) (gives_same m bytes)) w (host_index w.hosts member)
 
 -- clients
 
@@ -323,6 +326,7 @@ tells_same from to w = choice_same trimmed_world (is_some w.ending) _ _ _ _ refl
 goes_same : {S : Type 0} (m : Meaning S) (members : List ℕ) (w : World S) (bytes : List ℕ) (to : Option Target) → goes (core_step m) members (trimmed_world w) bytes to ≡ trimmed_world (goes (step_of m) members w bytes to)
 goes_same m members w bytes None = refl
 goes_same m members w bytes (Some targets.View) = give_all_same m members bytes w
+goes_same m members w bytes (Some (targets.Node id)) = give_one_same m members bytes id w
 goes_same m members w bytes (Some (targets.Client id)) = client_takes_same id bytes w
 
 -- the message behind the mark goes, if there is one
@@ -368,32 +372,33 @@ telling_all_same : {S : Type 0} (w : World S) (lines : List OutLine) → telling
 unfolding trimmed_world
 telling_all_same w lines = refl
 
--- a host that is found delivers
-host_delivers_same : {S : Type 0} (m : Meaning S) (i : ℕ) (w : World S) (found : Option (Host S)) → host_delivers (core_step m) i (trimmed_world w) (option_map trimmed_host found) ≡ trimmed_world (host_delivers (step_of m) i w found)
-unfolding trimmed_host trimmed_world trimmed
-host_delivers_same m i w None = refl
-host_delivers_same {S} m i w (Some h) =
-    let o : Outcome S = step_of m h.node Deliver in
+-- a host that is found delivers, or time passes there
+host_tries_same : {S : Type 0} (m : Meaning S) (event : NodeEvent) (i : ℕ) (w : World S) (found : Option (Host S))
+    → host_tries (core_step m) event i (trimmed_world w) (option_map trimmed_host found) ≡ trimmed_world (host_tries (step_of m) event i w found)
+unfolding trimmed_host trimmed_world trimmed nodes.regency_of
+host_tries_same m event i w None = refl
+host_tries_same {S} m event i w (Some h) =
+    let o : Outcome S = step_of m h.node event in
     choice_same trimmed_world (is_gone w h.node.id) _ _ _ _ refl
-    (ap (λ (x : Outcome S). telling_all (stepped (trimmed_world w) i (trimmed_host h) x) (told_idle h.node.id x.fired)) (core_step_same m h.node Deliver)
+    (ap (λ (x : Outcome S). telling_all (stepped (trimmed_world w) i (trimmed_host h) x) (told_idle h.node.id x.fired)) (core_step_same m h.node event)
     ∙ (ap (λ (v : World S). telling_all v (told_idle h.node.id o.fired)) (stepped_same w i h o) ∙ telling_all_same (stepped w i h o) (told_idle h.node.id o.fired)))
 
-deliver_at_same : {S : Type 0} (m : Meaning S) (i : ℕ) (w : World S) → deliver_at (core_step m) i (trimmed_world w) ≡ trimmed_world (deliver_at (step_of m) i w)
-unfolding deliver_at trimmed_world
-deliver_at_same m i w =
+tries_at_same : {S : Type 0} (m : Meaning S) (event : NodeEvent) (i : ℕ) (w : World S) → tries_at (core_step m) event i (trimmed_world w) ≡ trimmed_world (tries_at (step_of m) event i w)
+unfolding tries_at trimmed_world
+tries_at_same m event i w =
     choice_same trimmed_world (is_some w.ending) _ _ _ _ refl
-    (ap (λ found. host_delivers (core_step m) i (trimmed_world w) found) (map_get trimmed_host w.hosts i) ∙ host_delivers_same m i w (slice_get w.hosts i))
+    (ap (λ found. host_tries (core_step m) event i (trimmed_world w) found) (map_get trimmed_host w.hosts i) ∙ host_tries_same m event i w (slice_get w.hosts i))
 
--- each of some members does
-deliver_each_same : {S : Type 0} (m : Meaning S) (members : List ℕ) (w : World S) → deliver_each (core_step m) members (trimmed_world w) ≡ trimmed_world (deliver_each (step_of m) members w)
-deliver_each_same m [] w = refl
-deliver_each_same m (id ∷ ids) w =
-    ap (λ v. deliver_each (core_step m) ids v) (at_member_same (deliver_at (core_step m)) (deliver_at (step_of m)) (deliver_at_same m) id w)
-    ∙ deliver_each_same m ids (at_member (deliver_at (step_of m)) id w)
+-- so it is at each of some members
+tries_each_same : {S : Type 0} (m : Meaning S) (event : NodeEvent) (members : List ℕ) (w : World S) → tries_each (core_step m) event members (trimmed_world w) ≡ trimmed_world (tries_each (step_of m) event members w)
+tries_each_same m event [] w = refl
+tries_each_same m event (id ∷ ids) w =
+    ap (λ v. tries_each (core_step m) event ids v) (at_member_same (tries_at (core_step m) event) (tries_at (step_of m) event) (tries_at_same m event) id w)
+    ∙ tries_each_same m event ids (at_member (tries_at (step_of m) event) id w)
 
 -- where hosts stand
 shown_same : {S : Type 0} (faulty : List ℕ) (hosts : List (Host S)) → flat_map (shown_host faulty) (map trimmed_host hosts) ≡ flat_map (shown_host faulty) hosts
-unfolding trimmed_host trimmed
+unfolding trimmed_host trimmed nodes.regency_of
 shown_same faulty [] = refl
 shown_same faulty (h ∷ hs) = ap (λ ls. shown_host faulty h ++ ls) (shown_same faulty hs)
 
@@ -436,7 +441,8 @@ core_line m w (lines.Again client) = repeats_same client w
 core_line m w (lines.Tell from to) = tells_same from to w
 core_line m w (lines.Flow members) = flows_same m members w
 core_line m w (lines.Give number to) = give_number_same m number to w
-core_line m w (lines.Deliver members) = deliver_each_same m members w
+core_line m w (lines.Deliver members) = tries_each_same m Deliver members w
+core_line m w (lines.Tick members) = tries_each_same m Tick members w
 core_line m w (lines.Settle member) = at_member_same (settle (core_step m)) (settle (step_of m)) (settle_same m) member w
 core_line m w lines.SettleAll = settle_all_same m [] w
 core_line m w lines.Show = shows_same w
@@ -468,6 +474,7 @@ there_same w (lines.Flow members) = has_each_same (has_member (trimmed_world w))
 there_same w (lines.Give number to) =
     ap (λ t. nat_le 1 number && nat_le number (length w.sent) && t) (has_each_same (has_party (trimmed_world w)) (has_party w) (has_party_same w) to)
 there_same w (lines.Deliver members) = has_each_same (has_member (trimmed_world w)) (has_member w) (has_member_same w) members
+there_same w (lines.Tick members) = has_each_same (has_member (trimmed_world w)) (has_member w) (has_member_same w) members
 there_same w (lines.Settle member) = has_member_same w member
 there_same w lines.SettleAll = refl
 there_same w lines.Show = refl
@@ -523,8 +530,8 @@ hosts_from_same : {S : Type 0} (m : Meaning S) (view : View) (ids : List ℕ) �
 unfolding trimmed_host
 hosts_from_same m view [] = refl
 hosts_from_same m view (id ∷ ids) =
-    ap (λ n. record { node = n; delivered = [] } ∷ map trimmed_host (hosts_from m view ids)) (sym (opened_stands m group_secret id view).same)
-    ∙ ap (λ hosts. record { node = opened m group_secret id view; delivered = [] } ∷ hosts) (hosts_from_same m view ids)
+    ap (λ n. record { node = n; delivered = [] } ∷ map trimmed_host (hosts_from m view ids)) (sym (opened_stands m group_secret id view 1024).same)
+    ∙ ap (λ hosts. record { node = opened m group_secret id view 1024; delivered = [] } ∷ hosts) (hosts_from_same m view ids)
 
 -- the first world is its own world of cores
 pub begun_same : {S : Type 0} (m : Meaning S) (view : View) → trimmed_world (begun m view) ≡ begun m view

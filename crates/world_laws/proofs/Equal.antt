@@ -1,52 +1,16 @@
 -- Tests of equality that say yes.
-use Rattle.std.proofs.Common.{◌≡◌, ℕ, Bool, true, false, ◌&&◌, ◌==◌, List, [], ◌∷◌, refl, ap, ◌∙◌, eqb-true, eq-eqb, subst}
+use Rattle.std.proofs.Common.{◌≡◌, ℕ, Bool, true, false, ◌&&◌, ◌==◌, List, [], ◌∷◌, refl, eqb-true, eq-eqb}
 use Rattle.smart_base.proofs.SameLists.{same_list-equal}
-use Rattle.smart_messages.specs.Equality.{same_slot, same_kind}
 use Rattle.smart_base.specs.Lists.{same_list, same_bytes}
-use Rattle.smart_messages.specs.declared.statement.Slot.{Slot}
-use Rattle.smart_messages.specs.declared.statement.VoteKind.{VoteKind}
-use Rattle.smart_messages.specs.declared.statement.VoteKind.TheVariants.{Write, Accept}
-use Rattle.world_laws.proofs.Lists.{and_true}
 
 -- bytes that are the same are equal
 pub same_bytes-equal : (a b : List ℕ) → same_bytes a b ≡ true → a ≡ b
 same_bytes-equal a b same = same_list-equal (λ x y. x == y) (λ x y is. eqb-true x y is) a b same
 
--- kinds of votes that are the same are equal
-pub same_kind-equal : (a b : VoteKind) → same_kind a b ≡ true → a ≡ b
-same_kind-equal Write Write same = refl
-same_kind-equal Write Accept same = absurd (cc)
-same_kind-equal Accept Write same = absurd (cc)
-same_kind-equal Accept Accept same = refl
-
--- slots with the same numbers are equal
-pub slots-equal : (s t : Slot) → s.view ≡ t.view → s.place ≡ t.place → s.regency ≡ t.regency → s ≡ t
-slots-equal s t view place regency =
-    let make : ℕ → ℕ → ℕ → Slot = λ v p r. record { view = v; place = p; regency = r } in
-    ap (λ v. make v s.place s.regency) view ∙ (ap (λ p. make t.view p s.regency) place ∙ ap (λ r. make t.view t.place r) regency)
-
--- slots that are the same are equal
-pub same_slot-equal : (a b : Slot) → same_slot a b ≡ true → a ≡ b
-same_slot-equal a b same =
-    let outer = and_true ((a.view == b.view) && (a.place == b.place)) (a.regency == b.regency) same in
-    let inner = and_true (a.view == b.view) (a.place == b.place) outer.0 in
-    slots-equal a b (eqb-true a.view b.view inner.0) (eqb-true a.place b.place inner.1) (eqb-true a.regency b.regency outer.1)
-
 -- two tests that say yes
 pub and_intro : (a b : Bool) → a ≡ true → b ≡ true → (a && b) ≡ true
 and_intro true b ea eb = eb
 and_intro false b ea eb = absurd (cc)
-
--- a slot is the same as itself
-pub slot-itself : (slot : Slot) → same_slot slot slot ≡ true
-slot-itself slot =
-    and_intro ((slot.view == slot.view) && (slot.place == slot.place)) (slot.regency == slot.regency)
-    (and_intro (slot.view == slot.view) (slot.place == slot.place) (eq-eqb slot.view slot.view refl) (eq-eqb slot.place slot.place refl))
-    (eq-eqb slot.regency slot.regency refl)
-
--- slots that are equal are the same
-pub slot-same : (s slot : Slot) → s ≡ slot → same_slot s slot ≡ true
-slot-same s slot same = subst (λ (x : Slot). same_slot s x ≡ true) same (slot-itself s)
 
 -- lists are alike themselves where each value is
 same_list-itself : {A : Type 0} (alike : A → A → Bool) → ((x : A) → alike x x ≡ true) → (xs : List A) → same_list alike xs xs ≡ true

@@ -8,52 +8,63 @@ use Rattle.smart_base.specs.Views.{is_view}
 use Rattle.smart_messages.specs.Forms.{SignedBy}
 use Rattle.smart_messages.specs.Kinds.{requests, proposals, ballots, answers}
 use Rattle.smart_messages.specs.Messages.{Batch, batch_text, FitsBatch, spelling, decoded}
+use Rattle.smart_messages.specs.RegencyMessages.{any_spelling, any_decoded}
+use Rattle.smart_messages.proofs.Messages.{spelling_is}
 use Rattle.smart_messages.specs.Spelling.{FitsSlot}
 use Rattle.smart_messages.specs.declared.statement.Answer.{Answer}
 use Rattle.smart_messages.specs.declared.statement.Ballot.{Ballot}
 use Rattle.smart_messages.specs.declared.statement.Proposal.{Proposal}
+use Rattle.smart_messages.specs.declared.message.Proposed.{Proposed}
 use Rattle.smart_messages.specs.declared.message.Message.{Message}
 use Rattle.smart_messages.specs.declared.message.Message.TheVariants.{Ask, Propose, Vote, Reply}
+use Rattle.smart_messages.specs.declared.any.AnyMessage.{AnyMessage}
+use Rattle.smart_messages.specs.declared.any.AnyMessage.TheVariants.{Plain}
 use Rattle.smart_messages.specs.declared.statement.VoteKind.{VoteKind}
 use Rattle.smart_messages.specs.declared.statement.VoteKind.TheVariants.{Write, Accept}
 use Rattle.smart_messages.specs.declared.statement.Slot.{Slot}
 use Rattle.smart_messages.specs.declared.entry.NodeEvent.{NodeEvent}
 use Rattle.smart_messages.specs.declared.entry.NodeEvent.TheVariants.{Arrive}
 use Rattle.smart_service.specs.Services.{Meaning}
-use Rattle.node_rules.specs.Seals.{signed, is_verified, digest_of, fits}
-use Rattle.node_rules.specs.Nodes.{Node, next_place}
-use Rattle.node_rules.specs.Steps.{Outcome, step_of, votes, fired_votes, passes, fired_pass, outcome_from, arrival_outcome, reading_outcome, opened}
+use Rattle.smart_service.specs.declared.table.TableLine.{TableLine}
+use Rattle.vote_book.specs.declared.entry.Decision.{Decision}
+use Rattle.regency_sync.specs.Synchronizers as synchronizers
+use Rattle.replica_rules.specs.Seals.{signed, is_verified, digest_of, fits}
+use Rattle.replica_rules.specs.Replicas.{execute, delivered, executed_lines}
+use Rattle.replica_rules.specs.Pools.{gathered}
+use Rattle.node_rules.specs.Nodes.{Node, next_place, regency_of, start_of}
+use Rattle.node_rules.specs.Votes.{Named, certificate_votes, decision_by}
+use Rattle.node_rules.specs.Arrivals.{slot_why, signer_why, is_batch_for, why_ask, why_propose, why_vote, why_dropped, noted, kept_plain, kept}
+use Rattle.node_rules.specs.Rules.{deliver_batch, delivery, delivers, batch_under, proposing, propose_batch, proposes, writing, write_batch, writes, accepting, accept_batch, accepts, decision_in, deciding, decide_batch, decides, fired_if, answering, answer_line, answers_again}
+use Rattle.node_rules.specs.Changes.{adopts_by, adoption, adopts, joining, joins, promising, promises, leading, lead_with, leads}
+use Rattle.node_rules.specs.Steps.{Outcome, step_of, turns, fired_turns, votes, fired_votes, passes, fired_pass, outcome_from, arrival_outcome, reading_outcome, opened}
 use Rattle.node_rules.specs.Steps as steps
-use Rattle.node_rules.specs.Arrivals.{slot_why, signer_why, why_ask, why_propose, why_vote, why_dropped, kept, noted}
-use Rattle.node_rules.specs.Replicas.{execute, delivered, executed_lines}
-use Rattle.node_rules.specs.Pools.{gathered}
-use Rattle.node_rules.specs.Rules.{deliver_batch, delivery, delivers, proposing, propose_batch, proposes, writing, write_batch, writes, accepting, accept_batch, accepts, deciding, decide_batch, decides, fired_if, answering, answer_line, answers_again, fired_answer}
 use Rattle.node_rules.specs.declared.node.Why.TheVariants.{BadTag, InvalidBatch}
 use Rattle.node_rules.specs.declared.node.Target.TheVariants as targets
+use Rattle.node_rules.specs.declared.node.Fired.{Fired}
 use Rattle.node_rules.specs.declared.node.Fired.TheVariants as fires
 use Rattle.world_rules.specs.Secrets.{group_secret}
 use Rattle.world_rules.specs.Premises.{collides}
 use Rattle.client_quorum.specs.Clients as clients
 use Rattle.client_quorum.specs.Clients.{heard_unless}
-use Rattle.world_rules.specs.Clients.{heard}
-use Rattle.world_rules.specs.Repeats.{repeated, turns, until_rest, each_from}
-use Rattle.world_rules.specs.Worlds.{Host, World, begun, clients_from, asks, stepped, host_takes, node_takes, due, takes_due, settle_once, settle, settle_all, gives, hearing, client_hears, hears_bytes, client_takes, flow_sent, flow_once, where_listed, at_listed, posts, is_gone}
-use Rattle.world_rules.specs.Plays.{line_played, rested}
-use Rattle.world_rules.specs.Promises.{world_at}
 use Rattle.client_quorum.specs.declared.client.Client.{Client}
 use Rattle.client_quorum.specs.declared.client.Ignored.TheVariants as reasons
 use Rattle.client_quorum.specs.declared.client.Heard.{Heard}
 use Rattle.client_quorum.specs.declared.client.Heard.TheVariants as hears
+use Rattle.world_rules.specs.Clients.{heard}
+use Rattle.world_rules.specs.Repeats as repeats
+use Rattle.world_rules.specs.Repeats.{repeated, until_rest, each_from}
+use Rattle.world_rules.specs.Worlds.{Host, World, begun, clients_from, asks, stepped, host_takes, node_takes, due, takes_due, settle_once, settle, settle_all, gives, hearing, client_hears, hears_bytes, client_takes, flow_sent, flow_once, where_listed, at_listed, posts, is_gone}
+use Rattle.world_rules.specs.Plays.{line_played, rested}
+use Rattle.world_rules.specs.Promises.{world_at}
 use Rattle.world_rules.specs.declared.message.Origin.{Origin}
 use Rattle.world_rules.specs.declared.message.Origin.TheVariants as origins
+use Rattle.world_rules.specs.declared.message.Content.TheVariants as contents
+use Rattle.replica_laws.proofs.FitNodes.{IsBrief}
+use Rattle.replica_laws.proofs.Genuine.{IsGood, good-genuine, signed-verified, digest_of-length, vote-good, reply-good, propose-good, single-fits, single-verified}
 use Rattle.world_laws.specs.Examples.{lone, ask_and_flow, first_request, first_signed, first_acceptance}
 use Rattle.world_laws.proofs.Equal.{bytes-itself}
-use Rattle.world_laws.proofs.FitNodes.{IsBrief}
-use Rattle.world_laws.proofs.Genuine.{IsGood, good-genuine, signed-verified, digest_of-length, ask-good, vote-good, reply-good, propose-good, single-fits, single-verified}
+use Rattle.world_laws.proofs.Fitting.{client-good}
 use Rattle.world_laws.proofs.Rests.{rest_is_reached}
-use Rattle.node_rules.specs.declared.node.Fired.{Fired}
-use Rattle.smart_service.specs.declared.table.TableLine.{TableLine}
-use Rattle.world_rules.specs.declared.message.Content.TheVariants as contents
 
 -- the messages of the play
 
@@ -62,56 +73,71 @@ abbrev first_slot : Slot
 first_slot = record { view = 0; place = 1; regency = 0 }
 
 -- the batch of the request
-abbrev first_batch : Batch
+abbrev pub first_batch : Batch
 first_batch = first_signed ∷ []
 
 -- the member's vote for the batch
 abbrev first_ballot : VoteKind → Ballot
 first_ballot kind = record { kind = kind; slot = first_slot; digest = digest_of first_batch }
 
-abbrev first_vote : VoteKind → Message
-first_vote kind = Vote (signed ballots group_secret 1 (first_ballot kind))
+abbrev first_vote : VoteKind → AnyMessage
+first_vote kind = Plain (Vote (signed ballots group_secret 1 (first_ballot kind)))
 
 -- the member's proposal of the batch
 abbrev first_head : Proposal
 first_head = record { slot = first_slot; digest = digest_of first_batch }
 
-abbrev first_proposal : Message
-first_proposal = Propose (record { head = signed proposals group_secret 1 first_head; batch = first_batch })
+abbrev first_proposed : Proposed
+first_proposed = record { head = signed proposals group_secret 1 first_head; batch = first_batch }
+
+abbrev first_proposal : AnyMessage
+first_proposal = Plain (Propose first_proposed)
+
+abbrev pub first_ask : AnyMessage
+first_ask = Plain (Ask first_signed)
+
+-- what has arrived where the member decides
+abbrev first_arrivals : List Message
+first_arrivals =
+    Propose first_proposed ∷ Vote (signed ballots group_secret 1 (first_ballot Write)) ∷ Vote (signed ballots group_secret 1 (first_ballot Accept)) ∷ []
+
+-- its decision
+abbrev first_decision : Decision
+first_decision = record { slot = first_slot; batch = first_batch; accepts = certificate_votes first_arrivals lone Accept first_slot (digest_of first_batch) }
 
 -- the member's reply
-abbrev first_answer : {S : Type 0} → Meaning S → Answer
+abbrev pub first_answer : {S : Type 0} → Meaning S → Answer
 first_answer m = record { view = 0; place = 1; index = 0; client = 1; seq = 1; reply = m.reply m.first (7 ∷ []) }
 
-abbrev first_reply : {S : Type 0} → Meaning S → SignedBy Answer
+abbrev pub first_reply : {S : Type 0} → Meaning S → SignedBy Answer
 first_reply m = signed answers group_secret 1 (first_answer m)
 
 -- each has a spelling, and its signer's tag
 
-good_ask : IsGood (Ask first_signed)
-good_ask = ask-good 1 first_request (record { client_is = refl; client_fits = omega arith; seq_fits = (omega arith, omega arith); after_fits = omega arith; op_fits = omega arith })
+pub good_ask : IsGood group_secret first_ask
+good_ask = client-good 1 first_request (record { client_is = refl; client_fits = omega arith; seq_fits = (omega arith, omega arith); after_fits = omega arith; op_fits = omega arith })
 
-slot_fits : FitsSlot first_slot
+pub slot_fits : FitsSlot first_slot
 slot_fits = record { view_fits = omega arith; place_fits = (omega arith, omega arith); regency_fits = omega arith }
 
-batch_fits : FitsBatch first_batch
+pub batch_fits : FitsBatch first_batch
 batch_fits = single-fits first_signed good_ask.fits.content_fits
 
-good_proposal : IsGood first_proposal
-good_proposal = propose-good 1 first_head first_batch (omega arith, omega arith) (record { slot_fits = slot_fits; digest_fits = digest_of-length first_batch }) batch_fits (single-verified first_signed good_ask.tagged)
+good_proposal : IsGood group_secret first_proposal
+good_proposal = propose-good group_secret 1 first_head first_batch (omega arith, omega arith) (record { slot_fits = slot_fits; digest_fits = digest_of-length first_batch }) batch_fits (single-verified group_secret first_signed good_ask.tagged)
 
-good_vote : (kind : VoteKind) → IsGood (first_vote kind)
-good_vote kind = vote-good 1 (first_ballot kind) (omega arith, omega arith) (record { slot_fits = slot_fits; digest_fits = digest_of-length first_batch })
+good_vote : (kind : VoteKind) → IsGood group_secret (first_vote kind)
+good_vote kind = vote-good group_secret 1 (first_ballot kind) (omega arith, omega arith) (record { slot_fits = slot_fits; digest_fits = digest_of-length first_batch })
 
-good_reply : {S : Type 0} (m : Meaning S) → IsBrief m → IsGood (Reply (first_reply m))
+pub good_reply : {S : Type 0} (m : Meaning S) → IsBrief m → IsGood group_secret (Plain (Reply (first_reply m)))
 good_reply m brief =
-    reply-good 1 (first_answer m) (omega arith, omega arith)
+    reply-good group_secret 1 (first_answer m) (omega arith, omega arith)
     (record { view_fits = omega arith; place_fits = (omega arith, omega arith); index_fits = omega arith; client_fits = omega arith; seq_fits = (omega arith, omega arith); reply_fits = brief m.first (7 ∷ []) })
 
 -- tests of tags and digests
 
 -- the batch may stand at the first place
-first_fits : fits group_secret first_batch 1 ≡ true
+pub first_fits : fits group_secret first_batch 1 ≡ true
 unfolding fits
 first_fits = all (nat_le (length (batch_text first_batch)) 262144) (is_verified requests group_secret first_signed) (le-leb (length (batch_text first_batch)) 262144 batch_fits.bytes_fit) good_ask.tagged
   where
@@ -121,68 +147,78 @@ first_fits = all (nat_le (length (batch_text first_batch)) 262144) (is_verified 
     all false tagged is_low is_tagged = absurd (cc)
 
 -- what bears its signer's tag is not dropped for it
-right_tag : (tagged : Bool) → tagged ≡ true → cond (not tagged) (Some BadTag) None ≡ None
+pub right_tag : (tagged : Bool) → tagged ≡ true → cond (not tagged) (Some BadTag) None ≡ None
 right_tag true is = refl
 right_tag false is = absurd (cc)
 
 -- nor is a vote
-right_vote : (tagged : Bool) → tagged ≡ true → or_else (cond (not tagged) (Some BadTag) None) None ≡ None
+pub right_vote : (tagged : Bool) → tagged ≡ true → or_else (cond (not tagged) (Some BadTag) None) None ≡ None
 right_vote true is = refl
 right_vote false is = absurd (cc)
 
 -- nor is a proposal whose batch may stand and has the digest that it names
-right_proposal : (tagged fit same : Bool) → tagged ≡ true → fit ≡ true → same ≡ true → or_else (cond (not tagged) (Some BadTag) None) (cond (not ((fit && true) && same)) (Some InvalidBatch) None) ≡ None
+pub right_proposal : (tagged fit same : Bool) → tagged ≡ true → fit ≡ true → same ≡ true → or_else (cond (not tagged) (Some BadTag) None) (cond (not ((fit && true) && same)) (Some InvalidBatch) None) ≡ None
 right_proposal true true true is_tagged is_fit is_same = refl
 right_proposal true true false is_tagged is_fit is_same = absurd (cc)
 right_proposal true false same is_tagged is_fit is_same = absurd (cc)
 right_proposal false fit same is_tagged is_fit is_same = absurd (cc)
 
 -- one member is a quorum of one
-one_is_enough : {A : Type 0} (x y : A) (same : Bool) → same ≡ true → cond (nat_le 1 (length {A = ℕ} (cond (same || false) (1 ∷ []) []))) x y ≡ x
+pub one_is_enough : {A : Type 0} (x y : A) (same : Bool) → same ≡ true → cond (nat_le 1 (length {A = ℕ} (cond (same || false) (1 ∷ []) []))) x y ≡ x
 one_is_enough x y true is = refl
 one_is_enough x y false is = absurd (cc)
+
+-- the first batch that is known is decided where a member has accepted it
+pub decides_one : (slot : Slot) (arrivals : List Message) (same : Bool) (x : Named) (rest : Option Named) (ahead : Option Decision) → same ≡ true
+    → or_else (decision_by lone slot arrivals (cond (nat_le 1 (length {A = ℕ} (cond (same || false) (1 ∷ []) []))) (Some x) rest)) ahead
+    ≡ Some (record { slot = slot; batch = x.batch; accepts = certificate_votes arrivals lone Accept slot x.digest })
+decides_one slot arrivals true x rest ahead is = refl
+decides_one slot arrivals false x rest ahead is = absurd (cc)
 
 -- a step of a node, with what it accepts and decides
 
 -- an arrival is kept, and the rules pass
-unfoldable passed : {S : Type 0} → Node S → Option Batch → Option Batch → Outcome S
+unfoldable pub passed : {S : Type 0} → Node S → Option Proposed → Option Decision → Outcome S
 passed n accepted decided =
     record {
-      node = decide_batch (accept_batch (writes (proposes n)) accepted) decided;
-      fired = (fired_if fires.Proposed (proposing n) ++ (fired_if fires.Wrote (writing (proposes n)) ++ fired_if fires.Accepted accepted))
-          ++ fired_if (fires.Decided (next_place (accept_batch (writes (proposes n)) accepted))) decided;
+      node = decide_batch (accept_batch (writes (proposes (turns n))) accepted) decided;
+      fired = fired_turns n
+          ++ ((fired_if fires.Proposed (proposing (turns n)) ++ (fired_if fires.Wrote (writing (proposes (turns n))) ++ fired_if fires.Accepted accepted))
+          ++ fired_if (fires.Decided (next_place (accept_batch (writes (proposes (turns n))) accepted))) decided);
       dropped = None;
     }
 
 -- an answer to a message for which none is due
-answered_none : {S : Type 0} (n : Node S) (fired : List Fired) (x : Message) → answering n x ≡ None
+answered_none : {S : Type 0} (n : Node S) (fired : List Fired) (x : AnyMessage) → answering n x ≡ None
     → steps.answered (record { node = n; fired = fired; dropped = None }) x ≡ record { node = n; fired = fired; dropped = None }
 unfolding answers_again answer_line
 answered_none {S = S} n fired x none =
-    let made : Option TableLine → Outcome S = λ line. record { node = answer_line n line; fired = fired ++ fired_answer line; dropped = None } in
+    let made : Option TableLine → Outcome S = λ line. record { node = answer_line n line; fired = fired ++ fired_if fires.Answered line; dropped = None } in
     ap made none ∙ ap (λ (fs : List Fired). record { node = n; fired = fs; dropped = None }) (append-nil fired)
 
 -- so they do
-passed_is : {S : Type 0} (n : Node S) (accepted decided : Option Batch) → accepting (writes (proposes n)) ≡ accepted → deciding (accept_batch (writes (proposes n)) accepted) ≡ decided
-    → outcome_from n [] ≡ passed n accepted decided
+passed_is : {S : Type 0} (n : Node S) (accepted : Option Proposed) (decided : Option Decision) → accepting (writes (proposes (turns n))) ≡ accepted
+    → deciding (accept_batch (writes (proposes (turns n))) accepted) ≡ decided → outcome_from n [] ≡ passed n accepted decided
 unfolding passed passes votes fired_pass fired_votes accepts decides
 passed_is n accepted decided ea ed =
-    ap (λ a. passed n a (deciding (accept_batch (writes (proposes n)) a))) ea ∙ ap (λ d. passed n accepted d) ed
+    ap (λ a. passed n a (deciding (accept_batch (writes (proposes (turns n))) a))) ea ∙ ap (λ d. passed n accepted d) ed
 
 -- what a message does to a node
-record Takes {S : Type 0} (n : Node S) (x : Message) (accepted decided : Option Batch) : Type 0 where
-  read : decoded (spelling x) ≡ Ok x
-  fine : why_dropped n x ≡ None
-  accepts : accepting (writes (proposes (kept (noted n x) x))) ≡ accepted
-  decides : deciding (accept_batch (writes (proposes (kept (noted n x) x))) accepted) ≡ decided
-  quiet : answering (passed (kept (noted n x) x) accepted decided).node x ≡ None
+pub record Takes {S : Type 0} (n : Node S) (x : AnyMessage) (accepted : Option Proposed) (decided : Option Decision) : Type 0 where
+  pub read : any_decoded (any_spelling x) ≡ Ok x
+  pub fine : why_dropped n x ≡ None
+  pub accepts : accepting (writes (proposes (turns (kept (noted n x) x)))) ≡ accepted
+  pub decides : deciding (accept_batch (writes (proposes (turns (kept (noted n x) x)))) accepted) ≡ decided
+  pub quiet : answering (passed (kept (noted n x) x) accepted decided).node x ≡ None
 
 -- the pass tells no answer
-quiet_is : {S : Type 0} (n : Node S) (x : Message) (accepted decided : Option Batch) → answering (passed n accepted decided).node x ≡ None → steps.answered (passed n accepted decided) x ≡ passed n accepted decided
+quiet_is : {S : Type 0} (n : Node S) (x : AnyMessage) (accepted : Option Proposed) (decided : Option Decision) → answering (passed n accepted decided).node x ≡ None
+    → steps.answered (passed n accepted decided) x ≡ passed n accepted decided
 unfolding passed
 quiet_is n x accepted decided none = answered_none (passed n accepted decided).node (passed n accepted decided).fired x none
 
-step_is : {S : Type 0} (m : Meaning S) (n : Node S) (x : Message) (accepted decided : Option Batch) → Takes n x accepted decided → step_of m n (Arrive (spelling x)) ≡ passed (kept (noted n x) x) accepted decided
+pub step_is : {S : Type 0} (m : Meaning S) (n : Node S) (x : AnyMessage) (accepted : Option Proposed) (decided : Option Decision) → Takes n x accepted decided
+    → step_of m n (Arrive (any_spelling x)) ≡ passed (kept (noted n x) x) accepted decided
 unfolding step_of
 step_is {S = S} m n x accepted decided is =
     let k : Node S = kept (noted n x) x in
@@ -193,35 +229,35 @@ step_is {S = S} m n x accepted decided is =
 -- turns of a world with one host
 
 -- the host
-unfoldable host_in : {S : Type 0} → Meaning S → List (Host S) → Host S
-host_in m [] = record { node = opened m group_secret 1 lone; delivered = [] }
+unfoldable pub host_in : {S : Type 0} → Meaning S → List (Host S) → Host S
+host_in m [] = record { node = opened m group_secret 1 lone 1024; delivered = [] }
 host_in m (h ∷ hs) = h
 
 -- it is found
-host_is : {S : Type 0} (m : Meaning S) (hosts : List (Host S)) → length hosts ≡ 1 → slice_get hosts 0 ≡ Some (host_in m hosts)
+pub host_is : {S : Type 0} (m : Meaning S) (hosts : List (Host S)) → length hosts ≡ 1 → slice_get hosts 0 ≡ Some (host_in m hosts)
 unfolding host_in
 host_is m [] one = absurd (cc)
 host_is m (h ∷ hs) one = refl
 
 -- a message is given to the node, which accepts and decides so and settles in k turns
-unfoldable turn : {S : Type 0} → Meaning S → ℕ → Message → Option Batch → Option Batch → World S → World S
+unfoldable pub turn : {S : Type 0} → Meaning S → ℕ → AnyMessage → Option Proposed → Option Decision → World S → World S
 turn m k x accepted decided w =
     repeated (settle_once (step_of m) 0) k
     (stepped (record w { mark = w.mark + 1 }) 0 (host_in m w.hosts) (passed (kept (noted (host_in m w.hosts).node x) x) accepted decided))
 
 -- a few turns are no more than there are
-few : (k : ℕ) → k ≤ 9 → k ≤ turns
-unfolding turns
+pub few : (k : ℕ) → k ≤ 20 → k ≤ repeats.turns
+unfolding repeats.turns
 few k le = omega (arith, le)
 
 -- where nothing is due, a node has settled
-settled : {S : Type 0} (step : Node S → NodeEvent → Outcome S) (k : ℕ) (w : World S) → k ≤ 9 → option_and_then due (slice_get (repeated (settle_once step 0) k w).hosts 0) ≡ None
+pub settled : {S : Type 0} (step : Node S → NodeEvent → Outcome S) (k : ℕ) (w : World S) → k ≤ 9 → option_and_then due (slice_get (repeated (settle_once step 0) k w).hosts 0) ≡ None
     → settle step 0 w ≡ repeated (settle_once step 0) k w
 unfolding settle_once
-settled step k w le none = rest_is_reached (settle_once step 0) k w (few k le) (ap (takes_due step 0 (repeated (settle_once step 0) k w)) none)
+settled step k w le none = rest_is_reached (settle_once step 0) k w (few k (omega (arith, le))) (ap (takes_due step 0 (repeated (settle_once step 0) k w)) none)
 
 -- a message that is for the view is given to the one node
-given : {S : Type 0} (m : Meaning S) (k : ℕ) (x : Message) (accepted decided : Option Batch) (origin : Origin) (w : World S) → k ≤ 9 → is_some w.ending ≡ false
+pub given : {S : Type 0} (m : Meaning S) (k : ℕ) (x : AnyMessage) (accepted : Option Proposed) (decided : Option Decision) (origin : Origin) (w : World S) → k ≤ 9 → is_some w.ending ≡ false
     → slice_get w.sent w.mark ≡ Some (record { origin = origin; to = Some targets.View; content = contents.Message x }) → length w.hosts ≡ 1
     → is_gone w (host_in m w.hosts).node.id ≡ false → Takes (host_in m w.hosts).node x accepted decided → option_and_then due (slice_get (turn m k x accepted decided w).hosts 0) ≡ None → flow_once (step_of m) [] w ≡ turn m k x accepted decided w
 unfolding flow_once turn gives each_from node_takes
@@ -229,17 +265,17 @@ given {S = S} m k x accepted decided origin w le on at one there takes none =
     let next : World S = record w { mark = w.mark + 1 } in
     ap (λ over. cond over w (flow_sent (step_of m) [] w (slice_get w.sent w.mark))) on
     ∙ (ap (flow_sent (step_of m) [] w) at
-    ∙ (ap (λ hosts. each_from (at_listed [] (gives (step_of m) (spelling x))) hosts 0 next) one
-    ∙ (ap (λ found. where_listed [] (gives (step_of m) (spelling x)) 0 next found) (host_is m w.hosts one)
-    ∙ (ap (λ over. settle (step_of m) 0 (cond over next (host_takes (step_of m) 0 (Arrive (spelling x)) next (slice_get w.hosts 0)))) on
-    ∙ (ap (λ found. settle (step_of m) 0 (host_takes (step_of m) 0 (Arrive (spelling x)) next found)) (host_is m w.hosts one)
-    ∙ (ap (λ gone. settle (step_of m) 0 (cond gone next (stepped next 0 (host_in m w.hosts) (step_of m (host_in m w.hosts).node (Arrive (spelling x)))))) there
+    ∙ (ap (λ hosts. each_from (at_listed [] (gives (step_of m) (any_spelling x))) hosts 0 next) one
+    ∙ (ap (λ found. where_listed [] (gives (step_of m) (any_spelling x)) 0 next found) (host_is m w.hosts one)
+    ∙ (ap (λ over. settle (step_of m) 0 (cond over next (host_takes (step_of m) 0 (Arrive (any_spelling x)) next (slice_get w.hosts 0)))) on
+    ∙ (ap (λ found. settle (step_of m) 0 (host_takes (step_of m) 0 (Arrive (any_spelling x)) next found)) (host_is m w.hosts one)
+    ∙ (ap (λ gone. settle (step_of m) 0 (cond gone next (stepped next 0 (host_in m w.hosts) (step_of m (host_in m w.hosts).node (Arrive (any_spelling x)))))) there
     ∙ (ap (λ o. settle (step_of m) 0 (stepped next 0 (host_in m w.hosts) o)) (step_is m (host_in m w.hosts).node x accepted decided takes)
     ∙ settled (step_of m) k (stepped next 0 (host_in m w.hosts) (passed (kept (noted (host_in m w.hosts).node x) x) accepted decided)) le none)))))))
 
 -- a reply that is for a client is given to it
-given_back : {S : Type 0} (m : Meaning S) (a : SignedBy Answer) (origin : Origin) (client : ℕ) (c : Client) (h : Heard) (w : World S) → is_some w.ending ≡ false
-    → slice_get w.sent w.mark ≡ Some (record { origin = origin; to = Some (targets.Client client); content = contents.Message (Reply a) }) → slice_get w.clients client ≡ Some c
+pub given_back : {S : Type 0} (m : Meaning S) (a : SignedBy Answer) (origin : Origin) (client : ℕ) (c : Client) (h : Heard) (w : World S) → is_some w.ending ≡ false
+    → slice_get w.sent w.mark ≡ Some (record { origin = origin; to = Some (targets.Client client); content = contents.Message (Plain (Reply a)) }) → slice_get w.clients client ≡ Some c
     → decoded (spelling (Reply a)) ≡ Ok (Reply a) → heard w.view c a ≡ h → flow_once (step_of m) [] w ≡ hearing (record w { mark = w.mark + 1 }) client c a h
 unfolding flow_once client_takes
 given_back {S = S} m a origin client c h w on at here read hear =
@@ -252,7 +288,7 @@ given_back {S = S} m a origin client c h w on at here read hear =
     ∙ ap (hearing next client c a) hear))))
 
 -- nothing to give is left
-idle : {S : Type 0} (step : Node S → NodeEvent → Outcome S) (w : World S) → is_some w.ending ≡ false → slice_get w.sent w.mark ≡ None → flow_once step [] w ≡ w
+pub idle : {S : Type 0} (step : Node S → NodeEvent → Outcome S) (w : World S) → is_some w.ending ≡ false → slice_get w.sent w.mark ≡ None → flow_once step [] w ≡ w
 unfolding flow_once
 idle step w on at = ap (λ over. cond over w (flow_sent step [] w (slice_get w.sent w.mark))) on ∙ ap (flow_sent step [] w) at
 
@@ -268,7 +304,7 @@ begins m = repeated (settle_once (step_of m) 0) 1 (asked m)
 
 -- the node has proposed the batch
 unfoldable proposed : {S : Type 0} → Meaning S → World S
-proposed m = turn m 0 (Ask first_signed) None None (begins m)
+proposed m = turn m 0 first_ask None None (begins m)
 
 -- the node has written its digest
 unfoldable wrote : {S : Type 0} → Meaning S → World S
@@ -276,14 +312,14 @@ wrote m = turn m 1 first_proposal None None (proposed m)
 
 -- the node has accepted it
 unfoldable accepted : {S : Type 0} → Meaning S → World S
-accepted m = turn m 1 (first_vote Write) (Some first_batch) None (wrote m)
+accepted m = turn m 1 (first_vote Write) (Some first_proposed) None (wrote m)
 
 -- the node has decided and delivered it
 unfoldable replied : {S : Type 0} → Meaning S → World S
-replied m = turn m 2 (first_vote Accept) None (Some first_batch) (accepted m)
+replied m = turn m 2 (first_vote Accept) None (Some first_decision) (accepted m)
 
 -- the client that waits
-abbrev waiting_client : Client
+abbrev pub waiting_client : Client
 waiting_client = record { id = 1; last = 1; waiting = Some first_request; seen = 0; replies = [] }
 
 -- the client has heard the reply
@@ -292,7 +328,7 @@ answered m = hearing (record (replied m) { mark = (replied m).mark + 1 }) 1 wait
 
 -- what the facts on these worlds unfold to compute them
 unfoldable computed : ⊤
-unfolding asks posts collides clients_from gathered repeated settle_once node_takes stepped step_of votes fired_votes passes fired_pass passed host_in slot_why signer_why why_ask why_propose why_vote noted kept answering execute delivered executed_lines deliver_batch delivery delivers proposing propose_batch proposes writing write_batch writes accepting accept_batch accepts deciding decide_batch decides turn asked begins proposed wrote accepted replied hearing answered
+unfolding asks posts collides clients_from gathered repeated settle_once node_takes stepped step_of turns fired_turns votes fired_votes passes fired_pass passed host_in slot_why signer_why is_batch_for why_ask why_propose why_vote noted kept_plain answering regency_of start_of adopts_by adoption adopts joining joins promising promises leading lead_with leads synchronizers.adopting synchronizers.is_joining synchronizers.is_promising synchronizers.collecting batch_under decision_in execute delivered executed_lines deliver_batch delivery delivers proposing propose_batch proposes writing write_batch writes accepting accept_batch accepts deciding decide_batch decides turn asked begins proposed wrote accepted replied hearing answered
 computed = tt
 
 -- the turns of the play
@@ -306,9 +342,9 @@ turn_begins m = settled (step_of m) 1 (asked m) (omega arith) refl
 turn_proposed : {S : Type 0} (m : Meaning S) → flow_once (step_of m) [] (begins m) ≡ proposed m
 unfolding computed
 turn_proposed m =
-    given m 0 (Ask first_signed) None None (origins.Client 1) (begins m) (omega arith) refl refl refl refl
+    given m 0 first_ask None None (origins.Client 1) (begins m) (omega arith) refl refl refl refl
     (record {
-      read = (good-genuine (Ask first_signed) good_ask).read;
+      read = (good-genuine group_secret first_ask good_ask).read;
       fine = right_tag (is_verified requests group_secret first_signed) good_ask.tagged;
       accepts = refl;
       decides = refl;
@@ -321,7 +357,7 @@ unfolding computed
 turn_wrote m =
     given m 1 first_proposal None None (origins.Node 1) (proposed m) (omega arith) refl refl refl refl
     (record {
-      read = (good-genuine first_proposal good_proposal).read;
+      read = (good-genuine group_secret first_proposal good_proposal).read;
       fine = right_proposal (is_verified proposals group_secret (signed proposals group_secret 1 first_head)) (fits group_secret first_batch 1)
           (same_bytes (digest_of first_batch) (digest_of first_batch)) (signed-verified proposals group_secret 1 first_head) first_fits (bytes-itself (digest_of first_batch));
       accepts = refl;
@@ -333,11 +369,11 @@ turn_wrote m =
 turn_accepted : {S : Type 0} (m : Meaning S) → flow_once (step_of m) [] (wrote m) ≡ accepted m
 unfolding computed
 turn_accepted m =
-    given m 1 (first_vote Write) (Some first_batch) None (origins.Node 1) (wrote m) (omega arith) refl refl refl refl
+    given m 1 (first_vote Write) (Some first_proposed) None (origins.Node 1) (wrote m) (omega arith) refl refl refl refl
     (record {
-      read = (good-genuine (first_vote Write) (good_vote Write)).read;
+      read = (good-genuine group_secret (first_vote Write) (good_vote Write)).read;
       fine = right_vote (is_verified ballots group_secret (signed ballots group_secret 1 (first_ballot Write))) (good_vote Write).tagged;
-      accepts = one_is_enough (Some first_batch) None (same_bytes (digest_of first_batch) (digest_of first_batch)) (bytes-itself (digest_of first_batch));
+      accepts = one_is_enough (Some first_proposed) None (same_bytes (digest_of first_batch) (digest_of first_batch)) (bytes-itself (digest_of first_batch));
       decides = refl;
       quiet = refl;
     }) refl
@@ -346,12 +382,12 @@ turn_accepted m =
 turn_replied : {S : Type 0} (m : Meaning S) → flow_once (step_of m) [] (accepted m) ≡ replied m
 unfolding computed
 turn_replied m =
-    given m 2 (first_vote Accept) None (Some first_batch) (origins.Node 1) (accepted m) (omega arith) refl refl refl refl
+    given m 2 (first_vote Accept) None (Some first_decision) (origins.Node 1) (accepted m) (omega arith) refl refl refl refl
     (record {
-      read = (good-genuine (first_vote Accept) (good_vote Accept)).read;
+      read = (good-genuine group_secret (first_vote Accept) (good_vote Accept)).read;
       fine = right_vote (is_verified ballots group_secret (signed ballots group_secret 1 (first_ballot Accept))) (good_vote Accept).tagged;
       accepts = refl;
-      decides = one_is_enough (Some first_batch) None (same_bytes (digest_of first_batch) (digest_of first_batch)) (bytes-itself (digest_of first_batch));
+      decides = decides_one first_slot first_arrivals (same_bytes (digest_of first_batch) (digest_of first_batch)) (record { digest = digest_of first_batch; batch = first_batch }) _ _ (bytes-itself (digest_of first_batch));
       quiet = refl;
     }) refl
 
@@ -363,7 +399,7 @@ not_ignored true is = refl
 not_ignored false is = absurd (cc)
 
 -- the client accepts the reply
-accepts_first : {S : Type 0} (m : Meaning S) → IsBrief m → heard lone waiting_client (first_reply m) ≡ hears.Accepted (first_acceptance m)
+pub accepts_first : {S : Type 0} (m : Meaning S) → IsBrief m → heard lone waiting_client (first_reply m) ≡ hears.Accepted (first_acceptance m)
 unfolding clients.heard clients.why_ignored
 accepts_first m brief =
     ap (λ why. heard_unless lone waiting_client (first_reply m) why (Some first_request)) (not_ignored (is_verified answers group_secret (first_reply m)) (good_reply m brief).tagged)
@@ -373,7 +409,7 @@ accepts_first m brief =
 turn_answered : {S : Type 0} (m : Meaning S) → IsBrief m → flow_once (step_of m) [] (replied m) ≡ answered m
 unfolding computed
 turn_answered m brief =
-    given_back m (first_reply m) (origins.Node 1) 1 waiting_client (hears.Accepted (first_acceptance m)) (replied m) refl refl refl (good-genuine (Reply (first_reply m)) (good_reply m brief)).read (accepts_first m brief)
+    given_back m (first_reply m) (origins.Node 1) 1 waiting_client (hears.Accepted (first_acceptance m)) (replied m) refl refl refl (spelling_is (Reply (first_reply m)) (good_reply m brief).fits) (accepts_first m brief)
 
 -- no message is left
 turn_over : {S : Type 0} (m : Meaning S) → flow_once (step_of m) [] (answered m) ≡ answered m

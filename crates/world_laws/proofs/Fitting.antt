@@ -1,15 +1,18 @@
 -- Each message that is sent in a play over a view is read as itself, and its statements bear the tags of their signers.
-use Rattle.std.proofs.Common.{◌≡◌, ℕ, zero, suc, ◌+◌, ◌*◌, ◌^◌, ◌<◌, ◌≤◌, ◌&&◌, true, List, [], ◌∷◌, length, refl, subst, Some, None, nat_lt, nat_le, inl, inr, arith}
+use Rattle.std.proofs.Common.{◌≡◌, ap, sym, ◌∙◌, ℕ, zero, suc, ◌+◌, ◌*◌, ◌^◌, ◌<◌, ◌≤◌, ◌&&◌, true, List, [], ◌∷◌, length, refl, subst, Some, None, nat_lt, nat_le, inl, inr, arith, Result, Ok, Err}
 use Rattle.std.proofs.lemmas.Bool.{ltb-true, leb-true}
 use Rattle.smart_base.specs.Lists.{Each}
 use Rattle.smart_base.specs.Views.{View, ascends, is_view}
 use Rattle.smart_messages.specs.Forms.{SignedBy}
-use Rattle.smart_messages.specs.Messages.{Fits}
+use Rattle.smart_messages.specs.RegencyMessages.{any_spelling, FitsAny, any_decoded}
+use Rattle.smart_messages.specs.declared.any.AnyMessage.{AnyMessage}
 use Rattle.smart_messages.specs.Spelling.{IsSigner, FitsRequest}
 use Rattle.smart_messages.proofs.Messages.{spelling_is}
+use Rattle.smart_messages.proofs.AnyMessages.{any_spelling_is}
 use Rattle.smart_messages.specs.declared.statement.Request.{Request}
 use Rattle.smart_messages.specs.declared.statement.Answer.{Answer}
-use Rattle.smart_messages.specs.declared.message.Message.TheVariants.{Reply}
+use Rattle.smart_messages.specs.declared.message.Message.TheVariants.{Reply, Ask}
+use Rattle.smart_messages.specs.declared.any.AnyMessage.TheVariants.{Plain, Change}
 use Rattle.smart_messages.specs.declared.entry.NodeEvent.{NodeEvent}
 use Rattle.smart_messages.specs.declared.entry.NodeEvent.TheVariants.{Arrive, Tick, Deliver, Firm}
 use Rattle.smart_service.specs.Services.{Meaning}
@@ -26,12 +29,17 @@ use Rattle.world_rules.specs.declared.line.Line.{Line}
 use Rattle.world_rules.specs.declared.message.Origin.{Origin}
 use Rattle.world_rules.specs.declared.message.Origin.TheVariants as origins
 use Rattle.world_rules.specs.declared.message.Sent.{Sent}
-use Rattle.world_laws.specs.Sending.{AllGenuine, is_tagged, IsReadAs, IsGenuineContent, IsGenuineFrom}
-use Rattle.world_laws.proofs.Lists.{and_true, some-equal, each_end, each_weaker, each_set, each_get, each_both}
-use Rattle.world_laws.proofs.Keeps.{ask_of, asked_by, Keeps, by-posts, ReadsSent, keeps-world_after, signed_by, OwnWaits, from_node, from_client, HasContent, IsRead, MayRead, may_read, read_has, from_script}
-use Rattle.world_laws.proofs.Genuine.{IsGood, good-genuine, ask-good}
-use Rattle.world_laws.proofs.Authentic.{each-leaving}
-use Rattle.world_laws.proofs.FitNodes.{FitNode, IsBrief, FitsEvent, fit-step, fit-released, fit-opened}
+use Rattle.world_laws.specs.Sending.{AllGenuine, IsReadIfShort, IsHeardAs, IsReadAs, IsGenuineContent, IsGenuineFrom}
+use Rattle.world_laws.proofs.Lists.{and_true, either, some-equal, each_end, each_weaker, each_set, each_get, each_both}
+use Rattle.world_laws.proofs.Keeps.{change-unheard, MayCome, read_whole, FitsParts, parts_fit, long_unread, ask_of, asked_by, Keeps, by-posts, ReadsSent, keeps-world_after, signed_by, OwnWaits, from_node, from_client, HasContent, IsRead, heard_has, from_script}
+use Rattle.smart_messages.specs.Kinds.{requests}
+use Rattle.smart_messages.specs.Statements.{request_small}
+use Rattle.smart_messages.specs.declared.regency.RegencyMessage.TheVariants as changes
+use Rattle.replica_rules.specs.Seals.{signed}
+use Rattle.world_rules.specs.Secrets.{group_secret}
+use Rattle.replica_laws.proofs.Genuine.{FitsHeld, IsGood, good-genuine, signed-verified, signed-fits, ask-good}
+use Rattle.replica_laws.specs.Sending.{ForRead}
+use Rattle.replica_laws.proofs.FitNodes.{FitNode, IsBrief, FitsEvent, fit-step, fit-released, fit-opened}
 use Rattle.world_rules.specs.declared.message.Content.{Content}
 use Rattle.world_rules.specs.declared.message.Content.TheVariants as contents
 
@@ -41,9 +49,26 @@ pub record FitClient (c : Client) : Type 0 where
   pub seen : c.seen < 2 ^ 64
   pub waits : (q : Request) → c.waiting ≡ Some q → FitsRequest c.id q
 
--- what a node or a client sends is a message that bears its signers' tags
+-- a request that a client asks, with its tag
+abbrev signed_as : ℕ → Request → AnyMessage
+signed_as id q = Plain (Ask (signed requests group_secret id q))
+
+-- it has a spelling and bears its tag
+pub client-good : (id : ℕ) (q : Request) → FitsRequest id q → IsGood group_secret (signed_as id q)
+client-good id q fits =
+    ask-good group_secret (signed requests group_secret id q)
+    (signed-fits requests FitsRequest group_secret id q (omega arith, subst (λ (k : ℕ). k < 2 ^ 16) fits.client_is fits.client_fits) fits (request_small q fits.op_fits)) (signed-verified requests group_secret id q)
+
+-- a message that is held has parts that have spellings
+parts-fit : (m : AnyMessage) → FitsHeld m → FitsParts m
+parts-fit (Plain m) fits = fits
+parts-fit (Change (changes.Stop s)) fits = fits.content_fits
+parts-fit (Change (changes.StopData r)) fits = fits.content_fits
+parts-fit (Change (changes.Sync s)) fits = fits
+
+-- what a node or a client sends is a message that has a spelling and bears its signers' tags
 abbrev pub IsTaggedContent : Content → Type 0
-IsTaggedContent (contents.Message message) = is_tagged message ≡ true
+IsTaggedContent (contents.Message message) = IsGood group_secret message
 IsTaggedContent (contents.Raw bytes) = ⊥
 
 abbrev pub IsTaggedFrom : Origin → Content → Type 0
@@ -53,7 +78,7 @@ IsTaggedFrom origins.Script content = Unit {0}
 
 -- all that nodes and clients hold has a spelling, and all that was sent is read
 pub record AllFit {S : Type 0} (w : World S) : Type 0 where
-  pub hosts : Each (λ h. FitNode h.node) w.hosts
+  pub hosts : Each (λ h. FitNode group_secret h.node) w.hosts
   pub clients : Each FitClient w.clients
   pub sent : Each (λ s. IsRead s.content) w.sent
   pub tagged : Each (λ s. IsTaggedFrom s.origin s.content) w.sent
@@ -71,11 +96,20 @@ pub fit-owns : {S : Type 0} (w : World S) → AllFit w → OwnWaits w
 fit-owns w is i c q at waits = ((each_get FitClient w.clients i c is.clients at).waits q waits).client_is
 
 -- what may come
-pub may-fit : {S : Type 0} (w : World S) (h : Host S) (event : NodeEvent) → AllFit w → MayRead w h event → FitsEvent event
-may-fit w h (Arrive bytes) is may = λ y read. fit-reads w is (contents.Message y) (may y read)
+pub may-fit : {S : Type 0} (w : World S) (h : Host S) (event : NodeEvent) → AllFit w → MayCome w h event → FitsEvent event
+may-fit w h (Arrive bytes) is may = by (any_decoded bytes) refl
+  where
+    by : (read : Result AnyMessage ℕ) → any_decoded bytes ≡ read → ForRead FitsAny read
+    by (Ok y) at = read_whole may.content y (fit-reads w is may.content may.has) (sym (ap (λ b. any_decoded b) may.spelled) ∙ at)
+    by (Err e) at = tt
 may-fit w h Tick is may = tt
 may-fit w h Deliver is may = tt
 may-fit w h (Firm count) is may = tt
+
+-- what leaves, of what is held
+each-leaving : (P : Held → Type 0) (firm : ℕ) (held : List Held) → Each P held → Each P (leaving firm held)
+each-leaving P firm [] each = tt
+each-leaving P firm (h ∷ hs) each = either (Each P) (nat_le h.needs firm) (h ∷ leaving firm hs) [] (each.0, each-leaving P firm hs each.1) tt
 
 -- something is sent
 fit-posts : {S : Type 0} (w : World S) (s : Sent) → IsRead s.content → IsTaggedFrom s.origin s.content → AllFit w → AllFit (posts w s)
@@ -90,16 +124,16 @@ fit-posts {S = S} w s read tagged is =
     })
 
 -- messages of a node leave
-fit-sends_all : {S : Type 0} (id : ℕ) (w : World S) (held : List Held) → Each (λ h. IsGood h.message) held → AllFit w → AllFit (sends_all id w held)
+fit-sends_all : {S : Type 0} (id : ℕ) (w : World S) (held : List Held) → Each (λ h. IsGood group_secret h.message) held → AllFit w → AllFit (sends_all id w held)
 fit-sends_all id w [] each is = is
-fit-sends_all id w (h ∷ hs) each is = fit-sends_all id (posts w (from_node id h)) hs each.1 (fit-posts w (from_node id h) each.0.fits each.0.tagged is)
+fit-sends_all id w (h ∷ hs) each is = fit-sends_all id (posts w (from_node id h)) hs each.1 (fit-posts w (from_node id h) (parts-fit h.message each.0.fits) each.0 is)
 
 -- a host's node takes an event
-fit-stepped : {S : Type 0} (w : World S) (i : ℕ) (h : Host S) (o : Outcome S) → FitNode o.node → AllFit w → AllFit (stepped w i h o)
+fit-stepped : {S : Type 0} (w : World S) (i : ℕ) (h : Host S) (o : Outcome S) → FitNode group_secret o.node → AllFit w → AllFit (stepped w i h o)
 unfolding stepped
 fit-stepped {S = S} w i h o fit is =
-    fit-sends_all h.node.id _ (leaving o.node.firm o.node.held) (each-leaving (λ (x : Held). IsGood x.message) o.node.firm o.node.held fit.held)
-    (record { hosts = each_set (λ (g : Host S). FitNode g.node) w.hosts i (host_after h o) is.hosts (fit-released o.node fit); clients = is.clients; sent = is.sent; tagged = is.tagged })
+    fit-sends_all h.node.id _ (leaving o.node.firm o.node.held) (each-leaving (λ (x : Held). IsGood group_secret x.message) o.node.firm o.node.held fit.held)
+    (record { hosts = each_set (λ (g : Host S). FitNode group_secret g.node) w.hosts i (host_after h o) is.hosts (fit-released group_secret o.node fit); clients = is.clients; sent = is.sent; tagged = is.tagged })
 
 -- where no request waits
 no_request : (id : ℕ) (q : Request) → None ≡ Some q → FitsRequest id q
@@ -116,7 +150,7 @@ fit-after_heard c a (hears.Accepted acceptance) low is = record { named = is.nam
 fit-after_heard c a (hears.Ignored why) low is = is
 
 -- the place of a reply
-reply-low : (a : SignedBy Answer) → Fits (Reply a) → a.statement.place < 2 ^ 63
+reply-low : (a : SignedBy Answer) → FitsParts (Plain (Reply a)) → a.statement.place < 2 ^ 63
 reply-low a fits = fits.content_fits.statement_fits.place_fits.1
 
 -- each event keeps that all has a spelling
@@ -126,20 +160,20 @@ keeps-fit {S = S} m brief =
     record {
       event = λ w i h event there at may is.
           fit-stepped w i h (step_of m h.node event)
-          (fit-step m brief h.node event (may-fit w h event is (may_read w h event (fit-reads w is) may)) (each_get (λ (g : Host S). FitNode g.node) w.hosts i h is.hosts at)) is;
+          (fit-step group_secret m brief h.node event (may-fit w h event is may) (each_get (λ (g : Host S). FitNode group_secret g.node) w.hosts i h is.hosts at)) is;
       hear = λ w i c x a at has read is.
           record {
             hosts = is.hosts;
             clients = each_set FitClient w.clients i (after_heard c a (heard w.view c a)) is.clients
-                (fit-after_heard c a (heard w.view c a) (reply-low a (fit-reads w is (contents.Message (Reply a)) (read_has w x (Reply a) (fit-reads w is) has read))) (each_get FitClient w.clients i c is.clients at));
+                (fit-after_heard c a (heard w.view c a) (reply-low a (fit-reads w is (contents.Message (Plain (Reply a))) (heard_has w x (Reply a) (fit-reads w is) has read))) (each_get FitClient w.clients i c is.clients at));
             sent = is.sent;
             tagged = is.tagged;
           };
       ask = λ w i c op at free few brief is.
           let fit = each_get FitClient w.clients i c is.clients at in
           let new : FitsRequest c.id (request_of c op) = record { client_is = refl; client_fits = fit.named; seq_fits = (omega arith, few); after_fits = fit.seen; op_fits = brief } in
-          let good : IsGood (ask_of c op) = ask-good c.id (request_of c op) new in
-          fit-posts (asked_by w i c op) (from_client c (ask_of c op)) good.fits good.tagged
+          let good : IsGood group_secret (ask_of c op) = client-good c.id (request_of c op) new in
+          fit-posts (asked_by w i c op) (from_client c (ask_of c op)) (parts-fit (ask_of c op) good.fits) good
           (record {
             hosts = is.hosts;
             clients = each_set FitClient w.clients i (asking c (request_of c op)) is.clients (record { named = fit.named; seen = fit.seen; waits = one_waits c.id (request_of c op) new });
@@ -147,8 +181,8 @@ keeps-fit {S = S} m brief =
             tagged = is.tagged;
           });
       again = λ w i c q at waits is.
-          let good : IsGood (signed_by c q) = ask-good c.id q ((each_get FitClient w.clients i c is.clients at).waits q waits) in
-          fit-posts w (from_client c (signed_by c q)) good.fits good.tagged is;
+          let good : IsGood group_secret (signed_by c q) = client-good c.id q ((each_get FitClient w.clients i c is.clients at).waits q waits) in
+          fit-posts w (from_client c (signed_by c q)) (parts-fit (signed_by c q) good.fits) good is;
       learn = λ w i j c d at other is.
           let fit = each_get FitClient w.clients i c is.clients at in
           record {
@@ -186,9 +220,9 @@ view_parts v is =
     (leb-true v.number 1023 f.0, a.1)
 
 -- hosts that have just opened
-hosts_fit : {S : Type 0} (m : Meaning S) (view : View) (ids : List ℕ) → view.number < 2 ^ 32 → Each (IsSigner 1) ids → Each (λ h. FitNode h.node) (hosts_from m view ids)
+hosts_fit : {S : Type 0} (m : Meaning S) (view : View) (ids : List ℕ) → is_view view ≡ true → Each (IsSigner 1) ids → Each (λ h. FitNode group_secret h.node) (hosts_from m view ids)
 hosts_fit m view [] low each = tt
-hosts_fit m view (id ∷ ids) low each = (fit-opened m id view each.0 low, hosts_fit m view ids low each.1)
+hosts_fit m view (id ∷ ids) low each = (fit-opened group_secret m id view 1024 each.0 low, hosts_fit m view ids low each.1)
 
 -- clients that have not asked
 clients_fit : (count i : ℕ) → i + count ≤ 2 ^ 16 → Each FitClient (clients_from count i)
@@ -200,7 +234,7 @@ clients_fit (suc count) i low = (record { named = omega (arith, low); seen = ome
 pub fit-begun : {S : Type 0} (m : Meaning S) (view : View) → is_view view ≡ true → AllFit (begun m view)
 fit-begun m view is =
     let parts = view_parts view is in
-    record { hosts = hosts_fit m view view.members (omega (arith, parts.0)) (ascending 0 view.members parts.1); clients = clients_fit 1025 0 (omega arith); sent = tt; tagged = tt }
+    record { hosts = hosts_fit m view view.members is (ascending 0 view.members parts.1); clients = clients_fit 1025 0 (omega arith); sent = tt; tagged = tt }
 
 -- in every play
 
@@ -209,18 +243,26 @@ pub fit-after : {S : Type 0} (m : Meaning S) → IsBrief m → (view : View) (ls
 fit-after m brief view ls is = keeps-world_after (step_of m) AllFit (keeps-fit m brief) (begun m view) ls (fit-begun m view is)
 
 -- so it is read
+reads-short : (m : AnyMessage) → FitsParts m → IsReadIfShort m
+reads-short m fits = record { short = λ short. any_spelling_is m (parts_fit m fits short); long = λ long. long_unread (any_spelling m) long }
+
 reads-as : (x : Content) → IsRead x → IsReadAs x
-reads-as (contents.Message message) fits = spelling_is message fits
-reads-as (contents.Raw bytes) unread = unread
+reads-as (contents.Message message) fits = reads-short message fits
+reads-as (contents.Raw bytes) none = none.unread
+
+heard-as : (x : Content) → IsRead x → IsHeardAs x
+heard-as (contents.Message (Plain m)) fits = spelling_is m fits
+heard-as (contents.Message (Change m)) fits = λ y read. change-unheard m y read
+heard-as (contents.Raw bytes) none = none.unheard
 
 -- and what nodes and clients sent is genuine
-genuine_content : (x : Content) → IsRead x → IsTaggedContent x → IsGenuineContent x
-genuine_content (contents.Message message) fits tagged = good-genuine message (record { fits = fits; tagged = tagged })
-genuine_content (contents.Raw bytes) unread none = none
+genuine_content : (x : Content) → IsTaggedContent x → IsGenuineContent x
+genuine_content (contents.Message message) good = good-genuine group_secret message good
+genuine_content (contents.Raw bytes) none = none
 
 genuine-from : (origin : Origin) (x : Content) → IsRead x → IsTaggedFrom origin x → IsGenuineFrom origin x
-genuine-from (origins.Node id) x read tagged = genuine_content x read tagged
-genuine-from (origins.Client id) x read tagged = genuine_content x read tagged
+genuine-from (origins.Node id) x read tagged = genuine_content x tagged
+genuine-from (origins.Client id) x read tagged = genuine_content x tagged
 genuine-from origins.Script x read tagged = tt
 
 pub all_genuine : {S : Type 0} (m : Meaning S) → IsBrief m → (view : View) (ls : List Line) → is_view view ≡ true → AllGenuine (world_after (step_of m) (begun m view) ls)
@@ -229,6 +271,7 @@ all_genuine {S = S} m brief view ls is =
     let fit : AllFit w = fit-after m brief view ls is in
     record {
       read = each_weaker (λ (s : Sent). IsRead s.content) (λ (s : Sent). IsReadAs s.content) (λ s. reads-as s.content) w.sent fit.sent;
+      heard = each_weaker (λ (s : Sent). IsRead s.content) (λ (s : Sent). IsHeardAs s.content) (λ s. heard-as s.content) w.sent fit.sent;
       genuine = each_both (λ (s : Sent). IsRead s.content) (λ (s : Sent). IsTaggedFrom s.origin s.content) (λ (s : Sent). IsGenuineFrom s.origin s.content) (λ s. genuine-from s.origin s.content)
           w.sent fit.sent fit.tagged;
     }

@@ -2,7 +2,7 @@
 use Rattle.std.proofs.Common.{◌≡◌, ℕ, zero, suc, ◌+◌, ◌≤◌, ◌++◌, List, [], ◌∷◌, length, refl, ap, arith, Some, take, add-one}
 use Rattle.std.specs.Prelude.{slice_get}
 use Rattle.smart_messages.specs.Messages.{Batch}
-use Rattle.node_rules.specs.Replicas.{batch_at}
+use Rattle.replica_rules.specs.Replicas.{batch_at}
 
 -- a list begins with another
 abbrev pub IsFront : {A : Type 0} → List A → List A → Type 0

@@ -1,44 +1,67 @@
 -- In a play each batch that a node holds was in a message that was sent, and is the only one of its digest.
-use Rattle.std.proofs.Common.{◌≡◌, ℕ, ◌++◌, ◌==◌, ◌+◌, true, List, [], ◌∷◌, length, refl, sym, subst, inl, inr, Option, Some, None, Result, Ok, Err}
+use Rattle.std.proofs.Common.{◌≡◌, ℕ, ◌++◌, ◌==◌, ◌+◌, ◌&&◌, true, false, not, List, [], ◌∷◌, length, refl, sym, subst, inl, inr, Option, Some, None}
+use Rattle.std.specs.Prelude.{option_map}
+use Rattle.std.specs.List.{list_any, filter_map}
 use Rattle.smart_base.specs.Lists.{Each}
 use Rattle.smart_base.specs.Views.{View, is_view}
-use Rattle.smart_messages.specs.Equality.{same_slot}
-use Rattle.smart_messages.specs.Messages.{Batch, decoded}
-use Rattle.smart_messages.specs.declared.statement.Slot.{Slot}
-use Rattle.smart_messages.specs.declared.statement.VoteKind.TheVariants.{Write, Accept}
+use Rattle.smart_messages.specs.Forms.{SignedBy}
+use Rattle.smart_messages.specs.Messages.{Batch}
+use Rattle.smart_messages.specs.declared.statement.VoteKind.TheVariants.{Write}
+use Rattle.smart_messages.specs.declared.statement.Request.{Request}
+use Rattle.smart_messages.specs.declared.report.Report.{Report}
+use Rattle.smart_messages.specs.declared.regency.Sync.{Sync}
 use Rattle.smart_messages.specs.declared.message.Proposed.{Proposed}
 use Rattle.smart_messages.specs.declared.message.Message.{Message}
 use Rattle.smart_messages.specs.declared.message.Message.TheVariants.{Ask, Propose, Vote, Reply}
-use Rattle.smart_messages.specs.declared.entry.LogEntry.{LogEntry}
-use Rattle.smart_messages.specs.declared.entry.LogEntry.TheVariants.{Wrote, Accepted, Decided}
+use Rattle.smart_messages.specs.declared.regency.RegencyMessage.TheVariants as changes
+use Rattle.smart_messages.specs.declared.any.AnyMessage.{AnyMessage}
+use Rattle.smart_messages.specs.declared.any.AnyMessage.TheVariants.{Plain, Change}
 use Rattle.smart_messages.specs.declared.entry.NodeEvent.{NodeEvent}
 use Rattle.smart_messages.specs.declared.entry.NodeEvent.TheVariants.{Arrive, Tick, Deliver, Firm}
 use Rattle.smart_service.specs.Services.{Meaning}
 use Rattle.smart_service.specs.declared.table.TableLine.{TableLine}
-use Rattle.node_rules.specs.Replicas.{is_next, delivered}
-use Rattle.node_rules.specs.Seals.{digest_of}
-use Rattle.node_rules.specs.Nodes.{Node, next_place, open_slot, is_free, holding, proposal_in, proposal_of}
-use Rattle.node_rules.specs.Arrivals.{why_dropped, kept, noted}
-use Rattle.node_rules.specs.Pools.{offered, settled}
-use Rattle.node_rules.specs.Rules.{reply_of, replying, lines_to_answer, deliver_batch, delivers, proposing, propose_batch, proposes, writing, write_batch, writes, backed, backers, accepting, accept_batch, accepts, deciding, decide_batch, decides, answering, answer_line, answers_again}
-use Rattle.node_rules.specs.Steps.{Outcome, votes, passes, arrival_outcome, reading_outcome, step_of, leaving}
-use Rattle.node_rules.specs.declared.node.Why.{Why}
+use Rattle.vote_book.specs.BookReports.{accept_for}
+use Rattle.vote_book.specs.Admission.{accepts_in}
+use Rattle.vote_book.specs.declared.entry.Accept as accept
+use Rattle.vote_book.specs.declared.entry.Decision.{Decision}
+use Rattle.vote_book.specs.declared.entry.LogEntry.{LogEntry}
+use Rattle.vote_book.specs.declared.entry.LogEntry.TheVariants.{Opened, Wrote, Accepted, Promised, Synced, Decided, Installed, Marked}
+use Rattle.node_rules.specs.Votes.{has_quorum, Named, named_in, named_by, known, proposed_for}
+use Rattle.replica_rules.specs.Replicas.{is_next, delivered}
+use Rattle.replica_rules.specs.Pools.{offered, settled}
+use Rattle.node_rules.specs.Rules.{reply_of, replying, lines_to_answer, deliver_batch, delivers, proposing, propose_batch, proposes, writing, write_batch, writes, votable, written, accepting, accept_batch, accepts, deciding, decide_batch, decides, answering, answer_line, answers_again}
+use Rattle.node_rules.specs.Nodes.{Node, view_of, regency_of, next_place, open_slot, is_open, holding}
+use Rattle.node_rules.specs.Arrivals.{noted, kept_plain, kept_change, kept}
+use Rattle.node_rules.specs.Changes.{adopts_by, adopts, adoption, asks_next, joining, joins, promising, promise_next, promises, leading, lead_with, leads, timing, passes_on, presses, times}
+use Rattle.node_rules.specs.Steps.{Outcome, step_of, leaving}
 use Rattle.node_rules.specs.declared.node.Target.TheVariants as targets
 use Rattle.world_rules.specs.Premises.{met, batches}
 use Rattle.world_rules.specs.Worlds.{Host, World, posts, chosen_with, host_after, stepped, hearing, hosts_from, begun}
 use Rattle.world_rules.specs.declared.message.Sent.{Sent}
-use Rattle.world_laws.specs.Books.{decided_of}
+use Rattle.world_rules.specs.declared.message.Content.{Content}
+use Rattle.node_laws.proofs.Lists.{guard, some_equal, each_filter_map_in, each_among, each_append}
+use Rattle.node_laws.proofs.Voting.{proposed_is, votable_is}
+use Rattle.node_laws.proofs.Deciding.{due_is, accept_for_is}
+use Rattle.replica_laws.proofs.Once.{entries_adopted}
+use Rattle.replica_laws.specs.Sending.{ForRead, ForEvent}
+use Rattle.replica_laws.proofs.Rulewise.{KeptByRules, keeps_step}
 use Rattle.world_laws.proofs.Lists.{either, each_end, each_weaker, each_set, each_get}
-use Rattle.world_laws.proofs.InOrder.{decided-append, decided-none}
 use Rattle.world_laws.proofs.Certified.{Exact}
 use Rattle.world_laws.proofs.Keeps.{HasMessage, ask_of, asked_by, Keeps, by-posts, ReadsSent, MayRead, may_read, signed_by, from_node, from_client, comes-as, keeps-sends_all, from_script}
-use Rattle.world_laws.proofs.Authentic.{ForBatch, for_batch-weaker}
-use Rattle.world_laws.proofs.FitNodes.{IsBrief, proposal_of-if, backed-if}
+use Rattle.replica_laws.proofs.FitNodes.{IsBrief}
 use Rattle.world_laws.proofs.Fitting.{AllFit, keeps-fit, fit-reads, fit-begun}
 use Rattle.world_laws.proofs.NoClash.{HasBatch, IsMet, has-left, has-right, met-grows, TextsExact, texts-end, met-exact}
-use Rattle.world_rules.specs.declared.message.Content.{Content}
 
 -- a node
+
+-- what holds of a batch that may be there
+abbrev pub ForBatch : Option Batch → (Batch → Type 0) → Type 0
+ForBatch None P = Unit {0}
+ForBatch (Some batch) P = P batch
+
+for_batch-weaker : (P Q : Batch → Type 0) → ((batch : Batch) → P batch → Q batch) → (batch : Option Batch) → ForBatch batch P → ForBatch batch Q
+for_batch-weaker P Q weaker None p = tt
+for_batch-weaker P Q weaker (Some batch) p = weaker batch p
 
 -- a proposal's batch was met
 abbrev pub ProposalMet : (Batch → Type 0) → Message → Type 0
@@ -47,51 +70,58 @@ ProposalMet M (Propose p) = M p.batch
 ProposalMet M (Vote b) = Unit {0}
 ProposalMet M (Reply a) = Unit {0}
 
+abbrev pub MessageMet : (Batch → Type 0) → AnyMessage → Type 0
+MessageMet M (Plain m) = ProposalMet M m
+MessageMet M (Change m) = Unit {0}
+
+-- and an entry's
+abbrev pub EntryMet : (Batch → Type 0) → LogEntry → Type 0
+EntryMet M (Opened o) = Unit {0}
+EntryMet M (Wrote w) = Unit {0}
+EntryMet M (Accepted a) = M a.batch
+EntryMet M (Promised p) = Unit {0}
+EntryMet M (Synced s) = Unit {0}
+EntryMet M (Decided d) = M d.batch
+EntryMet M (Installed i) = Unit {0}
+EntryMet M (Marked m) = Unit {0}
+
 -- each batch at a node was met
 pub record NodeMet {S : Type 0} (M : Batch → Type 0) (n : Node S) : Type 0 where
   pub arrivals : Each (ProposalMet M) n.arrivals
+  pub entries : Each (EntryMet M) n.entries
   pub waiting : ForBatch n.waiting M
-  pub decided : Each M (decided_of n.entries)
-
--- so is what comes
-abbrev pub ReadMet : (Batch → Type 0) → Result Message ℕ → Type 0
-ReadMet M (Ok message) = ProposalMet M message
-ReadMet M (Err at) = Unit {0}
-
-abbrev pub EventMet : (Batch → Type 0) → NodeEvent → Type 0
-EventMet M (Arrive bytes) = ReadMet M (decoded bytes)
-EventMet M Tick = Unit {0}
-EventMet M Deliver = Unit {0}
-EventMet M (Firm count) = Unit {0}
 
 -- replies wait to leave
 met-replying : {S : Type 0} (M : Batch → Type 0) (n : Node S) (lines : List TableLine) → NodeMet M n → NodeMet M (replying n lines)
 met-replying M n [] is = is
 met-replying M n (l ∷ ls) is =
-    met-replying M (holding n (targets.Client l.client) (reply_of n.secret n.id l)) ls (record { arrivals = is.arrivals; waiting = is.waiting; decided = is.decided })
+    met-replying M (holding n (targets.Client l.client) (Plain (reply_of n.secret n.id l))) ls (record { arrivals = is.arrivals; entries = is.entries; waiting = is.waiting })
 
 -- an arrival is kept
-met-kept : {S : Type 0} (M : Batch → Type 0) (n : Node S) (message : Message) → ProposalMet M message → NodeMet M n → NodeMet M (kept n message)
-unfolding kept
-met-kept {S = S} M n (Ask q) met is =
+met-kept : {S : Type 0} (M : Batch → Type 0) (n : Node S) (message : AnyMessage) → MessageMet M message → NodeMet M n → NodeMet M (kept n message)
+unfolding kept_plain kept_change
+met-kept {S = S} M n (Plain (Ask q)) met is =
     either (λ (x : Node S). NodeMet M x) (is_next n.replica.table q.statement) (record n { pool = offered n.pool q }) n
-    (record { arrivals = is.arrivals; waiting = is.waiting; decided = is.decided }) is
-met-kept M n (Propose p) met is = record { arrivals = each_end (ProposalMet M) n.arrivals (Propose p) is.arrivals met; waiting = is.waiting; decided = is.decided }
-met-kept M n (Vote b) met is = record { arrivals = each_end (ProposalMet M) n.arrivals (Vote b) is.arrivals tt; waiting = is.waiting; decided = is.decided }
-met-kept M n (Reply a) met is = is
+    (record { arrivals = is.arrivals; entries = is.entries; waiting = is.waiting }) is
+met-kept M n (Plain (Propose p)) met is = record { arrivals = each_end (ProposalMet M) n.arrivals (Propose p) is.arrivals met; entries = is.entries; waiting = is.waiting }
+met-kept M n (Plain (Vote b)) met is = record { arrivals = each_end (ProposalMet M) n.arrivals (Vote b) is.arrivals tt; entries = is.entries; waiting = is.waiting }
+met-kept M n (Plain (Reply a)) met is = is
+met-kept M n (Change (changes.Stop s)) met is = record { arrivals = is.arrivals; entries = is.entries; waiting = is.waiting }
+met-kept M n (Change (changes.StopData r)) met is = record { arrivals = is.arrivals; entries = is.entries; waiting = is.waiting }
+met-kept M n (Change (changes.Sync s)) met is = record { arrivals = is.arrivals; entries = is.entries; waiting = is.waiting }
 
 -- a node is told that it is behind
-met-noted : {S : Type 0} (M : Batch → Type 0) (n : Node S) (message : Message) → NodeMet M n → NodeMet M (noted n message)
+met-noted : {S : Type 0} (M : Batch → Type 0) (n : Node S) (message : AnyMessage) → NodeMet M n → NodeMet M (noted n message)
 unfolding noted
-met-noted M n message is = record { arrivals = is.arrivals; waiting = is.waiting; decided = is.decided }
+met-noted M n message is = record { arrivals = is.arrivals; entries = is.entries; waiting = is.waiting }
 
 -- a node answers again
 met-answer_line : {S : Type 0} (M : Batch → Type 0) (n : Node S) (line : Option TableLine) → NodeMet M n → NodeMet M (answer_line n line)
 unfolding answer_line
 met-answer_line M n None is = is
-met-answer_line M n (Some line) is = record { arrivals = is.arrivals; waiting = is.waiting; decided = is.decided }
+met-answer_line M n (Some line) is = record { arrivals = is.arrivals; entries = is.entries; waiting = is.waiting }
 
-met-answers_again : {S : Type 0} (M : Batch → Type 0) (n : Node S) (message : Message) → NodeMet M n → NodeMet M (answers_again n message)
+met-answers_again : {S : Type 0} (M : Batch → Type 0) (n : Node S) (message : AnyMessage) → NodeMet M n → NodeMet M (answers_again n message)
 unfolding answers_again
 met-answers_again M n message is = met-answer_line M n (answering n message) is
 
@@ -101,87 +131,165 @@ unfolding deliver_batch
 met-deliver_batch M m n None is = is
 met-deliver_batch M m n (Some batch) is =
     met-replying M
-    (record n { replica = delivered m n.replica batch; waiting = None; pool = settled (delivered m n.replica batch).table n.pool })
+    (record n { replica = delivered m n.replica batch; waiting = None; pool = settled (delivered m n.replica batch).table n.pool; impatient = false })
     (lines_to_answer m n batch)
-    (record { arrivals = is.arrivals; waiting = tt; decided = is.decided })
+    (record { arrivals = is.arrivals; entries = is.entries; waiting = tt })
+
+met-delivers : {S : Type 0} (M : Batch → Type 0) (m : Meaning S) (n : Node S) → NodeMet M n → NodeMet M (delivers m n)
+unfolding delivers
+met-delivers M m n is = met-deliver_batch M m n n.waiting is
+
+-- a regency begins, is asked for, promised and led
+met-adopts_by : {S : Type 0} (M : Batch → Type 0) (n : Node S) → NodeMet M n → NodeMet M (adopts n)
+unfolding adopts adopts_by
+met-adopts_by M n is = with_entries (adoption n)
+    (entries_adopted (Each (EntryMet M)) (λ es p each. each_end (EntryMet M) es (Promised p) each tt) (λ es s each. each_end (EntryMet M) es (Synced s) each tt) n (adoption n) is.entries)
+  where
+    with_entries : (sync : Option (SignedBy Sync)) → Each (EntryMet M) (adopts_by n sync).entries → NodeMet M (adopts_by n sync)
+    with_entries None each = is
+    with_entries (Some sync) each = record { arrivals = is.arrivals; entries = each; waiting = is.waiting }
+
+met-joins : {S : Type 0} (M : Batch → Type 0) (n : Node S) → NodeMet M n → NodeMet M (joins n)
+unfolding joins
+met-joins {S = S} M n is = either (λ (x : Node S). NodeMet M x) (joining n) (asks_next n) n (record { arrivals = is.arrivals; entries = is.entries; waiting = is.waiting }) is
+
+met-promises : {S : Type 0} (M : Batch → Type 0) (n : Node S) → NodeMet M n → NodeMet M (promises n)
+unfolding promises promise_next
+met-promises {S = S} M n is =
+    either (λ (x : Node S). NodeMet M x) (promising n) (promise_next n) n (record { arrivals = is.arrivals; entries = each_end (EntryMet M) n.entries _ is.entries tt; waiting = is.waiting }) is
+
+met-lead_with : {S : Type 0} (M : Batch → Type 0) (n : Node S) (collect : Option (List (SignedBy Report))) → NodeMet M n → NodeMet M (lead_with n collect)
+unfolding lead_with
+met-lead_with M n None is = is
+met-lead_with M n (Some collect) is = record { arrivals = is.arrivals; entries = is.entries; waiting = is.waiting }
+
+met-leads : {S : Type 0} (M : Batch → Type 0) (n : Node S) → NodeMet M n → NodeMet M (leads n)
+unfolding leads
+met-leads M n is = met-lead_with M n (leading n) is
+
+met-passes_on : {S : Type 0} (M : Batch → Type 0) (n : Node S) (pool : List (SignedBy Request)) → NodeMet M n → NodeMet M (passes_on n pool)
+met-passes_on M n [] is = is
+met-passes_on M n (q ∷ qs) is = record { arrivals = is.arrivals; entries = is.entries; waiting = is.waiting }
+
+met-times : {S : Type 0} (M : Batch → Type 0) (n : Node S) → NodeMet M n → NodeMet M (times n)
+unfolding times presses
+met-times {S = S} M n is =
+    either (λ (x : Node S). NodeMet M x) (timing n) _ n
+    (either (λ (x : Node S). NodeMet M x) n.impatient (asks_next n) (passes_on (record n { impatient = true }) n.pool) (record { arrivals = is.arrivals; entries = is.entries; waiting = is.waiting })
+    (met-passes_on M (record n { impatient = true }) n.pool (record { arrivals = is.arrivals; entries = is.entries; waiting = is.waiting }))) is
 
 -- a batch is proposed
 met-propose_batch : {S : Type 0} (M : Batch → Type 0) (n : Node S) (batch : Option Batch) → NodeMet M n → NodeMet M (propose_batch n batch)
 unfolding propose_batch
 met-propose_batch M n None is = is
-met-propose_batch M n (Some batch) is = record { arrivals = is.arrivals; waiting = is.waiting; decided = is.decided }
+met-propose_batch M n (Some batch) is = record { arrivals = is.arrivals; entries = is.entries; waiting = is.waiting }
 
--- an entry that decides nothing
-none-decided : (M : Batch → Type 0) (es : List LogEntry) (e : LogEntry) → decided_of (e ∷ []) ≡ [] → Each M (decided_of es) → Each M (decided_of (es ++ e ∷ []))
-none-decided M es e none each = subst (λ (bs : List Batch). Each M bs) (sym (decided-none es e none)) each
+met-proposes : {S : Type 0} (M : Batch → Type 0) (n : Node S) → NodeMet M n → NodeMet M (proposes n)
+unfolding proposes
+met-proposes M n is = met-propose_batch M n (proposing n) is
 
 -- a batch is written
-met-write_batch : {S : Type 0} (M : Batch → Type 0) (n : Node S) (batch : Option Batch) → NodeMet M n → NodeMet M (write_batch n batch)
+met-write_batch : {S : Type 0} (M : Batch → Type 0) (n : Node S) (p : Option Proposed) → NodeMet M n → NodeMet M (write_batch n p)
 unfolding write_batch
 met-write_batch M n None is = is
-met-write_batch M n (Some batch) is =
-    record { arrivals = is.arrivals; waiting = is.waiting; decided = none-decided M n.entries (Wrote (open_slot n) (digest_of batch)) refl is.decided }
+met-write_batch M n (Some p) is = record { arrivals = is.arrivals; entries = each_end (EntryMet M) n.entries _ is.entries tt; waiting = is.waiting }
+
+met-writes : {S : Type 0} (M : Batch → Type 0) (n : Node S) → NodeMet M n → NodeMet M (writes n)
+unfolding writes
+met-writes M n is = met-write_batch M n (writing n) is
 
 -- a batch is accepted
-met-accept_batch : {S : Type 0} (M : Batch → Type 0) (n : Node S) (batch : Option Batch) → NodeMet M n → NodeMet M (accept_batch n batch)
+met-accept_batch : {S : Type 0} (M : Batch → Type 0) (n : Node S) (o : Option Proposed) → ((p : Proposed) → o ≡ Some p → M p.batch) → NodeMet M n → NodeMet M (accept_batch n o)
 unfolding accept_batch
-met-accept_batch M n None is = is
-met-accept_batch M n (Some batch) is =
-    record { arrivals = is.arrivals; waiting = is.waiting; decided = none-decided M n.entries (Accepted (open_slot n) (backers n Write batch) batch) refl is.decided }
+met-accept_batch M n None met is = is
+met-accept_batch M n (Some p) met is = record { arrivals = is.arrivals; entries = each_end (EntryMet M) n.entries _ is.entries (met p refl); waiting = is.waiting }
 
--- the batch that a message proposes
-proposal_in-met : (M : Batch → Type 0) (slot : Slot) (message : Message) → ProposalMet M message → ForBatch (proposal_in slot message) M
-proposal_in-met M slot (Ask q) met = tt
-proposal_in-met M slot (Propose p) met = either (λ (batch : Option Batch). ForBatch batch M) (same_slot p.head.statement.slot slot) (Some p.batch) None met tt
-proposal_in-met M slot (Vote b) met = tt
-proposal_in-met M slot (Reply a) met = tt
+written_is : {S : Type 0} (n : Node S) (o : Option Proposed) (p : Proposed) → written n o ≡ Some p → o ≡ Some p
+written_is n None p is = absurd (cc)
+written_is n (Some o) p is = (guard (has_quorum n.arrivals (view_of n) Write (open_slot n) o.head.statement.digest) (Some o) p is).1
 
--- what a node decides
-deciding-met : {S : Type 0} (M : Batch → Type 0) (n : Node S) → NodeMet M n → ForBatch (deciding n) M
-unfolding deciding
-deciding-met M n is =
-    either (λ (batch : Option Batch). ForBatch batch M) (is_free n) (backed n Accept (proposal_of n.arrivals (open_slot n))) None
-    (backed-if M n Accept (proposal_of n.arrivals (open_slot n)) (proposal_of-if M (ProposalMet M) (open_slot n) (proposal_in-met M (open_slot n)) n.arrivals is.arrivals)) tt
+accepting-met : {S : Type 0} (M : Batch → Type 0) (n : Node S) → NodeMet M n → (p : Proposed) → accepting n ≡ Some p → M p.batch
+unfolding accepting
+accepting-met M n is p at =
+    let proposal = proposed_for n.arrivals (open_slot n) in
+    let parts = guard (is_open n && not (list_any (accepts_in (open_slot n)) n.entries)) (written n (votable n proposal)) p at in
+    let v = votable_is n proposal p (written_is n (votable n proposal) p parts.1) in
+    each_among (ProposalMet M) n.arrivals (Propose p) is.arrivals (proposed_is n.arrivals (open_slot n) p v.1).there
+
+met-accepts : {S : Type 0} (M : Batch → Type 0) (n : Node S) → NodeMet M n → NodeMet M (accepts n)
+unfolding accepts
+met-accepts M n is = met-accept_batch M n (accepting n) (accepting-met M n is) is
+
+-- what is known for a place
+
+named-proposed : (M : Batch → Type 0) (number place regency : ℕ) (m : Message) (x : Named) → ProposalMet M m → named_in number place regency m ≡ Some x → M x.batch
+named-proposed M number place regency (Ask q) x met at = absurd (cc)
+named-proposed M number place regency (Propose p) x met at =
+    let it : Named = record { digest = p.head.statement.digest; batch = p.batch } in
+    let same : it ≡ x = some_equal it x (guard _ (Some it) x at).1 in
+    subst (λ (y : Named). M y.batch) same met
+named-proposed M number place regency (Vote b) x met at = absurd (cc)
+named-proposed M number place regency (Reply a) x met at = absurd (cc)
+
+named-accepted : (M : Batch → Type 0) (view place : ℕ) (e : LogEntry) (x : Named) (o : Option accept.Accept) → EntryMet M e → accept_for view place e ≡ o
+    → option_map (λ (a : accept.Accept). record { digest = a.digest; batch = a.batch }) o ≡ Some x → M x.batch
+named-accepted M view place e x None met found at = absurd (cc)
+named-accepted M view place e x (Some a) met found at =
+    let for_it = accept_for_is view place e a found in
+    let own : EntryMet M (Accepted a) = subst (EntryMet M) for_it.entry_is met in
+    let it : Named = record { digest = a.digest; batch = a.batch } in
+    let same : it ≡ x = some_equal it x at in
+    subst (λ (y : Named). M y.batch) same own
+
+known-met : {S : Type 0} (M : Batch → Type 0) (n : Node S) (number place regency : ℕ) → NodeMet M n → Each (λ (x : Named). M x.batch) (known number place regency n.arrivals n.entries)
+known-met M n number place regency is =
+    each_append (λ (x : Named). M x.batch) (filter_map (named_in number place regency) n.arrivals) (filter_map (named_by number place) n.entries)
+    (each_filter_map_in (λ (x : Named). M x.batch) (named_in number place regency) n.arrivals
+    (λ m x there at. named-proposed M number place regency m x (each_among (ProposalMet M) n.arrivals m is.arrivals there) at))
+    (each_filter_map_in (λ (x : Named). M x.batch) (named_by number place) n.entries
+    (λ e x there at. named-accepted M number place e x (accept_for number place e) (each_among (EntryMet M) n.entries e is.entries there) refl at))
 
 -- a batch is decided
-met-decide_batch : {S : Type 0} (M : Batch → Type 0) (n : Node S) (batch : Option Batch) → ForBatch batch M → NodeMet M n → NodeMet M (decide_batch n batch)
+met-decide_batch : {S : Type 0} (M : Batch → Type 0) (n : Node S) (o : Option Decision) → ((d : Decision) → o ≡ Some d → M d.batch) → NodeMet M n → NodeMet M (decide_batch n o)
 unfolding decide_batch
 met-decide_batch M n None met is = is
-met-decide_batch M n (Some batch) met is =
-    record {
-      arrivals = is.arrivals;
-      waiting = met;
-      decided = subst (λ (bs : List Batch). Each M bs) (sym (decided-append n.entries (Decided (open_slot n) (backers n Accept batch) batch))) (each_end M (decided_of n.entries) batch is.decided met);
-    }
+met-decide_batch M n (Some d) met is = record { arrivals = is.arrivals; entries = each_end (EntryMet M) n.entries (Decided d) is.entries (met d refl); waiting = met d refl }
 
-met-votes : {S : Type 0} (M : Batch → Type 0) (n : Node S) → NodeMet M n → NodeMet M (votes n)
-unfolding votes proposes writes accepts
-met-votes M n is =
-    let proposed : NodeMet M (proposes n) = met-propose_batch M n (proposing n) is in
-    let wrote : NodeMet M (writes (proposes n)) = met-write_batch M (proposes n) (writing (proposes n)) proposed in
-    met-accept_batch M (writes (proposes n)) (accepting (writes (proposes n))) wrote
+deciding-met : {S : Type 0} (M : Batch → Type 0) (n : Node S) → NodeMet M n → (d : Decision) → deciding n ≡ Some d → M d.batch
+deciding-met M n is d at =
+    let due = due_is n d at in
+    let own = each_among (λ (x : Named). M x.batch) (known (view_of n).number (next_place n) (regency_of n) n.arrivals n.entries) due.decides.named
+    (known-met M n (view_of n).number (next_place n) (regency_of n) is) due.decides.there in
+    subst (λ (x : Decision). M x.batch) (sym due.decides.decision_is) own
 
-met-passes : {S : Type 0} (M : Batch → Type 0) (n : Node S) → NodeMet M n → NodeMet M (passes n)
-unfolding passes decides
-met-passes M n is = met-decide_batch M (votes n) (deciding (votes n)) (deciding-met M (votes n) (met-votes M n is)) (met-votes M n is)
-
-met-arrival : {S : Type 0} (M : Batch → Type 0) (n : Node S) (message : Message) (why : Option Why) → ProposalMet M message → NodeMet M n → NodeMet M (arrival_outcome n message why).node
-met-arrival {S = S} M n message None met is =
-    let k : Node S = kept (noted n message) message in
-    met-answers_again M (passes k) message (met-passes M k (met-kept M (noted n message) message met (met-noted M n message is)))
-met-arrival M n message (Some why) met is = met-noted M n message is
-
-met-reading : {S : Type 0} (M : Batch → Type 0) (n : Node S) (read : Result Message ℕ) → ReadMet M read → NodeMet M n → NodeMet M (reading_outcome n read).node
-met-reading M n (Ok x) met is = met-arrival M n x (why_dropped n x) met is
-met-reading M n (Err at) met is = is
+met-decides : {S : Type 0} (M : Batch → Type 0) (n : Node S) → NodeMet M n → NodeMet M (decides n)
+unfolding decides
+met-decides M n is = met-decide_batch M n (deciding n) (deciding-met M n is) is
 
 -- each event keeps that
-met-step : {S : Type 0} (M : Batch → Type 0) (m : Meaning S) (n : Node S) (event : NodeEvent) → EventMet M event → NodeMet M n → NodeMet M (step_of m n event).node
-unfolding step_of delivers
-met-step M m n (Arrive bytes) met is = met-reading M n (decoded bytes) met is
-met-step M m n Tick met is = met-passes M n is
-met-step M m n Deliver met is = met-passes M (deliver_batch m n n.waiting) (met-deliver_batch M m n n.waiting is)
-met-step M m n (Firm count) met is = met-passes M (record n { firm = count }) (record { arrivals = is.arrivals; waiting = is.waiting; decided = is.decided })
+met-rules : {S : Type 0} (M : Batch → Type 0) → KeptByRules (λ (n : Node S). NodeMet M n)
+met-rules M = record {
+  by_adopts = met-adopts_by M;
+  by_joins = met-joins M;
+  by_promises = met-promises M;
+  by_leads = met-leads M;
+  by_proposes = met-proposes M;
+  by_writes = met-writes M;
+  by_accepts = met-accepts M;
+  by_decides = met-decides M;
+}
+
+met-step : {S : Type 0} (M : Batch → Type 0) (m : Meaning S) (n : Node S) (event : NodeEvent) → ForEvent (MessageMet M) event → NodeMet M n → NodeMet M (step_of m n event).node
+met-step {S = S} M m n event may is =
+    keeps_step m (λ (x : Node S). NodeMet M x) (MessageMet M) n event
+    (record {
+      by_rules = met-rules M;
+      by_times = met-times M;
+      by_answers = met-answers_again M;
+      by_noted = met-noted M;
+      by_kept = λ n message fine may is. met-kept M n message may is;
+      by_delivers = met-delivers M m;
+    }) (λ x count is. record { arrivals = is.arrivals; entries = is.entries; waiting = is.waiting }) may is
 
 -- more counts as met
 
@@ -191,12 +299,22 @@ proposal-weaker M N weaker (Propose p) met = weaker p.batch met
 proposal-weaker M N weaker (Vote b) met = tt
 proposal-weaker M N weaker (Reply a) met = tt
 
+entry-weaker : (M N : Batch → Type 0) → ((batch : Batch) → M batch → N batch) → (e : LogEntry) → EntryMet M e → EntryMet N e
+entry-weaker M N weaker (Opened o) met = tt
+entry-weaker M N weaker (Wrote w) met = tt
+entry-weaker M N weaker (Accepted a) met = weaker a.batch met
+entry-weaker M N weaker (Promised p) met = tt
+entry-weaker M N weaker (Synced s) met = tt
+entry-weaker M N weaker (Decided d) met = weaker d.batch met
+entry-weaker M N weaker (Installed i) met = tt
+entry-weaker M N weaker (Marked m) met = tt
+
 met-weaker : {S : Type 0} (M N : Batch → Type 0) → ((batch : Batch) → M batch → N batch) → (n : Node S) → NodeMet M n → NodeMet N n
 met-weaker M N weaker n is =
     record {
       arrivals = each_weaker (ProposalMet M) (ProposalMet N) (proposal-weaker M N weaker) n.arrivals is.arrivals;
+      entries = each_weaker (EntryMet M) (EntryMet N) (entry-weaker M N weaker) n.entries is.entries;
       waiting = for_batch-weaker M N weaker n.waiting is.waiting;
-      decided = each_weaker M N weaker (decided_of n.entries) is.decided;
     }
 
 -- worlds
@@ -247,12 +365,12 @@ met-stepped {S = S} w i h o met is =
     keeps-sends_all Met h.node.id (λ v held met. met-posts v (from_node h.node.id held) met) _ (leaving o.node.firm o.node.held)
     (record {
       texts = is.texts;
-      hosts = each_set (λ (g : Host S). NodeMet (IsMet w.sent) g.node) w.hosts i (host_after h o) is.hosts (record { arrivals = met.arrivals; waiting = met.waiting; decided = met.decided });
+      hosts = each_set (λ (g : Host S). NodeMet (IsMet w.sent) g.node) w.hosts i (host_after h o) is.hosts (record { arrivals = met.arrivals; entries = met.entries; waiting = met.waiting });
       chosen = chosen_with-met (IsMet w.sent) w.chosen (next_place o.node) o.node.waiting is.chosen met.waiting;
     })
 
 -- a message that was sent
-has-met : (sent : List Sent) (p : Proposed) → HasMessage sent (Propose p) → IsMet sent p.batch
+has-met : (sent : List Sent) (p : Proposed) → HasMessage sent (Plain (Propose p)) → IsMet sent p.batch
 has-met [] p has = absurd has
 has-met (s ∷ sent) p has =
     elim has [
@@ -260,15 +378,16 @@ has-met (s ∷ sent) p has =
       | inr later ↦ has-right (batches s.content) (met sent) p.batch (has-met sent p later)
     ]
 
-message-met : (sent : List Sent) (message : Message) → HasMessage sent message → ProposalMet (IsMet sent) message
-message-met sent (Ask q) has = tt
-message-met sent (Propose p) has = has-met sent p has
-message-met sent (Vote b) has = tt
-message-met sent (Reply a) has = tt
+message-met : (sent : List Sent) (message : AnyMessage) → HasMessage sent message → MessageMet (IsMet sent) message
+message-met sent (Plain (Ask q)) has = tt
+message-met sent (Plain (Propose p)) has = has-met sent p has
+message-met sent (Plain (Vote b)) has = tt
+message-met sent (Plain (Reply a)) has = tt
+message-met sent (Change m) has = tt
 
 -- what may come
-event-met : {S : Type 0} (w : World S) (h : Host S) (event : NodeEvent) → MayRead w h event → EventMet (IsMet w.sent) event
-event-met w h (Arrive bytes) may = comes-as w.sent bytes (ReadMet (IsMet w.sent)) (message-met w.sent) (λ at. tt) may
+event-met : {S : Type 0} (w : World S) (h : Host S) (event : NodeEvent) → MayRead w h event → ForEvent (MessageMet (IsMet w.sent)) event
+event-met w h (Arrive bytes) may = comes-as w.sent bytes (ForRead (MessageMet (IsMet w.sent))) (message-met w.sent) (λ at. tt) may
 event-met w h Tick may = tt
 event-met w h Deliver may = tt
 event-met w h (Firm count) may = tt
@@ -306,7 +425,7 @@ keeps-grounded {S = S} m brief =
 
 hosts_met : {S : Type 0} (M : Batch → Type 0) (m : Meaning S) (view : View) (ids : List ℕ) → Each (λ h. NodeMet M h.node) (hosts_from m view ids)
 hosts_met M m view [] = tt
-hosts_met M m view (id ∷ ids) = (record { arrivals = tt; waiting = tt; decided = tt }, hosts_met M m view ids)
+hosts_met M m view (id ∷ ids) = (record { arrivals = tt; entries = (tt, tt); waiting = tt }, hosts_met M m view ids)
 
 pub grounded-begun : {S : Type 0} (m : Meaning S) (view : View) → is_view view ≡ true → Grounded (begun m view)
 grounded-begun m view is =

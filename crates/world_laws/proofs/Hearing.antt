@@ -6,7 +6,7 @@ use Rattle.smart_messages.specs.Forms.{SignedBy}
 use Rattle.smart_messages.specs.Kinds.{answers}
 use Rattle.smart_messages.specs.declared.statement.Request.{Request}
 use Rattle.smart_messages.specs.declared.statement.Answer.{Answer}
-use Rattle.node_rules.specs.Seals.{is_verified}
+use Rattle.replica_rules.specs.Seals.{is_verified}
 use Rattle.world_rules.specs.Secrets.{group_secret}
 use Rattle.client_quorum.specs.Clients as clients
 use Rattle.client_quorum.specs.Clients.{have, is_waited_for, acceptance, heard_unless}

@@ -1,21 +1,32 @@
 -- What each event of a world keeps, the lines of a script keep.
-use Rattle.std.proofs.Common.{◌≡◌, ℕ, zero, suc, ◌+◌, ◌^◌, ◌<◌, ◌≤◌, ◌++◌, ◌∙◌, ◌&&◌, ◌||◌, ◌==◌, arith, Bool, true, false, List, [], ◌∷◌, length, refl, ap, cond, Option, Some, None, is_some, nat_lt, nat_le, inl, inr, ◌⊎◌, subst, Result, Ok, Err, ◌-◌, sym, append-nil, append_assoc}
-use Rattle.std.proofs.lemmas.Bool.{ltb-true, leb-true}
+use Rattle.std.proofs.Common.{◌≡◌, ℕ, zero, suc, ◌+◌, ◌^◌, ◌<◌, ◌≤◌, ◌++◌, ◌∙◌, ◌&&◌, ◌||◌, ◌==◌, arith, Bool, true, false, List, [], ◌∷◌, length, refl, ap, cond, Option, Some, None, is_some, nat_lt, nat_le, inl, inr, ◌⊎◌, subst, Result, Ok, Err, ◌-◌, sym, append-nil, append_assoc, take, drop, eqb-true}
+use Rattle.std.proofs.lemmas.Bool.{ltb-true, leb-true, leb-false}
 use Rattle.std.specs.Prelude.{slice_get, slice_set, get_or}
 use Rattle.std.specs.Option.{option_and_then}
-use Rattle.smart_base.specs.Cuts.{IsBytes}
+use Rattle.std.specs.Int.{w8}
+use Rattle.std.proofs.lemmas.List.{length-drop}
+use Rattle.smart_base.specs.Cuts.{IsBytes, Cut, ◌>>=◌, whole, limited, ranged, number_at}
+use Rattle.smart_base.specs.Spelling.{u8}
+use Rattle.smart_base.specs.FieldLaws.{u8_law}
+use Rattle.smart_base.specs.Laws.{bind_is}
 use Rattle.smart_base.specs.Lists.{or_else, Each}
 use Rattle.smart_messages.specs.Forms.{SignedBy}
 use Rattle.smart_messages.specs.Kinds.{requests}
-use Rattle.smart_messages.specs.Messages.{Fits, spelling, decoded}
+use Rattle.smart_messages.specs.Messages.{Fits, spelling, decoded, message_at, is_kind, body_at}
+use Rattle.smart_messages.specs.RegencyMessages.{FitsAny, FitsChangeContent, any_at, any_spelling, any_decoded, change_spelling, change_kind, change_content}
 use Rattle.smart_messages.proofs.Messages.{decoded_is, spelling_is}
+use Rattle.smart_messages.proofs.AnyMessages.{decoded_any_is, any_spelling_is}
+use Rattle.smart_messages.specs.declared.any.AnyMessage.{AnyMessage}
+use Rattle.smart_messages.specs.declared.any.AnyMessage.TheVariants.{Plain, Change}
+use Rattle.smart_messages.specs.declared.regency.RegencyMessage.{RegencyMessage}
+use Rattle.smart_messages.specs.declared.regency.RegencyMessage.TheVariants as changes
 use Rattle.smart_messages.specs.declared.statement.Request.{Request}
 use Rattle.smart_messages.specs.declared.statement.Answer.{Answer}
 use Rattle.smart_messages.specs.declared.message.Message.{Message}
 use Rattle.smart_messages.specs.declared.message.Message.TheVariants.{Ask, Propose, Vote, Reply}
 use Rattle.smart_messages.specs.declared.entry.NodeEvent.{NodeEvent}
 use Rattle.smart_messages.specs.declared.entry.NodeEvent.TheVariants.{Arrive, Tick, Deliver, Firm}
-use Rattle.node_rules.specs.Seals.{signed}
+use Rattle.replica_rules.specs.Seals.{signed}
 use Rattle.node_rules.specs.Nodes.{Node}
 use Rattle.node_rules.specs.Steps.{Outcome, leaving}
 use Rattle.node_rules.specs.declared.node.Held.{Held}
@@ -26,7 +37,7 @@ use Rattle.world_rules.specs.Premises.{is_among, too_many, is_forged, collides, 
 use Rattle.world_rules.specs.Injections.{content_by, content_of, are_bytes, content_from, injected_bytes, injected}
 use Rattle.client_quorum.specs.Clients.{request_of, asking, learning}
 use Rattle.world_rules.specs.Clients.{heard}
-use Rattle.world_rules.specs.Worlds.{Host, World, summary, telling, posts, sends_all, told_drop, told_fired, stepped, is_gone, is_rogue, host_takes, node_takes, due, takes_due, settle_once, settle, told_absent, settle_present, settle_all, gives, give_all, hearing, client_hears, hears_bytes, client_takes, client_asks, ask_found, asks, client_repeats, repeat_found, repeats, learns, learns_from, tells, goes, flow_sent, flow_once, is_listed, where_listed, at_listed, each_listed, host_index, at_index, at_member, arrives, arrives_at, sent_arrives, give_number, told_idle, telling_all, host_delivers, deliver_at, deliver_each, shown_host, shown_client, shows, declares_faulty, declares_rogue, injects_content, injects}
+use Rattle.world_rules.specs.Worlds.{Host, World, summary, telling, posts, sends_all, told_drop, told_fired, stepped, is_gone, is_rogue, host_takes, node_takes, due, takes_due, settle_once, settle, told_absent, settle_present, settle_all, gives, give_all, hearing, client_hears, hears_bytes, client_takes, client_asks, ask_found, asks, client_repeats, repeat_found, repeats, learns, learns_from, tells, goes, flow_sent, flow_once, is_listed, where_listed, at_listed, each_listed, host_index, at_index, at_member, arrives, arrives_at, sent_arrives, give_number, told_idle, telling_all, host_tries, tries_at, tries_each, give_one, shown_host, shown_client, shows, declares_faulty, declares_rogue, injects_content, injects}
 use Rattle.world_rules.specs.Plays.{line_played, rested, world_after}
 use Rattle.client_quorum.specs.declared.client.Client.{Client}
 use Rattle.client_quorum.specs.declared.client.Heard.{Heard}
@@ -58,7 +69,7 @@ abbrev pub from_node : ℕ → Held → Sent
 from_node id h = record { origin = origins.Node id; to = Some h.to; content = contents.Message h.message }
 
 -- what a client sends
-abbrev pub from_client : Client → Message → Sent
+abbrev pub from_client : Client → AnyMessage → Sent
 from_client c message = record { origin = origins.Client c.id; to = Some targets.View; content = contents.Message message }
 
 -- what a script injects
@@ -71,7 +82,7 @@ HasContent [] content = ⊥
 HasContent (s ∷ sent) content = (s.content ≡ content) ⊎ HasContent sent content
 
 -- a message was sent
-abbrev pub HasMessage : List Sent → Message → Type 0
+abbrev pub HasMessage : List Sent → AnyMessage → Type 0
 HasMessage sent message = HasContent sent (contents.Message message)
 
 -- bytes are those of a content that was sent
@@ -87,17 +98,27 @@ MayCome w h Tick = Unit {0}
 MayCome w h Deliver = Unit {0}
 MayCome w h (Firm count) = count ≡ length h.node.entries
 
--- how a content is read: a message that has a spelling, from it as itself, and bytes that are none, not at all
+-- bytes are read as no message, neither by a node nor by a client
+pub record IsNone (bytes : List ℕ) : Type 0 where
+  pub unread : IsUnread bytes
+  pub unheard : (m : Message) → decoded bytes ≡ Ok m → ⊥
+
+-- the parts of a message have spellings; those that order requests have at most 1,048,576 bytes
+abbrev pub FitsParts : AnyMessage → Type 0
+FitsParts (Plain m) = Fits m
+FitsParts (Change m) = FitsChangeContent m
+
+-- how a content is read: a message whose parts have spellings, if it is not too long, from it as itself, and bytes that are none, not at all
 abbrev pub IsRead : Content → Type 0
-IsRead (contents.Message message) = Fits message
-IsRead (contents.Raw bytes) = IsUnread bytes
+IsRead (contents.Message message) = FitsParts message
+IsRead (contents.Raw bytes) = IsNone bytes
 
 -- a request of a client, with its tag
-abbrev pub signed_by : Client → Request → Message
-signed_by c q = Ask (signed requests group_secret c.id q)
+abbrev pub signed_by : Client → Request → AnyMessage
+signed_by c q = Plain (Ask (signed requests group_secret c.id q))
 
 -- the request that a client asks, with its tag
-abbrev pub ask_of : Client → List ℕ → Message
+abbrev pub ask_of : Client → List ℕ → AnyMessage
 ask_of c op = signed_by c (request_of c op)
 
 -- the world in which a client has asked and its request has not left
@@ -118,6 +139,8 @@ IsBeside (outs.Group members faulty app) = Unit {0}
 IsBeside (outs.Sent number origin summary) = Unit {0}
 IsBeside (outs.Decided member place) = Unit {0}
 IsBeside (outs.Delivered member place executed) = Unit {0}
+IsBeside (outs.Promised member number regency) = Unit {0}
+IsBeside (outs.Synced member number regency base bound) = Unit {0}
 IsBeside (outs.Dropped member why) = Unit {0}
 IsBeside (outs.Counted client have need) = Unit {0}
 IsBeside (outs.Accepted client seq place index reply) = ⊥
@@ -252,20 +275,6 @@ has-stepped {S = S} w i h o x has = keeps-sends_all (λ (v : World S). HasConten
 pub has-hearing : {S : Type 0} (w : World S) (i : ℕ) (c : Client) (a : SignedBy Answer) (h : Heard) (x : Content) → HasContent w.sent x → HasContent (hearing w i c a h).sent x
 unfolding hearing
 has-hearing w i c a h x has = has
-
--- what is kept, is kept beside a content that was sent
-pub carries : {S : Type 0} (step : Node S → NodeEvent → Outcome S) (P : World S → Type 0) (x : Content) → Keeps step P → Keeps step (λ w. P w × HasContent w.sent x)
-carries step P x k =
-    record {
-      event = λ w i h event there at may p. (k.event w i h event there at may p.0, has-stepped w i h (step h.node event) x p.1);
-      hear = λ w i c y a at has read p. (k.hear w i c y a at has read p.0, has-hearing w i c a (heard w.view c a) x p.1);
-      ask = λ w i c op at free low brief p. (k.ask w i c op at free low brief p.0, has-posts x (asked_by w i c op) (from_client c (ask_of c op)) p.1);
-      again = λ w i c q at waits p. (k.again w i c q at waits p.0, has-posts x w (from_client c (signed_by c q)) p.1);
-      learn = λ w i j c d at other p. (k.learn w i j c d at other p.0, p.1);
-      inject = λ w y read fine p. (k.inject w y read fine p.0, has-posts x w (from_script y) p.1);
-      declare = λ w faulty rogue ending how p. (k.declare w faulty rogue ending how p.0, p.1);
-      same = λ w mark told p. (k.same w mark told p.0, p.1);
-    }
 
 -- the same while nothing has ended the play
 pub live-carries : {S : Type 0} (step : Node S → NodeEvent → Outcome S) (P : World S → Type 0) (x : Content) → KeepsLive step P → KeepsLive step (λ w. P w × HasContent w.sent x)
@@ -408,6 +417,13 @@ live-give_all : {S : Type 0} (step : Node S → NodeEvent → Outcome S) (P : Wo
 live-give_all {S = S} step P k members x w has p =
     (each_listed-keeps (λ (v : World S). P v × HasContent v.sent x) members (gives step (bytes_of x)) (live-gives step P k x) w (p, has)).0
 
+-- the node of a member does, if it is listed
+live-give_one : {S : Type 0} (step : Node S → NodeEvent → Outcome S) (P : World S → Type 0) → KeepsLive step P → (members : List ℕ) (x : Content) (member : ℕ) (w : World S) → HasContent w.sent x → P w
+    → P (give_one step members (bytes_of x) member w)
+live-give_one {S = S} step P k members x member w has p =
+    let Q : World S → Type 0 = λ v. P v × HasContent v.sent x in
+    (at_index-keeps Q (at_listed members (gives step (bytes_of x))) (at_listed-keeps Q members (gives step (bytes_of x)) (live-gives step P k x)) w (host_index w.hosts member) (p, has)).0
+
 -- clients
 
 -- a client hears what its bytes are read as
@@ -498,6 +514,7 @@ pub live-goes : {S : Type 0} (step : Node S → NodeEvent → Outcome S) (P : Wo
     → P (goes step members w (bytes_of x) to)
 live-goes step P k members w x None has p = p
 live-goes step P k members w x (Some targets.View) has p = live-give_all step P k members x w has p
+live-goes step P k members w x (Some (targets.Node id)) has p = live-give_one step P k members x id w has p
 live-goes step P k members w x (Some (targets.Client id)) has p = live-client_takes step P k id x w has p
 
 -- the message behind the mark goes, if there is one
@@ -544,22 +561,37 @@ pub idle-beside : (id : ℕ) (fired : List Fired) → Each IsBeside (told_idle i
 idle-beside id [] = (tt, tt)
 idle-beside id (rule ∷ rules) = tt
 
--- a node delivers, or tells that it is idle
-live-host_delivers : {S : Type 0} (step : Node S → NodeEvent → Outcome S) (P : World S → Type 0) → KeepsLive step P → (i : ℕ) (w : World S) (found : Option (Host S)) → w.ending ≡ None → slice_get w.hosts i ≡ found → P w
-    → P (host_delivers step i w found)
-live-host_delivers step P k i w None on at p = p
-live-host_delivers step P k i w (Some h) on at p =
+-- delivery and a tick may always come
+abbrev MayTry : NodeEvent → Type 0
+MayTry (Arrive bytes) = ⊥
+MayTry Tick = Unit {0}
+MayTry Deliver = Unit {0}
+MayTry (Firm count) = ⊥
+
+try_may : {S : Type 0} (w : World S) (h : Host S) (event : NodeEvent) → MayTry event → MayCome w h event
+try_may w h (Arrive bytes) may = absurd may
+try_may w h Tick may = tt
+try_may w h Deliver may = tt
+try_may w h (Firm count) may = absurd may
+
+-- a node delivers, or time passes there, or it tells that it is idle
+live-host_tries : {S : Type 0} (step : Node S → NodeEvent → Outcome S) (P : World S → Type 0) → KeepsLive step P → (event : NodeEvent) → MayTry event → (i : ℕ) (w : World S) (found : Option (Host S)) → w.ending ≡ None
+    → slice_get w.hosts i ≡ found → P w → P (host_tries step event i w found)
+live-host_tries step P k event may i w None on at p = p
+live-host_tries step P k event may i w (Some h) on at p =
     either_by P (is_gone w h.node.id) w _ (λ gone. p)
-    (λ there. live-telling_all step P k (stepped w i h (step h.node Deliver)) (told_idle h.node.id (step h.node Deliver).fired) (idle-beside h.node.id (step h.node Deliver).fired)
-    (k.event w i h Deliver on there at tt p))
+    (λ there. live-telling_all step P k (stepped w i h (step h.node event)) (told_idle h.node.id (step h.node event).fired) (idle-beside h.node.id (step h.node event).fired)
+    (k.event w i h event on there at (try_may w h event may) p))
 
-live-deliver_at : {S : Type 0} (step : Node S → NodeEvent → Outcome S) (P : World S → Type 0) → KeepsLive step P → (i : ℕ) (w : World S) → P w → P (deliver_at step i w)
-unfolding deliver_at
-live-deliver_at step P k i w p = either_by P (is_some w.ending) w _ (λ over. p) (λ on. live-host_delivers step P k i w (slice_get w.hosts i) (none_is w.ending on) refl p)
+live-tries_at : {S : Type 0} (step : Node S → NodeEvent → Outcome S) (P : World S → Type 0) → KeepsLive step P → (event : NodeEvent) → MayTry event → (i : ℕ) (w : World S) → P w → P (tries_at step event i w)
+unfolding tries_at
+live-tries_at step P k event may i w p = either_by P (is_some w.ending) w _ (λ over. p) (λ on. live-host_tries step P k event may i w (slice_get w.hosts i) (none_is w.ending on) refl p)
 
-live-deliver_each : {S : Type 0} (step : Node S → NodeEvent → Outcome S) (P : World S → Type 0) → KeepsLive step P → (members : List ℕ) (w : World S) → P w → P (deliver_each step members w)
-live-deliver_each step P k [] w p = p
-live-deliver_each step P k (m ∷ ms) w p = live-deliver_each step P k ms (at_member (deliver_at step) m w) (at_member-keeps P (deliver_at step) (live-deliver_at step P k) k.tell m w p)
+live-tries_each : {S : Type 0} (step : Node S → NodeEvent → Outcome S) (P : World S → Type 0) → KeepsLive step P → (event : NodeEvent) → MayTry event → (members : List ℕ) (w : World S) → P w
+    → P (tries_each step event members w)
+live-tries_each step P k event may [] w p = p
+live-tries_each step P k event may (m ∷ ms) w p =
+    live-tries_each step P k event may ms (at_member (tries_at step event) m w) (at_member-keeps P (tries_at step event) (live-tries_at step P k event may) k.tell m w p)
 
 -- what a node tells
 
@@ -569,10 +601,15 @@ drop-beside id (Some why) = (tt, tt)
 
 fired-beside : (id : ℕ) (fired : Fired) → Each IsBeside (told_fired id fired)
 fired-beside id (fires.Delivered d) = (tt, tt)
+fired-beside id (fires.Adopted s) = (tt, tt)
+fired-beside id fires.Joined = tt
+fired-beside id (fires.Promised p) = (tt, tt)
+fired-beside id fires.Led = tt
 fired-beside id fires.Proposed = tt
 fired-beside id fires.Wrote = tt
 fired-beside id fires.Accepted = tt
 fired-beside id (fires.Decided place) = (tt, tt)
+fired-beside id fires.Timed = tt
 fired-beside id fires.Answered = tt
 
 all_fired-beside : (id : ℕ) (fired : List Fired) → Each IsBeside (flat_map (told_fired id) fired)
@@ -646,13 +683,29 @@ are-bytes [] are i = omega arith
 are-bytes (b ∷ bs) are zero = ltb-true b 256 (and_true (nat_lt b 256) (are_bytes bs) are).0
 are-bytes (b ∷ bs) are (suc i) = are-bytes bs (and_true (nat_lt b 256) (are_bytes bs) are).1 i
 
-read-content : (bytes : List ℕ) (read : Result Message ℕ) → IsBytes bytes → decoded bytes ≡ read → IsRead (content_by bytes read)
-read-content bytes (Ok message) are is = (decoded_is bytes message are is).0
-read-content bytes (Err at) are is = record { at = at; unread = is }
+-- bytes that a node does not read, a client does not either
+unread-none : (bytes : List ℕ) (at : ℕ) → IsBytes bytes → any_decoded bytes ≡ Err at → IsNone bytes
+unread-none bytes at are is = record { unread = record { at = at; unread = is }; unheard = λ m heard. other m heard }
+  where
+    other : (m : Message) → decoded bytes ≡ Ok m → ⊥
+    other m heard =
+        let read : Fits m × (bytes ≡ spelling m) = decoded_is bytes m are heard in
+        let own : any_decoded (spelling m) ≡ Ok (Plain m) = any_spelling_is (Plain m) read.0 in
+        let here : any_decoded bytes ≡ Ok (Plain m) = ap (λ (b : List ℕ). any_decoded b) read.1 ∙ own in
+        let both : Err at ≡ Ok (Plain m) = sym is ∙ here in
+        cc
+
+fit_parts : (m : AnyMessage) → FitsAny m → FitsParts m
+fit_parts (Plain m) fits = fits
+fit_parts (Change m) fits = fits.content_fits
+
+read-content : (bytes : List ℕ) (read : Result AnyMessage ℕ) → IsBytes bytes → any_decoded bytes ≡ read → IsRead (content_by bytes read)
+read-content bytes (Ok message) are is = fit_parts message (decoded_any_is bytes message are is).0
+read-content bytes (Err at) are is = unread-none bytes at are is
 
 read-from : (bytes : List ℕ) (t : Bool) (x : Content) → are_bytes bytes ≡ t → cond t (Some (content_of bytes)) None ≡ Some x → IsRead x
 unfolding content_of
-read-from bytes true x are is = subst IsRead (some-equal (content_of bytes) x is) (read-content bytes (decoded bytes) (record { below = are-bytes bytes are }) refl)
+read-from bytes true x are is = subst IsRead (some-equal (content_of bytes) x is) (read-content bytes (any_decoded bytes) (record { below = are-bytes bytes are }) refl)
 read-from bytes false x are is = absurd (cc)
 
 read-found : (found : Option (List ℕ)) (x : Content) → option_and_then content_from found ≡ Some x → IsRead x
@@ -685,7 +738,8 @@ live-line_played step P k w (lines.Again client) p = live-repeats step P k clien
 live-line_played step P k w (lines.Tell from to) p = live-tells step P k from to w p
 live-line_played step P k w (lines.Flow members) p = until_rest_keeps P (flow_once step members) (live-flow_once step P k members) (settle_all step members w) (live-settle_all step P k members w p)
 live-line_played step P k w (lines.Give number to) p = live-give_number step P k number to w p
-live-line_played step P k w (lines.Deliver members) p = live-deliver_each step P k members w p
+live-line_played step P k w (lines.Deliver members) p = live-tries_each step P k Deliver tt members w p
+live-line_played step P k w (lines.Tick members) p = live-tries_each step P k Tick tt members w p
 live-line_played step P k w (lines.Settle member) p = at_member-keeps P (settle step) (live-settle step P k) k.tell member w p
 live-line_played step P k w lines.SettleAll p = live-settle_all step P k [] w p
 live-line_played step P k w lines.Show p = live-shows step P k w p
@@ -717,7 +771,7 @@ OwnWaits w = (i : ℕ) (c : Client) (q : Request) → slice_get w.clients i ≡ 
 
 -- what bytes are read as was sent
 abbrev pub Comes : List Sent → List ℕ → Type 0
-Comes sent bytes = (x : Message) → decoded bytes ≡ Ok x → HasMessage sent x
+Comes sent bytes = (x : AnyMessage) → any_decoded bytes ≡ Ok x → HasMessage sent x
 
 -- what may come to a node: bytes that are read as a message that was sent, or as none, and firmness of all its entries
 abbrev pub MayRead : {S : Type 0} → World S → Host S → NodeEvent → Type 0
@@ -727,25 +781,130 @@ MayRead w h Deliver = Unit {0}
 MayRead w h (Firm count) = count ≡ length h.node.entries
 
 -- what holds of each message that was sent, holds of what bytes that come are read as
-pub comes-as : (sent : List Sent) (bytes : List ℕ) (R : Result Message ℕ → Type 0) → ((x : Message) → HasMessage sent x → R (Ok x)) → ((at : ℕ) → R (Err at)) → Comes sent bytes → R (decoded bytes)
-comes-as sent bytes R ok err comes = by (decoded bytes) comes
+pub comes-as : (sent : List Sent) (bytes : List ℕ) (R : Result AnyMessage ℕ → Type 0) → ((x : AnyMessage) → HasMessage sent x → R (Ok x)) → ((at : ℕ) → R (Err at)) → Comes sent bytes → R (any_decoded bytes)
+comes-as sent bytes R ok err comes = by (any_decoded bytes) comes
   where
-    by : (read : Result Message ℕ) → ((x : Message) → read ≡ Ok x → HasMessage sent x) → R read
+    by : (read : Result AnyMessage ℕ) → ((x : AnyMessage) → read ≡ Ok x → HasMessage sent x) → R read
     by (Ok x) has = ok x (has x refl)
     by (Err at) has = err at
 
+-- bytes past the limit are read as none
+
+long_by : (bytes : List ℕ) → 1048576 < length bytes → (read : Result (AnyMessage × Cut) ℕ) → any_at (record { at = 0; left = take 1048576 bytes }) ≡ read → IsUnread bytes
+unfolding any_decoded whole limited
+long_by bytes long (Err e) is = record { at = e; unread = rw is refl }
+long_by bytes long (Ok x) is =
+    let k : ℕ = length (take 1048576 bytes) - length x.1.left in
+    let most : length (take 1048576 bytes) ≤ 1048576 = take_most 1048576 bytes in
+    let rest : length (drop k bytes) ≡ length bytes - k = length-drop k bytes in
+    record { at = 0 + k; unread = rw (is, some_left (length (drop k bytes)) (omega (arith, long, most, rest))) refl }
+  where
+    some_left : (n : ℕ) → 0 < n → (n == 0) ≡ false
+    some_left n some = by (n == 0) refl
+      where
+        by : (t : Bool) → (n == 0) ≡ t → t ≡ false
+        by true is = let none : n ≡ 0 = eqb-true n 0 is in absurd (omega (arith, some, none))
+        by false is = refl
+
+    take_most : (n : ℕ) (xs : List ℕ) → length (take n xs) ≤ n
+    take_most zero xs = omega arith
+    take_most (suc n) [] = omega arith
+    take_most (suc n) (x ∷ xs) = omega (arith, take_most n xs)
+
+pub long_unread : (bytes : List ℕ) → 1048576 < length bytes → IsUnread bytes
+long_unread bytes long = long_by bytes long (any_at (record { at = 0; left = take 1048576 bytes })) refl
+
+-- a message whose parts have spellings has one, if it is not too long
+pub parts_fit : (m : AnyMessage) → FitsParts m → length (any_spelling m) ≤ 1048576 → FitsAny m
+parts_fit (Plain m) fits short = fits
+parts_fit (Change m) fits short = record { content_fits = fits; bytes_fit = short }
+
+-- so it has if its bytes are read
+pub read_fits : (m y : AnyMessage) → FitsParts m → any_decoded (any_spelling m) ≡ Ok y → FitsAny m
+read_fits m y fits read = by (nat_le (length (any_spelling m)) 1048576) refl
+  where
+    apart : (at : ℕ) → Err at ≡ Ok y → ⊥
+    apart at same = cc
+
+    by : (t : Bool) → nat_le (length (any_spelling m)) 1048576 ≡ t → FitsAny m
+    by true is = parts_fit m fits (leb-true (length (any_spelling m)) 1048576 is)
+    by false is = let none : IsUnread (any_spelling m) = long_unread (any_spelling m) (leb-false (length (any_spelling m)) 1048576 is) in absurd (apart none.at (sym none.unread ∙ read))
+
 -- what the bytes of a content are read as is that content
-pub read_is : (x : Content) (y : Message) → IsRead x → decoded (bytes_of x) ≡ Ok y → x ≡ contents.Message y
-read_is (contents.Message x) y fits read = let own : decoded (spelling x) ≡ Ok x = spelling_is x fits in let same : x ≡ y = cc in ap (λ (z : Message). contents.Message z) same
-read_is (contents.Raw bytes) y is read = let none : decoded bytes ≡ Err is.at = is.unread in absurd (cc)
+pub read_is : (x : Content) (y : AnyMessage) → IsRead x → any_decoded (bytes_of x) ≡ Ok y → x ≡ contents.Message y
+read_is (contents.Message x) y fits read =
+    let own : any_decoded (any_spelling x) ≡ Ok x = any_spelling_is x (read_fits x y fits read) in
+    let same : x ≡ y = cc in
+    ap (λ (z : AnyMessage). contents.Message z) same
+read_is (contents.Raw bytes) y is read = let none : any_decoded bytes ≡ Err is.unread.at = is.unread.unread in absurd (cc)
+
+-- and it has a spelling
+pub read_whole : (x : Content) (y : AnyMessage) → IsRead x → any_decoded (bytes_of x) ≡ Ok y → FitsAny y
+read_whole (contents.Message x) y fits read =
+    let whole : FitsAny x = read_fits x y fits read in
+    let own : any_decoded (any_spelling x) ≡ Ok x = any_spelling_is x whole in
+    let same : x ≡ y = cc in
+    subst (λ (z : AnyMessage). FitsAny z) same whole
+read_whole (contents.Raw bytes) y is read = let none : any_decoded bytes ≡ Err is.unread.at = is.unread.unread in absurd (cc)
+
+-- a client reads no message that changes the regency
+
+-- where no kind of a client's message stands, none is read
+no_kind : (k : ℕ) (c d : Cut) → is_kind k ≡ false → number_at w8 c ≡ Ok (k, d) → message_at c ≡ Err c.at
+unfolding message_at ranged
+no_kind k c d none read =
+    let kind : ranged is_kind (number_at w8) c ≡ Err c.at = bind_is (number_at w8 c) (λ x. cond (is_kind x.0) (Ok x) (Err c.at)) (k, d) read ∙ ap (λ t. cond t (Ok (k, d)) (Err c.at)) none in
+    ap (λ r. r >>= λ x. body_at x.0 x.1) kind
+
+none_decoded : (bytes : List ℕ) (at : ℕ) → message_at (record { at = 0; left = take 1048576 bytes }) ≡ Err at → decoded bytes ≡ Err at
+unfolding decoded whole limited
+none_decoded bytes at message = rw message refl
+
+-- a front of two lists goes past the first
+take_past : (n : ℕ) (xs ys : List ℕ) → length xs ≤ n → take n (xs ++ ys) ≡ xs ++ take (n - length xs) ys
+take_past n [] ys le = let same : n - 0 ≡ n = omega arith in rw same refl
+take_past zero (x ∷ xs) ys le = absurd (omega (arith, le))
+take_past (suc n) (x ∷ xs) ys le =
+    let less : suc n - length (x ∷ xs) ≡ n - length xs = omega arith in
+    rw less (ap (λ (zs : List ℕ). x ∷ zs) (take_past n xs ys (omega (arith, le))))
+
+none_read : (bytes rest : List ℕ) (k : ℕ) → k < 2 ^ 8 → is_kind k ≡ false → length (u8 k) ≤ 1048576 → bytes ≡ u8 k ++ rest → (y : Message) → decoded bytes ≡ Ok y → ⊥
+none_read bytes rest k low none short is y read =
+    let c : Cut = record { at = 0; left = take 1048576 bytes } in
+    let d : Cut = record { at = 0 + length (u8 k); left = take (1048576 - length (u8 k)) rest } in
+    let left : take 1048576 bytes ≡ u8 k ++ take (1048576 - length (u8 k)) rest = ap (λ (bs : List ℕ). take 1048576 bs) is ∙ take_past 1048576 (u8 k) rest short in
+    let number : number_at w8 c ≡ Ok (k, d) = u8_law.again c k d low (record { left = left; at = refl }) in
+    let message : message_at c ≡ Err 0 = no_kind k c d none number in
+    apart 0 y (sym (none_decoded bytes 0 message) ∙ read)
+  where
+    apart : (at : ℕ) (y : Message) → Err at ≡ Ok y → ⊥
+    apart at y same = cc
+
+pub change-unheard : (m : RegencyMessage) (y : Message) → decoded (change_spelling m) ≡ Ok y → ⊥
+unfolding change_spelling
+change-unheard m y is = none_read (change_spelling m) (change_content m) (change_kind m) (kinds m).0 (kinds m).1 (omega arith) refl y is
+  where
+    kinds : (m : RegencyMessage) → (change_kind m < 2 ^ 8) × (is_kind (change_kind m) ≡ false)
+    kinds (changes.Stop s) = (omega arith, refl)
+    kinds (changes.StopData r) = (omega arith, refl)
+    kinds (changes.Sync s) = (omega arith, refl)
+
+-- what a client reads the bytes of a content as is that content
+pub heard_is : (x : Content) (y : Message) → IsRead x → decoded (bytes_of x) ≡ Ok y → x ≡ contents.Message (Plain y)
+heard_is (contents.Message (Plain x)) y fits read = let own : decoded (spelling x) ≡ Ok x = spelling_is x fits in let same : x ≡ y = cc in ap (λ (z : Message). contents.Message (Plain z)) same
+heard_is (contents.Message (Change x)) y fits read = absurd (change-unheard x y read)
+heard_is (contents.Raw bytes) y is read = absurd (is.unheard y read)
 
 -- so it was sent where the content was
-pub read_has : {S : Type 0} (w : World S) (x : Content) (y : Message) → ReadsSent w → HasContent w.sent x → decoded (bytes_of x) ≡ Ok y → HasMessage w.sent y
+pub read_has : {S : Type 0} (w : World S) (x : Content) (y : AnyMessage) → ReadsSent w → HasContent w.sent x → any_decoded (bytes_of x) ≡ Ok y → HasMessage w.sent y
 read_has w x y reads has read = subst (λ (z : Content). HasContent w.sent z) (read_is x y (reads x has) read) has
+
+pub heard_has : {S : Type 0} (w : World S) (x : Content) (y : Message) → ReadsSent w → HasContent w.sent x → decoded (bytes_of x) ≡ Ok y → HasMessage w.sent (Plain y)
+heard_has w x y reads has read = subst (λ (z : Content). HasContent w.sent z) (heard_is x y (reads x has) read) has
 
 -- what may come is read where what was sent is
 pub may_read : {S : Type 0} (w : World S) (h : Host S) (event : NodeEvent) → ReadsSent w → MayCome w h event → MayRead w h event
-may_read w h (Arrive bytes) reads may = λ x read. read_has w may.content x reads may.has (sym (ap (λ b. decoded b) may.spelled) ∙ read)
+may_read w h (Arrive bytes) reads may = λ x read. read_has w may.content x reads may.has (sym (ap (λ b. any_decoded b) may.spelled) ∙ read)
 may_read w h Tick reads may = tt
 may_read w h Deliver reads may = tt
 may_read w h (Firm count) reads may = may

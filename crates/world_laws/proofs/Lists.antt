@@ -1,5 +1,5 @@
 -- Facts on lists, tests and repeated steps.
-use Rattle.std.proofs.Common.{◌≡◌, ℕ, zero, suc, ◌+◌, ◌++◌, Bool, true, false, not, ◌&&◌, ◌||◌, List, [], ◌∷◌, refl, cond, Some, subst, inl, inr, ◌⊎◌}
+use Rattle.std.proofs.Common.{◌≡◌, ℕ, zero, suc, ◌+◌, ◌++◌, Bool, true, false, ◌&&◌, ◌||◌, List, [], ◌∷◌, refl, cond, Some, subst, inl, inr, ◌⊎◌}
 use Rattle.std.specs.Prelude.{slice_get, slice_set}
 use Rattle.smart_base.specs.Lists.{Each}
 use Rattle.world_rules.specs.Repeats.{repeated, turns, until_rest, each_from}
@@ -25,10 +25,6 @@ or_left false b is = absurd (cc)
 pub or_right : (a b : Bool) → b ≡ true → (a || b) ≡ true
 or_right true b is = refl
 or_right false b is = is
-
-pub not_true : (a : Bool) → not a ≡ true → a ≡ false
-not_true true is = absurd (cc)
-not_true false is = refl
 
 pub some-equal : {A : Type 0} (x y : A) → Some x ≡ Some y → x ≡ y
 some-equal x y same = cc

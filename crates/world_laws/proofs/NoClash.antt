@@ -1,5 +1,6 @@
 -- Batches that a play has met are one where their digests are.
-use Rattle.std.proofs.Common.{◌≡◌, ℕ, ◌++◌, ◌&&◌, ◌∙◌, Bool, true, false, not, List, [], ◌∷◌, refl, sym, ap, subst, inl, inr, ◌⊎◌, append-nil, length, Ok, ◌+◌}
+use Rattle.std.proofs.Common.{◌≡◌, ℕ, ◌++◌, ◌&&◌, ◌∙◌, Bool, true, false, not, List, [], ◌∷◌, refl, sym, ap, subst, inl, inr, ◌⊎◌, append-nil, length, Ok, ◌+◌, Option, Some, None}
+use Rattle.std.specs.Prelude.{option_to_list}
 use Rattle.std.proofs.lemmas.Grind.{flat_map-append}
 use Rattle.std.specs.List.{list_any}
 use Rattle.smart_base.specs.Cuts.{Cut}
@@ -9,7 +10,10 @@ use Rattle.smart_messages.specs.Messages.{Batch, batch_text, FitsBatch}
 use Rattle.smart_messages.specs.Reading.{batch_at}
 use Rattle.smart_messages.proofs.Messages.{batch_law}
 use Rattle.smart_messages.specs.declared.message.Message.TheVariants.{Ask, Propose, Vote, Reply}
-use Rattle.node_rules.specs.Seals.{digest_of}
+use Rattle.smart_messages.specs.declared.regency.RegencyMessage.TheVariants as changes
+use Rattle.smart_messages.specs.declared.any.AnyMessage.TheVariants.{Plain, Change}
+use Rattle.smart_messages.specs.SignedLists.{FitsOptional}
+use Rattle.replica_rules.specs.Seals.{digest_of}
 use Rattle.world_rules.specs.Premises.{met, clash, collides, batches}
 use Rattle.world_rules.specs.declared.message.Sent.{Sent}
 use Rattle.world_laws.proofs.Lists.{or_false}
@@ -76,12 +80,20 @@ none_passes p (x ∷ xs) b none has =
     let parts = or_false (p x) (list_any p xs) none in
     elim has [ inl here ↦ subst (λ (y : Batch). p y ≡ false) here parts.0 | inr later ↦ none_passes p xs b parts.1 later ]
 
+-- a batch that may be there is one at most
+one_there : (found : Option Batch) (a b : Batch) → HasBatch (option_to_list found) a → HasBatch (option_to_list found) b → a ≡ b
+one_there None a b ha hb = absurd ha
+one_there (Some x) a b ha hb = elim ha [ inl here ↦ elim hb [ inl there ↦ sym here ∙ there | inr none ↦ absurd none ] | inr none ↦ absurd none ]
+
 -- a content has one batch at most
 one_batch : (x : Content) (a b : Batch) → HasBatch (batches x) a → HasBatch (batches x) b → a ≡ b
-one_batch (contents.Message (Ask q)) a b ha hb = absurd ha
-one_batch (contents.Message (Propose p)) a b ha hb = elim ha [ inl here ↦ elim hb [ inl there ↦ sym here ∙ there | inr none ↦ absurd none ] | inr none ↦ absurd none ]
-one_batch (contents.Message (Vote v)) a b ha hb = absurd ha
-one_batch (contents.Message (Reply r)) a b ha hb = absurd ha
+one_batch (contents.Message (Plain (Ask q))) a b ha hb = absurd ha
+one_batch (contents.Message (Plain (Propose p))) a b ha hb = elim ha [ inl here ↦ elim hb [ inl there ↦ sym here ∙ there | inr none ↦ absurd none ] | inr none ↦ absurd none ]
+one_batch (contents.Message (Plain (Vote v))) a b ha hb = absurd ha
+one_batch (contents.Message (Plain (Reply r))) a b ha hb = absurd ha
+one_batch (contents.Message (Change (changes.Stop x))) a b ha hb = absurd ha
+one_batch (contents.Message (Change (changes.StopData r))) a b ha hb = one_there r.batch a b ha hb
+one_batch (contents.Message (Change (changes.Sync x))) a b ha hb = absurd ha
 one_batch (contents.Raw bytes) a b ha hb = absurd ha
 
 -- a batch of a content that does not collide, and one met before
@@ -122,6 +134,11 @@ text-batch a b fa fb same =
     let pairs : (a, d) ≡ (b, d) = cc in
     ap (λ (x : Batch × Cut). x.0) pairs
 
+-- a batch that may be there and has a spelling
+there_fits : (found : Option Batch) (batch : Batch) → FitsOptional FitsBatch found → HasBatch (option_to_list found) batch → FitsBatch batch
+there_fits None batch fits has = absurd has
+there_fits (Some x) batch fits has = elim has [ inl here ↦ subst (λ (b : Batch). FitsBatch b) here fits | inr none ↦ absurd none ]
+
 -- what was met in contents that are read has a spelling
 met-fits : (sent : List Sent) (batch : Batch) → Each (λ s. IsRead s.content) sent → IsMet sent batch → FitsBatch batch
 met-fits [] batch each is = absurd is
@@ -129,10 +146,13 @@ met-fits (s ∷ sent) batch each is =
     elim (has-either (batches s.content) (met sent) batch is) [ inl here ↦ in_fits s.content each.0 here | inr later ↦ met-fits sent batch each.1 later ]
   where
     in_fits : (x : Content) → IsRead x → HasBatch (batches x) batch → FitsBatch batch
-    in_fits (contents.Message (Ask q)) fits has = absurd has
-    in_fits (contents.Message (Propose p)) fits has = elim has [ inl here ↦ subst (λ (b : Batch). FitsBatch b) here fits.content_fits.1 | inr none ↦ absurd none ]
-    in_fits (contents.Message (Vote v)) fits has = absurd has
-    in_fits (contents.Message (Reply r)) fits has = absurd has
+    in_fits (contents.Message (Plain (Ask q))) fits has = absurd has
+    in_fits (contents.Message (Plain (Propose p))) fits has = elim has [ inl here ↦ subst (λ (b : Batch). FitsBatch b) here fits.content_fits.1 | inr none ↦ absurd none ]
+    in_fits (contents.Message (Plain (Vote v))) fits has = absurd has
+    in_fits (contents.Message (Plain (Reply r))) fits has = absurd has
+    in_fits (contents.Message (Change (changes.Stop x))) fits has = absurd has
+    in_fits (contents.Message (Change (changes.StopData r))) fits has = there_fits r.batch batch fits.1 has
+    in_fits (contents.Message (Change (changes.Sync x))) fits has = absurd has
     in_fits (contents.Raw bytes) unread has = absurd has
 
 -- so batches that were met are one where their digests are

@@ -9,16 +9,12 @@ use Rattle.world_rules.specs.Plays.{lines_told}
 use Rattle.world_rules.specs.Promises.{IsAnswered, OneList, OneListThroughout, world_at}
 use Rattle.world_rules.specs.declared.line.Line.{Line}
 use Rattle.world_laws.proofs.Keeps.{Keeps, keeps-world_after}
-use Rattle.world_laws.proofs.FitNodes.{IsBrief}
-use Rattle.smart_messages.specs.Kinds.{answers}
-use Rattle.smart_messages.specs.declared.message.Message.TheVariants.{Reply}
-use Rattle.agreement_laws.specs.Statements as statements
-use Rattle.world_laws.proofs.Stating.{stated_one}
-use Rattle.world_laws.proofs.Sound.{message_stated}
+use Rattle.replica_laws.proofs.FitNodes.{IsBrief}
 use Rattle.world_laws.proofs.Unforged.{member_states}
-use Rattle.world_laws.proofs.Replied.{Replied, keeps-replied, replied-begun}
+use Rattle.world_laws.proofs.Replied.{RightBorne, right-borne-kept, reply_there, Replied, keeps-replied, replied-begun}
+use Rattle.world_laws.proofs.Borne.{borne-begun}
 use Rattle.world_laws.proofs.Chosen.{ChosenRight, right-witnessed}
-use Rattle.world_laws.proofs.ChosenKept.{right-reads, chosen-kept, chosen-begun, chosen-aligned, chosen-prefix}
+use Rattle.world_laws.proofs.ChosenKept.{right-reads, chosen-begun, chosen-aligned, chosen-prefix}
 use Rattle.world_laws.proofs.Grows.{list-grows}
 use Rattle.world_laws.proofs.Replies.{RepliesRight, reply_stated, keeps-replies, replies-begun}
 use Rattle.world_laws.proofs.Asked.{asked-after}
@@ -29,7 +25,7 @@ use Rattle.world_laws.proofs.Past.{past-known}
 
 -- the list is right, all replies tell of it, clients keep replies that were sent, and accepted replies tell of the list
 abbrev pub Heard : {S : Type 0} → Meaning S → World S → Type 0
-Heard m w = (ChosenRight m w × RepliesRight m w) × Replied w
+Heard m w = (RightBorne m w × RepliesRight m w) × Replied w
 
 abbrev pub ToldRight : {S : Type 0} → Meaning S → World S → Type 0
 ToldRight m w = Heard m w × AcceptedTold m w
@@ -37,28 +33,27 @@ ToldRight m w = Heard m w × AcceptedTold m w
 -- so a reply of a member that is not faulty tells an execution
 telling : {S : Type 0} (m : Meaning S) (w : World S) → Heard m w → Telling m w
 telling m w is =
-    let right : ChosenRight m w = is.0.0 in
+    let right : ChosenRight m w = is.0.0.0 in
     record {
       reads = right-reads m w right;
       keeps = is.1.clients;
-      few = (right-witnessed m w right).few;
+      few = (right-witnessed m w right.1).few.few;
       executed = λ r has tagged correct.
           reply_stated m w r.signer r is.0.1
-          (member_states w r.signer (statements.Replied r) right.0.0.0.fit.sent right.0.0.1.sent.own right.0.1 correct refl
-          (message_stated w.sent (Reply r) (statements.Replied r) has (stated_one answers statements.Replied r tagged)));
+          (member_states w r.signer r right.0.0.fit.sent is.0.0.1.sent.own right.0.1 correct refl (reply_there w.sent r has tagged));
     }
 
 -- each event keeps that
 pub keeps-told_right : {S : Type 0} (m : Meaning S) → IsBrief m → Keeps (step_of m) (ToldRight m)
 keeps-told_right m brief =
     keeps-told m (Heard m) (telling m)
-    (keeps-replied m (λ w. ChosenRight m w × RepliesRight m w) (λ w is. is.0) (keeps-replies m (ChosenRight m) (chosen-kept m brief) (chosen-aligned m)))
+    (keeps-replied m (λ w. RightBorne m w × RepliesRight m w) (λ w is. is.0) (keeps-replies m (RightBorne m) (right-borne-kept m brief) (λ w is. chosen-aligned m w is.0)))
 
 -- so it holds after each line of a script
 pub told_right-at : {S : Type 0} (m : Meaning S) → IsBrief m → (view : View) → is_view view ≡ true → (ls : List Line) (k : ℕ) → ToldRight m (world_at m view ls k)
 told_right-at m brief view is ls k =
     keeps-world_after (step_of m) (ToldRight m) (keeps-told_right m brief) (begun m view) (take k ls)
-    (((chosen-begun m view is, replies-begun m view), replied-begun m view), told-begun m view)
+    ((((chosen-begun m view is, borne-begun m view), replies-begun m view), replied-begun m view), told-begun m view)
 
 -- and all accepted replies are right
 pub accepted-at : {S : Type 0} (m : Meaning S) → IsBrief m → (view : View) → is_view view ≡ true → (ls : List Line) (k : ℕ) → AcceptedRight m (world_at m view ls k)
@@ -69,7 +64,7 @@ accepted-at m brief view is ls k =
 pub one_list-at : {S : Type 0} (m : Meaning S) → IsBrief m → (view : View) → is_view view ≡ true → (ls : List Line) (k : ℕ) → OneList m (world_at m view ls k)
 one_list-at m brief view is ls k =
     record {
-      hosts = chosen-prefix m (world_at m view ls k) (told_right-at m brief view is ls k).0.0.0;
+      hosts = chosen-prefix m (world_at m view ls k) (told_right-at m brief view is ls k).0.0.0.0;
       accepted = (accepted-at m brief view is ls k).all;
       rising = (right-after m (step_of m) view (take k ls)).all.rising;
     }

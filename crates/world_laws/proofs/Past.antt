@@ -28,7 +28,7 @@ use Rattle.world_laws.proofs.Lists.{some-equal, each_end, each_weaker}
 use Rattle.world_laws.proofs.Numbered.{EachAt, each_at_get, each_at_weaker, each_at_set, each_at_both}
 use Rattle.world_laws.proofs.Keeps.{ask_of, asked_by, by-posts-ended, Keeps, KeepsLive, keeps-world_after, live-world_after, signed_by, from_node, from_client, from_script, keeps-sends_all}
 use Rattle.world_laws.proofs.Hearing.{Accepts, accepts_waiting}
-use Rattle.world_laws.proofs.Asked.{asked_grows}
+use Rattle.world_laws.proofs.Asks.{asked_grows}
 use Rattle.world_laws.proofs.Asking.{ClientRight, ClientsRight, keeps-right, rested-right, right-after}
 use Rattle.world_laws.proofs.Grows.{world_after-append}
 use Rattle.world_laws.proofs.Seen.{id_at, seen-told}

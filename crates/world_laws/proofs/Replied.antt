@@ -9,12 +9,10 @@ use Rattle.smart_messages.specs.Kinds.{answers}
 use Rattle.smart_messages.specs.declared.statement.Answer.{Answer}
 use Rattle.smart_messages.specs.declared.message.Message.TheVariants.{Reply}
 use Rattle.smart_service.specs.Services.{Meaning}
-use Rattle.node_rules.specs.Seals.{is_verified}
+use Rattle.replica_rules.specs.Seals.{is_verified}
 use Rattle.node_rules.specs.Steps.{Outcome, step_of, leaving}
 use Rattle.node_rules.specs.declared.node.Target.{Target}
-use Rattle.agreement_laws.specs.Statements.{Among}
 use Rattle.agreement_laws.specs.Statements as statements
-use Rattle.agreement_laws.proofs.Lists.{any_of, each_among}
 use Rattle.world_rules.specs.Secrets.{group_secret}
 use Rattle.world_rules.specs.Premises.{is_among}
 use Rattle.client_quorum.specs.Clients.{learning, acceptance}
@@ -34,19 +32,35 @@ use Rattle.world_rules.specs.declared.message.Sent.{Sent}
 use Rattle.world_laws.specs.Sending.{IsOwnSent, is_reply, is_of, is_for, is_reply_of, has_replied, QuorumReplied, QuorumsReplied}
 use Rattle.world_laws.proofs.Lists.{and_true, each_end, each_weaker, each_set, each_get, or_left, or_right, or_true}
 use Rattle.world_laws.proofs.Equal.{and_intro}
-use Rattle.world_laws.proofs.Keeps.{HasContent, HasMessage, ask_of, asked_by, by-posts, keeps-sends_all, has_end, read_has, Keeps, keeps-world_after, signed_by, from_node, from_client, from_script}
-use Rattle.world_laws.proofs.FitNodes.{IsBrief}
+use Rattle.world_laws.proofs.Keeps.{HasContent, HasMessage, ask_of, asked_by, by-posts, keeps-sends_all, has_end, heard_has, Keeps, keeps-world_after, signed_by, from_node, from_client, from_script}
+use Rattle.replica_laws.proofs.FitNodes.{IsBrief}
+use Rattle.agreement_laws.proofs.Lists.{each_among}
 use Rattle.world_laws.proofs.Hearing.{accepts_waiting}
 use Rattle.world_laws.proofs.Given.{IsKept, ClientKeeps, filter_more, keeps_heard, quorum_gave}
-use Rattle.world_laws.proofs.Stating.{stated_one, reply_content}
-use Rattle.world_laws.proofs.Sound.{message_stated}
-use Rattle.world_laws.proofs.Unforged.{any_more, NodeStates, member_states}
+use Rattle.smart_messages.specs.declared.any.AnyMessage.TheVariants.{Plain}
+use Rattle.vote_book.specs.Books.{Among}
+use Rattle.vote_book.proofs.Tested.{among_any}
+use Rattle.world_laws.specs.Stated.{stated}
+use Rattle.world_laws.proofs.Stating.{says_message}
+use Rattle.world_laws.proofs.Witnessing.{content_stated}
+use Rattle.world_laws.proofs.Borne.{Borne, keeps-borne, borne-begun}
+use Rattle.world_laws.proofs.Unforged.{any_more, NodeStates, member_states, reply_content}
 use Rattle.world_laws.proofs.Chosen.{ChosenRight}
-use Rattle.world_laws.proofs.ChosenKept.{right-reads, chosen-kept, chosen-begun}
+use Rattle.world_laws.proofs.ChosenKept.{keeps-both, right-reads, chosen-kept, chosen-begun}
+
+-- the list is right, and what was sent is each one's own
+abbrev pub RightBorne : {S : Type 0} → Meaning S → World S → Type 0
+RightBorne m w = ChosenRight m w × Borne w
+
+-- a reply that was sent, with its signer's tag, has been stated
+pub reply_there : (sent : List Sent) (r : SignedBy Answer) → HasMessage sent (Plain (Reply r)) → is_verified answers group_secret r ≡ true → Among (statements.Replied r) (stated sent)
+reply_there sent r has tagged =
+    content_stated sent (contents.Message (Plain (Reply r))) (statements.Replied r) has
+    (says_message (Plain (Reply r)) (statements.Replied r) (statements.Replied r) (inl refl) (inl refl) tagged)
 
 -- a reply that was sent
 abbrev pub WasSent : List Sent → SignedBy Answer → Type 0
-WasSent sent r = HasMessage sent (Reply r)
+WasSent sent r = HasMessage sent (Plain (Reply r))
 
 -- clients keep replies that were sent, and what they accepted a quorum has sent, but for those that are faulty
 pub record Replied {S : Type 0} (w : World S) : Type 0 where
@@ -94,7 +108,7 @@ replied-posts {S = S} w s is =
     (λ free room. record {
       clients = each_weaker (ClientKeeps (WasSent w.sent)) (ClientKeeps (WasSent (w.sent ++ s ∷ [])))
           (λ c kept. each_weaker (IsKept (WasSent w.sent) c.waiting) (IsKept (WasSent (w.sent ++ s ∷ [])) c.waiting)
-          (λ r k. record { given = has_end w.sent s (contents.Message (Reply r)) k.given; tagged = k.tagged; waited_for = k.waited_for }) c.replies kept) w.clients is.clients;
+          (λ r k. record { given = has_end w.sent s (contents.Message (Plain (Reply r))) k.given; tagged = k.tagged; waited_for = k.waited_for }) c.replies kept) w.clients is.clients;
       accepted = each_weaker (QuorumReplied w.view w.faulty w.sent) (QuorumReplied w.view w.faulty (w.sent ++ s ∷ [])) (quorum_more w.view w.faulty w.sent s) w.accepted is.accepted;
     })
 
@@ -121,22 +135,22 @@ holds (s ∷ sent) x has =
     ]
 
 -- a reply of a member's own is for the client that it names
-own_for : (id : ℕ) (to : Option Target) (r : SignedBy Answer) (client : ℕ) → IsOwnSent (origins.Node id) to (contents.Message (Reply r)) → r.statement.client ≡ client → is_for client to ≡ true
+own_for : (id : ℕ) (to : Option Target) (r : SignedBy Answer) (client : ℕ) → IsOwnSent (origins.Node id) to (contents.Message (Plain (Reply r))) → r.statement.client ≡ client → is_for client to ≡ true
 own_for id None r client own same = absurd own
 own_for id (Some to) r client own same = subst (λ (t : Target). is_for client (Some t) ≡ true) (sym own.1) (eq-eqb r.statement.client client same)
 
 -- where what was sent is read, each one's own and not forged, a member whose reply was sent has sent it, or it is faulty
-sent_reply : {S : Type 0} (m : Meaning S) (w : World S) (r : SignedBy Answer) (a : Acceptance) → ChosenRight m w → HasMessage w.sent (Reply r) → is_verified answers group_secret r ≡ true
+sent_reply : {S : Type 0} (m : Meaning S) (w : World S) (r : SignedBy Answer) (a : Acceptance) → RightBorne m w → HasMessage w.sent (Plain (Reply r)) → is_verified answers group_secret r ≡ true
     → r.statement.client ≡ a.request.client → is_reply a (Reply r) ≡ true → has_replied w.faulty w.sent a r.signer ≡ true
 sent_reply {S = S} m w r a right has tagged client is = by (is_among w.faulty r.signer) refl
   where
     test : Sent → Bool
     test s = is_reply_of r.signer a s.content && (is_among w.faulty r.signer || (is_of r.signer s.origin && is_for a.request.client s.to))
 
-    reply : is_reply_of r.signer a (contents.Message (Reply r)) ≡ true
+    reply : is_reply_of r.signer a (contents.Message (Plain (Reply r))) ≡ true
     reply = and_intro ((r.signer == r.signer) && is_verified answers group_secret r) (is_reply a (Reply r)) (and_intro (r.signer == r.signer) (is_verified answers group_secret r) (eq-eqb r.signer r.signer refl) tagged) is
 
-    passes : (s : Sent) → s.content ≡ contents.Message (Reply r) → (is_among w.faulty r.signer || (is_of r.signer s.origin && is_for a.request.client s.to)) ≡ true → test s ≡ true
+    passes : (s : Sent) → s.content ≡ contents.Message (Plain (Reply r)) → (is_among w.faulty r.signer || (is_of r.signer s.origin && is_for a.request.client s.to)) ≡ true → test s ≡ true
     passes s same fine =
         and_intro (is_reply_of r.signer a s.content) (is_among w.faulty r.signer || (is_of r.signer s.origin && is_for a.request.client s.to))
         (subst (λ (x : Content). is_reply_of r.signer a x ≡ true) (sym same) reply) fine
@@ -144,11 +158,11 @@ sent_reply {S = S} m w r a right has tagged client is = by (is_among w.faulty r.
     mine : NodeStates w.sent r.signer (statements.Replied r) → has_replied w.faulty w.sent a r.signer ≡ true
     mine source =
         let s : Sent = source.message in
-        let same : s.content ≡ contents.Message (Reply r) = reply_content s.content r source.states in
-        let own : IsOwnSent s.origin s.to s.content = each_among (λ (t : Sent). IsOwnSent t.origin t.to t.content) w.sent s right.0.0.1.sent.own source.there in
-        let own_node : IsOwnSent (origins.Node r.signer) s.to (contents.Message (Reply r)) =
+        let same : s.content ≡ contents.Message (Plain (Reply r)) = reply_content s.content r source.states in
+        let own : IsOwnSent s.origin s.to s.content = each_among (λ (t : Sent). IsOwnSent t.origin t.to t.content) w.sent s right.1.sent.own source.there in
+        let own_node : IsOwnSent (origins.Node r.signer) s.to (contents.Message (Plain (Reply r))) =
         subst (λ (x : Content). IsOwnSent (origins.Node r.signer) s.to x) same (subst (λ (o : Origin). IsOwnSent o s.to s.content) source.from own) in
-        any_of test w.sent s source.there
+        among_any test s w.sent source.there
         (passes s same
         (or_right (is_among w.faulty r.signer) (is_of r.signer s.origin && is_for a.request.client s.to)
         (and_intro (is_of r.signer s.origin) (is_for a.request.client s.to)
@@ -157,15 +171,14 @@ sent_reply {S = S} m w r a right has tagged client is = by (is_among w.faulty r.
 
     by : (t : Bool) → is_among w.faulty r.signer ≡ t → has_replied w.faulty w.sent a r.signer ≡ true
     by true breaks =
-        let held : Holds w.sent (contents.Message (Reply r)) = holds w.sent (contents.Message (Reply r)) has in
-        any_of test w.sent held.message held.there
+        let held : Holds w.sent (contents.Message (Plain (Reply r))) = holds w.sent (contents.Message (Plain (Reply r))) has in
+        among_any test held.message w.sent held.there
         (passes held.message held.is (or_left (is_among w.faulty r.signer) (is_of r.signer held.message.origin && is_for a.request.client held.message.to) breaks))
     by false correct =
-        mine (member_states w r.signer (statements.Replied r) right.0.0.0.fit.sent right.0.0.1.sent.own right.0.1 correct refl
-        (message_stated w.sent (Reply r) (statements.Replied r) has (stated_one answers statements.Replied r tagged)))
+        mine (member_states w r.signer r right.0.0.0.fit.sent right.1.sent.own right.0.0.1 correct refl (reply_there w.sent r has tagged))
 
 -- so of what a client accepts, a quorum has
-accepted_heard : {S : Type 0} (m : Meaning S) (w : World S) (c : Client) (a : SignedBy Answer) (h : Heard) → heard w.view c a ≡ h → ChosenRight m w → HasMessage w.sent (Reply a)
+accepted_heard : {S : Type 0} (m : Meaning S) (w : World S) (c : Client) (a : SignedBy Answer) (h : Heard) → heard w.view c a ≡ h → RightBorne m w → HasMessage w.sent (Plain (Reply a))
     → ClientKeeps (WasSent w.sent) c → Each (QuorumReplied w.view w.faulty w.sent) w.accepted → Each (QuorumReplied w.view w.faulty w.sent) (w.accepted ++ acceptance_in h)
 accepted_heard m w c a (hears.Counted count need) is right has kept each = rw append-nil each
 accepted_heard m w c a (hears.Ignored why) is right has kept each = rw append-nil each
@@ -175,7 +188,7 @@ accepted_heard m w c a (hears.Accepted acc) is right has kept each =
     (accepts_waiting w.view c a acc is))
 
 -- a client hears a reply that was sent
-replied-hearing : {S : Type 0} (m : Meaning S) (w : World S) (i : ℕ) (c : Client) (a : SignedBy Answer) → slice_get w.clients i ≡ Some c → HasMessage w.sent (Reply a) → ChosenRight m w → Replied w
+replied-hearing : {S : Type 0} (m : Meaning S) (w : World S) (i : ℕ) (c : Client) (a : SignedBy Answer) → slice_get w.clients i ≡ Some c → HasMessage w.sent (Plain (Reply a)) → RightBorne m w → Replied w
     → Replied (hearing w i c a (heard w.view c a))
 unfolding hearing
 replied-hearing m w i c a at has right is =
@@ -185,14 +198,18 @@ replied-hearing m w i c a at has right is =
       accepted = accepted_heard m w c a (heard w.view c a) refl right has kept is.accepted;
     }
 
+-- each event keeps the list right, and what was sent each one's own
+pub right-borne-kept : {S : Type 0} (m : Meaning S) → IsBrief m → Keeps (step_of m) (RightBorne m)
+right-borne-kept m brief = keeps-both (step_of m) (ChosenRight m) Borne (chosen-kept m brief) (keeps-borne m)
+
 -- where the list is right, each event keeps that
-pub keeps-replied : {S : Type 0} (m : Meaning S) (P : World S → Type 0) → ((w : World S) → P w → ChosenRight m w) → Keeps (step_of m) P → Keeps (step_of m) (λ w. P w × Replied w)
+pub keeps-replied : {S : Type 0} (m : Meaning S) (P : World S → Type 0) → ((w : World S) → P w → RightBorne m w) → Keeps (step_of m) P → Keeps (step_of m) (λ w. P w × Replied w)
 keeps-replied m P right k =
     record {
       event = λ w i h event there at may p. (k.event w i h event there at may p.0, replied-stepped w i h (step_of m h.node event) p.1);
       hear = λ w i c x a at has read p. (
         k.hear w i c x a at has read p.0,
-        replied-hearing m w i c a at (read_has w x (Reply a) (right-reads m w (right w p.0)) has read) (right w p.0) p.1,
+        replied-hearing m w i c a at (heard_has w x (Reply a) (right-reads m w (right w p.0).0) has read) (right w p.0) p.1,
       );
       ask = λ w i c op at free low brief p. (
         k.ask w i c op at free low brief p.0,
@@ -233,6 +250,6 @@ replied-begun m view = record { clients = fresh_keep [] 1025 0; accepted = tt }
 pub quorums_replied : {S : Type 0} (m : Meaning S) → IsBrief m → (view : View) (ls : List Line) → is_view view ≡ true → QuorumsReplied (world_after (step_of m) (begun m view) ls)
 quorums_replied {S = S} m brief view ls is =
     record {
-      each = (keeps-world_after (step_of m) (λ (w : World S). ChosenRight m w × Replied w) (keeps-replied m (ChosenRight m) (λ w right. right) (chosen-kept m brief)) (begun m view) ls
-          (chosen-begun m view is, replied-begun m view)).1.accepted;
+      each = (keeps-world_after (step_of m) (λ (w : World S). RightBorne m w × Replied w) (keeps-replied m (RightBorne m) (λ w right. right) (right-borne-kept m brief)) (begun m view) ls
+          ((chosen-begun m view is, borne-begun m view), replied-begun m view)).1.accepted;
     }

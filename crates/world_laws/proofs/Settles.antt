@@ -18,7 +18,7 @@ use Rattle.world_laws.specs.Settling.{HasSettled, flow_begins, flow_goes, messag
 use Rattle.world_laws.proofs.Lists.{either, each_set, each_get, repeated_keeps, until_rest_keeps, each_from_keeps}
 use Rattle.world_laws.proofs.Keeps.{ask_of, asked_by, by-posts, Keeps, KeepsLive, live, live-settle_all, live-flow_once, keeps-world_after, at_listed-keeps, signed_by, from_node, from_client, from_script, live-settles_present, keeps-sends_all}
 use Rattle.world_laws.proofs.Rests.{rests_still}
-use Rattle.world_laws.proofs.Steady.{Steady, steady-step, steady-released, steady-opened, firm-step, place-firm, place-deliver}
+use Rattle.replica_laws.proofs.Steady.{Steady, steady-step, steady-released, steady-opened, firm-step, place-firm, place-deliver}
 use Rattle.world_rules.specs.declared.message.Sent.{Sent}
 
 -- hosts
@@ -80,7 +80,7 @@ keeps-steady {S = S} m =
 -- nodes that have just opened are steady
 hosts_steady : {S : Type 0} (m : Meaning S) (view : View) (ids : List ℕ) → Each (λ h. Steady h.node) (hosts_from m view ids)
 hosts_steady m view [] = tt
-hosts_steady m view (id ∷ ids) = (steady-opened m group_secret id view, hosts_steady m view ids)
+hosts_steady m view (id ∷ ids) = (steady-opened m group_secret id view 1024, hosts_steady m view ids)
 
 -- after any lines all nodes are steady
 steady-after : {S : Type 0} (m : Meaning S) (view : View) (ls : List Line) → AllSteady (world_after (step_of m) (begun m view) ls)

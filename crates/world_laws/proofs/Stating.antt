@@ -1,6 +1,6 @@
 -- A statement is told by its signer and its bytes, among those that are read.
-use Rattle.std.proofs.Common.{◌≡◌, ⊎_elim, ℕ, ◌+◌, ◌++◌, Bool, true, false, List, [], ◌∷◌, length, refl, ap, sym, ◌∙◌, subst, cond, inl, inr, Ok, append-nil, eqb-true}
-use Rattle.std.specs.Prelude.{map}
+use Rattle.std.proofs.Common.{◌≡◌, ⊎_elim, ℕ, ◌+◌, ◌++◌, ◌==◌, Bool, true, false, List, [], ◌∷◌, length, refl, ap, sym, ◌∙◌, subst, cond, inl, inr, Ok, append-nil, eqb-true, eq-eqb, Option, Some, None}
+use Rattle.std.specs.Prelude.{map, filter}
 use Rattle.std.specs.List.{flat_map, AllByRecursion}
 use Rattle.smart_base.specs.Cuts.{Cut, Read}
 use Rattle.smart_base.specs.Lists.{same_bytes}
@@ -10,27 +10,39 @@ use Rattle.smart_base.specs.declared.party.Party.TheVariants as parties
 use Rattle.smart_keys.proofs.Tags.{is_tag-equal}
 use Rattle.smart_messages.specs.Forms.{Form, SignedBy, party_of}
 use Rattle.smart_messages.specs.Kinds.{requests, proposals, ballots, answers}
-use Rattle.smart_messages.specs.Messages.{Batch, Fits}
+use Rattle.smart_messages.specs.Messages.{Batch, FitsBatch}
+use Rattle.smart_messages.specs.SignedLists.{FitsOptional}
+use Rattle.smart_messages.specs.Reports.{reports, report, FitsReport, marks, mark, FitsMark, FitsVote, votes_of, FitsEvidence, FitsLockCertificate}
+use Rattle.smart_messages.specs.Regencies.{stops, stop, FitsStop, syncs, sync, FitsSync, view_infos, view_info, FitsViewInfo}
 use Rattle.smart_messages.specs.Spelling as spells
 use Rattle.smart_messages.specs.Spelling.{FitsProposal, FitsBallot, FitsAnswer, FitsRequest, FitsSigned}
 use Rattle.smart_messages.specs.Statements.{request_law, proposal_law, ballot_law, answer_law}
+use Rattle.smart_messages.specs.ReportLaws.{report_law, mark_law}
+use Rattle.smart_messages.specs.RegencyLaws.{stop_law, sync_law, view_info_law}
 use Rattle.smart_messages.specs.declared.statement.Request.{Request}
-use Rattle.smart_messages.specs.declared.statement.Proposal.{Proposal}
 use Rattle.smart_messages.specs.declared.statement.VoteKind.{VoteKind}
 use Rattle.smart_messages.specs.declared.statement.VoteKind.TheVariants.{Write, Accept}
 use Rattle.smart_messages.specs.declared.statement.Ballot.{Ballot}
-use Rattle.smart_messages.specs.declared.statement.Answer.{Answer}
-use Rattle.smart_messages.specs.declared.message.Message.{Message}
+use Rattle.smart_messages.specs.declared.report.Mark.{Mark}
+use Rattle.smart_messages.specs.declared.report.Report.{Report}
+use Rattle.smart_messages.specs.declared.report.Evidence.{Evidence}
+use Rattle.smart_messages.specs.declared.report.Evidence.TheVariants as evidence
+use Rattle.smart_messages.specs.declared.report.LockCertificate.{LockCertificate}
+use Rattle.smart_messages.specs.declared.regency.RegencyMessage.TheVariants as changes
 use Rattle.smart_messages.specs.declared.message.Message.TheVariants.{Ask, Propose, Vote, Reply}
-use Rattle.node_rules.specs.Seals.{signed, is_verified}
-use Rattle.agreement_laws.specs.Statements.{Among, Statement, Asked, Proposed, Voted, Replied, signer_of, stated_by, statements}
-use Rattle.agreement_laws.proofs.Lists.{among_either}
+use Rattle.smart_messages.specs.declared.any.AnyMessage.{AnyMessage}
+use Rattle.smart_messages.specs.declared.any.AnyMessage.TheVariants.{Plain, Change}
+use Rattle.vote_book.specs.Books.{Among}
+use Rattle.replica_rules.specs.Seals.{signed, is_verified}
+use Rattle.agreement_laws.specs.Statements.{Statement, Asked, Proposed, Voted, Stopped, Reported, Synced, Marked, Replied, Informed, signer_of, verifies, within, in_report, parts_of_evidence, parts_of_lock, requests_of, said, statements}
+use Rattle.agreement_laws.proofs.Lists.{among_either, among_filtered, among_filter, among_flat, given, within_one}
 use Rattle.world_rules.specs.Secrets.{group_secret}
-use Rattle.world_rules.specs.Premises.{Claim, claims_of, claims_in, claims, same_party, same_claim}
+use Rattle.world_rules.specs.Premises.{claim_of, bytes_stated, claims, same_party, same_claim}
 use Rattle.world_rules.specs.declared.message.Content.{Content}
 use Rattle.world_rules.specs.declared.message.Content.TheVariants as contents
 use Rattle.world_laws.specs.Stated.{stated_in}
 use Rattle.world_laws.proofs.Lists.{and_true}
+use Rattle.world_laws.proofs.Keeps.{FitsParts}
 use Rattle.world_laws.proofs.Equal.{same_bytes-equal}
 
 -- statements that are alike are one
@@ -59,38 +71,66 @@ text_one {A} fits spell read law x y fx fy same =
     let pairs : (x, d) ≡ (y, d) = cc in
     ap (λ (p : A × Cut). p.0) pairs
 
--- texts of two kinds differ
-vote_not_proposal : (b : Ballot) (p : Proposal) (k : VoteKind) → b.kind ≡ k → spells.ballot b ≡ spells.proposal p → ⊥
-vote_not_proposal b p Write kind same = let e = subst (λ (k : VoteKind). u8 (spells.vote_kind k) ++ (spells.slot b.slot ++ b.digest) ≡ spells.proposal p) kind same in cc
-vote_not_proposal b p Accept kind same = let e = subst (λ (k : VoteKind). u8 (spells.vote_kind k) ++ (spells.slot b.slot ++ b.digest) ≡ spells.proposal p) kind same in cc
+-- the kind of a statement is told by its first byte
 
-vote_not_answer : (b : Ballot) (a : Answer) (k : VoteKind) → b.kind ≡ k → spells.ballot b ≡ spells.answer a → ⊥
-vote_not_answer b a Write kind same = let e = subst (λ (k : VoteKind). u8 (spells.vote_kind k) ++ (spells.slot b.slot ++ b.digest) ≡ spells.answer a) kind same in cc
-vote_not_answer b a Accept kind same = let e = subst (λ (k : VoteKind). u8 (spells.vote_kind k) ++ (spells.slot b.slot ++ b.digest) ≡ spells.answer a) kind same in cc
+head_of : List ℕ → ℕ
+head_of [] = 0
+head_of (x ∷ xs) = x
 
-answer_not_proposal : (a : Answer) (p : Proposal) → spells.answer a ≡ spells.proposal p → ⊥
-answer_not_proposal a p same = cc
+-- a first byte says which statement it is the first byte of
+number_by : ℕ → ℕ
+number_by first =
+    cond (first == 9) 0 (cond (first == 1) 1 (cond (first == 2) 2 (cond (first == 3) 2 (cond (first == 4) 3 (cond (first == 5) 4 (cond (first == 6) 5 (cond (first == 7) 6 (cond (first == 8) 7 8))))))))
 
--- a statement that is read, with its signer's tag
+number_of : Statement → ℕ
+number_of (Asked q) = 0
+number_of (Proposed p) = 1
+number_of (Voted b) = 2
+number_of (Stopped s) = 3
+number_of (Reported r) = 4
+number_of (Synced s) = 5
+number_of (Marked m) = 6
+number_of (Replied a) = 7
+number_of (Informed i) = 8
+
+vote_number : (kind : VoteKind) (rest : List ℕ) → number_by (head_of (u8 (spells.vote_kind kind) ++ rest)) ≡ 2
+unfolding number_by head_of
+vote_number Write rest = refl
+vote_number Accept rest = refl
+
+number_is : (s : Statement) → number_by (head_of (bytes_stated s)) ≡ number_of s
+unfolding number_by head_of number_of
+number_is (Asked q) = refl
+number_is (Proposed p) = refl
+number_is (Voted b) = vote_number b.statement.kind (spells.slot b.statement.slot ++ b.statement.digest)
+number_is (Stopped s) = refl
+number_is (Reported r) = refl
+number_is (Synced s) = refl
+number_is (Marked m) = refl
+number_is (Replied a) = refl
+number_is (Informed i) = refl
+
+numbers_same : (s t : Statement) → bytes_stated s ≡ bytes_stated t → number_of s ≡ number_of t
+numbers_same s t same = sym (number_is s) ∙ (ap (λ (bytes : List ℕ). number_by (head_of bytes)) same ∙ number_is t)
+
+differ : (m n : ℕ) → (m == n) ≡ false → m ≡ n → ⊥
+differ m n isnt same = let is = eq-eqb m n same in cc
+
+-- a statement that has a spelling
+abbrev pub FitsStatement : Statement → Type 0
+FitsStatement (Asked q) = FitsRequest q.signer q.statement
+FitsStatement (Proposed p) = FitsProposal p.statement
+FitsStatement (Voted b) = FitsBallot b.statement
+FitsStatement (Stopped s) = FitsStop s.statement
+FitsStatement (Reported r) = FitsReport r.statement
+FitsStatement (Synced s) = FitsSync s.statement
+FitsStatement (Marked m) = FitsMark m.statement
+FitsStatement (Replied a) = FitsAnswer a.statement
+FitsStatement (Informed i) = FitsViewInfo i.statement
+
+-- with its signer's tag
 abbrev pub Proper : Statement → Type 0
-Proper (Asked q) = FitsRequest q.signer q.statement × (is_verified requests group_secret q ≡ true)
-Proper (Proposed p) = FitsProposal p.statement × (is_verified proposals group_secret p ≡ true)
-Proper (Voted b) = FitsBallot b.statement × (is_verified ballots group_secret b ≡ true)
-Proper (Replied a) = FitsAnswer a.statement × (is_verified answers group_secret a ≡ true)
-
--- what is claimed by it
-abbrev pub claim_of : Statement → Claim
-claim_of (Asked q) = record { signer = party_of requests.kind q.signer; bytes = requests.spell q.statement }
-claim_of (Proposed p) = record { signer = party_of proposals.kind p.signer; bytes = proposals.spell p.statement }
-claim_of (Voted b) = record { signer = party_of ballots.kind b.signer; bytes = ballots.spell b.statement }
-claim_of (Replied a) = record { signer = party_of answers.kind a.signer; bytes = answers.spell a.statement }
-
--- it claims it for its signer
-pub claim_signer : (s : Statement) → (claim_of s).signer ≡ signer_of s
-claim_signer (Asked q) = refl
-claim_signer (Proposed p) = refl
-claim_signer (Voted b) = refl
-claim_signer (Replied a) = refl
+Proper s = FitsStatement s × (verifies group_secret s ≡ true)
 
 members_same : (a b : ℕ) → parties.Member a ≡ parties.Member b → a ≡ b
 members_same a b same = cc
@@ -98,33 +138,101 @@ members_same a b same = cc
 clients_same : (a b : ℕ) → parties.Client a ≡ parties.Client b → a ≡ b
 clients_same a b same = cc
 
-members_clients : (a b : ℕ) → parties.Member a ≡ parties.Client b → ⊥
-members_clients a b same = cc
-
 -- two that claim one thing are one
-one_claim : (s t : Statement) → Proper s → Proper t → signer_of s ≡ signer_of t → (claim_of s).bytes ≡ (claim_of t).bytes → s ≡ t
-one_claim (Asked q) (Asked r) ps pt who same =
-    let one : q.signer ≡ r.signer = clients_same q.signer r.signer who in
-    let fit : FitsRequest r.signer q.statement = subst (λ (i : ℕ). FitsRequest i q.statement) one ps.0 in
-    ap Asked (signed_one requests q r ps.1 pt.1 one (text_one (FitsRequest r.signer) spells.request _ (request_law r.signer) q.statement r.statement fit pt.0 same))
-one_claim (Asked q) (Proposed p) ps pt who same = absurd (members_clients p.signer q.signer (sym who))
-one_claim (Asked q) (Voted b) ps pt who same = absurd (members_clients b.signer q.signer (sym who))
-one_claim (Asked q) (Replied a) ps pt who same = absurd (members_clients a.signer q.signer (sym who))
-one_claim (Proposed p) (Asked q) ps pt who same = absurd (members_clients p.signer q.signer who)
-one_claim (Proposed p) (Proposed o) ps pt who same =
-    ap Proposed (signed_one proposals p o ps.1 pt.1 (members_same p.signer o.signer who) (text_one FitsProposal spells.proposal _ (proposal_law 0) p.statement o.statement ps.0 pt.0 same))
-one_claim (Proposed p) (Voted b) ps pt who same = absurd (vote_not_proposal b.statement p.statement b.statement.kind refl (sym same))
-one_claim (Proposed p) (Replied a) ps pt who same = absurd (answer_not_proposal a.statement p.statement (sym same))
-one_claim (Voted b) (Asked q) ps pt who same = absurd (members_clients b.signer q.signer who)
-one_claim (Voted b) (Proposed p) ps pt who same = absurd (vote_not_proposal b.statement p.statement b.statement.kind refl same)
-one_claim (Voted b) (Voted v) ps pt who same =
-    ap Voted (signed_one ballots b v ps.1 pt.1 (members_same b.signer v.signer who) (text_one FitsBallot spells.ballot _ (ballot_law 0) b.statement v.statement ps.0 pt.0 same))
-one_claim (Voted b) (Replied a) ps pt who same = absurd (vote_not_answer b.statement a.statement b.statement.kind refl same)
-one_claim (Replied a) (Asked q) ps pt who same = absurd (members_clients a.signer q.signer who)
-one_claim (Replied a) (Proposed p) ps pt who same = absurd (answer_not_proposal a.statement p.statement same)
-one_claim (Replied a) (Voted b) ps pt who same = absurd (vote_not_answer b.statement a.statement b.statement.kind refl (sym same))
-one_claim (Replied a) (Replied r) ps pt who same =
-    ap Replied (signed_one answers a r ps.1 pt.1 (members_same a.signer r.signer who) (text_one FitsAnswer spells.answer _ (answer_law 0) a.statement r.statement ps.0 pt.0 same))
+one_claim : (s t : Statement) → Proper s → Proper t → signer_of s ≡ signer_of t → bytes_stated s ≡ bytes_stated t → s ≡ t
+unfolding number_of
+one_claim (Asked q) (Asked q') ps pt who same =
+    let one : q.signer ≡ q'.signer = clients_same q.signer q'.signer who in
+    let fit : FitsRequest q'.signer q.statement = subst (λ (i : ℕ). FitsRequest i q.statement) one ps.0 in
+    ap Asked (signed_one requests q q' ps.1 pt.1 one (text_one (FitsRequest q'.signer) spells.request _ (request_law q'.signer) q.statement q'.statement fit pt.0 same))
+one_claim (Asked q) (Proposed p) ps pt who same = absurd (differ 0 1 refl (numbers_same (Asked q) (Proposed p) same))
+one_claim (Asked q) (Voted b) ps pt who same = absurd (differ 0 2 refl (numbers_same (Asked q) (Voted b) same))
+one_claim (Asked q) (Stopped s) ps pt who same = absurd (differ 0 3 refl (numbers_same (Asked q) (Stopped s) same))
+one_claim (Asked q) (Reported r) ps pt who same = absurd (differ 0 4 refl (numbers_same (Asked q) (Reported r) same))
+one_claim (Asked q) (Synced y) ps pt who same = absurd (differ 0 5 refl (numbers_same (Asked q) (Synced y) same))
+one_claim (Asked q) (Marked m) ps pt who same = absurd (differ 0 6 refl (numbers_same (Asked q) (Marked m) same))
+one_claim (Asked q) (Replied a) ps pt who same = absurd (differ 0 7 refl (numbers_same (Asked q) (Replied a) same))
+one_claim (Asked q) (Informed i) ps pt who same = absurd (differ 0 8 refl (numbers_same (Asked q) (Informed i) same))
+one_claim (Proposed p) (Asked q) ps pt who same = absurd (differ 1 0 refl (numbers_same (Proposed p) (Asked q) same))
+one_claim (Proposed p) (Proposed p') ps pt who same =
+    ap Proposed (signed_one proposals p p' ps.1 pt.1 (members_same p.signer p'.signer who) (text_one FitsProposal spells.proposal _ (proposal_law 0) p.statement p'.statement ps.0 pt.0 same))
+one_claim (Proposed p) (Voted b) ps pt who same = absurd (differ 1 2 refl (numbers_same (Proposed p) (Voted b) same))
+one_claim (Proposed p) (Stopped s) ps pt who same = absurd (differ 1 3 refl (numbers_same (Proposed p) (Stopped s) same))
+one_claim (Proposed p) (Reported r) ps pt who same = absurd (differ 1 4 refl (numbers_same (Proposed p) (Reported r) same))
+one_claim (Proposed p) (Synced y) ps pt who same = absurd (differ 1 5 refl (numbers_same (Proposed p) (Synced y) same))
+one_claim (Proposed p) (Marked m) ps pt who same = absurd (differ 1 6 refl (numbers_same (Proposed p) (Marked m) same))
+one_claim (Proposed p) (Replied a) ps pt who same = absurd (differ 1 7 refl (numbers_same (Proposed p) (Replied a) same))
+one_claim (Proposed p) (Informed i) ps pt who same = absurd (differ 1 8 refl (numbers_same (Proposed p) (Informed i) same))
+one_claim (Voted b) (Asked q) ps pt who same = absurd (differ 2 0 refl (numbers_same (Voted b) (Asked q) same))
+one_claim (Voted b) (Proposed p) ps pt who same = absurd (differ 2 1 refl (numbers_same (Voted b) (Proposed p) same))
+one_claim (Voted b) (Voted b') ps pt who same =
+    ap Voted (signed_one ballots b b' ps.1 pt.1 (members_same b.signer b'.signer who) (text_one FitsBallot spells.ballot _ (ballot_law 0) b.statement b'.statement ps.0 pt.0 same))
+one_claim (Voted b) (Stopped s) ps pt who same = absurd (differ 2 3 refl (numbers_same (Voted b) (Stopped s) same))
+one_claim (Voted b) (Reported r) ps pt who same = absurd (differ 2 4 refl (numbers_same (Voted b) (Reported r) same))
+one_claim (Voted b) (Synced y) ps pt who same = absurd (differ 2 5 refl (numbers_same (Voted b) (Synced y) same))
+one_claim (Voted b) (Marked m) ps pt who same = absurd (differ 2 6 refl (numbers_same (Voted b) (Marked m) same))
+one_claim (Voted b) (Replied a) ps pt who same = absurd (differ 2 7 refl (numbers_same (Voted b) (Replied a) same))
+one_claim (Voted b) (Informed i) ps pt who same = absurd (differ 2 8 refl (numbers_same (Voted b) (Informed i) same))
+one_claim (Stopped s) (Asked q) ps pt who same = absurd (differ 3 0 refl (numbers_same (Stopped s) (Asked q) same))
+one_claim (Stopped s) (Proposed p) ps pt who same = absurd (differ 3 1 refl (numbers_same (Stopped s) (Proposed p) same))
+one_claim (Stopped s) (Voted b) ps pt who same = absurd (differ 3 2 refl (numbers_same (Stopped s) (Voted b) same))
+one_claim (Stopped s) (Stopped s') ps pt who same =
+    ap Stopped (signed_one stops s s' ps.1 pt.1 (members_same s.signer s'.signer who) (text_one FitsStop stop _ (stop_law 0) s.statement s'.statement ps.0 pt.0 same))
+one_claim (Stopped s) (Reported r) ps pt who same = absurd (differ 3 4 refl (numbers_same (Stopped s) (Reported r) same))
+one_claim (Stopped s) (Synced y) ps pt who same = absurd (differ 3 5 refl (numbers_same (Stopped s) (Synced y) same))
+one_claim (Stopped s) (Marked m) ps pt who same = absurd (differ 3 6 refl (numbers_same (Stopped s) (Marked m) same))
+one_claim (Stopped s) (Replied a) ps pt who same = absurd (differ 3 7 refl (numbers_same (Stopped s) (Replied a) same))
+one_claim (Stopped s) (Informed i) ps pt who same = absurd (differ 3 8 refl (numbers_same (Stopped s) (Informed i) same))
+one_claim (Reported r) (Asked q) ps pt who same = absurd (differ 4 0 refl (numbers_same (Reported r) (Asked q) same))
+one_claim (Reported r) (Proposed p) ps pt who same = absurd (differ 4 1 refl (numbers_same (Reported r) (Proposed p) same))
+one_claim (Reported r) (Voted b) ps pt who same = absurd (differ 4 2 refl (numbers_same (Reported r) (Voted b) same))
+one_claim (Reported r) (Stopped s) ps pt who same = absurd (differ 4 3 refl (numbers_same (Reported r) (Stopped s) same))
+one_claim (Reported r) (Reported r') ps pt who same =
+    ap Reported (signed_one reports r r' ps.1 pt.1 (members_same r.signer r'.signer who) (text_one FitsReport report _ (report_law 0) r.statement r'.statement ps.0 pt.0 same))
+one_claim (Reported r) (Synced y) ps pt who same = absurd (differ 4 5 refl (numbers_same (Reported r) (Synced y) same))
+one_claim (Reported r) (Marked m) ps pt who same = absurd (differ 4 6 refl (numbers_same (Reported r) (Marked m) same))
+one_claim (Reported r) (Replied a) ps pt who same = absurd (differ 4 7 refl (numbers_same (Reported r) (Replied a) same))
+one_claim (Reported r) (Informed i) ps pt who same = absurd (differ 4 8 refl (numbers_same (Reported r) (Informed i) same))
+one_claim (Synced y) (Asked q) ps pt who same = absurd (differ 5 0 refl (numbers_same (Synced y) (Asked q) same))
+one_claim (Synced y) (Proposed p) ps pt who same = absurd (differ 5 1 refl (numbers_same (Synced y) (Proposed p) same))
+one_claim (Synced y) (Voted b) ps pt who same = absurd (differ 5 2 refl (numbers_same (Synced y) (Voted b) same))
+one_claim (Synced y) (Stopped s) ps pt who same = absurd (differ 5 3 refl (numbers_same (Synced y) (Stopped s) same))
+one_claim (Synced y) (Reported r) ps pt who same = absurd (differ 5 4 refl (numbers_same (Synced y) (Reported r) same))
+one_claim (Synced y) (Synced y') ps pt who same =
+    ap Synced (signed_one syncs y y' ps.1 pt.1 (members_same y.signer y'.signer who) (text_one FitsSync sync _ (sync_law 0) y.statement y'.statement ps.0 pt.0 same))
+one_claim (Synced y) (Marked m) ps pt who same = absurd (differ 5 6 refl (numbers_same (Synced y) (Marked m) same))
+one_claim (Synced y) (Replied a) ps pt who same = absurd (differ 5 7 refl (numbers_same (Synced y) (Replied a) same))
+one_claim (Synced y) (Informed i) ps pt who same = absurd (differ 5 8 refl (numbers_same (Synced y) (Informed i) same))
+one_claim (Marked m) (Asked q) ps pt who same = absurd (differ 6 0 refl (numbers_same (Marked m) (Asked q) same))
+one_claim (Marked m) (Proposed p) ps pt who same = absurd (differ 6 1 refl (numbers_same (Marked m) (Proposed p) same))
+one_claim (Marked m) (Voted b) ps pt who same = absurd (differ 6 2 refl (numbers_same (Marked m) (Voted b) same))
+one_claim (Marked m) (Stopped s) ps pt who same = absurd (differ 6 3 refl (numbers_same (Marked m) (Stopped s) same))
+one_claim (Marked m) (Reported r) ps pt who same = absurd (differ 6 4 refl (numbers_same (Marked m) (Reported r) same))
+one_claim (Marked m) (Synced y) ps pt who same = absurd (differ 6 5 refl (numbers_same (Marked m) (Synced y) same))
+one_claim (Marked m) (Marked m') ps pt who same =
+    ap Marked (signed_one marks m m' ps.1 pt.1 (members_same m.signer m'.signer who) (text_one FitsMark mark _ (mark_law 0) m.statement m'.statement ps.0 pt.0 same))
+one_claim (Marked m) (Replied a) ps pt who same = absurd (differ 6 7 refl (numbers_same (Marked m) (Replied a) same))
+one_claim (Marked m) (Informed i) ps pt who same = absurd (differ 6 8 refl (numbers_same (Marked m) (Informed i) same))
+one_claim (Replied a) (Asked q) ps pt who same = absurd (differ 7 0 refl (numbers_same (Replied a) (Asked q) same))
+one_claim (Replied a) (Proposed p) ps pt who same = absurd (differ 7 1 refl (numbers_same (Replied a) (Proposed p) same))
+one_claim (Replied a) (Voted b) ps pt who same = absurd (differ 7 2 refl (numbers_same (Replied a) (Voted b) same))
+one_claim (Replied a) (Stopped s) ps pt who same = absurd (differ 7 3 refl (numbers_same (Replied a) (Stopped s) same))
+one_claim (Replied a) (Reported r) ps pt who same = absurd (differ 7 4 refl (numbers_same (Replied a) (Reported r) same))
+one_claim (Replied a) (Synced y) ps pt who same = absurd (differ 7 5 refl (numbers_same (Replied a) (Synced y) same))
+one_claim (Replied a) (Marked m) ps pt who same = absurd (differ 7 6 refl (numbers_same (Replied a) (Marked m) same))
+one_claim (Replied a) (Replied a') ps pt who same =
+    ap Replied (signed_one answers a a' ps.1 pt.1 (members_same a.signer a'.signer who) (text_one FitsAnswer spells.answer _ (answer_law 0) a.statement a'.statement ps.0 pt.0 same))
+one_claim (Replied a) (Informed i) ps pt who same = absurd (differ 7 8 refl (numbers_same (Replied a) (Informed i) same))
+one_claim (Informed i) (Asked q) ps pt who same = absurd (differ 8 0 refl (numbers_same (Informed i) (Asked q) same))
+one_claim (Informed i) (Proposed p) ps pt who same = absurd (differ 8 1 refl (numbers_same (Informed i) (Proposed p) same))
+one_claim (Informed i) (Voted b) ps pt who same = absurd (differ 8 2 refl (numbers_same (Informed i) (Voted b) same))
+one_claim (Informed i) (Stopped s) ps pt who same = absurd (differ 8 3 refl (numbers_same (Informed i) (Stopped s) same))
+one_claim (Informed i) (Reported r) ps pt who same = absurd (differ 8 4 refl (numbers_same (Informed i) (Reported r) same))
+one_claim (Informed i) (Synced y) ps pt who same = absurd (differ 8 5 refl (numbers_same (Informed i) (Synced y) same))
+one_claim (Informed i) (Marked m) ps pt who same = absurd (differ 8 6 refl (numbers_same (Informed i) (Marked m) same))
+one_claim (Informed i) (Replied a) ps pt who same = absurd (differ 8 7 refl (numbers_same (Informed i) (Replied a) same))
+one_claim (Informed i) (Informed i') ps pt who same =
+    ap Informed (signed_one view_infos i i' ps.1 pt.1 (members_same i.signer i'.signer who) (text_one FitsViewInfo view_info _ (view_info_law 0) i.statement i'.statement ps.0 pt.0 same))
 
 -- parties that are the same are equal
 pub same_party-equal : (a b : Party) → same_party a b ≡ true → a ≡ b
@@ -136,105 +244,131 @@ same_party-equal (parties.Client a) (parties.Client b) same = ap (λ (i : ℕ). 
 -- so statements whose claims are the same are one
 pub same_claim-one : (s t : Statement) → Proper s → Proper t → same_claim (claim_of s) (claim_of t) ≡ true → s ≡ t
 same_claim-one s t ps pt same =
-    let both = and_true (same_party (claim_of s).signer (claim_of t).signer) (same_bytes (claim_of s).bytes (claim_of t).bytes) same in
-    one_claim s t ps pt (sym (claim_signer s) ∙ (same_party-equal (claim_of s).signer (claim_of t).signer both.0 ∙ claim_signer t))
-    (same_bytes-equal (claim_of s).bytes (claim_of t).bytes both.1)
+    let both = and_true (same_party (signer_of s) (signer_of t)) (same_bytes (bytes_stated s) (bytes_stated t)) same in
+    one_claim s t ps pt (same_party-equal (signer_of s) (signer_of t) both.0) (same_bytes-equal (bytes_stated s) (bytes_stated t) both.1)
 
 -- what a content states it claims
-
-map_append : (f : Statement → Claim) (xs ys : List Statement) → map f (xs ++ ys) ≡ map f xs ++ map f ys
-map_append f [] ys = refl
-map_append f (x ∷ xs) ys = ap (λ (zs : List Claim). f x ∷ zs) (map_append f xs ys)
-
-map_if : (f : Statement → Claim) (t : Bool) (x : Statement) → cond t (f x ∷ []) [] ≡ map f (cond t (x ∷ []) [])
-map_if f true x = refl
-map_if f false x = refl
-
-claims_batch : (batch : Batch) → flat_map (claims_of requests) batch ≡ map claim_of (flat_map (stated_by requests Asked group_secret) batch)
-claims_batch [] = refl
-claims_batch (q ∷ qs) =
-    let here : claims_of requests q ≡ map claim_of (stated_by requests Asked group_secret q) = map_if claim_of (is_verified requests group_secret q) (Asked q) in
-    ap (λ (cs : List Claim). cs ++ flat_map (claims_of requests) qs) here
-    ∙ (ap (λ (cs : List Claim). map claim_of (stated_by requests Asked group_secret q) ++ cs) (claims_batch qs)
-    ∙ sym (map_append claim_of (stated_by requests Asked group_secret q) (flat_map (stated_by requests Asked group_secret) qs)))
-
-claims_message : (m : Message) → claims_in m ≡ map claim_of (statements group_secret m)
-claims_message (Ask q) = map_if claim_of (is_verified requests group_secret q) (Asked q)
-claims_message (Propose p) =
-    let here : claims_of proposals p.head ≡ map claim_of (stated_by proposals Proposed group_secret p.head) = map_if claim_of (is_verified proposals group_secret p.head) (Proposed p.head) in
-    ap (λ (cs : List Claim). cs ++ flat_map (claims_of requests) p.batch) here
-    ∙ (ap (λ (cs : List Claim). map claim_of (stated_by proposals Proposed group_secret p.head) ++ cs) (claims_batch p.batch)
-    ∙ sym (map_append claim_of (stated_by proposals Proposed group_secret p.head) (flat_map (stated_by requests Asked group_secret) p.batch)))
-claims_message (Vote b) = map_if claim_of (is_verified ballots group_secret b) (Voted b)
-claims_message (Reply a) = map_if claim_of (is_verified answers group_secret a) (Replied a)
-
 pub claims_stated : (x : Content) → claims x ≡ map claim_of (stated_in x)
-claims_stated (contents.Message m) = claims_message m
+claims_stated (contents.Message m) = refl
 claims_stated (contents.Raw bytes) = refl
 
 -- what a message states
 
--- a statement among none or one
-pub one_stated : {A : Type 0} (form : Form A) (make : SignedBy A → Statement) (s : SignedBy A) (x : Statement) → Among x (stated_by form make group_secret s)
-    → (is_verified form group_secret s ≡ true) × (x ≡ make s)
-one_stated {A} form make s x there = by (is_verified form group_secret s) there
+-- what a filter leaves passes its test
+among_passes : {A : Type 0} (p : A → Bool) (xs : List A) (y : A) → Among y (filter p xs) → p y ≡ true
+among_passes p [] y there = absurd there
+among_passes {A} p (x ∷ xs) y there = by (p x) refl (λ later. among_passes p xs y later) there
   where
-    by : (t : Bool) → Among x (cond t (make s ∷ []) []) → (t ≡ true) × (x ≡ make s)
-    by true there = (refl, elim there [ inl is ↦ is | inr none ↦ absurd none ])
-    by false there = absurd there
+    by : (t : Bool) → p x ≡ t → (Among y (filter p xs) → p y ≡ true) → Among y (cond t (x ∷ filter p xs) (filter p xs)) → p y ≡ true
+    by true is rest (inl same) = subst (λ (z : A). p z ≡ true) (sym same) is
+    by true is rest (inr later) = rest later
+    by false is rest later = rest later
 
--- and what is verified is stated
-pub stated_one : {A : Type 0} (form : Form A) (make : SignedBy A → Statement) (s : SignedBy A) → is_verified form group_secret s ≡ true → Among (make s) (stated_by form make group_secret s)
-stated_one {A} form make s is = by (is_verified form group_secret s) is
-  where
-    by : (t : Bool) → t ≡ true → Among (make s) (cond t (make s ∷ []) [])
-    by true is = inl refl
-    by false is = absurd (cc)
+-- it stands in what the message says, and bears its signer's tag
+pub record IsSaid (m : AnyMessage) (x : Statement) : Type 0 where
+  pub part : Statement
+  pub said_there : Among part (said m)
+  pub inside : Among x (within part)
+  pub verified : verifies group_secret x ≡ true
+
+pub message_says : (m : AnyMessage) (x : Statement) → Among x (statements group_secret m) → IsSaid m x
+message_says m x there =
+    let all = flat_map within (said m) in
+    let found = within_one within (said m) x (among_filtered (verifies group_secret) all x there) in
+    record { part = found.value; said_there = found.there; inside = found.within; verified = among_passes (verifies group_secret) all x there }
+
+-- and what stands in what it says and bears its tag is stated
+pub says_message : (m : AnyMessage) (part x : Statement) → Among part (said m) → Among x (within part) → verifies group_secret x ≡ true → Among x (statements group_secret m)
+says_message m part x there inside verified = among_filter (verifies group_secret) (flat_map within (said m)) x (among_flat within (said m) part x there inside) verified
+
+-- what holds by recursion, holds of each that is there
+all_among : {A : Type 0} (P : A → Type 0) (xs : List A) (x : A) → AllByRecursion P xs → Among x xs → P x
+all_among P [] x all there = absurd there
+all_among P (y ∷ xs) x all (inl is) = subst P (sym is) all.0
+all_among P (y ∷ xs) x all (inr there) = all_among P xs x all.1 there
+
+-- what a statement is
+fits_as : (s t : Statement) → s ≡ t → FitsStatement t → FitsStatement s
+fits_as s t same fits = subst FitsStatement (sym same) fits
+
+-- votes of one kind
+votes_fit : (kind : VoteKind) (votes : List (SignedBy Ballot)) (x : Statement) → AllByRecursion (FitsSigned (votes_of kind) (λ signer. FitsVote kind)) votes → Among x (map Voted votes) → FitsStatement x
+votes_fit kind votes x all there =
+    let found = given Voted votes x there in
+    fits_as x (Voted found.value) found.is (all_among (FitsSigned (votes_of kind) (λ signer. FitsVote kind)) votes found.value all found.there).statement_fits.ballot_fits
+
+marks_fit : (items : List (SignedBy Mark)) (x : Statement) → AllByRecursion (FitsSigned marks (λ signer. FitsMark)) items → Among x (map Marked items) → FitsStatement x
+marks_fit items x all there =
+    let found = given Marked items x there in
+    fits_as x (Marked found.value) found.is (all_among (FitsSigned marks (λ signer. FitsMark)) items found.value all found.there).statement_fits
+
+evidence_fits : (last : ℕ) (e : Evidence) (x : Statement) → FitsEvidence last e → Among x (parts_of_evidence e) → FitsStatement x
+evidence_fits last evidence.Nothing x fits there = absurd there
+evidence_fits last (evidence.Decided p) x fits there = votes_fit Accept p.accepts x fits.accepts_fit.1 there
+evidence_fits last (evidence.Marked m) x fits there = marks_fit m.marks x fits.marks_fit.1 there
+
+lock_fits : (lock : Option LockCertificate) (x : Statement) → FitsOptional FitsLockCertificate lock → Among x (parts_of_lock lock) → FitsStatement x
+lock_fits None x fits there = absurd there
+lock_fits (Some l) x fits there = votes_fit Write l.writes x fits.writes_fit.1 there
+
+-- what stands in a report
+report_fits : (r : SignedBy Report) (x : Statement) → FitsReport r.statement → Among x (in_report r) → FitsStatement x
+report_fits r x fits (inl is) = fits_as x (Reported r) is fits
+report_fits r x fits (inr there) =
+    ⊎_elim (λ e. evidence_fits r.statement.last r.statement.evidence x fits.evidence_fits e) (λ l. lock_fits r.statement.lock x fits.lock_fits l)
+    (among_either x (parts_of_evidence r.statement.evidence) (parts_of_lock r.statement.lock) there)
+
+alone_fits : (s x : Statement) → FitsStatement s → Among x (s ∷ []) → FitsStatement x
+alone_fits s x fits (inl is) = fits_as x s is fits
+alone_fits s x fits (inr none) = absurd none
+
+-- what stands in a statement that has a spelling
+within_fits : (s x : Statement) → FitsStatement s → Among x (within s) → FitsStatement x
+within_fits (Asked q) x fits there = alone_fits (Asked q) x fits there
+within_fits (Proposed p) x fits there = alone_fits (Proposed p) x fits there
+within_fits (Voted b) x fits there = alone_fits (Voted b) x fits there
+within_fits (Stopped s) x fits there = alone_fits (Stopped s) x fits there
+within_fits (Reported r) x fits there = report_fits r x fits there
+within_fits (Synced s) x fits (inl is) = fits_as x (Synced s) is fits
+within_fits (Synced s) x fits (inr there) =
+    let found = within_one in_report s.statement.collect x there in
+    report_fits found.value x (all_among (FitsSigned reports (λ signer. FitsReport)) s.statement.collect found.value fits.collect_fits.1 found.there).statement_fits found.within
+within_fits (Marked m) x fits there = alone_fits (Marked m) x fits there
+within_fits (Replied a) x fits there = alone_fits (Replied a) x fits there
+within_fits (Informed i) x fits there = alone_fits (Informed i) x fits there
 
 -- a request of a batch
 pub record OfBatch (batch : Batch) (x : Statement) : Type 0 where
   pub request : SignedBy Request
   pub there : Among request batch
-  pub verified : is_verified requests group_secret request ≡ true
   pub is : x ≡ Asked request
 
-pub of_batch : (batch : Batch) (x : Statement) → Among x (flat_map (stated_by requests Asked group_secret) batch) → OfBatch batch x
-of_batch [] x there = absurd there
-of_batch (q ∷ qs) x there =
-    ⊎_elim (λ here. let one = one_stated requests Asked q x here in record { request = q; there = inl refl; verified = one.0; is = one.1 })
-    (λ later. let rest = of_batch qs x later in record { request = rest.request; there = inr rest.there; verified = rest.verified; is = rest.is })
-    (among_either x (stated_by requests Asked group_secret q) (flat_map (stated_by requests Asked group_secret) qs) there)
+pub of_batch : (batch : Batch) (x : Statement) → Among x (map Asked batch) → OfBatch batch x
+of_batch batch x there = let found = given Asked batch x there in record { request = found.value; there = found.there; is = found.is }
 
--- what holds by recursion, holds of each that is there
-all_among : (P : SignedBy Request → Type 0) (batch : Batch) (q : SignedBy Request) → AllByRecursion P batch → Among q batch → P q
-all_among P [] q all there = absurd there
-all_among P (x ∷ xs) q all (inl is) = subst P (sym is) all.0
-all_among P (x ∷ xs) q all (inr there) = all_among P xs q all.1 there
+batch_fits : (batch : Batch) (x : Statement) → FitsBatch batch → Among x (map Asked batch) → FitsStatement x
+batch_fits batch x fits there =
+    let of = of_batch batch x there in
+    fits_as x (Asked of.request) of.is (all_among (FitsSigned requests FitsRequest) batch of.request fits.each_fits of.there).statement_fits
+
+there_fits : (batch : Option Batch) (x : Statement) → FitsOptional FitsBatch batch → Among x (requests_of batch) → FitsStatement x
+there_fits None x fits there = absurd there
+there_fits (Some batch) x fits there = batch_fits batch x fits there
+
+-- what a message says
+said_fits : (m : AnyMessage) (s : Statement) → FitsParts m → Among s (said m) → FitsStatement s
+said_fits (Plain (Ask q)) s fits there = alone_fits (Asked q) s fits.content_fits.statement_fits there
+said_fits (Plain (Propose p)) s fits (inl is) = fits_as s (Proposed p.head) is fits.content_fits.0.statement_fits
+said_fits (Plain (Propose p)) s fits (inr there) = batch_fits p.batch s fits.content_fits.1 there
+said_fits (Plain (Vote b)) s fits there = alone_fits (Voted b) s fits.content_fits.statement_fits there
+said_fits (Plain (Reply a)) s fits there = alone_fits (Replied a) s fits.content_fits.statement_fits there
+said_fits (Change (changes.Stop t)) s fits there = alone_fits (Stopped t) s fits.statement_fits there
+said_fits (Change (changes.StopData r)) s fits (inl is) = fits_as s (Reported r.head) is fits.0.statement_fits
+said_fits (Change (changes.StopData r)) s fits (inr there) = there_fits r.batch s fits.1 there
+said_fits (Change (changes.Sync t)) s fits there = alone_fits (Synced t) s fits.statement_fits there
 
 -- each statement of a message that is read is proper
-proper_as : (s t : Statement) → s ≡ t → Proper t → Proper s
-proper_as s t same proper = subst Proper (sym same) proper
-
-pub message_proper : (m : Message) (x : Statement) → Fits m → Among x (statements group_secret m) → Proper x
-message_proper (Ask q) x fits there = let one = one_stated requests Asked q x there in proper_as x (Asked q) one.1 (fits.content_fits.statement_fits, one.0)
-message_proper (Propose p) x fits there =
-    ⊎_elim (λ head. let one = one_stated proposals Proposed p.head x head in proper_as x (Proposed p.head) one.1 (fits.content_fits.0.statement_fits, one.0))
-    (λ asked.
-    let of = of_batch p.batch x asked in
-    proper_as x (Asked of.request) of.is ((all_among (FitsSigned requests FitsRequest) p.batch of.request fits.content_fits.1.each_fits of.there).statement_fits, of.verified))
-    (among_either x (stated_by proposals Proposed group_secret p.head) (flat_map (stated_by requests Asked group_secret) p.batch) there)
-message_proper (Vote b) x fits there = let one = one_stated ballots Voted b x there in proper_as x (Voted b) one.1 (fits.content_fits.statement_fits, one.0)
-message_proper (Reply a) x fits there = let one = one_stated answers Replied a x there in proper_as x (Replied a) one.1 (fits.content_fits.statement_fits, one.0)
-
--- a content that states a reply is that reply
-pub reply_content : (x : Content) (a : SignedBy Answer) → Among (Replied a) (stated_in x) → x ≡ contents.Message (Reply a)
-reply_content (contents.Message (Ask q)) a there = let is = (one_stated requests Asked q (Replied a) there).1 in absurd (cc)
-reply_content (contents.Message (Propose p)) a there =
-    ⊎_elim (λ head. let is = (one_stated proposals Proposed p.head (Replied a) head).1 in absurd (cc)) (λ asked. let is = (of_batch p.batch (Replied a) asked).is in absurd (cc))
-    (among_either (Replied a) (stated_by proposals Proposed group_secret p.head) (flat_map (stated_by requests Asked group_secret) p.batch) there)
-reply_content (contents.Message (Vote b)) a there = let is = (one_stated ballots Voted b (Replied a) there).1 in absurd (cc)
-reply_content (contents.Message (Reply r)) a there =
-    let is : Replied a ≡ Replied r = (one_stated answers Replied r (Replied a) there).1 in
-    let same : r ≡ a = cc in
-    ap (λ (x : SignedBy Answer). contents.Message (Reply x)) same
-reply_content (contents.Raw bytes) a there = absurd there
+pub message_proper : (m : AnyMessage) (x : Statement) → FitsParts m → Among x (statements group_secret m) → Proper x
+message_proper m x fits there =
+    let is : IsSaid m x = message_says m x there in
+    (within_fits is.part x (said_fits m is.part fits is.said_there) is.inside, is.verified)

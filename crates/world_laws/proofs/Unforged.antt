@@ -1,32 +1,44 @@
 -- What a script injects is forged by nobody: each statement in it is of one who is excused, or stands in a message of its signer's own.
 use Rattle.std.proofs.Common.{◌≡◌, ⊎_elim, ℕ, ◌++◌, ◌&&◌, ◌||◌, Bool, true, false, not, List, [], ◌∷◌, refl, sym, ap, ◌∙◌, subst, eqb-true, inl, inr, ◌⊎◌, Option, Some, None}
 use Rattle.std.specs.Prelude.{map}
-use Rattle.std.specs.List.{list_any, flat_map}
+use Rattle.std.specs.List.{list_any}
 use Rattle.smart_base.specs.Lists.{Each}
 use Rattle.smart_base.specs.declared.party.Party.{Party}
 use Rattle.smart_base.specs.declared.party.Party.TheVariants as parties
-use Rattle.smart_messages.specs.Kinds.{requests, proposals, ballots, answers}
-use Rattle.smart_messages.specs.declared.message.Message.{Message}
+use Rattle.smart_messages.specs.Forms.{SignedBy}
+use Rattle.smart_messages.specs.Messages.{Batch}
+use Rattle.smart_messages.specs.declared.statement.Request.{Request}
+use Rattle.smart_messages.specs.declared.statement.Ballot.{Ballot}
+use Rattle.smart_messages.specs.declared.statement.Answer.{Answer}
+use Rattle.smart_messages.specs.declared.report.Mark.{Mark}
+use Rattle.smart_messages.specs.declared.report.Report.{Report}
+use Rattle.smart_messages.specs.declared.report.Evidence.{Evidence}
+use Rattle.smart_messages.specs.declared.report.Evidence.TheVariants as evidence
+use Rattle.smart_messages.specs.declared.report.LockCertificate.{LockCertificate}
+use Rattle.smart_messages.specs.declared.regency.RegencyMessage.TheVariants as changes
 use Rattle.smart_messages.specs.declared.message.Message.TheVariants.{Ask, Propose, Vote, Reply}
+use Rattle.smart_messages.specs.declared.any.AnyMessage.{AnyMessage}
+use Rattle.smart_messages.specs.declared.any.AnyMessage.TheVariants.{Plain, Change}
 use Rattle.smart_messages.specs.declared.entry.NodeEvent.{NodeEvent}
+use Rattle.vote_book.specs.Books.{Among}
+use Rattle.vote_book.proofs.Tested.{passing}
 use Rattle.node_rules.specs.Nodes.{Node}
 use Rattle.node_rules.specs.Steps.{Outcome, leaving}
 use Rattle.node_rules.specs.declared.node.Target.{Target}
-use Rattle.agreement_laws.specs.Statements.{Among, Statement, Asked, Proposed, Voted, Replied, signer_of, stated_by, statements}
-use Rattle.agreement_laws.proofs.Lists.{among_either, passing, each_among}
-use Rattle.world_rules.specs.Secrets.{group_secret}
-use Rattle.world_rules.specs.Premises.{Claim, claims, same_claim, is_among, is_from, is_stated, is_excused, is_forgery, is_forged}
+use Rattle.agreement_laws.specs.Statements.{Statement, Asked, Proposed, Voted, Stopped, Reported, Synced, Marked, Replied, Informed, signer_of, within, in_report, parts_of_evidence, parts_of_lock, requests_of, said}
+use Rattle.agreement_laws.proofs.Lists.{among_either, each_among, given, within_one}
+use Rattle.world_rules.specs.Premises.{Claim, claim_of, claims, same_claim, is_among, is_from, is_stated, is_excused, is_forgery, is_forged}
 use Rattle.world_rules.specs.Worlds.{Host, World, posts, stepped, hearing}
 use Rattle.world_rules.specs.declared.message.Content.{Content}
 use Rattle.world_rules.specs.declared.message.Content.TheVariants as contents
 use Rattle.world_rules.specs.declared.message.Origin.{Origin}
 use Rattle.world_rules.specs.declared.message.Origin.TheVariants as origins
 use Rattle.world_rules.specs.declared.message.Sent.{Sent}
-use Rattle.world_laws.specs.Sending.{IsOwn, IsOwnTo, IsOwnSent}
+use Rattle.world_laws.specs.Sending.{IsNodes, IsClients, IsOwnSent}
 use Rattle.world_laws.specs.Stated.{stated_in, stated}
 use Rattle.world_laws.proofs.Lists.{and_true, or_false, each_end, each_weaker}
 use Rattle.world_laws.proofs.Keeps.{IsRead, ask_of, asked_by, by-posts, Keeps, keeps-sends_all, signed_by, from_node, from_client, from_script}
-use Rattle.world_laws.proofs.Stating.{Proper, claim_of, claim_signer, claims_stated, same_claim-one, message_proper, one_stated, of_batch}
+use Rattle.world_laws.proofs.Stating.{Proper, claims_stated, same_claim-one, message_proper, IsSaid, message_says}
 
 -- what is injected
 
@@ -188,7 +200,7 @@ claim_own sent x read proper is =
     (content_proper found.value.content other.0 (each_among (λ (s : Sent). IsRead s.content) sent found.value read found.there) other.1) other.2 in
     record {
       stands = record { message = found.value; there = found.there; states = subst (λ (y : Statement). Among y (stated_in found.value.content)) (sym one) other.1 };
-      from = subst (λ (who : Party). is_from who found.value.origin ≡ true) (claim_signer x) parts.0;
+      from = parts.0;
     }
 
 -- a claim of a content that is not forged is of one who is excused, or it is stated
@@ -204,7 +216,7 @@ unfolding is_forged
 fine_own faulty rogue sent content x fine reads read there =
     let none : is_forgery faulty rogue sent (claim_of x) ≡ false = none_claims (is_forgery faulty rogue sent) (stated_in content) x
     (subst (λ (cs : List Claim). list_any (is_forgery faulty rogue sent) cs ≡ false) (claims_stated content) fine) there in
-    ⊎_elim (λ is. inl (subst (λ (who : Party). is_excused faulty rogue who ≡ true) (claim_signer x) is)) (λ is. inr (claim_own sent x reads (content_proper content x read there) is))
+    ⊎_elim (λ is. inl is) (λ is. inr (claim_own sent x reads (content_proper content x read there) is))
     (either_fine (is_excused faulty rogue (claim_of x).signer) (is_stated sent (claim_of x)) none)
 
 -- a member's statements
@@ -222,36 +234,98 @@ pub record NodeStates (sent : List Sent) (id : ℕ) (x : Statement) : Type 0 whe
   pub from : message.origin ≡ origins.Node id
   pub states : Among x (stated_in message.content)
 
-no_member : (i j : ℕ) → parties.Client i ≡ parties.Member j → ⊥
-no_member i j same = cc
+-- a content that states a reply is that reply
 
-members_one : (i j : ℕ) → parties.Member i ≡ parties.Member j → i ≡ j
-members_one i j same = cc
+alone : (s x : Statement) → Among x (within s) → within s ≡ s ∷ [] → x ≡ s
+alone s x there none = ⊎_elim (λ (is : x ≡ s). is) (λ never. absurd never) (subst (λ (xs : List Statement). Among x xs) none there)
 
--- in a message that a node or a client has sent as its own, a statement of a member's is the node's
-own_message : (o : Origin) (to : Target) (m : Message) (x : Statement) (id : ℕ) → IsOwn o to m → Among x (statements group_secret m) → signer_of x ≡ parties.Member id → o ≡ origins.Node id
-own_message o to (Ask q) x id own there who =
-    let one = one_stated requests Asked q x there in absurd (no_member q.signer id (sym (ap (λ (s : Statement). signer_of s) one.1) ∙ who))
-own_message o to (Propose p) x id own there who =
-    ⊎_elim
-    (λ head. let one = one_stated proposals Proposed p.head x head in
-    own ∙ ap (λ (k : ℕ). origins.Node k) (members_one p.head.signer id (sym (ap (λ (s : Statement). signer_of s) one.1) ∙ who)))
-    (λ asked. let of = of_batch p.batch x asked in absurd (no_member of.request.signer id (sym (ap (λ (s : Statement). signer_of s) of.is) ∙ who)))
-    (among_either x (stated_by proposals Proposed group_secret p.head) (flat_map (stated_by requests Asked group_secret) p.batch) there)
-own_message o to (Vote b) x id own there who =
-    let one = one_stated ballots Voted b x there in own ∙ ap (λ (k : ℕ). origins.Node k) (members_one b.signer id (sym (ap (λ (s : Statement). signer_of s) one.1) ∙ who))
-own_message o to (Reply a) x id own there who =
-    let one = one_stated answers Replied a x there in own.0 ∙ ap (λ (k : ℕ). origins.Node k) (members_one a.signer id (sym (ap (λ (s : Statement). signer_of s) one.1) ∙ who))
+no_vote : (a : SignedBy Answer) (votes : List (SignedBy Ballot)) → Among (Replied a) (map Voted votes) → ⊥
+no_vote a votes there = let found = given Voted votes (Replied a) there in other found.value found.is
+  where
+    other : (b : SignedBy Ballot) → Replied a ≡ Voted b → ⊥
+    other b same = cc
 
-own_content : (o : Origin) (to : Option Target) (c : Content) (x : Statement) (id : ℕ) → IsOwnTo o to c → Among x (stated_in c) → signer_of x ≡ parties.Member id → o ≡ origins.Node id
-own_content o None c x id own there who = absurd own
-own_content o (Some to) (contents.Message m) x id own there who = own_message o to m x id own there who
-own_content o (Some to) (contents.Raw bytes) x id own there who = absurd there
+no_mark : (a : SignedBy Answer) (items : List (SignedBy Mark)) → Among (Replied a) (map Marked items) → ⊥
+no_mark a items there = let found = given Marked items (Replied a) there in other found.value found.is
+  where
+    other : (m : SignedBy Mark) → Replied a ≡ Marked m → ⊥
+    other m same = cc
 
--- a statement of a member that is not faulty stands in a message that its own node has sent, in whosever message it stands
-pub member_states : {S : Type 0} (w : World S) (id : ℕ) (x : Statement) → Each (λ s. IsRead s.content) w.sent → Each (λ s. IsOwnSent s.origin s.to s.content) w.sent → Unforged w
-    → is_among w.faulty id ≡ false → signer_of x ≡ parties.Member id → Among x (stated w.sent) → NodeStates w.sent id x
-member_states {S = S} w id x read own fine correct who there =
+no_request : (a : SignedBy Answer) (batch : Batch) → Among (Replied a) (map Asked batch) → ⊥
+no_request a batch there = let found = given Asked batch (Replied a) there in other found.value found.is
+  where
+    other : (q : SignedBy Request) → Replied a ≡ Asked q → ⊥
+    other q same = cc
+
+no_evidence : (a : SignedBy Answer) (e : Evidence) → Among (Replied a) (parts_of_evidence e) → ⊥
+no_evidence a evidence.Nothing there = there
+no_evidence a (evidence.Decided p) there = no_vote a p.accepts there
+no_evidence a (evidence.Marked m) there = no_mark a m.marks there
+
+no_lock : (a : SignedBy Answer) (lock : Option LockCertificate) → Among (Replied a) (parts_of_lock lock) → ⊥
+no_lock a None there = there
+no_lock a (Some l) there = no_vote a l.writes there
+
+no_report : (a : SignedBy Answer) (r : SignedBy Report) → Among (Replied a) (in_report r) → ⊥
+no_report a r (inl same) = cc
+no_report a r (inr there) = ⊎_elim (λ e. no_evidence a r.statement.evidence e) (λ l. no_lock a r.statement.lock l) (among_either (Replied a) (parts_of_evidence r.statement.evidence) (parts_of_lock r.statement.lock) there)
+
+-- a reply stands in itself alone
+reply_within : (a : SignedBy Answer) (s : Statement) → Among (Replied a) (within s) → s ≡ Replied a
+reply_within a (Asked q) there = sym (alone (Asked q) (Replied a) there refl)
+reply_within a (Proposed p) there = sym (alone (Proposed p) (Replied a) there refl)
+reply_within a (Voted b) there = sym (alone (Voted b) (Replied a) there refl)
+reply_within a (Stopped t) there = sym (alone (Stopped t) (Replied a) there refl)
+reply_within a (Reported r) there = absurd (no_report a r there)
+reply_within a (Synced y) (inl same) = sym same
+reply_within a (Synced y) (inr there) = let found = within_one in_report y.statement.collect (Replied a) there in absurd (no_report a found.value found.within)
+reply_within a (Marked m) there = sym (alone (Marked m) (Replied a) there refl)
+reply_within a (Replied b) there = sym (alone (Replied b) (Replied a) there refl)
+reply_within a (Informed i) there = sym (alone (Informed i) (Replied a) there refl)
+
+no_requests : (a : SignedBy Answer) (batch : Option Batch) → Among (Replied a) (requests_of batch) → ⊥
+no_requests a None there = there
+no_requests a (Some batch) there = no_request a batch there
+
+-- a message says one alone
+one_said : (x s : Statement) → Among x (s ∷ []) → x ≡ s
+one_said x s (inl is) = is
+one_said x s (inr none) = absurd none
+
+-- a message that says a reply is that reply
+reply_said : (m : AnyMessage) (a : SignedBy Answer) → Among (Replied a) (said m) → m ≡ Plain (Reply a)
+reply_said (Plain (Ask q)) a there = let is = one_said (Replied a) (Asked q) there in absurd (cc)
+reply_said (Plain (Propose p)) a (inl is) = absurd (cc)
+reply_said (Plain (Propose p)) a (inr there) = absurd (no_request a p.batch there)
+reply_said (Plain (Vote b)) a there = let is = one_said (Replied a) (Voted b) there in absurd (cc)
+reply_said (Plain (Reply r)) a there =
+    let is : Replied a ≡ Replied r = one_said (Replied a) (Replied r) there in
+    let same : r ≡ a = cc in
+    ap (λ (x : SignedBy Answer). Plain (Reply x)) same
+reply_said (Change (changes.Stop t)) a there = let is = one_said (Replied a) (Stopped t) there in absurd (cc)
+reply_said (Change (changes.StopData r)) a (inl is) = absurd (cc)
+reply_said (Change (changes.StopData r)) a (inr there) = absurd (no_requests a r.batch there)
+reply_said (Change (changes.Sync y)) a there = let is = one_said (Replied a) (Synced y) there in absurd (cc)
+
+pub reply_content : (x : Content) (a : SignedBy Answer) → Among (Replied a) (stated_in x) → x ≡ contents.Message (Plain (Reply a))
+reply_content (contents.Message m) a there =
+    let is : IsSaid m (Replied a) = message_says m (Replied a) there in
+    ap (λ (y : AnyMessage). contents.Message y) (reply_said m a (subst (λ (s : Statement). Among s (said m)) (reply_within a is.part is.inside) is.said_there))
+reply_content (contents.Raw bytes) a there = absurd there
+
+-- a reply that a node has sent as its own names it as its signer, and no client sends one
+node_reply : (id : ℕ) (to : Option Target) (c : Content) (a : SignedBy Answer) → IsNodes id to c → c ≡ contents.Message (Plain (Reply a)) → a.signer ≡ id
+node_reply id None c a own is = absurd own
+node_reply id (Some to) c a own is = (subst (λ (x : Content). IsNodes id (Some to) x) is own).0
+
+client_reply : (id : ℕ) (to : Option Target) (c : Content) (a : SignedBy Answer) → IsClients id to c → c ≡ contents.Message (Plain (Reply a)) → ⊥
+client_reply id to c a own is = (subst (λ (x : Content). IsClients id to x) is own).1
+
+-- a reply of a member that is not faulty stands in a message that its own node has sent, in whosever message it stands
+pub member_states : {S : Type 0} (w : World S) (id : ℕ) (a : SignedBy Answer) → Each (λ s. IsRead s.content) w.sent → Each (λ s. IsOwnSent s.origin s.to s.content) w.sent → Unforged w
+    → is_among w.faulty id ≡ false → a.signer ≡ id → Among (Replied a) (stated w.sent) → NodeStates w.sent id (Replied a)
+member_states {S = S} w id a read own fine correct who there =
+    let x : Statement = Replied a in
     let found = stated_stands w.sent x there in
     by found.message.origin found (each_among (λ (t : Sent). IsOwnSent t.origin t.to t.content) w.sent found.message own found.there)
     (each_among (λ (t : Sent). IsFine w.faulty w.rogue w.sent t.origin t.content) w.sent found.message fine.each found.there) refl
@@ -259,13 +333,14 @@ member_states {S = S} w id x read own fine correct who there =
     no_other : true ≡ false → ⊥
     no_other is = cc
 
-    here : (found : Stands w.sent x) → found.message.origin ≡ origins.Node id → NodeStates w.sent id x
+    here : (found : Stands w.sent (Replied a)) → found.message.origin ≡ origins.Node id → NodeStates w.sent id (Replied a)
     here found from = record { message = found.message; there = found.there; from = from; states = found.states }
 
-    by : (o : Origin) (found : Stands w.sent x) → IsOwnSent o found.message.to found.message.content → IsFine w.faulty w.rogue w.sent o found.message.content → found.message.origin ≡ o → NodeStates w.sent id x
-    by (origins.Node j) found own fine is = here found (is ∙ own_content (origins.Node j) found.message.to found.message.content x id own found.states who)
-    by (origins.Client j) found own fine is = here found (is ∙ own_content (origins.Client j) found.message.to found.message.content x id own found.states who)
+    by : (o : Origin) (found : Stands w.sent (Replied a)) → IsOwnSent o found.message.to found.message.content → IsFine w.faulty w.rogue w.sent o found.message.content → found.message.origin ≡ o → NodeStates w.sent id (Replied a)
+    by (origins.Node j) found own fine is =
+        here found (is ∙ ap (λ (k : ℕ). origins.Node k) (sym (node_reply j found.message.to found.message.content a own (reply_content found.message.content a found.states)) ∙ who))
+    by (origins.Client j) found own fine is = absurd (client_reply j found.message.to found.message.content a own (reply_content found.message.content a found.states))
     by origins.Script found own fine is =
-        ⊎_elim (λ excused. absurd (no_other (sym (subst (λ (p : Party). is_excused w.faulty w.rogue p ≡ true) who excused) ∙ correct)))
-        (λ mine. here mine.stands (from_member id mine.stands.message.origin (subst (λ (p : Party). is_from p mine.stands.message.origin ≡ true) who mine.from)))
-        (fine_own w.faulty w.rogue w.sent found.message.content x fine read (each_among (λ (t : Sent). IsRead t.content) w.sent found.message read found.there) found.states)
+        ⊎_elim (λ excused. absurd (no_other (sym (subst (λ (k : ℕ). is_among w.faulty k ≡ true) who excused) ∙ correct)))
+        (λ mine. here mine.stands (from_member id mine.stands.message.origin (subst (λ (k : ℕ). is_from (parties.Member k) mine.stands.message.origin ≡ true) who mine.from)))
+        (fine_own w.faulty w.rogue w.sent found.message.content (Replied a) fine read (each_among (λ (t : Sent). IsRead t.content) w.sent found.message read found.there) found.states)

@@ -1,120 +1,289 @@
 -- What members have stated is witnessed by what is firm at their nodes.
-use Rattle.std.proofs.Common.{◌≡◌, ⊎_elim, ℕ, ◌≤◌, ◌==◌, ◌&&◌, true, false, List, [], ◌∷◌, take, length, filter, refl, sym, subst, inl, inr, Option, Some, eqb-true}
-use Rattle.std.proofs.lemmas.Bool.{ltb-false}
-use Rattle.std.specs.Prelude.{map}
+use Rattle.std.proofs.Common.{◌≡◌, ⊎_elim, ◌⊎◌, ℕ, zero, suc, ◌+◌, ◌*◌, ◌^◌, ◌≤◌, ◌==◌, ◌&&◌, ◌||◌, Bool, true, false, List, [], ◌∷◌, ◌++◌, take, length, filter, refl, ap, sym, ◌∙◌, subst, inl, inr, Option, Some, eqb-true, eq-eqb, nat_le, append-nil}
+use Rattle.std.proofs.lemmas.Bool.{ltb-false, leb-true}
+use Rattle.std.proofs.lemmas.Grind.{flat_map-append}
+use Rattle.std.specs.Prelude.{map, slice_get, slice_set}
 use Rattle.std.specs.List.{list_any, flat_map}
 use Rattle.smart_base.specs.Lists.{Each, Distinct}
-use Rattle.smart_base.specs.Views.{View}
+use Rattle.smart_base.specs.Views.{View, ascends, is_view}
 use Rattle.smart_base.specs.declared.party.Party.TheVariants.{Member}
-use Rattle.smart_messages.specs.Kinds.{requests, proposals, ballots, answers}
-use Rattle.smart_messages.specs.declared.message.Message.TheVariants.{Ask, Propose, Vote, Reply}
-use Rattle.smart_messages.specs.declared.entry.LogEntry.{LogEntry}
-use Rattle.agreement_laws.specs.Statements.{Among, Statement, Asked, Proposed, Voted, Replied, signer_of, stated_by}
-use Rattle.agreement_laws.specs.Books.{Lawful, is_shown}
+use Rattle.smart_messages.specs.declared.any.AnyMessage.{AnyMessage}
+use Rattle.smart_messages.specs.declared.entry.NodeEvent.{NodeEvent}
+use Rattle.smart_messages.specs.declared.entry.NodeEvent.TheVariants.{Arrive, Tick, Deliver, Firm}
+use Rattle.vote_book.specs.Books.{Among, Lawful}
+use Rattle.vote_book.specs.declared.entry.LogEntry.{LogEntry}
+use Rattle.replica_rules.specs.Seals.{digest_of}
+use Rattle.node_rules.specs.Steps.{leaving}
+use Rattle.node_rules.specs.declared.node.Held.{Held}
+use Rattle.agreement_laws.specs.Fronts.{IsFront}
+use Rattle.agreement_laws.specs.Statements.{Statement, signer_of, statements, IsClosed}
+use Rattle.agreement_laws.specs.Diaries.{IsShown}
 use Rattle.agreement_laws.specs.Certificates.{IsBacked}
-use Rattle.agreement_laws.specs.Law.{Witnessed}
-use Rattle.agreement_laws.proofs.Diaries.{Lawful-nil}
-use Rattle.agreement_laws.proofs.Growth.{Lawful-prefix, each-prefix}
-use Rattle.agreement_laws.proofs.Lists.{among_either, each_among}
+use Rattle.agreement_laws.specs.Law.{FewFaulty, Witnessed}
+use Rattle.agreement_laws.proofs.Lists.{among_left, among_right, among_either, each_from}
+use Rattle.agreement_laws.proofs.Growing.{take-longer, Lawful-prefix, each-prefix, IsShown-front}
+use Rattle.agreement_laws.proofs.Closed.{closed}
+use Rattle.node_laws.specs.Sound.{AreAmong, IsStated, IsStatedEvent, IsHeld, IsSound}
 use Rattle.world_rules.specs.Secrets.{group_secret}
 use Rattle.world_rules.specs.Premises.{is_among, too_many}
 use Rattle.world_rules.specs.Worlds.{Host, World, host_of}
 use Rattle.world_rules.specs.declared.message.Content.{Content}
 use Rattle.world_rules.specs.declared.message.Content.TheVariants as contents
-use Rattle.world_rules.specs.declared.message.Origin.{Origin}
 use Rattle.world_rules.specs.declared.message.Sent.{Sent}
-use Rattle.world_laws.specs.Sending.{is_rested, IsBorne}
 use Rattle.world_laws.specs.Stated.{stated_in, stated, diary_of, diary}
-use Rattle.world_laws.proofs.Lists.{and_true, either, either_by, each_weaker, or_true, or_left, or_right}
-use Rattle.world_laws.proofs.Stating.{one_stated, of_batch}
-use Rattle.world_laws.proofs.Sound.{Sound, entry_backed}
-use Rattle.world_laws.proofs.Booked.{Booked}
-use Rattle.world_laws.proofs.Voters as voters
-use Rattle.world_laws.proofs.Unforged.{NodeStates}
+use Rattle.world_laws.proofs.Lists.{and_true, or_false, either, either_by, some-equal, each_weaker, each_set}
+use Rattle.world_laws.proofs.Keeps.{HasContent, MayRead}
 
--- each statement of a member that is not faulty stands in a message that its own node has sent
-abbrev pub Sources : List Sent → List ℕ → Type 0
-Sources sent faulty = (x : Statement) → Among x (stated sent) → (id : ℕ) → signer_of x ≡ Member id → is_among faulty id ≡ false → NodeStates sent id x
+-- what has been stated
 
--- diaries
+pub stated-end : (sent : List Sent) (s : Sent) → stated (sent ++ s ∷ []) ≡ stated sent ++ stated_in s.content
+stated-end sent s = flat_map-append (λ (t : Sent). stated_in t.content) sent (s ∷ []) ∙ ap (λ (xs : List Statement). stated sent ++ xs) (append-nil (stated_in s.content))
+
+-- it stays so where more is sent
+pub stated-grows : (sent : List Sent) (s : Sent) (x : Statement) → Among x (stated sent) → Among x (stated (sent ++ s ∷ []))
+stated-grows sent s x there = rw (stated-end sent s) (among_left x (stated sent) (stated_in s.content) there)
+
+-- and what is stated then has been, or stands in what is sent now
+pub stated-either : (sent : List Sent) (s : Sent) (x : Statement) → Among x (stated (sent ++ s ∷ [])) → Among x (stated sent) ⊎ Among x (stated_in s.content)
+stated-either sent s x there = among_either x (stated sent) (stated_in s.content) (subst (λ (xs : List Statement). Among x xs) (stated-end sent s) there)
+
+-- what is among some is among more
+pub among-all : (few more : List Statement) → ((x : Statement) → Among x few → Among x more) → AreAmong few more
+among-all few more all = each_from (λ (x : Statement). Among x more) few all
+
+-- what a content that was sent states has been stated
+pub content_stated : (sent : List Sent) (c : Content) (x : Statement) → HasContent sent c → Among x (stated_in c) → Among x (stated sent)
+content_stated [] c x has there = absurd has
+content_stated (s ∷ sent) c x (inl here) there = among_left x (stated_in s.content) (stated sent) (subst (λ (y : Content). Among x (stated_in y)) (sym here) there)
+content_stated (s ∷ sent) c x (inr later) there = among_right x (stated_in s.content) (stated sent) (content_stated sent c x later there)
+
+-- so has all that stands in what may come to a node
+pub stated_event : {S : Type 0} (w : World S) (h : Host S) (secret : List ℕ) (event : NodeEvent) → secret ≡ group_secret → MayRead w h event → IsStatedEvent secret (stated w.sent) event
+stated_event w h secret (Arrive bytes) shared may = λ m read.
+    subst (λ (k : List ℕ). IsStated k (stated w.sent) m) (sym shared)
+    (among-all (statements group_secret m) (stated w.sent) (λ x there. content_stated w.sent (contents.Message m) x (may m read) there))
+stated_event w h secret Tick shared may = tt
+stated_event w h secret Deliver shared may = tt
+stated_event w h secret (Firm count) shared may = tt
+
+-- it is closed: what stands in it has been stated
+
+message_of : Content → List AnyMessage
+message_of (contents.Message m) = m ∷ []
+message_of (contents.Raw bytes) = []
+
+messages_of : List Sent → List AnyMessage
+messages_of sent = flat_map (λ (s : Sent). message_of s.content) sent
+
+message_states : (c : Content) → flat_map (statements group_secret) (message_of c) ≡ stated_in c
+unfolding message_of
+message_states (contents.Message m) = append-nil (statements group_secret m)
+message_states (contents.Raw bytes) = refl
+
+stated_messages : (sent : List Sent) → flat_map (statements group_secret) (messages_of sent) ≡ stated sent
+unfolding messages_of
+stated_messages [] = refl
+stated_messages (s ∷ sent) =
+    flat_map-append (statements group_secret) (message_of s.content) (flat_map (λ (t : Sent). message_of t.content) sent)
+    ∙ (ap (λ (xs : List Statement). xs ++ flat_map (statements group_secret) (flat_map (λ (t : Sent). message_of t.content) sent)) (message_states s.content)
+    ∙ ap (λ (xs : List Statement). stated_in s.content ++ xs) (stated_messages sent))
+
+pub stated_closed : (sent : List Sent) → IsClosed group_secret (stated sent)
+stated_closed sent = subst (λ (xs : List Statement). IsClosed group_secret xs) (stated_messages sent) (closed group_secret (messages_of sent))
+
+-- what is firm
+
+-- what is firm at a host
+abbrev pub firm_of : {S : Type 0} → Host S → List LogEntry
+firm_of h = take h.node.firm h.node.entries
+
+-- what is firm at a host shows a statement, where it is its member's and that is not faulty
+abbrev pub ShowsOwn : {S : Type 0} → List ℕ → Statement → Host S → Type 0
+ShowsOwn faulty x h = signer_of x ≡ Member h.node.id → is_among faulty h.node.id ≡ false → IsShown digest_of (firm_of h) x
+
+-- so it is with all that has been stated, at all hosts
+abbrev pub AllShown : {S : Type 0} → List ℕ → List Statement → List (Host S) → Type 0
+AllShown faulty stated hosts = (x : Statement) → Among x stated → Each (ShowsOwn faulty x) hosts
+
+-- a content states nothing but what has been stated or is shown
+abbrev pub StatesShown : {S : Type 0} → List ℕ → List Statement → List (Host S) → Content → Type 0
+StatesShown faulty stated hosts content = (x : Statement) → Among x (stated_in content) → Among x stated ⊎ Each (ShowsOwn faulty x) hosts
+
+-- who is not among more is not among fewer
+not_fewer : (few more : List ℕ) (id : ℕ) → ((member : ℕ) → is_among few member ≡ true → is_among more member ≡ true) → is_among more id ≡ false → is_among few id ≡ false
+not_fewer few more id grows none = by (is_among few id) refl
+  where
+    both : true ≡ false → ⊥
+    both same = cc
+
+    by : (t : Bool) → is_among few id ≡ t → t ≡ false
+    by true is = absurd (both (sym (grows id is) ∙ none))
+    by false is = refl
+
+-- it stays so where more members are faulty
+pub shown-faulty : {S : Type 0} (faulty more : List ℕ) (stated : List Statement) (hosts : List (Host S)) → ((member : ℕ) → is_among faulty member ≡ true → is_among more member ≡ true) → AllShown faulty stated hosts
+    → AllShown more stated hosts
+shown-faulty faulty more stated hosts grows all x there =
+    each_weaker (ShowsOwn faulty x) (ShowsOwn more x) (λ h shows who correct. shows who (not_fewer faulty more h.node.id grows correct)) hosts (all x there)
+
+-- where more is sent
+pub shown-sent : {S : Type 0} (faulty : List ℕ) (sent : List Sent) (s : Sent) (hosts : List (Host S)) → StatesShown faulty (stated sent) hosts s.content → AllShown faulty (stated sent) hosts
+    → AllShown faulty (stated (sent ++ s ∷ [])) hosts
+shown-sent {S = S} faulty sent s hosts states all x there =
+    ⊎_elim {C = Each (ShowsOwn faulty x) hosts} (λ old. all x old) (λ new. ⊎_elim {C = Each (ShowsOwn faulty x) hosts} (λ old. all x old) (λ shows. shows) (states x new)) (stated-either sent s x there)
+
+-- and where a host has a longer book, of which more is firm
+pub record Firmer {S : Type 0} (h h' : Host S) : Type 0 where
+  pub named : h'.node.id ≡ h.node.id
+  pub book : IsFront (firm_of h) (firm_of h')
+
+shows-firmer : {S : Type 0} (faulty : List ℕ) (x : Statement) (h h' : Host S) → Firmer h h' → ShowsOwn faulty x h → ShowsOwn faulty x h'
+shows-firmer faulty x h h' f shows who correct =
+    IsShown-front digest_of (firm_of h) (firm_of h') x f.book
+    (shows (who ∙ ap (λ (i : ℕ). Member i) f.named) (sym (ap (λ (i : ℕ). is_among faulty i) f.named) ∙ correct))
+
+pub shown-set : {S : Type 0} (faulty : List ℕ) (stated : List Statement) (hosts : List (Host S)) (i : ℕ) (h h' : Host S) → slice_get hosts i ≡ Some h → Firmer h h' → AllShown faulty stated hosts
+    → AllShown faulty stated (slice_set hosts i h')
+shown-set {S = S} faulty stated hosts i h h' at f all x there =
+    let each : Each (ShowsOwn faulty x) hosts = all x there in
+    each_set (ShowsOwn faulty x) hosts i h' each (shows-firmer faulty x h h' f (get hosts i each at))
+  where
+    get : (hs : List (Host S)) (j : ℕ) → Each (ShowsOwn faulty x) hs → slice_get hs j ≡ Some h → ShowsOwn faulty x h
+    get [] j each at = absurd (cc)
+    get (g ∷ hs) zero each at = subst (ShowsOwn faulty x) (some-equal g h at) each.0
+    get (g ∷ hs) (suc j) each at = get hs j each.1 at
+
+-- what one host shows, is shown at all, as each has its own member
+
+-- a host's name is among the names
+named_at : {S : Type 0} (hs : List (Host S)) (i : ℕ) (h : Host S) → slice_get hs i ≡ Some h → list_any (λ y. y == h.node.id) (map (λ g. g.node.id) hs) ≡ true
+named_at [] i h at = absurd (cc)
+named_at {S = S} (g ∷ hs) zero h at = first (g.node.id == h.node.id) (list_any (λ y. y == h.node.id) (map (λ k. k.node.id) hs)) (eq-eqb g.node.id h.node.id (ap (λ (k : Host S). k.node.id) (some-equal g h at)))
+  where
+    first : (a b : Bool) → a ≡ true → (a || b) ≡ true
+    first true b is = refl
+    first false b is = absurd (cc)
+named_at (g ∷ hs) (suc i) h at = later (g.node.id == h.node.id) (list_any (λ y. y == h.node.id) (map (λ k. k.node.id) hs)) (named_at hs i h at)
+  where
+    later : (a b : Bool) → b ≡ true → (a || b) ≡ true
+    later true b is = refl
+    later false b is = is
+
+-- so no other host has it
+not_later : (a id : ℕ) (ids : List ℕ) → a ≡ id → list_any (λ y. y == a) ids ≡ false → list_any (λ y. y == id) ids ≡ true → ⊥
+not_later a id ids same none some = let found = subst (λ (k : ℕ). list_any (λ y. y == k) ids ≡ true) (sym same) some in cc
+
+members_same : (a b : ℕ) → Member a ≡ Member b → a ≡ b
+members_same a b same = cc
+
+-- none of some hosts has it
+shows_none : {S : Type 0} (faulty : List ℕ) (x : Statement) (id : ℕ) (hs : List (Host S)) → signer_of x ≡ Member id → list_any (λ y. y == id) (map (λ g. g.node.id) hs) ≡ false → Each (ShowsOwn faulty x) hs
+shows_none faulty x id [] who none = tt
+shows_none faulty x id (g ∷ hs) who none =
+    let parts = or_false (g.node.id == id) (list_any (λ y. y == id) (map (λ k. k.node.id) hs)) none in
+    (λ own correct. absurd (no_other (sym (eq-eqb g.node.id id (members_same g.node.id id (sym own ∙ who))) ∙ parts.0)), shows_none faulty x id hs who parts.1)
+  where
+    no_other : true ≡ false → ⊥
+    no_other is = cc
+
+pub shown_own : {S : Type 0} (faulty : List ℕ) (x : Statement) (hs : List (Host S)) (i : ℕ) (h : Host S) → Distinct (map (λ g. g.node.id) hs) → slice_get hs i ≡ Some h → signer_of x ≡ Member h.node.id
+    → IsShown digest_of (firm_of h) x → Each (ShowsOwn faulty x) hs
+shown_own faulty x [] i h once at who shown = absurd (cc)
+shown_own {S = S} faulty x (g ∷ hs) zero h once at who shown =
+    let same : g ≡ h = some-equal g h at in
+    let own : signer_of x ≡ Member g.node.id = who ∙ ap (λ (k : Host S). Member k.node.id) (sym same) in
+    (λ mine correct. subst (λ (k : Host S). IsShown digest_of (firm_of k) x) (sym same) shown, shows_none faulty x g.node.id hs own once.0)
+shown_own {S = S} faulty x (g ∷ hs) (suc i) h once at who shown = (
+  λ mine correct. absurd (not_later g.node.id h.node.id (map (λ k. k.node.id) hs) (members_same g.node.id h.node.id (sym mine ∙ who)) once.0 (named_at hs i h at)),
+  shown_own faulty x hs i h once.1 at who shown,
+)
+
+-- what a node lets go
+
+-- what is held and leaves states what has been stated, or what is shown
+leaving_shows : {S : Type 0} (faulty : List ℕ) (stated : List Statement) (hosts : List (Host S)) (i : ℕ) (h : Host S) (held : Held) → Distinct (map (λ g. g.node.id) hosts) → slice_get hosts i ≡ Some h
+    → held.needs ≤ h.node.firm → IsHeld group_secret h.node.id stated h.node.entries held → StatesShown faulty stated hosts (contents.Message held.message)
+leaving_shows {S = S} faulty T hosts i h held once at low is x there =
+    ⊎_elim {C = Among x T ⊎ Each (ShowsOwn faulty x) hosts} (λ old. inl old)
+    (λ own. inr (shown_own faulty x hosts i h once at own.0
+    (IsShown-front digest_of (take held.needs h.node.entries) (firm_of h) x (shorter held.needs h.node.firm h.node.entries low) own.1)))
+    (one (statements group_secret held.message) is.shown there)
+  where
+    one : (xs : List Statement) → Each (λ s. Among s T ⊎ ((signer_of s ≡ Member h.node.id) × IsShown digest_of (take held.needs h.node.entries) s)) xs → Among x xs
+        → Among x T ⊎ ((signer_of x ≡ Member h.node.id) × IsShown digest_of (take held.needs h.node.entries) x)
+    one [] each there = absurd there
+    one (y ∷ ys) each (inl same) = subst (λ (s : Statement). Among s T ⊎ ((signer_of s ≡ Member h.node.id) × IsShown digest_of (take held.needs h.node.entries) s)) (sym same) each.0
+    one (y ∷ ys) each (inr later) = one ys each.1 later
+
+    shorter : (n k : ℕ) (es : List LogEntry) → n ≤ k → IsFront (take n es) (take k es)
+    shorter n k es le = subst (λ (xs : List LogEntry). IsFront (take n es) (take k xs)) (append-nil es) (take-longer n k es [] le)
+
+-- so it is with all that leave
+pub leave_shown : {S : Type 0} (faulty : List ℕ) (stated : List Statement) (hosts : List (Host S)) (i : ℕ) (h : Host S) (held : List Held) → Distinct (map (λ g. g.node.id) hosts) → slice_get hosts i ≡ Some h
+    → Each (IsHeld group_secret h.node.id stated h.node.entries) held → Each (λ x. StatesShown faulty stated hosts (contents.Message x.message)) (leaving h.node.firm held)
+leave_shown faulty T hosts i h [] once at each = tt
+leave_shown {S = S} faulty T hosts i h (x ∷ xs) once at each =
+    either_by (λ (hs : List Held). Each (λ y. StatesShown faulty T hosts (contents.Message y.message)) hs) (nat_le x.needs h.node.firm) (x ∷ leaving h.node.firm xs) []
+    (λ is. (leaving_shows faulty T hosts i h x once at (leb-true x.needs h.node.firm is) each.0, leave_shown faulty T hosts i h xs once at each.1)) (λ waits. tt)
+
+-- witnessed
+
+-- few are faulty
+pub few_faulty : (view : View) (faulty : List ℕ) → is_view view ≡ true → too_many view faulty ≡ false → FewFaulty view (is_among faulty)
+unfolding is_view
+few_faulty v faulty is few =
+    let a = and_true (nat_le v.number 1023 && nat_le 1 v.start && nat_le v.start (2 ^ 63) && nat_le v.f 10 && nat_le (3 * v.f + 1) (length v.members) && nat_le (length v.members) 31) (ascends 0 v.members) is in
+    let b = and_true (nat_le v.number 1023 && nat_le 1 v.start && nat_le v.start (2 ^ 63) && nat_le v.f 10 && nat_le (3 * v.f + 1) (length v.members)) (nat_le (length v.members) 31) a.0 in
+    let c = and_true (nat_le v.number 1023 && nat_le 1 v.start && nat_le v.start (2 ^ 63) && nat_le v.f 10) (nat_le (3 * v.f + 1) (length v.members)) b.0 in
+    record { room = leb-true (3 * v.f + 1) (length v.members) c.1; few = ltb-false v.f (length (filter (is_among faulty) v.members)) few }
+
+-- a host of the group whose node is sound
+pub record HostStands {S : Type 0} (stated : List Statement) (view : View) (h : Host S) : Type 0 where
+  pub sound : IsSound stated view h.node
+  pub shared : h.node.secret ≡ group_secret
 
 -- what holds of each host's firm entries, holds of a member's diary
-by_host : {S : Type 0} (P : List LogEntry → Type 0) → P [] → (hosts : List (Host S)) → Each (λ h. P (take h.node.firm h.node.entries)) hosts → (member : ℕ) → P (diary_of (host_of hosts member))
+by_host : {S : Type 0} (P : List LogEntry → Type 0) → P [] → (hosts : List (Host S)) → Each (λ h. P (firm_of h)) hosts → (member : ℕ) → P (diary_of (host_of hosts member))
 by_host P none [] each member = none
 by_host {S = S} P none (h ∷ hs) each member =
     either (λ (found : Option (Host S)). P (diary_of found)) (h.node.id == member) (Some h) (host_of hs member) each.0 (by_host P none hs each.1 member)
 
--- a host of a member has its name
-named : {S : Type 0} (content : Content) (id : ℕ) (hs : List (Host S)) → list_any (λ h. (h.node.id == id) && is_rested (take h.node.firm h.node.entries) content) hs ≡ true
-    → list_any (λ y. y == id) (map (λ h. h.node.id) hs) ≡ true
-named content id [] some = absurd (cc)
-named content id (h ∷ hs) some =
-    elim (or_true ((h.node.id == id) && is_rested (take h.node.firm h.node.entries) content) _ some) [
-      | inl here ↦ or_left (h.node.id == id) (list_any (λ y. y == id) (map (λ g. g.node.id) hs)) (and_true (h.node.id == id) (is_rested (take h.node.firm h.node.entries) content) here).0
-      | inr later ↦ or_right (h.node.id == id) (list_any (λ y. y == id) (map (λ g. g.node.id) hs)) (named content id hs later)
-    ]
+-- what each host shows of its own, a member's diary shows
+shown_at : {S : Type 0} (faulty : List ℕ) (x : Statement) (hosts : List (Host S)) (member : ℕ) → Each (ShowsOwn faulty x) hosts → list_any (λ y. y == member) (map (λ h. h.node.id) hosts) ≡ true
+    → signer_of x ≡ Member member → is_among faulty member ≡ false → IsShown digest_of (diary_of (host_of hosts member)) x
+shown_at faulty x [] member each there who correct = absurd (cc)
+shown_at {S = S} faulty x (h ∷ hs) member each there who correct =
+    either_by (λ (found : Option (Host S)). IsShown digest_of (diary_of found) x) (h.node.id == member) (Some h) (host_of hs member)
+    (λ is. let same = eqb-true h.node.id member is in
+    each.0 (who ∙ ap (λ (i : ℕ). Member i) (sym same)) (ap (λ (i : ℕ). is_among faulty i) same ∙ correct))
+    (λ isnt. shown_at faulty x hs member each.1 (rest (h.node.id == member) (list_any (λ y. y == member) (map (λ g. g.node.id) hs)) isnt there) who correct)
+  where
+    rest : (a b : Bool) → a ≡ false → (a || b) ≡ true → b ≡ true
+    rest true b none is = absurd (cc)
+    rest false b none is = is
 
--- so no later host is the member that a host is
-not_later : (a id : ℕ) (ids : List ℕ) → (a == id) ≡ true → list_any (λ y. y == a) ids ≡ false → list_any (λ y. y == id) ids ≡ true → ⊥
-not_later a id ids is none some = let found = subst (λ (k : ℕ). list_any (λ y. y == k) ids ≡ true) (sym (eqb-true a id is)) some in cc
+none_lawful : Lawful 0 0 []
+none_lawful before entry after split = absurd (apart before split)
+  where
+    apart : (before : List LogEntry) → [] ≡ before ++ entry ∷ after → ⊥
+    apart [] same = cc
+    apart (e ∷ es) same = cc
 
--- what rests on firm entries of a member's host, rests on its diary
-rested_found : {S : Type 0} (content : Content) (id : ℕ) (hs : List (Host S)) → Distinct (map (λ h. h.node.id) hs)
-    → list_any (λ h. (h.node.id == id) && is_rested (take h.node.firm h.node.entries) content) hs ≡ true → is_rested (diary_of (host_of hs id)) content ≡ true
-rested_found content id [] once some = absurd (cc)
-rested_found {S = S} content id (h ∷ hs) once some =
-    elim (or_true ((h.node.id == id) && is_rested (take h.node.firm h.node.entries) content) _ some) [
-      | inl here ↦
-          let both = and_true (h.node.id == id) (is_rested (take h.node.firm h.node.entries) content) here in
-          either_by (λ (found : Option (Host S)). is_rested (diary_of found) content ≡ true) (h.node.id == id) (Some h) (host_of hs id) (λ is. both.1) (λ isnt. let is = both.0 in absurd (cc))
-      | inr later ↦
-          either_by (λ (found : Option (Host S)). is_rested (diary_of found) content ≡ true) (h.node.id == id) (Some h) (host_of hs id)
-          (λ is. absurd (not_later h.node.id id (map (λ g. g.node.id) hs) is once.0 (named content id hs later))) (λ isnt. rested_found content id hs once.1 later)
-    ]
-
--- where a message rests on entries, they show what it states
-rested_shown : (book : List LogEntry) (content : Content) (x : Statement) → Among x (stated_in content) → is_rested book content ≡ true → is_shown book x ≡ true
-rested_shown book (contents.Message (Ask q)) x there rested = subst (λ (y : Statement). is_shown book y ≡ true) (sym (one_stated requests Asked q x there).1) refl
-rested_shown book (contents.Message (Propose p)) x there rested =
-    ⊎_elim (λ head. subst (λ (y : Statement). is_shown book y ≡ true) (sym (one_stated proposals Proposed p.head x head).1) refl)
-    (λ asked. subst (λ (y : Statement). is_shown book y ≡ true) (sym (of_batch p.batch x asked).is) refl)
-    (among_either x (stated_by proposals Proposed group_secret p.head) (flat_map (stated_by requests Asked group_secret) p.batch) there)
-rested_shown book (contents.Message (Vote b)) x there rested = subst (λ (y : Statement). is_shown book y ≡ true) (sym (one_stated ballots Voted b x there).1) rested
-rested_shown book (contents.Message (Reply a)) x there rested = subst (λ (y : Statement). is_shown book y ≡ true) (sym (one_stated answers Replied a x there).1) rested
-rested_shown book (contents.Raw bytes) x there rested = absurd there
-
--- so a member's diary shows what its node has sent
-shown : {S : Type 0} (hosts : List (Host S)) (sent : List Sent) (id : ℕ) (x : Statement) → Distinct (map (λ h. h.node.id) hosts) → Each (λ s. IsBorne hosts s.origin s.content) sent
-    → NodeStates sent id x → is_shown (diary_of (host_of hosts id)) x ≡ true
-shown {S = S} hosts sent id x once borne source =
-    let rests : IsBorne hosts source.message.origin source.message.content = each_among (λ (s : Sent). IsBorne hosts s.origin s.content) sent source.message borne source.there in
-    rested_shown (diary_of (host_of hosts id)) source.message.content x source.states
-    (rested_found source.message.content id hosts once (subst (λ (o : Origin). IsBorne hosts o source.message.content) source.from rests))
-
--- no more than f members are faulty
-few_faulty : (view : View) (faulty : List ℕ) → too_many view faulty ≡ false → length (filter (is_among faulty) view.members) ≤ view.f
-few_faulty view faulty few = ltb-false view.f (length (filter (is_among faulty) view.members)) few
-
--- a host whose book is lawful and rests on what has been stated
-pub record HostStands {S : Type 0} (sent : List Sent) (view : View) (h : Host S) : Type 0 where
-  pub sound : Sound sent view h.node
-  pub voted : voters.Voted view h.node
-  pub booked : Booked h.node
-
--- where few are faulty and all hosts are such, each of its own member, what members have stated is witnessed
-pub witnessing : {S : Type 0} (w : World S) → too_many w.view w.faulty ≡ false → Each (HostStands w.sent w.view) w.hosts → Distinct (map (λ h. h.node.id) w.hosts)
-    → Each (λ s. IsBorne w.hosts s.origin s.content) w.sent → Sources w.sent w.faulty → Witnessed w.view (is_among w.faulty) (diary w) (stated w.sent)
-witnessing {S = S} w few hosts once borne sources =
+-- where few are faulty, all hosts are such, one of each member, and show what has been stated, it is witnessed
+pub witnessing : {S : Type 0} (w : World S) → is_view w.view ≡ true → too_many w.view w.faulty ≡ false → Each (HostStands (stated w.sent) w.view) w.hosts → map (λ h. h.node.id) w.hosts ≡ w.view.members
+    → AllShown w.faulty (stated w.sent) w.hosts → Witnessed group_secret digest_of w.view (is_among w.faulty) (diary w) (stated w.sent)
+witnessing {S = S} w viewed few hosts ids all =
     record {
-      few = few_faulty w.view w.faulty few;
+      few = few_faulty w.view w.faulty viewed few;
       lawful = λ member correct.
-          by_host Lawful Lawful-nil w.hosts
-          (each_weaker (HostStands w.sent w.view) (λ (h : Host S). Lawful (take h.node.firm h.node.entries)) (λ h is. Lawful-prefix h.node.firm h.node.entries is.booked.lawful) w.hosts hosts) member;
+          by_host (λ (es : List LogEntry). Lawful 0 0 es) none_lawful w.hosts
+          (each_weaker (HostStands (stated w.sent) w.view) (λ (h : Host S). Lawful 0 0 (firm_of h)) (λ h is. Lawful-prefix 0 0 h.node.firm h.node.entries is.sound.lawful) w.hosts hosts) member;
       backed = λ member correct.
-          by_host (Each (IsBacked w.view (stated w.sent))) tt w.hosts
-          (each_weaker (HostStands w.sent w.view) (λ (h : Host S). Each (IsBacked w.view (stated w.sent)) (take h.node.firm h.node.entries))
-          (λ h is.
-          each-prefix (IsBacked w.view (stated w.sent)) h.node.firm h.node.entries
-          (each_weaker _ (IsBacked w.view (stated w.sent)) (entry_backed w.sent w.view h.node.secret h.node.arrivals is.sound.shared is.sound.heard) h.node.entries is.voted.each)) w.hosts hosts) member;
-      shown = λ member correct x there signed. shown w.hosts w.sent member x once borne (sources x there member signed correct.correct);
+          by_host (Each (IsBacked group_secret digest_of w.view (stated w.sent))) tt w.hosts
+          (each_weaker (HostStands (stated w.sent) w.view) (λ (h : Host S). Each (IsBacked group_secret digest_of w.view (stated w.sent)) (firm_of h))
+          (λ h is. each-prefix (IsBacked group_secret digest_of w.view (stated w.sent)) h.node.firm h.node.entries
+          (subst (λ (k : List ℕ). Each (IsBacked k digest_of w.view (stated w.sent)) h.node.entries) is.shared is.sound.backed)) w.hosts hosts) member;
+      shown = λ member correct x there who.
+          shown_at w.faulty x w.hosts member (all x there) (subst (λ (ms : List ℕ). list_any (λ y. y == member) ms ≡ true) (sym ids) correct.within) who correct.correct;
+      closed = stated_closed w.sent;
     }

@@ -1,7 +1,7 @@
 -- A world of which each node keeps no more than it needs.
 use Rattle.std.specs.Prelude.{map}
 use Rattle.world_rules.specs.Worlds.{Host, World}
-use Rattle.kept_arrivals.specs.Kept.{trimmed}
+use Rattle.node_rules.specs.Kept.{trimmed}
 
 -- the host whose node keeps no more than it needs
 unfoldable pub trimmed_host : {S : Type 0} → Host S → Host S

@@ -1,22 +1,23 @@
 -- Who sends a message, and the entries on which it rests.
-use Rattle.std.specs.Prelude.{ℕ, ◌≡◌, ◌≤◌, ◌==◌, Bool, true, false, ◌&&◌, ◌||◌, List, [], ◌∷◌, filter, take, Option, Some, None, Ok, Err}
-use Rattle.std.specs.List.{list_any, list_all}
+use Rattle.std.specs.Prelude.{ℕ, ◌≡◌, ◌<◌, ◌≤◌, ◌⊎◌, ◌==◌, Bool, false, ◌&&◌, ◌||◌, List, [], ◌∷◌, length, filter, take, Option, Some, None, Ok, Err}
+use Rattle.std.specs.List.{list_any}
 use Rattle.smart_base.specs.Lists.{Each, same_bytes}
 use Rattle.smart_base.specs.Views.{View, weight_of, quorum}
 use Rattle.smart_messages.specs.Forms.{SignedBy}
-use Rattle.smart_messages.specs.Kinds.{requests, proposals, ballots, answers}
+use Rattle.smart_messages.specs.Kinds.{answers}
 use Rattle.smart_messages.specs.Messages.{spelling, decoded}
+use Rattle.smart_messages.specs.RegencyMessages.{change_spelling, any_spelling, any_decoded}
 use Rattle.smart_messages.specs.declared.statement.Request.{Request}
 use Rattle.smart_messages.specs.declared.statement.Answer.{Answer}
 use Rattle.smart_messages.specs.declared.message.Message.{Message}
 use Rattle.smart_messages.specs.declared.message.Message.TheVariants.{Ask, Propose, Vote, Reply}
-use Rattle.smart_messages.specs.declared.entry.LogEntry.{LogEntry}
-use Rattle.node_rules.specs.Seals.{is_verified}
-use Rattle.node_rules.specs.Nodes.{Node}
-use Rattle.node_rules.specs.Steps.{leaving}
+use Rattle.smart_messages.specs.declared.any.AnyMessage.{AnyMessage}
+use Rattle.smart_messages.specs.declared.any.AnyMessage.TheVariants.{Plain, Change}
+use Rattle.vote_book.specs.declared.entry.LogEntry.{LogEntry}
+use Rattle.replica_rules.specs.Seals.{is_verified}
 use Rattle.node_rules.specs.declared.node.Target.{Target}
 use Rattle.node_rules.specs.declared.node.Target.TheVariants as targets
-use Rattle.agreement_laws.specs.Books.{votes_for, decides_for}
+use Rattle.replica_laws.specs.Sending.{IsOwn, RestsOn, IsGenuine}
 use Rattle.world_rules.specs.Secrets.{group_secret}
 use Rattle.world_rules.specs.Premises.{is_among}
 use Rattle.client_quorum.specs.Clients.{after_heard}
@@ -30,48 +31,52 @@ use Rattle.world_rules.specs.declared.message.Origin.{Origin}
 use Rattle.world_rules.specs.declared.message.Origin.TheVariants as origins
 use Rattle.world_rules.specs.declared.message.Sent.{Sent}
 
--- a message names as its signer who sends it, and a reply goes to the client that it names
-abbrev pub IsOwn : Origin → Target → Message → Type 0
-IsOwn origin to (Ask q) = origin ≡ origins.Client q.signer
-IsOwn origin to (Propose p) = origin ≡ origins.Node p.head.signer
-IsOwn origin to (Vote b) = origin ≡ origins.Node b.signer
-IsOwn origin to (Reply a) = (origin ≡ origins.Node a.signer) × (to ≡ targets.Client a.statement.client)
+-- a message that a node sends is its own; a client sends requests of its own, to the members of the view
+abbrev pub IsNodes : ℕ → Option Target → Content → Type 0
+IsNodes id None content = ⊥
+IsNodes id (Some to) (contents.Message message) = IsOwn id to message
+IsNodes id (Some to) (contents.Raw bytes) = ⊥
 
-abbrev pub IsOwnTo : Origin → Option Target → Content → Type 0
-IsOwnTo origin None content = ⊥
-IsOwnTo origin (Some to) (contents.Message message) = IsOwn origin to message
-IsOwnTo origin (Some to) (contents.Raw bytes) = ⊥
+abbrev pub IsRequestOf : ℕ → AnyMessage → Type 0
+IsRequestOf id (Plain (Ask q)) = q.signer ≡ id
+IsRequestOf id (Plain (Propose p)) = ⊥
+IsRequestOf id (Plain (Vote b)) = ⊥
+IsRequestOf id (Plain (Reply a)) = ⊥
+IsRequestOf id (Change m) = ⊥
 
--- what a node or a client sends is a message of its own, and what a script injects is for nobody
+abbrev pub IsClients : ℕ → Option Target → Content → Type 0
+IsClients id to (contents.Message message) = (to ≡ Some targets.View) × IsRequestOf id message
+IsClients id to (contents.Raw bytes) = ⊥
+
+-- what a node or a client sends is its own, and what a script injects is for nobody
 abbrev pub IsOwnSent : Origin → Option Target → Content → Type 0
-IsOwnSent (origins.Node id) to content = IsOwnTo (origins.Node id) to content
-IsOwnSent (origins.Client id) to content = IsOwnTo (origins.Client id) to content
+IsOwnSent (origins.Node id) to content = IsNodes id to content
+IsOwnSent (origins.Client id) to content = IsClients id to content
 IsOwnSent origins.Script to content = to ≡ None
-
--- a message bears the tag of its signer, and so does each request of a batch
-abbrev pub is_tagged : Message → Bool
-is_tagged (Ask q) = is_verified requests group_secret q
-is_tagged (Propose p) = is_verified proposals group_secret p.head && list_all (λ q. is_verified requests group_secret q) p.batch
-is_tagged (Vote b) = is_verified ballots group_secret b
-is_tagged (Reply a) = is_verified answers group_secret a
-
--- a message is read from its bytes, and each statement in it bears the tag of its signer
-pub record IsGenuine (message : Message) : Type 0 where
-  pub read : decoded (spelling message) ≡ Ok message
-  pub tagged : is_tagged message ≡ true
 
 -- bytes are read as no message
 pub record IsUnread (bytes : List ℕ) : Type 0 where
   pub at : ℕ
-  pub unread : decoded bytes ≡ Err at
+  pub unread : any_decoded bytes ≡ Err at
 
--- a message is read from its bytes as itself, and bytes that are none are read as none
+-- a message of at most 1,048,576 bytes is read from them as itself, and a longer one as none
+pub record IsReadIfShort (message : AnyMessage) : Type 0 where
+  pub short : length (any_spelling message) ≤ 1048576 → any_decoded (any_spelling message) ≡ Ok message
+  pub long : 1048576 < length (any_spelling message) → IsUnread (any_spelling message)
+
+-- so a message is read, and bytes that are none are read as none
 abbrev pub IsReadAs : Content → Type 0
-IsReadAs (contents.Message message) = decoded (spelling message) ≡ Ok message
+IsReadAs (contents.Message message) = IsReadIfShort message
 IsReadAs (contents.Raw bytes) = IsUnread bytes
 
+-- a client reads each message that orders requests as itself, and nothing else
+abbrev pub IsHeardAs : Content → Type 0
+IsHeardAs (contents.Message (Plain m)) = decoded (spelling m) ≡ Ok m
+IsHeardAs (contents.Message (Change m)) = (y : Message) → decoded (change_spelling m) ≡ Ok y → ⊥
+IsHeardAs (contents.Raw bytes) = (y : Message) → decoded bytes ≡ Ok y → ⊥
+
 abbrev pub IsGenuineContent : Content → Type 0
-IsGenuineContent (contents.Message message) = IsGenuine message
+IsGenuineContent (contents.Message message) = IsGenuine group_secret message
 IsGenuineContent (contents.Raw bytes) = ⊥
 
 -- what a node or a client sends is a genuine message. Of what a script injects nothing is said
@@ -83,6 +88,7 @@ IsGenuineFrom origins.Script content = Unit {0}
 -- all that was sent is read, and what nodes and clients sent is genuine
 pub record AllGenuine {S : Type 0} (w : World S) : Type 0 where
   pub read : Each (λ s. IsReadAs s.content) w.sent
+  pub heard : Each (λ s. IsHeardAs s.content) w.sent
   pub genuine : Each (λ s. IsGenuineFrom s.origin s.content) w.sent
 
 -- the replies behind an acceptance
@@ -121,14 +127,16 @@ is_of member origins.Script = false
 abbrev pub is_for : ℕ → Option Target → Bool
 is_for client None = false
 is_for client (Some targets.View) = false
+is_for client (Some (targets.Node id)) = false
 is_for client (Some (targets.Client id)) = id == client
 
 -- it is a member's reply, with its tag, and the one that was accepted
 abbrev pub is_reply_of : ℕ → Acceptance → Content → Bool
-is_reply_of member a (contents.Message (Ask q)) = false
-is_reply_of member a (contents.Message (Propose p)) = false
-is_reply_of member a (contents.Message (Vote b)) = false
-is_reply_of member a (contents.Message (Reply r)) = (r.signer == member) && is_verified answers group_secret r && is_reply a (Reply r)
+is_reply_of member a (contents.Message (Plain (Ask q))) = false
+is_reply_of member a (contents.Message (Plain (Propose p))) = false
+is_reply_of member a (contents.Message (Plain (Vote b))) = false
+is_reply_of member a (contents.Message (Plain (Reply r))) = (r.signer == member) && is_verified answers group_secret r && is_reply a (Reply r)
+is_reply_of member a (contents.Message (Change m)) = false
 is_reply_of member a (contents.Raw bytes) = false
 
 -- a member has sent the client the reply that it accepted; a faulty one may have had it injected
@@ -146,30 +154,28 @@ pub record QuorumsReplied {S : Type 0} (w : World S) : Type 0 where
 
 -- the entries behind a message
 
--- entries have the one on which a message rests: of a vote its own, of a reply the decision of its request. A request and a proposal
--- rest on none
-abbrev pub rests_on : List LogEntry → Message → Bool
-rests_on entries (Ask q) = true
-rests_on entries (Propose p) = true
-rests_on entries (Vote b) = list_any (votes_for b.statement b.statement.kind) entries
-rests_on entries (Reply a) = list_any (decides_for a.statement) entries
+abbrev pub IsRested : List LogEntry → Content → Type 0
+IsRested entries (contents.Message message) = RestsOn entries message
+IsRested entries (contents.Raw bytes) = ⊥
 
--- the messages that leave a node rest on entries that are firm
-abbrev pub LeavesFirm : {S : Type 0} → Node S → Type 0
-LeavesFirm n = Each (λ h. rests_on (take n.firm n.entries) h.message ≡ true) (leaving n.firm n.held)
+-- the entries that are firm at a member's host bear a content
+pub record Bears {S : Type 0} (id : ℕ) (content : Content) (h : Host S) : Type 0 where
+  pub member : h.node.id ≡ id
+  pub rested : IsRested (take h.node.firm h.node.entries) content
 
-abbrev pub is_rested : List LogEntry → Content → Bool
-is_rested entries (contents.Message message) = rests_on entries message
-is_rested entries (contents.Raw bytes) = false
+-- so it is at one of some hosts
+abbrev pub IsBorneAt : {S : Type 0} → List (Host S) → ℕ → Content → Type 0
+IsBorneAt [] id content = ⊥
+IsBorneAt (h ∷ hosts) id content = Bears id content h ⊎ IsBorneAt hosts id content
 
 -- what a member sends rests on entries that are firm at that member's node
 abbrev pub IsBorne : {S : Type 0} → List (Host S) → Origin → Content → Type 0
-IsBorne hosts (origins.Node id) content = list_any (λ h. (h.node.id == id) && is_rested (take h.node.firm h.node.entries) content) hosts ≡ true
+IsBorne hosts (origins.Node id) content = IsBorneAt hosts id content
 IsBorne hosts (origins.Client id) content = Unit {0}
 IsBorne hosts origins.Script content = Unit {0}
 
--- each message that was sent names as its signer who sent it, unless a script injected it, and a member's vote or reply rests on entries
--- that are firm at its node
+-- each message that was sent is its sender's own, unless a script injected it, and a member's vote, reply or report rests on entries that are firm at its
+-- node
 pub record SentFirm {S : Type 0} (w : World S) : Type 0 where
   pub own : Each (λ s. IsOwnSent s.origin s.to s.content) w.sent
   pub borne : Each (λ s. IsBorne w.hosts s.origin s.content) w.sent

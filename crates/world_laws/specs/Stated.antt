@@ -1,14 +1,15 @@
 -- What has been stated in a world, what its nodes' books have that is firm, and the decisions among what has been stated.
 use Rattle.std.specs.Prelude.{ℕ, suc, ◌⊎◌, List, [], ◌∷◌, take, Option, Some, None}
+use Rattle.smart_messages.specs.declared.statement.Ballot.{Ballot}
 use Rattle.std.specs.List.{flat_map}
 use Rattle.smart_base.specs.Views.{View}
 use Rattle.smart_messages.specs.Forms.{SignedBy}
 use Rattle.smart_messages.specs.Messages.{Batch}
 use Rattle.smart_messages.specs.declared.statement.Request.{Request}
-use Rattle.smart_messages.specs.declared.statement.Slot.{Slot}
-use Rattle.smart_messages.specs.declared.entry.LogEntry.{LogEntry}
-use Rattle.node_rules.specs.Seals.{digest_of}
-use Rattle.agreement_laws.specs.Statements.{Among, Statement, Asked, statements}
+use Rattle.vote_book.specs.declared.entry.LogEntry.{LogEntry}
+use Rattle.replica_rules.specs.Seals.{digest_of}
+use Rattle.vote_book.specs.Books.{Among}
+use Rattle.agreement_laws.specs.Statements.{Statement, Asked, statements}
 use Rattle.agreement_laws.specs.Certificates.{IsDecision}
 use Rattle.agreement_laws.specs.Law.{Witnessed}
 use Rattle.world_rules.specs.Secrets.{group_secret}
@@ -37,14 +38,11 @@ diary_of (Some h) = take h.node.firm h.node.entries
 abbrev pub diary : {S : Type 0} → World S → ℕ → List LogEntry
 diary w member = diary_of (host_of w.hosts member)
 
--- the slot of a place at the first regency of a view
-abbrev pub slot_at : View → ℕ → Slot
-slot_at view place = record { view = view.number; place = place; regency = 0 }
-
--- a quorum of a view has accepted a batch of this digest at a place
+-- a quorum of a view has accepted a batch of this digest at a place, in some regency
 pub record Certified (stated : List Statement) (view : View) (place : ℕ) (digest : List ℕ) : Type 0 where
-  pub voters : List ℕ
-  pub decision : IsDecision view stated (slot_at view place) digest voters
+  pub regency : ℕ
+  pub accepts : List (SignedBy Ballot)
+  pub decision : IsDecision group_secret view stated place regency digest accepts
 
 -- each batch of a list that stands from a place on is certified there
 abbrev pub AllCertified : List Statement → View → ℕ → List Batch → Type 0
@@ -53,7 +51,7 @@ AllCertified stated view place (batch ∷ batches) = Certified stated view place
 
 -- what members have stated is witnessed by what is firm at their nodes, and each chosen batch has a decision among what has been stated
 pub record IsWitnessed {S : Type 0} (w : World S) : Type 0 where
-  pub witnessed : Witnessed w.view (is_among w.faulty) (diary w) (stated w.sent)
+  pub witnessed : Witnessed group_secret digest_of w.view (is_among w.faulty) (diary w) (stated w.sent)
   pub chosen : AllCertified (stated w.sent) w.view 1 w.chosen
 
 -- each request that has been stated, in whosever message, was sent by its client, unless the client is rogue

@@ -2,7 +2,7 @@
 ghost use Rattle.std.specs.Prelude.{◌≡◌, List};
 ghost use Rattle.smart_base.specs.Views.{View};
 ghost use Rattle.node_rules.specs.Steps.{step_of};
-ghost use Rattle.kept_arrivals.specs.Kept.{core_step};
+ghost use Rattle.node_rules.specs.Kept.{core_step};
 ghost use Rattle.world_rules.specs.Worlds.{begun};
 ghost use Rattle.world_rules.specs.Plays.{world_after, lines_told};
 ghost use Rattle.world_rules.specs.declared.line.Line.{Line};

@@ -3,9 +3,7 @@
 #![tactic(auto)]
 
 pub mod cores;
-pub mod execution;
 pub mod knowing;
-pub mod laws;
 pub mod one_list;
 pub mod promises;
 pub mod rest;

@@ -1,9 +1,10 @@
 //! One list, whatever happens.
-ghost use Rattle.std.specs.Prelude.{◌≡◌, ◌∷◌, [], List, true};
+ghost use Rattle.std.specs.Prelude.{◌≡◌, ◌∷◌, [], List, map, true};
 ghost use Rattle.smart_base.specs.Views.{View, is_view};
+ghost use Rattle.node_rules.specs.Nodes.{regency_of};
 ghost use Rattle.world_rules.specs.declared.line.Line.{Line};
 ghost use Rattle.world_rules.specs.Promises.{OneListThroughout, world_at};
-ghost use Rattle.world_laws.specs.Examples.{lone, ask_and_flow, first_signed, first_acceptance};
+ghost use Rattle.world_laws.specs.Examples.{lone, ask_and_flow, ask_and_wait, first_signed, first_acceptance, regencies_decided};
 
 use smart_service::service::Service;
 
@@ -32,4 +33,16 @@ pub fn one_request_is_answered<S: Service>()
     ensures group { is_view lone ≡ true }
     ensures chosen { (world_at S.meaning lone ask_and_flow 2).chosen ≡ (first_signed ∷ []) ∷ [] }
     ensures accepted { (world_at S.meaning lone ask_and_flow 2).accepted ≡ first_acceptance S.meaning ∷ [] }
+{}
+
+/// The law speaks of more than the first regency. In a group of one member, whatever the service, a
+/// client asks for an operation, the member is given the request, time passes there twice while the
+/// request waits, and messages flow: then the next regency is in force, the member has decided in it,
+/// the list is the batch of that request, and the client has accepted the service's first reply, at the
+/// first place.
+pub fn a_regency_changes<S: Service>()
+    ensures regency { map (λ h. regency_of h.node) (world_at S.meaning lone ask_and_wait 5).hosts ≡ 1 ∷ [] }
+    ensures decided { map (λ h. regencies_decided h.node.entries) (world_at S.meaning lone ask_and_wait 5).hosts ≡ (1 ∷ []) ∷ [] }
+    ensures chosen { (world_at S.meaning lone ask_and_wait 5).chosen ≡ (first_signed ∷ []) ∷ [] }
+    ensures accepted { (world_at S.meaning lone ask_and_wait 5).accepted ≡ first_acceptance S.meaning ∷ [] }
 {}

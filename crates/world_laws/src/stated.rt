@@ -12,17 +12,19 @@ use smart_service::service::Service;
 /// In every play, over any group and after any lines, take all statements in all that was sent, also
 /// in what a script injected, whose tags verify, and of each member's book the entries that are firm.
 /// At most f members are declared faulty. Of each other member the firm entries are lawful, rest on
-/// votes of quorums that have been stated, and show each of its statements, in whosever message it
-/// stands: a vote by its own entry, a reply by the decision of its request. So what the law of one
-/// decision asks holds in every play. And each chosen batch has a decision for its place among what
-/// has been stated.
+/// votes of quorums and on reports that have been stated, and show each of its statements, in whosever
+/// message it stands: a vote by its own entry, a report by its promise and by what stands before it, a
+/// reply by the decision of its request. So what the law of one decision asks holds in every play,
+/// whatever the regencies. And each chosen batch has a decision for its place, in some regency, among
+/// what has been stated.
 pub fn what_is_stated_is_shown<S: Service>()
     ensures { (view : View) (ls : List Line) → is_view view ≡ true → IsWitnessed (world_after (step_of S.meaning) (begun S.meaning view) ls) }
 {}
 
 /// In every play, over any group and after any lines, each request that bears its client's tag was
 /// signed and sent by that client, unless it was declared rogue, in whosever message the request
-/// stands: the client's own, a leader's proposal, or one that a script injected.
+/// stands: the client's own, a leader's proposal, a member's report, one that a member passed on, or
+/// one that a script injected.
 pub fn what_is_asked_is_sent<S: Service>()
     ensures { (view : View) (ls : List Line) → is_view view ≡ true → StatedAsked (world_after (step_of S.meaning) (begun S.meaning view) ls) }
 {}

@@ -1,18 +1,21 @@
 -- An index of batches says of a further batch whether it clashes, and stays one where it does not.
 use Rattle.std.proofs.Common.{◌≡◌, ℕ, inl, inr, Bool, true, false, List, [], ◌∷◌, ◌++◌, Option, Some, None, refl, ap, sym, ◌∙◌, ⊎_elim}
-use Rattle.std.specs.Prelude.{◌&&◌, ◌||◌, not, cond, nat_eq}
+use Rattle.std.specs.Prelude.{◌&&◌, ◌||◌, not, cond, nat_eq, option_to_list}
 use Rattle.std.specs.Cmp.Lexicographic.{pointwise, bytes_decides}
-use Rattle.std.specs.List.{list_any}
+use Rattle.std.specs.List.{list_any, flat_map}
 use Rattle.std.proofs.lemmas.Bool.{eqb-true, eq-eqb}
 use Rattle.std.proofs.lemmas.List.{append-nil}
 use Rattle.std.proofs.lemmas.List.Concat.{flat_map-append}
+use Rattle.std.proofs.lemmas.List.Folds.{list_any-append}
 use Rattle.smart_base.specs.Lists.{Each, same_bytes}
 use Rattle.smart_base.proofs.SameLists.{same_list-equal}
 use Rattle.smart_messages.specs.Messages.{Batch, batch_text}
-use Rattle.smart_messages.specs.declared.message.Message.{Message}
+use Rattle.smart_messages.specs.declared.any.AnyMessage.{AnyMessage}
+use Rattle.smart_messages.specs.declared.any.AnyMessage.TheVariants.{Plain, Change}
+use Rattle.smart_messages.specs.declared.regency.RegencyMessage.TheVariants as changes
 use Rattle.smart_messages.specs.declared.message.Message.TheVariants.{Ask, Propose, Vote, Reply}
 use Rattle.smart_keys.specs.Keys.{digest}
-use Rattle.node_rules.specs.Seals.{digest_of}
+use Rattle.replica_rules.specs.Seals.{digest_of}
 use Rattle.world_rules.specs.Premises.{batches_in, batches, met, clash, collides}
 use Rattle.world_rules.specs.declared.message.Content.{Content}
 use Rattle.world_rules.specs.declared.message.Content.TheVariants as contents
@@ -173,12 +176,20 @@ index-same f g bs index same =
 index-none : (f g : List ℕ → Option (List ℕ)) (bs : List Batch) → IsIndex f bs → ((d : List ℕ) → g d ≡ f d) → IsIndex g (bs ++ [])
 index-none f g bs index same = rw (append-nil bs) (index-same f g bs index same)
 
-index-message : (f g : List ℕ → Option (List ℕ)) (bs : List Batch) (m : Message) → IsIndex f bs → list_any (λ b. list_any (clash b) bs) (batches_in m) ≡ false
+index-optional : (f g : List ℕ → Option (List ℕ)) (bs : List Batch) (found : Option Batch) → IsIndex f bs → list_any (λ b. list_any (clash b) bs) (option_to_list found) ≡ false
+    → ((d : List ℕ) → g d ≡ indexed f (option_to_list found) d) → IsIndex g (bs ++ option_to_list found)
+index-optional f g bs None index free more = index-none f g bs index more
+index-optional f g bs (Some b) index free more = index-end f g bs b index (either_first (list_any (clash b) bs) false free) more
+
+index-message : (f g : List ℕ → Option (List ℕ)) (bs : List Batch) (m : AnyMessage) → IsIndex f bs → list_any (λ b. list_any (clash b) bs) (batches_in m) ≡ false
     → ((d : List ℕ) → g d ≡ indexed f (batches_in m) d) → IsIndex g (bs ++ batches_in m)
-index-message f g bs (Ask q) index free more = index-none f g bs index more
-index-message f g bs (Propose p) index free more = index-end f g bs p.batch index (either_first (list_any (clash p.batch) bs) false free) more
-index-message f g bs (Vote v) index free more = index-none f g bs index more
-index-message f g bs (Reply a) index free more = index-none f g bs index more
+index-message f g bs (Plain (Ask q)) index free more = index-none f g bs index more
+index-message f g bs (Plain (Propose p)) index free more = index-end f g bs p.batch index (either_first (list_any (clash p.batch) bs) false free) more
+index-message f g bs (Plain (Vote v)) index free more = index-none f g bs index more
+index-message f g bs (Plain (Reply a)) index free more = index-none f g bs index more
+index-message f g bs (Change (changes.Stop s)) index free more = index-none f g bs index more
+index-message f g bs (Change (changes.StopData r)) index free more = index-optional f g bs r.batch index free more
+index-message f g bs (Change (changes.Sync s)) index free more = index-none f g bs index more
 
 index-content : (f g : List ℕ → Option (List ℕ)) (bs : List Batch) (c : Content) → IsIndex f bs → list_any (λ b. list_any (clash b) bs) (batches c) ≡ false
     → ((d : List ℕ) → g d ≡ indexed f (batches c) d) → IsIndex g (bs ++ batches c)
@@ -202,3 +213,19 @@ index_none = record { stands = tt; comes = λ d text some. absurd (cc) }
 pub digest_of_is : (b : Batch) (text key : List ℕ) → text ≡ batch_text b → key ≡ digest text → digest_of b ≡ key
 unfolding digest_of
 digest_of_is b text key same is = sym (is ∙ ap (λ x. digest x) same)
+
+-- ---- one of several is forged
+
+-- where the next one is, one of all is
+pub any-here : {A C : Type 0} (f : C → Bool) (g : A → List C) (x : A) (rest all : List A) (total : Bool) → all ≡ x ∷ rest → list_any f (flat_map g all) ≡ total
+    → list_any f (g x) ≡ true → true ≡ total
+any-here f g x rest all total is so_far here =
+    let e : list_any f (g x ++ flat_map g rest) ≡ total = rw is at so_far in
+    sym (first_holds (list_any f (g x)) (list_any f (flat_map g rest)) here) ∙ (sym (list_any-append f (g x) (flat_map g rest)) ∙ e)
+
+-- where it is not, one of those left is
+pub any-later : {A C : Type 0} (f : C → Bool) (g : A → List C) (x : A) (rest all : List A) (total : Bool) → all ≡ x ∷ rest → list_any f (flat_map g all) ≡ total
+    → list_any f (g x) ≡ false → list_any f (flat_map g rest) ≡ total
+any-later f g x rest all total is so_far differ =
+    let e : list_any f (g x ++ flat_map g rest) ≡ total = rw is at so_far in
+    sym (ap (λ b. b || list_any f (flat_map g rest)) differ) ∙ (sym (list_any-append f (g x) (flat_map g rest)) ∙ e)

@@ -16,6 +16,7 @@ use Rattle.world_rules.specs.declared.message.Sent.{Sent}
 use Rattle.world_ledger.specs.declared.stated.Stated.{Stated}
 use Rattle.world_ledger.specs.Statements.{claim_of, same_stated, is_own, IsStatedIndex}
 use Rattle.std.proofs.lemmas.List.Elements.{filter-append}
+use Rattle.std.proofs.lemmas.List.{append-nil}
 
 -- what a call that succeeds ensures
 pub on_ok : {A E : Type 0} (r : Result A E) (P : Type 0) → IsOk r → OnOk r P → P
@@ -146,3 +147,14 @@ pub put-more : {A : Type 0} (same : A → A → Bool) (f g : A → Bool) (x : A)
 put-more same f g x rest all q total is more so_far =
     let e : (list_any (λ o. same o q) (x ∷ rest) || f q) ≡ total = rw is at so_far in
     rw more (swap (same x q) (list_any (λ o. same o q) rest) (f q) ∙ e)
+
+-- of what is kept in parts, one behind the other
+pub kept_two : {C : Type 0} (f : C → Bool) (old mid new xs ys : List C) → mid ≡ old ++ filter f xs → new ≡ mid ++ filter f ys → new ≡ old ++ filter f (xs ++ ys)
+kept_two f old mid new xs ys one two = two ∙ (rw one (append_assoc old (filter f xs) (filter f ys)) ∙ ap (λ zs. old ++ zs) (sym (filter-append f xs ys)))
+
+pub kept_parts : {C : Type 0} (f : C → Bool) (old one two new xs ys zs : List C) → one ≡ old ++ filter f xs → two ≡ one ++ filter f ys → new ≡ two ++ filter f zs
+    → new ≡ old ++ filter f (xs ++ (ys ++ zs))
+kept_parts f old one two new xs ys zs a b c = kept_two f old one new xs (ys ++ zs) a (kept_two f one two new ys zs b c)
+
+pub kept_last : {C : Type 0} (f : C → Bool) (old new xs : List C) → new ≡ old ++ filter f xs → new ≡ old ++ filter f (xs ++ [])
+kept_last f old new xs is = is ∙ ap (λ zs. old ++ filter f zs) (sym (append-nil xs))

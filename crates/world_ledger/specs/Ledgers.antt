@@ -3,7 +3,7 @@ use Rattle.std.specs.Prelude.{◌≡◌, ℕ, ◌⊎◌, Bool, List, [], ◌∷�
 use Rattle.std.specs.Cmp.Lexicographic.{pointwise}
 use Rattle.smart_base.specs.Lists.{Each}
 use Rattle.smart_messages.specs.Messages.{Batch, batch_text}
-use Rattle.node_rules.specs.Seals.{digest_of}
+use Rattle.replica_rules.specs.Seals.{digest_of}
 use Rattle.world_rules.specs.Premises.{met}
 use Rattle.world_rules.specs.declared.message.Sent.{Sent}
 use Rattle.world_ledger.specs.declared.stated.Stated.{Stated}

@@ -2,14 +2,19 @@
 ghost use Rattle.std.specs.Prelude.{◌≡◌, IfOk, length, option_to_list, option_copied};
 ghost use Rattle.world_rules.specs.Premises.{batches, bytes_of};
 ghost use Rattle.world_rules.specs.Injections.{batch_in, content_of};
-ghost use Rattle.world_rules.specs.Worlds.{vote_summary, summary_of, summary};
+ghost use Rattle.world_rules.specs.Worlds.{vote_summary, summary_of, regency_locked, summary_of_change, summary};
+ghost use Rattle.world_ledger.specs.Batches.{proposed_in, locked_in};
 
+use regency_sync::choosing::choice;
 use smart_base::duplicate::Duplicate;
 use smart_base::fault::ReadError;
+use smart_base::number::Regency;
 use smart_base::sequence::Bytes;
+use smart_messages::any::{AnyMessage, decode_any, encode_any};
 use smart_messages::batch::Batch;
-use smart_messages::codec::{decode, encode};
 use smart_messages::message::Message;
+use smart_messages::regency::RegencyMessage;
+use smart_messages::report::LockCertificate;
 use smart_messages::statement::{Ballot, VoteKind};
 use std::alloc::{AllocError, Global};
 use world_rules::line::{OutLine, Summary};
@@ -20,7 +25,7 @@ use world_rules::message::{Content, Origin};
 pub fn read_content(alloc: Global, bytes: Bytes) -> Result<Content, AllocError>
     ensures { IfOk result (λ content. content ≡ content_of bytes) }
 {
-    match decode(alloc, bytes.as_slice()) {
+    match decode_any(alloc, bytes.as_slice()) {
         Ok(message) => Ok(Content::Message(message)),
         Err(ReadError::Unread { .. }) => Ok(Content::Raw(bytes)),
         Err(ReadError::NoMemory) => Err(AllocError),
@@ -32,20 +37,49 @@ pub fn content_bytes(alloc: Global, content: &Content) -> Result<Bytes, AllocErr
     ensures { IfOk result (λ bytes. bytes ≡ bytes_of content.now) }
 {
     match content {
-        Content::Message(message) => Ok(Bytes::from_vec(encode(alloc, message)?)),
+        Content::Message(message) => Ok(Bytes::from_vec(encode_any(alloc, message)?)),
         Content::Raw(bytes) => Ok(bytes.duplicate(alloc)?),
+    }
+}
+
+/// The batch that a message proposes.
+fn proposed_in(message: &Message) -> Option<&Batch>
+    ensures { option_copied result ≡ proposed_in message.now }
+{
+    match message {
+        Message::Propose(proposed) => Some(&proposed.batch),
+        Message::Ask(_) | Message::Vote(_) | Message::Reply(_) => None,
+    }
+}
+
+/// The batch of a report's lock.
+fn locked_in(message: &RegencyMessage) -> Option<&Batch>
+    ensures { option_copied result ≡ locked_in message.now }
+{
+    match message {
+        RegencyMessage::StopData(reported) => reported.batch.as_ref(),
+        RegencyMessage::Stop(_) | RegencyMessage::Sync(_) => None,
     }
 }
 
 /// The batch that a content proposes.
 pub fn batch_in(content: &Content) -> Option<&Batch>
-    ensures value { option_copied result ≡ batch_in content.now }
-    ensures list { option_to_list (option_copied result) ≡ batches content.now }
+    ensures { option_copied result ≡ batch_in content.now }
 {
     match content {
-        Content::Message(Message::Propose(proposed)) => Some(&proposed.batch),
-        Content::Message(Message::Ask(_) | Message::Vote(_) | Message::Reply(_))
-        | Content::Raw(_) => None,
+        Content::Message(AnyMessage::Plain(message)) => proposed_in(message),
+        Content::Message(AnyMessage::Change(_)) | Content::Raw(_) => None,
+    }
+}
+
+/// The batch in a content: what it proposes, or what a report is locked on.
+pub fn batch_met(content: &Content) -> Option<&Batch>
+    ensures { option_to_list (option_copied result) ≡ batches content.now }
+{
+    match content {
+        Content::Message(AnyMessage::Plain(message)) => proposed_in(message),
+        Content::Message(AnyMessage::Change(message)) => locked_in(message),
+        Content::Raw(_) => None,
     }
 }
 
@@ -101,12 +135,55 @@ fn summary_of(message: &Message) -> Summary
     }
 }
 
+fn regency_locked(lock: &Option<LockCertificate>) -> Option<Regency>
+    ensures { result ≡ regency_locked lock.now }
+{
+    match lock {
+        None => None,
+        Some(lock) => Some(lock.regency),
+    }
+}
+
+fn summary_of_change(message: &RegencyMessage) -> Summary
+    ensures { result ≡ summary_of_change message.now }
+{
+    match message {
+        RegencyMessage::Stop(stop) => {
+            let stop = stop.statement();
+            Summary::Stop {
+                view: stop.view,
+                regency: stop.regency,
+            }
+        }
+        RegencyMessage::StopData(reported) => {
+            let report = reported.head.statement();
+            Summary::StopData {
+                view: report.view,
+                regency: report.regency,
+                last: report.last.get(),
+                lock: regency_locked(&report.lock),
+            }
+        }
+        RegencyMessage::Sync(sync) => {
+            let sync = sync.statement();
+            let choice = choice(sync.collect.as_slice());
+            Summary::Sync {
+                view: sync.view,
+                regency: sync.regency,
+                base: choice.base,
+                bound: choice.bound.is_some(),
+            }
+        }
+    }
+}
+
 /// What a transcript tells of a content.
 pub fn summary(content: &Content) -> Summary
     ensures { result ≡ summary content.now }
 {
     match content {
-        Content::Message(message) => summary_of(message),
+        Content::Message(AnyMessage::Plain(message)) => summary_of(message),
+        Content::Message(AnyMessage::Change(message)) => summary_of_change(message),
         Content::Raw(_) => Summary::Raw,
     }
 }

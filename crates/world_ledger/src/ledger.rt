@@ -4,14 +4,14 @@ ghost use Rattle.std.specs.Cmp.Lexicographic.{pointwise};
 ghost use Rattle.std.specs.HashMap.{get};
 ghost use Rattle.std.specs.HashSet.{contains};
 ghost use Rattle.std.specs.List.{list_any, flat_map};
-ghost use Rattle.smart_messages.specs.Kinds.{requests};
 ghost use Rattle.world_rules.specs.Secrets.{group_secret};
-ghost use Rattle.world_rules.specs.Premises.{batches, met, clash, claims_of, claims_in, is_forgery, is_forged, collides};
+ghost use Rattle.world_rules.specs.Premises.{batches, met, clash, is_forgery, is_forged, collides};
+ghost use Rattle.world_ledger.specs.Claims.{claims_of, claims_of_each, in_evidence, in_lock, in_report, in_plain, in_change, in_message};
 ghost use Rattle.world_rules.specs.declared.message.Sent.{Sent};
 ghost use Rattle.world_ledger.specs.Statements.{same_stated};
 ghost use Rattle.world_ledger.specs.Ledgers.{indexed, IsIndexed};
 
-use crate::content::batch_in;
+use crate::content::batch_met;
 use crate::secret::GroupRing;
 use crate::stated::{Stated, StatedIndex, is_excused, own_statements, put_all, signer_of};
 use smart_base::equality::same_bytes;
@@ -20,10 +20,12 @@ use smart_base::name::{ClientId, MemberId};
 use smart_base::sequence::Bytes;
 use smart_keys::hash::Sha;
 use smart_keys::ring::Ring;
+use smart_messages::any::AnyMessage;
 use smart_messages::batch::Batch;
 use smart_messages::message::Message;
+use smart_messages::regency::RegencyMessage;
+use smart_messages::report::{Evidence, LockCertificate, Report};
 use smart_messages::signed::{Signed, Statement};
-use smart_messages::statement::Request;
 use std::alloc::{AllocError, Global};
 use std::collections::{HashMap, HashSet};
 use std::marker::Model;
@@ -59,12 +61,12 @@ impl Model for Ledger {
     ghost invariant = { λ l. IsIndexed (get (pointwise nat_eq) l.texts) (contains same_stated l.stated) l.sent.items };
 }
 
-/// Puts the batch of a content, if it proposes one, under its digest.
+/// Puts the batch of a content, if it has one, under its digest.
 fn put_batch(alloc: Global, index: &mut TextIndex, content: &Content) -> Result<(), AllocError>
     ensures ok { OnOk result ((d : List ℕ) → get (pointwise nat_eq) index.new d ≡ indexed (λ d. get (pointwise nat_eq) index.old d) (batches content.now) d) }
     ensures err { OnErr result ((d : List ℕ) → get (pointwise nat_eq) index.new d ≡ get (pointwise nat_eq) index.old d) }
 {
-    if let Some(batch) = batch_in(content) {
+    if let Some(batch) = batch_met(content) {
         let text = batch.text(alloc)?;
         let digest = Sha::digest(text.as_slice());
         index.insert(digest.get(), Bytes::from_vec(text))?;
@@ -129,7 +131,7 @@ impl Ledger {
     pub fn collides(&self, alloc: Global, content: &Content) -> Result<bool, AllocError>
         ensures { IfOk result (λ c. c ≡ collides self.now content.now) }
     {
-        match batch_in(content) {
+        match batch_met(content) {
             None => Ok(false),
             Some(batch) => Ok(self.clashes(alloc, batch)?),
         }
@@ -152,31 +154,103 @@ impl Ledger {
         Ok(!self.stated.contains(&stated))
     }
 
-    fn is_request_forged(
+    /// Whether one of several statements is forged.
+    fn has_forgery<S: Statement>(
         &self,
         alloc: Global,
         faulty: &[MemberId],
         rogue: &[ClientId],
-        batch: &[Signed<Request>],
+        items: &[Signed<S>],
     ) -> Result<bool, AllocError>
-        ensures { IfOk result (λ forged. forged ≡ list_any (is_forgery faulty.now rogue.now self.now) (flat_map (claims_of requests) batch.now)) }
+        ensures { IfOk result (λ forged. forged ≡ list_any (is_forgery faulty.now rogue.now self.now) (claims_of_each S.form items.now)) }
     {
-        for request in batch {
-            if self.is_forgery(alloc, faulty, rogue, request)? {
+        for item in items {
+            if self.is_forgery(alloc, faulty, rogue, item)? {
                 return Ok(true);
             }
         }
         Ok(false)
     }
 
-    fn is_message_forged(
+    fn is_evidence_forged(
+        &self,
+        alloc: Global,
+        faulty: &[MemberId],
+        rogue: &[ClientId],
+        evidence: &Evidence,
+    ) -> Result<bool, AllocError>
+        ensures { IfOk result (λ forged. forged ≡ list_any (is_forgery faulty.now rogue.now self.now) (in_evidence evidence.now)) }
+    {
+        match evidence {
+            Evidence::Nothing => Ok(false),
+            Evidence::Decided(proof) => {
+                Ok(self.has_forgery(alloc, faulty, rogue, proof.accepts.as_slice())?)
+            }
+            Evidence::Marked(certificate) => {
+                Ok(self.has_forgery(alloc, faulty, rogue, certificate.marks.as_slice())?)
+            }
+        }
+    }
+
+    fn is_lock_forged(
+        &self,
+        alloc: Global,
+        faulty: &[MemberId],
+        rogue: &[ClientId],
+        lock: &Option<LockCertificate>,
+    ) -> Result<bool, AllocError>
+        ensures { IfOk result (λ forged. forged ≡ list_any (is_forgery faulty.now rogue.now self.now) (in_lock lock.now)) }
+    {
+        match lock {
+            None => Ok(false),
+            Some(lock) => Ok(self.has_forgery(alloc, faulty, rogue, lock.writes.as_slice())?),
+        }
+    }
+
+    /// Whether a report is forged, or something that stands in it.
+    fn is_report_forged(
+        &self,
+        alloc: Global,
+        faulty: &[MemberId],
+        rogue: &[ClientId],
+        report: &Signed<Report>,
+    ) -> Result<bool, AllocError>
+        ensures { IfOk result (λ forged. forged ≡ list_any (is_forgery faulty.now rogue.now self.now) (in_report report.now)) }
+    {
+        let statement = report.statement();
+        if self.is_forgery(alloc, faulty, rogue, report)?
+            || self.is_evidence_forged(alloc, faulty, rogue, &statement.evidence)?
+        {
+            return Ok(true);
+        }
+        Ok(self.is_lock_forged(alloc, faulty, rogue, &statement.lock)?)
+    }
+
+    fn has_forged_report(
+        &self,
+        alloc: Global,
+        faulty: &[MemberId],
+        rogue: &[ClientId],
+        reports: &[Signed<Report>],
+    ) -> Result<bool, AllocError>
+        ensures { IfOk result (λ forged. forged ≡ list_any (is_forgery faulty.now rogue.now self.now) (flat_map in_report reports.now)) }
+    {
+        for report in reports {
+            if self.is_report_forged(alloc, faulty, rogue, report)? {
+                return Ok(true);
+            }
+        }
+        Ok(false)
+    }
+
+    fn is_plain_forged(
         &self,
         alloc: Global,
         faulty: &[MemberId],
         rogue: &[ClientId],
         message: &Message,
     ) -> Result<bool, AllocError>
-        ensures { IfOk result (λ forged. forged ≡ list_any (is_forgery faulty.now rogue.now self.now) (claims_in message.now)) }
+        ensures { IfOk result (λ forged. forged ≡ list_any (is_forgery faulty.now rogue.now self.now) (in_plain message.now)) }
     {
         match message {
             Message::Ask(request) => Ok(self.is_forgery(alloc, faulty, rogue, request)?),
@@ -184,17 +258,63 @@ impl Ledger {
                 if self.is_forgery(alloc, faulty, rogue, &proposed.head)? {
                     return Ok(true);
                 }
-                let batch = proposed.batch.as_slice();
-                Ok(self.is_request_forged(alloc, faulty, rogue, batch)?)
+                Ok(self.has_forgery(alloc, faulty, rogue, proposed.batch.as_slice())?)
             }
             Message::Vote(ballot) => Ok(self.is_forgery(alloc, faulty, rogue, ballot)?),
             Message::Reply(answer) => Ok(self.is_forgery(alloc, faulty, rogue, answer)?),
         }
     }
 
+    fn is_change_forged(
+        &self,
+        alloc: Global,
+        faulty: &[MemberId],
+        rogue: &[ClientId],
+        message: &RegencyMessage,
+    ) -> Result<bool, AllocError>
+        ensures { IfOk result (λ forged. forged ≡ list_any (is_forgery faulty.now rogue.now self.now) (in_change message.now)) }
+    {
+        match message {
+            RegencyMessage::Stop(stop) => Ok(self.is_forgery(alloc, faulty, rogue, stop)?),
+            RegencyMessage::StopData(reported) => {
+                if self.is_report_forged(alloc, faulty, rogue, &reported.head)? {
+                    return Ok(true);
+                }
+                match &reported.batch {
+                    None => Ok(false),
+                    Some(batch) => Ok(self.has_forgery(alloc, faulty, rogue, batch.as_slice())?),
+                }
+            }
+            RegencyMessage::Sync(sync) => {
+                if self.is_forgery(alloc, faulty, rogue, sync)? {
+                    return Ok(true);
+                }
+                let reports = sync.statement().collect.as_slice();
+                Ok(self.has_forged_report(alloc, faulty, rogue, reports)?)
+            }
+        }
+    }
+
+    fn is_message_forged(
+        &self,
+        alloc: Global,
+        faulty: &[MemberId],
+        rogue: &[ClientId],
+        message: &AnyMessage,
+    ) -> Result<bool, AllocError>
+        ensures { IfOk result (λ forged. forged ≡ list_any (is_forgery faulty.now rogue.now self.now) (in_message message.now)) }
+    {
+        match message {
+            AnyMessage::Plain(message) => Ok(self.is_plain_forged(alloc, faulty, rogue, message)?),
+            AnyMessage::Change(message) => {
+                Ok(self.is_change_forged(alloc, faulty, rogue, message)?)
+            }
+        }
+    }
+
     /// Whether a content has a statement that its signer, who is neither declared faulty nor rogue,
     /// has not sent.
-    #[tactic(auto, unfolding(world_rules::specs::Premises::is_forged))]
+    #[tactic(auto, unfolding(world_rules::specs::Premises::is_forged), using(crate::proofs::ClaimLaws::in_message_is))]
     pub fn is_forged(
         &self,
         alloc: Global,

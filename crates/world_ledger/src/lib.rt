@@ -5,4 +5,5 @@ pub mod content;
 pub mod injection;
 pub mod ledger;
 pub mod secret;
+mod size;
 mod stated;

@@ -1,16 +1,21 @@
 -- What a play takes for granted, and checks as members are declared faulty and as messages get their numbers.
-use Rattle.std.specs.Prelude.{ℕ, ◌==◌, nat_lt, Bool, false, not, ◌&&◌, List, [], ◌∷◌, ◌++◌, length, filter, if◌then◌else◌}
+use Rattle.std.specs.Prelude.{ℕ, ◌==◌, nat_lt, Bool, false, not, ◌&&◌, List, [], ◌∷◌, length, filter, map, option_to_list}
 use Rattle.std.specs.List.{flat_map, list_any}
 use Rattle.smart_base.specs.Lists.{same_bytes}
 use Rattle.smart_base.specs.Views.{View}
 use Rattle.smart_base.specs.declared.party.Party.{Party}
 use Rattle.smart_base.specs.declared.party.Party.TheVariants as parties
-use Rattle.smart_messages.specs.Forms.{Form, SignedBy, party_of}
 use Rattle.smart_messages.specs.Kinds.{requests, proposals, ballots, answers}
-use Rattle.smart_messages.specs.Messages.{Batch, batch_text, spelling}
-use Rattle.smart_messages.specs.declared.message.Message.{Message}
+use Rattle.smart_messages.specs.Reports.{marks, reports}
+use Rattle.smart_messages.specs.Regencies.{stops, syncs, view_infos}
+use Rattle.smart_messages.specs.RegencyMessages.{any_spelling}
+use Rattle.smart_messages.specs.Messages.{Batch, batch_text}
 use Rattle.smart_messages.specs.declared.message.Message.TheVariants.{Ask, Propose, Vote, Reply}
-use Rattle.node_rules.specs.Seals.{digest_of, is_verified}
+use Rattle.smart_messages.specs.declared.regency.RegencyMessage.TheVariants as changes
+use Rattle.smart_messages.specs.declared.any.AnyMessage.{AnyMessage}
+use Rattle.smart_messages.specs.declared.any.AnyMessage.TheVariants.{Plain, Change}
+use Rattle.replica_rules.specs.Seals.{digest_of}
+use Rattle.agreement_laws.specs.Statements.{Statement, Asked, Proposed, Voted, Stopped, Reported, Synced, Marked, Replied, Informed, signer_of, statements}
 use Rattle.world_rules.specs.Secrets.{group_secret}
 use Rattle.world_rules.specs.declared.message.Content.{Content}
 use Rattle.world_rules.specs.declared.message.Content.TheVariants as contents
@@ -34,19 +39,23 @@ pub record Claim : Type 0 where
   pub signer : Party
   pub bytes : List ℕ
 
--- a statement whose tag verifies. Any other is none
-abbrev pub claims_of : {A : Type 0} → Form A → SignedBy A → List Claim
-claims_of form s =
-    if is_verified form group_secret s
-    then record { signer = party_of form.kind s.signer; bytes = form.spell s.statement } ∷ []
-    else []
+abbrev pub bytes_stated : Statement → List ℕ
+bytes_stated (Asked q) = requests.spell q.statement
+bytes_stated (Proposed p) = proposals.spell p.statement
+bytes_stated (Voted b) = ballots.spell b.statement
+bytes_stated (Stopped s) = stops.spell s.statement
+bytes_stated (Reported r) = reports.spell r.statement
+bytes_stated (Synced s) = syncs.spell s.statement
+bytes_stated (Marked m) = marks.spell m.statement
+bytes_stated (Replied a) = answers.spell a.statement
+bytes_stated (Informed i) = view_infos.spell i.statement
 
--- the statements that stand in a message
-abbrev pub claims_in : Message → List Claim
-claims_in (Ask q) = claims_of requests q
-claims_in (Propose p) = claims_of proposals p.head ++ flat_map (claims_of requests) p.batch
-claims_in (Vote b) = claims_of ballots b
-claims_in (Reply a) = claims_of answers a
+abbrev pub claim_of : Statement → Claim
+claim_of s = record { signer = signer_of s; bytes = bytes_stated s }
+
+-- the statements that stand in a message, at any depth, and whose tags verify. Any other is none
+abbrev pub claims_in : AnyMessage → List Claim
+claims_in m = map claim_of (statements group_secret m)
 
 abbrev pub claims : Content → List Claim
 claims (contents.Message m) = claims_in m
@@ -85,11 +94,14 @@ is_forged faulty rogue sent content = list_any (is_forgery faulty rogue sent) (c
 -- no two different batches have one digest
 
 -- the batches in a message
-abbrev pub batches_in : Message → List Batch
-batches_in (Ask q) = []
-batches_in (Propose p) = p.batch ∷ []
-batches_in (Vote b) = []
-batches_in (Reply a) = []
+abbrev pub batches_in : AnyMessage → List Batch
+batches_in (Plain (Ask q)) = []
+batches_in (Plain (Propose p)) = p.batch ∷ []
+batches_in (Plain (Vote b)) = []
+batches_in (Plain (Reply a)) = []
+batches_in (Change (changes.Stop s)) = []
+batches_in (Change (changes.StopData r)) = option_to_list r.batch
+batches_in (Change (changes.Sync s)) = []
 
 abbrev pub batches : Content → List Batch
 batches (contents.Message m) = batches_in m
@@ -109,5 +121,5 @@ collides sent content = list_any (λ batch. list_any (clash batch) (met sent)) (
 
 -- what arrives where a content is given
 abbrev pub bytes_of : Content → List ℕ
-bytes_of (contents.Message m) = spelling m
+bytes_of (contents.Message m) = any_spelling m
 bytes_of (contents.Raw bytes) = bytes

@@ -6,9 +6,10 @@ use Rattle.smart_messages.specs.Kinds.{requests}
 use Rattle.smart_messages.specs.Messages.{Batch}
 use Rattle.smart_messages.specs.declared.statement.Request.{Request}
 use Rattle.smart_messages.specs.declared.message.Message.TheVariants.{Ask}
+use Rattle.smart_messages.specs.declared.any.AnyMessage.TheVariants.{Plain}
 use Rattle.smart_service.specs.Services.{Meaning}
-use Rattle.node_rules.specs.Replicas.{state, answer, place_of, batch_at, request_at, view_at}
-use Rattle.node_rules.specs.Seals.{signed}
+use Rattle.replica_rules.specs.Replicas.{state, answer, place_of, batch_at, request_at, view_at}
+use Rattle.replica_rules.specs.Seals.{signed}
 use Rattle.node_rules.specs.Nodes.{next_place}
 use Rattle.node_rules.specs.Steps.{step_of}
 use Rattle.node_rules.specs.declared.node.Target.TheVariants as targets
@@ -50,7 +51,7 @@ pub record IsPrefix {S : Type 0} (m : Meaning S) (view : View) (chosen : List Ba
 abbrev pub HasAsked : List Sent → Request → Type 0
 HasAsked [] q = ⊥
 HasAsked (s ∷ sent) q =
-    (s ≡ record { origin = origins.Client q.client; to = Some targets.View; content = contents.Message (Ask (signed requests group_secret q.client q)) }) ⊎ HasAsked sent q
+    (s ≡ record { origin = origins.Client q.client; to = Some targets.View; content = contents.Message (Plain (Ask (signed requests group_secret q.client q))) }) ⊎ HasAsked sent q
 
 -- a reply that was accepted names the one place of its request in the list, the request there is the one that the client asked, the
 -- reply is the service's answer there, it states the view in force there, and the place is above the one that the request states: the
@@ -88,6 +89,8 @@ IsAnswered m view rogue chosen (outs.Group members faulty app) = Unit {0}
 IsAnswered m view rogue chosen (outs.Sent number origin summary) = Unit {0}
 IsAnswered m view rogue chosen (outs.Decided member place) = Unit {0}
 IsAnswered m view rogue chosen (outs.Delivered member place executed) = Unit {0}
+IsAnswered m view rogue chosen (outs.Promised member number regency) = Unit {0}
+IsAnswered m view rogue chosen (outs.Synced member number regency base bound) = Unit {0}
 IsAnswered m view rogue chosen (outs.Dropped member why) = Unit {0}
 IsAnswered m view rogue chosen (outs.Counted client have need) = Unit {0}
 IsAnswered m view rogue chosen (outs.Ignored client why) = Unit {0}

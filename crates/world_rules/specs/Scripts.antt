@@ -1,5 +1,5 @@
 -- What the lines of a script mean, or what is wrong with them.
-use Rattle.std.specs.Prelude.{ℕ, zero, suc, ◌+◌, ◌-◌, ◌*◌, ◌^◌, get_or, drop, replicate, ◌++◌, ◌==◌, nat_le, Bool, true, not, ◌&&◌, List, [], ◌∷◌, length, take, if◌then◌else◌, Option, Some, None, Result, Ok, Err, codes}
+use Rattle.std.specs.Prelude.{ℕ, zero, suc, ◌+◌, ◌-◌, ◌*◌, ◌^◌, option_map, get_or, drop, replicate, ◌++◌, ◌==◌, nat_le, Bool, true, not, ◌&&◌, List, [], ◌∷◌, length, take, if◌then◌else◌, Option, Some, None, Result, Ok, Err, codes}
 use Rattle.std.specs.List.{list_all}
 use Rattle.smart_base.specs.Decimals.{number_of}
 use Rattle.smart_base.specs.Lists.{same_bytes}
@@ -138,6 +138,10 @@ abbrev pub deliver_line : List (List ℕ) → Result Line Kind
 deliver_line [] = Err kinds.Count
 deliver_line (member ∷ more) = or_number lines.Deliver (each_word member_of (member ∷ more))
 
+abbrev pub tick_line : List (List ℕ) → Result Line Kind
+tick_line [] = Err kinds.Count
+tick_line (member ∷ more) = or_number lines.Tick (each_word member_of (member ∷ more))
+
 abbrev pub settle_line : List (List ℕ) → Result Line Kind
 settle_line [] = Err kinds.Count
 settle_line (word ∷ []) = if same_bytes word (codes "all") then Ok lines.SettleAll else or_number lines.Settle (member_of word)
@@ -236,6 +240,53 @@ vote_form kind words =
     then form_of (λ ns. Ok (forms.Vote kind (nth ns 0) (slot_in ns) (nth ns 4))) (numbers_in (of_slot ++ numbers_of_messages ∷ []) words)
     else Err kinds.Count
 
+-- S V R
+abbrev pub of_turn : List Range
+of_turn = members ∷ small_numbers ∷ small_numbers ∷ []
+
+-- stop S V R
+abbrev pub stop_form : List (List ℕ) → Result Injection Kind
+stop_form words =
+    if length words == 3
+    then form_of (λ ns. Ok (forms.Stop (nth ns 0) (nth ns 1) (nth ns 2))) (numbers_in of_turn words)
+    else Err kinds.Count
+
+-- a dash for nothing, or the number of a message
+abbrev pub message_or_none : List ℕ → Option (Option ℕ)
+message_or_none word =
+    if same_bytes word (codes "-") then Some None
+    else option_map (λ n. Some n) (number_in 1 (2 ^ 24) word)
+
+abbrev pub stopdata_by : List ℕ → Option (Option ℕ) → Option (Option ℕ) → Result Injection Kind
+stopdata_by ns None lock = Err kinds.Number
+stopdata_by ns (Some decision) None = Err kinds.Number
+stopdata_by ns (Some decision) (Some lock) = Ok (forms.StopData (nth ns 0) (nth ns 1) (nth ns 2) decision lock)
+
+-- EV LOCK
+abbrev pub stopdata_behind : List ℕ → List (List ℕ) → Result Injection Kind
+stopdata_behind ns [] = Err kinds.Count
+stopdata_behind ns (decision ∷ []) = Err kinds.Count
+stopdata_behind ns (decision ∷ lock ∷ []) = stopdata_by ns (message_or_none decision) (message_or_none lock)
+stopdata_behind ns (decision ∷ lock ∷ next ∷ more) = Err kinds.Count
+
+-- stopdata S V R EV LOCK
+abbrev pub stopdata_form : List (List ℕ) → Result Injection Kind
+stopdata_form words =
+    if length words == 5
+    then form_of (λ ns. stopdata_behind ns (drop 3 words)) (numbers_in of_turn words)
+    else Err kinds.Count
+
+abbrev pub sync_with : List ℕ → Option (List ℕ) → Result Injection Kind
+sync_with ns None = Err kinds.Number
+sync_with ns (Some reports) = Ok (forms.Sync (nth ns 0) (nth ns 1) (nth ns 2) reports)
+
+-- sync S V R NUM..: any number of reports
+abbrev pub sync_form : List (List ℕ) → Result Injection Kind
+sync_form words =
+    if nat_le 3 (length words)
+    then form_of (λ ns. sync_with ns (each_word (number_in 1 (2 ^ 24)) (drop 3 words))) (numbers_in of_turn words)
+    else Err kinds.Count
+
 -- reply S V K I C SEQ TEXT: the text is the rest of the line
 abbrev pub answer_in : List ℕ → List ℕ → Answer
 answer_in ns text = record { view = nth ns 1; place = nth ns 2; index = nth ns 3; client = nth ns 4; seq = nth ns 5; reply = text }
@@ -284,6 +335,9 @@ form_by bytes (word ∷ words) =
     else if same_bytes word (codes "propose") then propose_form words
     else if same_bytes word (codes "write") then vote_form Write words
     else if same_bytes word (codes "accept") then vote_form Accept words
+    else if same_bytes word (codes "stop") then stop_form words
+    else if same_bytes word (codes "stopdata") then stopdata_form words
+    else if same_bytes word (codes "sync") then sync_form words
     else if same_bytes word (codes "reply") then reply_form bytes words
     else if same_bytes word (codes "raw") then raw_form words
     else Err kinds.Word
@@ -301,6 +355,7 @@ line_by bytes (word ∷ words) =
     else if same_bytes word (codes "flow") then flow_line words
     else if same_bytes word (codes "give") then give_line words
     else if same_bytes word (codes "deliver") then deliver_line words
+    else if same_bytes word (codes "tick") then tick_line words
     else if same_bytes word (codes "settle") then settle_line words
     else if same_bytes word (codes "show") then show_line words
     else if same_bytes word (codes "faulty") then faulty_line words

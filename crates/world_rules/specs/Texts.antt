@@ -1,5 +1,5 @@
 -- The lines of a transcript, as text.
-use Rattle.std.specs.Prelude.{ℕ, List, [], ◌∷◌, ◌++◌, codes, nat_lt, nat_le, ◌&&◌, ◌==◌, not, ◌+◌, ◌/◌, ◌%◌, length, if◌then◌else◌}
+use Rattle.std.specs.Prelude.{ℕ, Bool, Option, Some, None, List, [], ◌∷◌, ◌++◌, codes, nat_lt, nat_le, ◌&&◌, ◌==◌, not, ◌+◌, ◌/◌, ◌%◌, length, if◌then◌else◌}
 use Rattle.std.specs.List.{flat_map}
 use Rattle.std.specs.Fmt.{decimal}
 use Rattle.smart_base.specs.Views.{View}
@@ -25,11 +25,14 @@ why_text whys.OldView = codes "OldView"
 why_text whys.NewView = codes "NewView"
 why_text whys.OldPlace = codes "OldPlace"
 why_text whys.FarPlace = codes "FarPlace"
+why_text whys.OldRegency = codes "OldRegency"
 why_text whys.NewRegency = codes "NewRegency"
 why_text whys.OldSeq = codes "OldSeq"
 why_text whys.FarSeq = codes "FarSeq"
 why_text whys.NotLeader = codes "NotLeader"
 why_text whys.InvalidBatch = codes "InvalidBatch"
+why_text whys.BadProof = codes "BadProof"
+why_text whys.Unbound = codes "Unbound"
 why_text whys.Unasked = codes "Unasked"
 why_text whys.Repeated = codes "Repeated"
 
@@ -50,11 +53,23 @@ origin_text (origins.Node id) = 110 ∷ decimal id
 origin_text (origins.Client id) = 99 ∷ decimal id
 origin_text origins.Script = codes "x"
 
+-- the regency of a lock, or a dash
+abbrev pub lock_text : Option ℕ → List ℕ
+lock_text None = codes " -"
+lock_text (Some regency) = after_space regency
+
+-- whether a batch binds where a regency begins
+abbrev pub bound_text : Bool → List ℕ
+bound_text bound = if bound then codes " bound" else codes " free"
+
 abbrev pub summary_text : Summary → List ℕ
 summary_text (summaries.Ask c s after) = codes "ask" ++ (after_space c ++ (after_space s ++ after_space after))
 summary_text (summaries.Propose v k r count) = codes "propose" ++ (after_space v ++ (after_space k ++ (after_space r ++ after_space count)))
 summary_text (summaries.Write v k r) = codes "write" ++ (after_space v ++ (after_space k ++ after_space r))
 summary_text (summaries.Accept v k r) = codes "accept" ++ (after_space v ++ (after_space k ++ after_space r))
+summary_text (summaries.Stop v r) = codes "stop" ++ (after_space v ++ after_space r)
+summary_text (summaries.StopData v r last lock) = codes "stopdata" ++ (after_space v ++ (after_space r ++ (after_space last ++ lock_text lock)))
+summary_text (summaries.Sync v r base bound) = codes "sync" ++ (after_space v ++ (after_space r ++ (after_space base ++ bound_text bound)))
 summary_text (summaries.Reply c s k i) = codes "reply" ++ (after_space c ++ (after_space s ++ (after_space k ++ after_space i)))
 summary_text summaries.Raw = codes "raw"
 
@@ -74,6 +89,8 @@ words_of (outs.Group n f app) = codes "group" ++ (after_space n ++ (after_space 
 words_of (outs.Sent number origin summary) = codes "sent" ++ (after_space number ++ (32 ∷ origin_text origin ++ (32 ∷ summary_text summary)))
 words_of (outs.Decided id k) = codes "decided n" ++ (decimal id ++ after_space k)
 words_of (outs.Delivered id k count) = codes "delivered n" ++ (decimal id ++ (after_space k ++ after_space count))
+words_of (outs.Promised id v r) = codes "promised n" ++ (decimal id ++ (after_space v ++ after_space r))
+words_of (outs.Synced id v r base bound) = codes "synced n" ++ (decimal id ++ (after_space v ++ (after_space r ++ (after_space base ++ bound_text bound))))
 words_of (outs.Dropped id why) = codes "dropped n" ++ (decimal id ++ (32 ∷ why_text why))
 words_of (outs.Counted id have need) = codes "counted c" ++ (decimal id ++ (after_space have ++ after_space need))
 words_of (outs.Accepted id s k i text) = codes "accepted c" ++ (decimal id ++ (after_space s ++ (after_space k ++ (after_space i ++ (32 ∷ flat_map shown text)))))

@@ -8,6 +8,12 @@ use Rattle.smart_base.specs.Views.{View}
 use Rattle.smart_messages.specs.Forms.{SignedBy}
 use Rattle.smart_messages.specs.Kinds.{requests}
 use Rattle.smart_messages.specs.Messages.{Batch, decoded}
+use Rattle.smart_messages.specs.declared.report.LockCertificate.{LockCertificate}
+use Rattle.smart_messages.specs.declared.regency.RegencyMessage.{RegencyMessage}
+use Rattle.smart_messages.specs.declared.regency.RegencyMessage.TheVariants as changes
+use Rattle.smart_messages.specs.declared.any.AnyMessage.{AnyMessage}
+use Rattle.smart_messages.specs.declared.any.AnyMessage.TheVariants.{Plain, Change}
+use Rattle.regency_sync.specs.Choices.{choice}
 use Rattle.smart_messages.specs.declared.statement.Request.{Request}
 use Rattle.smart_messages.specs.declared.statement.VoteKind.{VoteKind}
 use Rattle.smart_messages.specs.declared.statement.VoteKind.TheVariants.{Write, Accept}
@@ -16,11 +22,11 @@ use Rattle.smart_messages.specs.declared.statement.Answer.{Answer}
 use Rattle.smart_messages.specs.declared.message.Message.{Message}
 use Rattle.smart_messages.specs.declared.message.Message.TheVariants.{Ask, Propose, Vote, Reply}
 use Rattle.smart_messages.specs.declared.entry.NodeEvent.{NodeEvent}
-use Rattle.smart_messages.specs.declared.entry.NodeEvent.TheVariants.{Arrive, Deliver, Firm}
+use Rattle.smart_messages.specs.declared.entry.NodeEvent.TheVariants.{Arrive, Tick, Deliver, Firm}
 use Rattle.smart_base.specs.declared.party.Party.{Party}
 use Rattle.smart_base.specs.declared.party.Party.TheVariants as parties
 use Rattle.smart_service.specs.Services.{Meaning}
-use Rattle.node_rules.specs.Seals.{signed}
+use Rattle.replica_rules.specs.Seals.{signed}
 use Rattle.node_rules.specs.Nodes.{Node, next_place, view_of, regency_of}
 use Rattle.node_rules.specs.Steps.{Outcome, leaving, released, opened}
 use Rattle.node_rules.specs.declared.node.Why.{Why}
@@ -89,6 +95,17 @@ abbrev pub vote_summary : Ballot → VoteKind → Summary
 vote_summary b Write = summaries.Write b.slot.view b.slot.place b.slot.regency
 vote_summary b Accept = summaries.Accept b.slot.view b.slot.place b.slot.regency
 
+abbrev pub regency_locked : Option LockCertificate → Option ℕ
+regency_locked None = None
+regency_locked (Some l) = Some l.regency
+
+abbrev pub summary_of_change : RegencyMessage → Summary
+summary_of_change (changes.Stop s) = summaries.Stop s.statement.view s.statement.regency
+summary_of_change (changes.StopData r) =
+    summaries.StopData r.head.statement.view r.head.statement.regency r.head.statement.last (regency_locked r.head.statement.lock)
+summary_of_change (changes.Sync s) =
+    summaries.Sync s.statement.view s.statement.regency (choice s.statement.collect).base (is_some (choice s.statement.collect).bound)
+
 abbrev pub summary_of : Message → Summary
 summary_of (Ask q) = summaries.Ask q.statement.client q.statement.seq q.statement.after
 summary_of (Propose p) = summaries.Propose p.head.statement.slot.view p.head.statement.slot.place p.head.statement.slot.regency (length p.batch)
@@ -99,7 +116,8 @@ abbrev pub telling : {S : Type 0} → World S → OutLine → World S
 telling w line = record w { told = w.told ++ line ∷ [] }
 
 abbrev pub summary : Content → Summary
-summary (contents.Message m) = summary_of m
+summary (contents.Message (Plain m)) = summary_of m
+summary (contents.Message (Change m)) = summary_of_change m
 summary (contents.Raw bytes) = summaries.Raw
 
 -- what is sent takes the next number, if there is one. A batch in it that clashes with one met before ends the play, be there a number
@@ -115,7 +133,7 @@ posts w s =
     else record w { ending = or_else w.ending (Some Limit) }
 
 -- a message leaves
-abbrev pub sends : {S : Type 0} → World S → Origin → Target → Message → World S
+abbrev pub sends : {S : Type 0} → World S → Origin → Target → AnyMessage → World S
 sends w origin to message = posts w (record { origin = origin; to = Some to; content = contents.Message message })
 
 abbrev pub sends_all : {S : Type 0} → ℕ → World S → List Held → World S
@@ -130,18 +148,28 @@ told_drop id (Some why) = outs.Dropped id why ∷ []
 
 abbrev pub told_fired : ℕ → Fired → List OutLine
 told_fired id (fires.Delivered d) = outs.Delivered id d.place d.executed ∷ []
+told_fired id (fires.Adopted s) = outs.Synced id s.view s.regency s.base (is_some s.bound) ∷ []
+told_fired id fires.Joined = []
+told_fired id (fires.Promised p) = outs.Promised id p.view p.regency ∷ []
+told_fired id fires.Led = []
 told_fired id fires.Proposed = []
 told_fired id fires.Wrote = []
 told_fired id fires.Accepted = []
 told_fired id (fires.Decided place) = outs.Decided id place ∷ []
+told_fired id fires.Timed = []
 told_fired id fires.Answered = []
 
 abbrev pub delivery_in : Fired → List Delivery
 delivery_in (fires.Delivered d) = d ∷ []
+delivery_in (fires.Adopted s) = []
+delivery_in fires.Joined = []
+delivery_in (fires.Promised p) = []
+delivery_in fires.Led = []
 delivery_in fires.Proposed = []
 delivery_in fires.Wrote = []
 delivery_in fires.Accepted = []
 delivery_in (fires.Decided place) = []
+delivery_in fires.Timed = []
 delivery_in fires.Answered = []
 
 -- the list of chosen batches with the one that waits at a node: the first node that decides a place has chosen its batch
@@ -239,6 +267,18 @@ gives step bytes i w = settle step i (node_takes step i (Arrive bytes) w)
 abbrev pub give_all : {S : Type 0} → (Node S → NodeEvent → Outcome S) → List ℕ → List ℕ → World S → World S
 give_all step members bytes w = each_listed members (gives step bytes) w
 
+-- the index at which a member's host stands
+abbrev pub host_index : {S : Type 0} → List (Host S) → ℕ → Option ℕ
+host_index hosts member = position (λ h. h.node.id == member) hosts
+
+abbrev pub at_index : {S : Type 0} → (ℕ → World S → World S) → World S → Option ℕ → World S
+at_index f w None = w
+at_index f w (Some i) = f i w
+
+-- the node of a member takes bytes and settles, if the member is listed
+abbrev pub give_one : {S : Type 0} → (Node S → NodeEvent → Outcome S) → List ℕ → List ℕ → ℕ → World S → World S
+give_one step members bytes member w = at_index (at_listed members (gives step bytes)) w (host_index w.hosts member)
+
 -- clients
 
 -- the line that tells what a client heard
@@ -282,7 +322,7 @@ client_asks w i c op (Some q) = telling w (outs.Busy c.id q.seq)
 client_asks w i c op None =
     if nat_lt (c.last + 1) (2 ^ 63) && nat_le (length op) 4096
     then sends (record w { clients = slice_set w.clients i (asking c (request_of c op)) }) (origins.Client c.id) targets.View
-    (Ask (signed requests group_secret c.id (request_of c op)))
+    (Plain (Ask (signed requests group_secret c.id (request_of c op))))
     else w
 
 -- a rogue client does nothing that it is told to
@@ -296,7 +336,7 @@ asks i op w = if is_some w.ending then w else ask_found w i op (slice_get w.clie
 -- a client sends its request that waits once more
 abbrev pub client_repeats : {S : Type 0} → World S → Client → Option Request → World S
 client_repeats w c None = telling w (outs.IdleClient c.id)
-client_repeats w c (Some q) = sends w (origins.Client c.id) targets.View (Ask (signed requests group_secret c.id q))
+client_repeats w c (Some q) = sends w (origins.Client c.id) targets.View (Plain (Ask (signed requests group_secret c.id q)))
 
 abbrev pub repeat_found : {S : Type 0} → World S → Option Client → World S
 repeat_found w None = w
@@ -324,6 +364,7 @@ tells from to w = if is_some w.ending then w else learns_from w (slice_get w.cli
 abbrev pub goes : {S : Type 0} → (Node S → NodeEvent → Outcome S) → List ℕ → World S → List ℕ → Option Target → World S
 goes step members w bytes None = w
 goes step members w bytes (Some targets.View) = give_all step members bytes w
+goes step members w bytes (Some (targets.Node id)) = give_one step members bytes id w
 goes step members w bytes (Some (targets.Client id)) = client_takes id bytes w
 
 abbrev pub flow_sent : {S : Type 0} → (Node S → NodeEvent → Outcome S) → List ℕ → World S → Option Sent → World S
@@ -339,14 +380,6 @@ abbrev pub flows : {S : Type 0} → (Node S → NodeEvent → Outcome S) → Lis
 flows step members w = until_rest (flow_once step members) (settle_all step members w)
 
 -- deliveries one by one
-
--- the index at which a member's host stands
-abbrev pub host_index : {S : Type 0} → List (Host S) → ℕ → Option ℕ
-host_index hosts member = position (λ h. h.node.id == member) hosts
-
-abbrev pub at_index : {S : Type 0} → (ℕ → World S → World S) → World S → Option ℕ → World S
-at_index f w None = w
-at_index f w (Some i) = f i w
 
 -- what happens at a member's host, unless its node is gone
 abbrev pub at_member : {S : Type 0} → (ℕ → World S → World S) → ℕ → World S → World S
@@ -369,24 +402,30 @@ sent_arrives step to w (Some s) = arrives_at step (bytes_of s.content) to w
 abbrev pub give_number : {S : Type 0} → (Node S → NodeEvent → Outcome S) → ℕ → List Party → World S → World S
 give_number step number to w = sent_arrives step to w (slice_get w.sent (number - 1))
 
--- a node that is to deliver where no rule fires is idle
+-- a node that is to deliver, or where time passes, is idle where no rule fires
 abbrev pub told_idle : ℕ → List Fired → List OutLine
 told_idle id [] = outs.Idle id ∷ []
 told_idle id (rule ∷ rules) = []
 
-abbrev pub host_delivers : {S : Type 0} → (Node S → NodeEvent → Outcome S) → ℕ → World S → Option (Host S) → World S
-host_delivers step i w None = w
-host_delivers step i w (Some h) =
-    if is_gone w h.node.id then w else telling_all (stepped w i h (step h.node Deliver)) (told_idle h.node.id (step h.node Deliver).fired)
+abbrev pub host_tries : {S : Type 0} → (Node S → NodeEvent → Outcome S) → NodeEvent → ℕ → World S → Option (Host S) → World S
+host_tries step event i w None = w
+host_tries step event i w (Some h) =
+    if is_gone w h.node.id then w else telling_all (stepped w i h (step h.node event)) (told_idle h.node.id (step h.node event).fired)
 
--- the node at an index delivers the batch that waits
-unfoldable pub deliver_at : {S : Type 0} → (Node S → NodeEvent → Outcome S) → ℕ → World S → World S
-deliver_at step i w = if is_some w.ending then w else host_delivers step i w (slice_get w.hosts i)
+-- the node at an index is to deliver the batch that waits, or time passes there
+unfoldable pub tries_at : {S : Type 0} → (Node S → NodeEvent → Outcome S) → NodeEvent → ℕ → World S → World S
+tries_at step event i w = if is_some w.ending then w else host_tries step event i w (slice_get w.hosts i)
 
--- each of some members does, in order
+-- so it is at each of some members, in order
+abbrev pub tries_each : {S : Type 0} → (Node S → NodeEvent → Outcome S) → NodeEvent → List ℕ → World S → World S
+tries_each step event [] w = w
+tries_each step event (m ∷ ms) w = tries_each step event ms (at_member (tries_at step event) m w)
+
 abbrev pub deliver_each : {S : Type 0} → (Node S → NodeEvent → Outcome S) → List ℕ → World S → World S
-deliver_each step [] w = w
-deliver_each step (m ∷ ms) w = deliver_each step ms (at_member (deliver_at step) m w)
+deliver_each step members w = tries_each step Deliver members w
+
+abbrev pub tick_each : {S : Type 0} → (Node S → NodeEvent → Outcome S) → List ℕ → World S → World S
+tick_each step members w = tries_each step Tick members w
 
 -- what is shown
 
@@ -440,7 +479,7 @@ host_of (h ∷ hs) id = if h.node.id == id then Some h else host_of hs id
 
 abbrev pub hosts_from : {S : Type 0} → Meaning S → View → List ℕ → List (Host S)
 hosts_from m view [] = []
-hosts_from m view (id ∷ ids) = record { node = opened m group_secret id view; delivered = [] } ∷ hosts_from m view ids
+hosts_from m view (id ∷ ids) = record { node = opened m group_secret id view 1024; delivered = [] } ∷ hosts_from m view ids
 
 -- clients that have not asked, of count numbers from i on
 unfoldable pub clients_from : ℕ → ℕ → List Client

@@ -36,6 +36,8 @@ pub enum Line {
     Give { number: u64, to: Sequence<Party> },
     /// `deliver M..`: each of these members delivers the batch that waits, in order.
     Deliver { members: Sequence<MemberId> },
+    /// `tick M..`: time passes at each of these members, in order.
+    Tick { members: Sequence<MemberId> },
     /// `settle M`: the member takes what is due until nothing is.
     Settle { member: MemberId },
     /// `settle all`: each member does, ascending.
@@ -72,6 +74,28 @@ pub enum Injection {
         signer: MemberId,
         slot: Slot,
         proposal: u64,
+    },
+    /// `stop S V R`: a wish for a regency.
+    Stop {
+        signer: MemberId,
+        view: ViewNo,
+        regency: Regency,
+    },
+    /// `stopdata S V R EV LOCK`: a report without a last place, or with the one that a decision's
+    /// message shows; and without a lock, or with the one of a report's message.
+    StopData {
+        signer: MemberId,
+        view: ViewNo,
+        regency: Regency,
+        evidence: Option<u64>,
+        lock: Option<u64>,
+    },
+    /// `sync S V R NUM..`: the beginning of a regency with the reports of these messages.
+    Sync {
+        signer: MemberId,
+        view: ViewNo,
+        regency: Regency,
+        reports: Sequence<u64>,
     },
     /// `reply S V K I C SEQ TEXT`.
     Reply {
@@ -138,6 +162,24 @@ pub enum Summary {
         place: Place,
         index: u16,
     },
+    Stop {
+        view: ViewNo,
+        regency: Regency,
+    },
+    /// A report: its last place, and the regency of its lock, if it has one.
+    StopData {
+        view: ViewNo,
+        regency: Regency,
+        last: u64,
+        lock: Option<Regency>,
+    },
+    /// The beginning of a regency: the place where it begins, and whether a batch binds there.
+    Sync {
+        view: ViewNo,
+        regency: Regency,
+        base: u64,
+        bound: bool,
+    },
     /// Bytes that are no message.
     Raw,
 }
@@ -167,6 +209,20 @@ pub enum OutLine {
         member: MemberId,
         place: Place,
         executed: u64,
+    },
+    /// A node promised a regency.
+    Promised {
+        member: MemberId,
+        view: ViewNo,
+        regency: Regency,
+    },
+    /// A node takes part in a regency from now on: it begins at this place, where a batch may bind.
+    Synced {
+        member: MemberId,
+        view: ViewNo,
+        regency: Regency,
+        base: u64,
+        bound: bool,
     },
     /// A node dropped an arrival.
     Dropped {

@@ -2,7 +2,7 @@
 use node_rules::node::Target;
 use smart_base::name::{ClientId, MemberId};
 use smart_base::sequence::Bytes;
-use smart_messages::message::Message;
+use smart_messages::any::AnyMessage;
 
 /// Who sent a message.
 #[derive(Clone, Copy, Debug, PartialEq, Eq)]
@@ -16,7 +16,7 @@ pub enum Origin {
 /// What is sent.
 #[derive(Drop)]
 pub enum Content {
-    Message(Message),
+    Message(AnyMessage),
     /// Bytes that are no message.
     Raw(Bytes),
 }

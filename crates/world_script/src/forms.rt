@@ -1,9 +1,10 @@
 //! The forms of what a script injects.
 ghost use Rattle.std.specs.Prelude.{◌≡◌, ◌<◌, ◌^◌, IfOk, IfSome};
-ghost use Rattle.world_rules.specs.Scripts.{ask_form, propose_form, vote_form, reply_form, hex_value, byte_by, hex_bytes, raw_form, form_by};
+ghost use Rattle.world_rules.specs.Scripts.{ask_form, propose_form, vote_form, stop_form, message_or_none, stopdata_by, stopdata_form, sync_form, reply_form, hex_value, byte_by, hex_bytes, raw_form, form_by};
 
 use crate::numbers::{
-    CLIENTS, INDICES, MEMBERS, MESSAGES, NUMBERS, PLACES, SMALL_NUMBERS, messages_in, numbers_in,
+    CLIENTS, INDICES, MEMBERS, MESSAGES, NUMBERS, PLACES, SMALL_NUMBERS, messages_in, number_in,
+    numbers_in,
 };
 use crate::words::{Words, behind_spaces, payload_of};
 use smart_base::equality::same_bytes;
@@ -100,6 +101,86 @@ fn vote_form(kind: VoteKind, mut words: Words<'_>) -> Result<Injection, Kind>
         slot,
         proposal,
     })
+}
+
+/// `S V R`.
+fn stop_form(mut words: Words<'_>) -> Result<Injection, Kind>
+    ensures { result ≡ stop_form words.entry }
+{
+    if words.count() != 3 {
+        return Err(Kind::Count);
+    }
+    let numbers = numbers_in(&[MEMBERS, SMALL_NUMBERS, SMALL_NUMBERS], &mut words).ok_or(
+        Kind::Number,
+    )?;
+    let [signer, view, regency] = numbers;
+    Ok(Injection::Stop {
+        signer: MemberId::new(signer as u16),
+        view: ViewNo::new(view as u32),
+        regency: Regency::new(regency as u32),
+    })
+}
+
+/// A dash for nothing, or the number of a message.
+fn message_or_none(word: &[u8]) -> Option<Option<u64>>
+    ensures { result ≡ message_or_none word.now }
+{
+    if same_bytes(word, b"-") {
+        return Some(None);
+    }
+    match number_in(&MESSAGES, word) {
+        None => None,
+        Some(number) => Some(Some(number)),
+    }
+}
+
+/// `S V R EV LOCK`.
+fn stopdata_form(mut words: Words<'_>) -> Result<Injection, Kind>
+    ensures { result ≡ stopdata_form words.entry }
+{
+    if words.count() != 5 {
+        return Err(Kind::Count);
+    }
+    let numbers = numbers_in(&[MEMBERS, SMALL_NUMBERS, SMALL_NUMBERS], &mut words).ok_or(
+        Kind::Number,
+    )?;
+    let [signer, view, regency] = numbers;
+    let (evidence, more) = words.split_first().ok_or(Kind::Count)?;
+    let (lock, more) = more.split_first().ok_or(Kind::Count)?;
+    let None = more.split_first() else {
+        return Err(Kind::Count);
+    };
+    let evidence = message_or_none(evidence).ok_or(Kind::Number)?;
+    let lock = message_or_none(lock).ok_or(Kind::Number)?;
+    Ok(Injection::StopData {
+        signer: MemberId::new(signer as u16),
+        view: ViewNo::new(view as u32),
+        regency: Regency::new(regency as u32),
+        evidence,
+        lock,
+    })
+}
+
+/// `S V R NUM..`: any number of reports.
+fn sync_form(alloc: Global, mut words: Words<'_>) -> Result<Result<Injection, Kind>, AllocError>
+    ensures { IfOk result (λ form. form ≡ sync_form words.entry) }
+{
+    if words.count() < 3 {
+        return Ok(Err(Kind::Count));
+    }
+    let Some(numbers) = numbers_in(&[MEMBERS, SMALL_NUMBERS, SMALL_NUMBERS], &mut words) else {
+        return Ok(Err(Kind::Number));
+    };
+    let [signer, view, regency] = numbers;
+    let Some(reports) = messages_in(alloc, words)? else {
+        return Ok(Err(Kind::Number));
+    };
+    Ok(Ok(Injection::Sync {
+        signer: MemberId::new(signer as u16),
+        view: ViewNo::new(view as u32),
+        regency: Regency::new(regency as u32),
+        reports,
+    }))
 }
 
 /// `S V K I C SEQ TEXT`: the text is the rest of the line.
@@ -208,6 +289,12 @@ pub fn form_by(
         Ok(vote_form(VoteKind::Write, words))
     } else if same_bytes(word, b"accept") {
         Ok(vote_form(VoteKind::Accept, words))
+    } else if same_bytes(word, b"stop") {
+        Ok(stop_form(words))
+    } else if same_bytes(word, b"stopdata") {
+        Ok(stopdata_form(words))
+    } else if same_bytes(word, b"sync") {
+        sync_form(alloc, words)
     } else if same_bytes(word, b"reply") {
         reply_form(alloc, bytes, words)
     } else if same_bytes(word, b"raw") {

@@ -1,7 +1,7 @@
 //! What the lines of a script mean.
 ghost use Rattle.std.specs.Prelude.{◌≡◌, ◌&&◌, ◌<◌, ◌≤◌, nat_le, IfOk, IfSome, take};
 ghost use Rattle.std.specs.List.{list_all};
-ghost use Rattle.world_rules.specs.Scripts.{is_printed, is_short, is_nothing, number_in, member_of, client_of, each_word, party_of_word, ask_line, again_line, told_line, flow_line, give_line, deliver_line, settle_line, show_line, faulty_line, rogue_line, form_by, injecting, line_by, line_of, members_from, view_for, group_words, group_line, app_line};
+ghost use Rattle.world_rules.specs.Scripts.{is_printed, is_short, is_nothing, number_in, member_of, client_of, each_word, party_of_word, ask_line, again_line, told_line, flow_line, give_line, deliver_line, tick_line, settle_line, show_line, faulty_line, rogue_line, form_by, injecting, line_by, line_of, members_from, view_for, group_words, group_line, app_line};
 
 use crate::forms::form_by;
 use crate::numbers::{CLIENTS, MEMBERS, MESSAGES, number_in};
@@ -209,6 +209,18 @@ fn deliver_line(alloc: Global, words: Words<'_>) -> Result<Result<Line, Kind>, A
     Ok(Ok(Line::Deliver { members }))
 }
 
+fn tick_line(alloc: Global, words: Words<'_>) -> Result<Result<Line, Kind>, AllocError>
+    ensures { IfOk result (λ line. line ≡ tick_line words.entry) }
+{
+    let Some(_) = words.split_first() else {
+        return Ok(Err(Kind::Count));
+    };
+    let Some(members) = members_of(alloc, words)? else {
+        return Ok(Err(Kind::Number));
+    };
+    Ok(Ok(Line::Tick { members }))
+}
+
 /// One member's number, or `all`.
 fn settle_line(words: Words<'_>) -> Result<Line, Kind>
     ensures { result ≡ settle_line words.entry }
@@ -280,6 +292,8 @@ fn line_by(alloc: Global, bytes: &[u8], words: Words<'_>) -> Result<Result<Line,
         give_line(alloc, words)
     } else if same_bytes(word, b"deliver") {
         deliver_line(alloc, words)
+    } else if same_bytes(word, b"tick") {
+        tick_line(alloc, words)
     } else if same_bytes(word, b"settle") {
         Ok(settle_line(words))
     } else if same_bytes(word, b"show") {

@@ -1,6 +1,7 @@
 use crate::reading::{app_line, line_of};
 use crate::text::{app_text, text_of};
 use smart_base::name::{ClientId, MemberId};
+use smart_base::number::{Regency, ViewNo};
 use smart_messages::statement::{Slot, VoteKind};
 use std::alloc::{AllocError, Global};
 use std::fmt::Write;
@@ -32,6 +33,7 @@ fn line_name(line: &Line) -> &'static str {
         Line::Flow { .. } => "flow",
         Line::Give { .. } => "give",
         Line::Deliver { .. } => "deliver",
+        Line::Tick { .. } => "tick",
         Line::Settle { .. } => "settle",
         Line::SettleAll => "settle all",
         Line::Show => "show",
@@ -132,6 +134,23 @@ fn push_slot(out: &mut String, signer: MemberId, slot: Slot) -> Result<(), Alloc
     write!(out, " n{signer} v{view} k{place} r{regency}")
 }
 
+fn push_promise(
+    out: &mut String,
+    signer: MemberId,
+    view: ViewNo,
+    regency: Regency,
+) -> Result<(), AllocError> {
+    let (signer, view, regency) = (signer.get(), view.get(), regency.get());
+    write!(out, " n{signer} v{view} r{regency}")
+}
+
+fn push_message(out: &mut String, message: Option<u64>) -> Result<(), AllocError> {
+    match message {
+        None => out.push_str(" -"),
+        Some(number) => write!(out, " {number}"),
+    }
+}
+
 fn push_vote(out: &mut String, kind: VoteKind) -> Result<(), AllocError> {
     match kind {
         VoteKind::Write => out.push_str("write"),
@@ -166,6 +185,36 @@ fn push_form(out: &mut String, form: &Injection) -> Result<(), AllocError> {
             push_vote(out, *kind)?;
             push_slot(out, *signer, *slot)?;
             write!(out, " {proposal}")
+        }
+        Injection::Stop {
+            signer,
+            view,
+            regency,
+        } => {
+            out.push_str("stop")?;
+            push_promise(out, *signer, *view, *regency)
+        }
+        Injection::StopData {
+            signer,
+            view,
+            regency,
+            evidence,
+            lock,
+        } => {
+            out.push_str("stopdata")?;
+            push_promise(out, *signer, *view, *regency)?;
+            push_message(out, *evidence)?;
+            push_message(out, *lock)
+        }
+        Injection::Sync {
+            signer,
+            view,
+            regency,
+            reports,
+        } => {
+            out.push_str("sync")?;
+            push_promise(out, *signer, *view, *regency)?;
+            push_numbers(out, reports.as_slice())
         }
         Injection::Reply { signer, answer } => {
             let (signer, client) = (signer.get(), answer.client.get());
@@ -261,7 +310,13 @@ show  => Count\n\
 \x20show => Word\n\
 \x20 => Word\n\
 SHOW => Word\n\
-tick 1 => Word\n\
+tick 1 => tick\n\
+tick 1 65535 1 => tick\n\
+tick => Count\n\
+tick 0 => Number\n\
+tick all => Number\n\
+tick  => Number\n\
+ticks 1 => Word\n\
 period 4 => Word\n\
 show\x7f => Byte\n\
 # \x7f => Byte\n\
@@ -285,7 +340,29 @@ rogue x 2 => Count\n\
 inject => Count\n\
 inject  => Word\n\
 inject  raw 00 => Word\n\
-inject stop 1 0 1 => Word\n\
+inject stops 1 0 1 => Word\n\
+inject stop 1 2 3 => stop n1 v2 r3\n\
+inject stop 65535 4294967295 4294967295 => stop n65535 v4294967295 r4294967295\n\
+inject stop 0 2 3 => Number\n\
+inject stop 1 4294967296 3 => Number\n\
+inject stop 1 2 4294967296 => Number\n\
+inject stop 1 2 => Count\n\
+inject stop 1 2 3 4 => Count\n\
+inject stopdata 1 2 3 - - => stopdata n1 v2 r3 - -\n\
+inject stopdata 1 2 3 4 - => stopdata n1 v2 r3 4 -\n\
+inject stopdata 1 2 3 - 5 => stopdata n1 v2 r3 - 5\n\
+inject stopdata 65536 2 3 - - => Number\n\
+inject stopdata 1 2 3 0 - => Number\n\
+inject stopdata 1 2 3 - 16777217 => Number\n\
+inject stopdata 1 2 3 -- - => Number\n\
+inject stopdata 1 2 3 - => Count\n\
+inject stopdata x 2 3 - - - => Count\n\
+inject sync 1 2 3 => sync n1 v2 r3\n\
+inject sync 1 2 3 4 4 16777216 => sync n1 v2 r3 4 4 16777216\n\
+inject sync 1 2 3 0 => Number\n\
+inject sync 1 2 x => Number\n\
+inject sync 1 2 3  => Number\n\
+inject sync x 2 => Count\n\
 inject ask 1 2 3 = 4 => ask c1 2 after 3 `= 4\n\
 inject ask 1 2 3  => ask c1 2 after 3 `\n\
 inject ask 1 2 3  4  => ask c1 2 after 3 ` 4 \n\

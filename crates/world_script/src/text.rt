@@ -1,10 +1,11 @@
 //! The lines of a transcript, as text.
 ghost use Rattle.std.specs.Prelude.{◌≡◌, ◌++◌, ◌<◌, IfOk, OnOk, string_bytes};
 ghost use Rattle.std.specs.List.{flat_map};
-ghost use Rattle.world_rules.specs.Texts.{why_text, ignored_text, app_text, origin_text, summary_text, hex_digit, shown, words_of, line_text, text_of};
+ghost use Rattle.world_rules.specs.Texts.{why_text, ignored_text, app_text, origin_text, lock_text, bound_text, summary_text, hex_digit, shown, words_of, line_text, text_of};
 
 use client_quorum::client::Ignored;
 use node_rules::node::Why;
+use smart_base::number::Regency;
 use std::alloc::{AllocError, Global};
 use std::fmt::{self, Write};
 use world_rules::line::{App, OutLine, Summary};
@@ -23,11 +24,14 @@ pub fn why_text(why: Why) -> &'static str
         Why::NewView => "NewView",
         Why::OldPlace => "OldPlace",
         Why::FarPlace => "FarPlace",
+        Why::OldRegency => "OldRegency",
         Why::NewRegency => "NewRegency",
         Why::OldSeq => "OldSeq",
         Why::FarSeq => "FarSeq",
         Why::NotLeader => "NotLeader",
         Why::InvalidBatch => "InvalidBatch",
+        Why::BadProof => "BadProof",
+        Why::Unbound => "Unbound",
         Why::Unasked => "Unasked",
         Why::Repeated => "Repeated",
     }
@@ -73,6 +77,26 @@ fn push_origin(out: &mut String, origin: Origin) -> Result<(), AllocError>
     }
 }
 
+/// Whether a batch binds where a regency begins.
+fn bound_text(bound: bool) -> &'static str
+    ensures { result.now ≡ bound_text bound }
+{
+    if bound { " bound" } else { " free" }
+}
+
+/// The regency of a lock behind a space, or a dash.
+fn push_lock(out: &mut String, lock: Option<Regency>) -> Result<(), AllocError>
+    ensures { OnOk result (string_bytes out.new ≡ string_bytes out.old ++ lock_text lock) }
+{
+    match lock {
+        None => out.push_str(" -"),
+        Some(regency) => {
+            let regency = regency.get();
+            write!(out, " {regency}")
+        }
+    }
+}
+
 fn push_summary(out: &mut String, summary: Summary) -> Result<(), AllocError>
     ensures { OnOk result (string_bytes out.new ≡ string_bytes out.old ++ summary_text summary) }
 {
@@ -114,6 +138,30 @@ fn push_summary(out: &mut String, summary: Summary) -> Result<(), AllocError>
         } => {
             let (client, place) = (client.get(), place.get());
             write!(out, "reply {client} {seq} {place} {index}")
+        }
+        Summary::Stop { view, regency } => {
+            let (view, regency) = (view.get(), regency.get());
+            write!(out, "stop {view} {regency}")
+        }
+        Summary::StopData {
+            view,
+            regency,
+            last,
+            lock,
+        } => {
+            let (view, regency) = (view.get(), regency.get());
+            write!(out, "stopdata {view} {regency} {last}")?;
+            push_lock(out, lock)
+        }
+        Summary::Sync {
+            view,
+            regency,
+            base,
+            bound,
+        } => {
+            let (view, regency) = (view.get(), regency.get());
+            write!(out, "sync {view} {regency} {base}")?;
+            out.push_str(bound_text(bound))
         }
         Summary::Raw => out.push_str("raw"),
     }
@@ -195,6 +243,25 @@ fn push_words(out: &mut String, line: &OutLine) -> Result<(), AllocError>
             place,
             executed,
         } => { push_delivered(out, member.get(), place.get(), *executed) }
+        OutLine::Promised {
+            member,
+            view,
+            regency,
+        } => {
+            let (id, view, regency) = (member.get(), view.get(), regency.get());
+            write!(out, "promised n{id} {view} {regency}")
+        }
+        OutLine::Synced {
+            member,
+            view,
+            regency,
+            base,
+            bound,
+        } => {
+            let (id, view, regency) = (member.get(), view.get(), regency.get());
+            write!(out, "synced n{id} {view} {regency} {base}")?;
+            out.push_str(bound_text(*bound))
+        }
         OutLine::Dropped { member, why } => {
             let id = member.get();
             let why = why_text(*why);

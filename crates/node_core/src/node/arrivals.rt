@@ -1,31 +1,49 @@
-//! Which arrivals a node drops, and what it keeps of the others.
+//! Which of the messages that order requests a node drops, and what it keeps of the others.
 ghost use Rattle.std.specs.Prelude.{◌≡◌, ◌||◌, ◌&&◌, is_none, IfOk, OnOk};
 ghost use Rattle.smart_messages.specs.Messages.{Fits};
-ghost use Rattle.smart_messages.specs.declared.message.Message.TheVariants as messages;
-ghost use Rattle.node_rules.specs.Seals.{is_verified};
-ghost use Rattle.node_rules.specs.Arrivals.{slot_why, signer_why, why_propose, why_vote, why_reply, why_dropped, is_beyond, noted};
+ghost use Rattle.smart_messages.specs.RegencyMessages.{FitsAny};
+ghost use Rattle.smart_messages.specs.declared.any.AnyMessage.TheVariants as messages;
+ghost use Rattle.smart_messages.specs.declared.message.Message.TheVariants as plain;
+ghost use Rattle.replica_rules.specs.Seals.{is_verified};
+ghost use Rattle.node_rules.specs.Nodes.{bound_at, start_of};
+ghost use Rattle.node_rules.specs.Arrivals.{view_why, place_why, regency_why, slot_why, signer_why, is_unbound, why_propose, why_vote, why_reply, why_dropped, is_newer, is_beyond, noted};
 ghost use Rattle.node_rules.specs.Steps.{arrival_outcome};
 ghost use Rattle.node_core.specs.Arriving.{kept_unless, passed};
 
-use crate::node::{NodeCore, Outcome};
-use crate::seal::{is_valid, is_verified};
+use crate::node::{NodeState, Outcome};
+use crate::seal::{is_batch_for, is_verified};
 use node_rules::node::Why;
 use smart_base::name::MemberId;
+use smart_base::number::{Place, Regency, ViewNo};
 use smart_base::sequence::Sequence;
+use smart_messages::any::AnyMessage;
 use smart_messages::message::{Message, Proposed};
 use smart_messages::signed::{Signed, Statement};
 use smart_messages::statement::{Answer, Ballot, Slot};
 use smart_service::service::Service;
 use std::alloc::AllocError;
 
-impl<S: Service> NodeCore<S> {
+impl<S: Service> NodeState<S> {
     /// Drops an arrival for its first reason, or keeps it, passes the rules and answers it.
-    #[tactic(auto, using(crate::proofs::Asks::own_request, crate::proofs::Arrivals::proposal_outcome, crate::proofs::Arrivals::vote_outcome, crate::proofs::Arrivals::reply_outcome))]
-    pub(super) fn arrival_outcome(&mut self, message: Message) -> Result<Outcome, AllocError>
-        requires { Fits message }
+    pub(super) fn arrival_outcome(&mut self, message: AnyMessage) -> Result<Outcome, AllocError>
+        requires { FitsAny message }
         ensures node { OnOk result (self.new ≡ (arrival_outcome self.old message (why_dropped self.old message)).node) }
         ensures fired { IfOk result (λ o. o.fired ≡ (arrival_outcome self.old message (why_dropped self.old message)).fired) }
         ensures dropped { IfOk result (λ o. o.dropped ≡ (arrival_outcome self.old message (why_dropped self.old message)).dropped) }
+    {
+        match message {
+            AnyMessage::Plain(message) => self.plain_outcome(message),
+            AnyMessage::Change(message) => self.change_outcome(message),
+        }
+    }
+
+    /// The same of a message that orders requests.
+    #[tactic(auto, using(crate::proofs::Asks::own_request, crate::proofs::Arrivals::proposal_outcome, crate::proofs::Arrivals::vote_outcome, crate::proofs::Arrivals::reply_outcome))]
+    fn plain_outcome(&mut self, message: Message) -> Result<Outcome, AllocError>
+        requires { Fits message }
+        ensures node { OnOk result (self.new ≡ (arrival_outcome self.old (messages.Plain message) (why_dropped self.old (messages.Plain message))).node) }
+        ensures fired { IfOk result (λ o. o.fired ≡ (arrival_outcome self.old (messages.Plain message) (why_dropped self.old (messages.Plain message))).fired) }
+        ensures dropped { IfOk result (λ o. o.dropped ≡ (arrival_outcome self.old (messages.Plain message) (why_dropped self.old (messages.Plain message))).dropped) }
     {
         match message {
             Message::Ask(request) => self.ask_outcome(request),
@@ -58,10 +76,10 @@ impl<S: Service> NodeCore<S> {
     }
 
     /// Keeps a proposal, or tells why it is dropped.
-    #[tactic(auto, unfolding(node_rules::specs::Arrivals::noted, node_rules::specs::Arrivals::kept))]
+    #[tactic(auto, unfolding(node_rules::specs::Arrivals::noted, node_rules::specs::Arrivals::kept_plain))]
     fn take_proposal(&mut self, proposed: Proposed) -> Result<Option<Why>, AllocError>
         ensures why { IfOk result (λ why. why ≡ why_propose self.old proposed) }
-        ensures node { IfOk result (λ why. self.new ≡ kept_unless why (noted self.old (messages.Propose proposed)) (messages.Propose proposed)) }
+        ensures node { IfOk result (λ why. self.new ≡ kept_unless why (noted self.old (messages.Plain (plain.Propose proposed))) (messages.Plain (plain.Propose proposed))) }
     {
         let dropped = self.why_propose(&proposed)?;
         let Proposed { head, batch } = proposed;
@@ -73,10 +91,10 @@ impl<S: Service> NodeCore<S> {
     }
 
     /// Keeps a vote, or tells why it is dropped.
-    #[tactic(auto, unfolding(node_rules::specs::Arrivals::noted, node_rules::specs::Arrivals::kept))]
+    #[tactic(auto, unfolding(node_rules::specs::Arrivals::noted, node_rules::specs::Arrivals::kept_plain))]
     fn take_vote(&mut self, ballot: Signed<Ballot>) -> Result<Option<Why>, AllocError>
         ensures why { IfOk result (λ why. why ≡ why_vote self.old ballot) }
-        ensures node { IfOk result (λ why. self.new ≡ kept_unless why (noted self.old (messages.Vote ballot)) (messages.Vote ballot)) }
+        ensures node { IfOk result (λ why. self.new ≡ kept_unless why (noted self.old (messages.Plain (plain.Vote ballot))) (messages.Plain (plain.Vote ballot))) }
     {
         let dropped = self.why_vote(&ballot);
         self.note(&ballot, ballot.statement().slot);
@@ -93,37 +111,75 @@ impl<S: Service> NodeCore<S> {
         self.behind = self.behind || self.is_beyond(slot) && self.signer_why(signed).is_none();
     }
 
+    /// Whether a view is not yet in force.
+    pub(super) fn is_newer(&self, view: ViewNo) -> bool
+        ensures { result ≡ is_newer self.now view }
+    {
+        self.view().number().get() < view.get()
+    }
+
     fn is_beyond(&self, slot: Slot) -> bool
         ensures { result ≡ is_beyond self.now slot }
     {
         let view = self.view().number().get();
         let last = self.decided_place().get();
-        view < slot.view.get() || slot.view.get() == view && last + 1 < slot.place.get()
+        self.is_newer(slot.view) || slot.view.get() == view && last + 1 < slot.place.get()
     }
 
-    #[tactic(auto, unfolding(node_rules::specs::Arrivals::slot_why))]
-    fn slot_why(&self, slot: Slot) -> Option<Why>
-        ensures { result ≡ slot_why self.now slot }
+    pub(super) fn view_why(&self, view: ViewNo) -> Option<Why>
+        ensures { result ≡ view_why self.now view }
     {
-        let view = self.view().number().get();
-        let last = self.decided_place().get();
-        if slot.view.get() < view {
+        let present = self.view().number().get();
+        if view.get() < present {
             Some(Why::OldView)
-        } else if view < slot.view.get() {
+        } else if present < view.get() {
             Some(Why::NewView)
-        } else if slot.place.get() <= last {
+        } else {
+            None
+        }
+    }
+
+    fn place_why(&self, place: Place) -> Option<Why>
+        ensures { result ≡ place_why self.now place }
+    {
+        let last = self.decided_place().get();
+        if place.get() <= last {
             Some(Why::OldPlace)
-        } else if last + 2 < slot.place.get() {
+        } else if last + 2 < place.get() {
             Some(Why::FarPlace)
-        } else if self.regency().get() as u64 + 1 < slot.regency.get() as u64 {
+        } else {
+            None
+        }
+    }
+
+    pub(super) fn regency_why(&self, regency: Regency) -> Option<Why>
+        ensures { result ≡ regency_why self.now regency }
+    {
+        let present = self.regency().get();
+        if regency.get() < present {
+            Some(Why::OldRegency)
+        } else if present as u64 + 1 < regency.get() as u64 {
             Some(Why::NewRegency)
         } else {
             None
         }
     }
 
+    #[tactic(auto, unfolding(node_rules::specs::Arrivals::slot_why))]
+    fn slot_why(&self, slot: Slot) -> Option<Why>
+        ensures { result ≡ slot_why self.now slot }
+    {
+        if let Some(why) = self.view_why(slot.view) {
+            return Some(why);
+        }
+        if let Some(why) = self.place_why(slot.place) {
+            return Some(why);
+        }
+        self.regency_why(slot.regency)
+    }
+
     #[tactic(auto, unfolding(node_rules::specs::Arrivals::signer_why))]
-    fn signer_why<T: Statement>(&self, signed: &Signed<T>) -> Option<Why>
+    pub(super) fn signer_why<T: Statement>(&self, signed: &Signed<T>) -> Option<Why>
         ensures { result ≡ signer_why self.now (is_verified T.form self.now.secret signed.now) signed.now.signer }
     {
         if !self.view().is_member(self.id()) {
@@ -137,6 +193,14 @@ impl<S: Service> NodeCore<S> {
         }
     }
 
+    /// Whether a proposal of the regency in force is for another batch than the one that binds at its
+    /// place.
+    fn is_unbound(&self, proposed: &Proposed) -> bool
+        ensures { result ≡ is_unbound self.now proposed.now }
+    {
+        self.instance.is_unbound(proposed)
+    }
+
     #[tactic(auto, unfolding(node_rules::specs::Arrivals::why_propose))]
     fn why_propose(&self, proposed: &Proposed) -> Result<Option<Why>, AllocError>
         ensures { IfOk result (λ why. why ≡ why_propose self.now proposed.now) }
@@ -145,14 +209,25 @@ impl<S: Service> NodeCore<S> {
         if let Some(why) = self.signer_why(head) {
             return Ok(Some(why));
         }
-        let slot = head.statement().slot;
+        let proposal = head.statement();
+        let slot = proposal.slot;
         if let Some(why) = self.slot_why(slot) {
             return Ok(Some(why));
         }
         if head.signer() != self.view().leader(slot.regency).get() {
-            Ok(Some(Why::NotLeader))
-        } else if !is_valid(self.alloc, self.keys.ring(), proposed)? {
+            return Ok(Some(Why::NotLeader));
+        }
+        let place = slot.place.get();
+        if !is_batch_for(
+            self.alloc,
+            self.keys.ring(),
+            place,
+            &proposal.digest,
+            &proposed.batch,
+        )? {
             Ok(Some(Why::InvalidBatch))
+        } else if self.is_unbound(proposed) {
+            Ok(Some(Why::Unbound))
         } else if self.instance.repeats_proposal(proposed) {
             Ok(Some(Why::Repeated))
         } else {

@@ -1,14 +1,15 @@
 //! What becomes of a client's request that arrives.
 ghost use Rattle.std.specs.Prelude.{◌≡◌, ◌==◌, true, false, None, if◌then◌else◌, IfOk, OnOk};
 ghost use Rattle.smart_base.specs.Views.{is_member};
-ghost use Rattle.smart_messages.specs.declared.message.Message.TheVariants as messages;
+ghost use Rattle.smart_messages.specs.declared.any.AnyMessage.TheVariants as messages;
+ghost use Rattle.smart_messages.specs.declared.message.Message.TheVariants as plain;
 ghost use Rattle.smart_service.specs.Tables.{last_seq, line_for};
 ghost use Rattle.node_rules.specs.Nodes.{view_of};
 ghost use Rattle.node_rules.specs.Arrivals.{why_ask};
 ghost use Rattle.node_rules.specs.Steps.{arrival_outcome};
 ghost use Rattle.node_core.specs.Arriving.{why_offered, kept_unless};
 
-use crate::node::{NodeCore, Outcome};
+use crate::node::{NodeState, Outcome};
 use crate::seal::is_verified;
 use node_rules::node::Why;
 use request_pool::pool::Offer;
@@ -34,15 +35,15 @@ fn why_offered(offer: Offer, older: bool) -> Option<Why>
     }
 }
 
-impl<S: Service> NodeCore<S> {
+impl<S: Service> NodeState<S> {
     /// Drops a request for its first reason, or passes the rules and answers a client that asks
     /// again.
     #[tactic(auto, unfolding(node_rules::specs::Rules::answers_again, node_rules::specs::Rules::answering), using(crate::proofs::Asks::ask_noted))]
     pub(super) fn ask_outcome(&mut self, request: Signed<Request>) -> Result<Outcome, AllocError>
         requires { request.signer ≡ request.statement.client }
-        ensures node { OnOk result (self.new ≡ (arrival_outcome self.old (messages.Ask request) (why_ask self.old request)).node) }
-        ensures fired { IfOk result (λ o. o.fired ≡ (arrival_outcome self.old (messages.Ask request) (why_ask self.old request)).fired) }
-        ensures dropped { IfOk result (λ o. o.dropped ≡ (arrival_outcome self.old (messages.Ask request) (why_ask self.old request)).dropped) }
+        ensures node { OnOk result (self.new ≡ (arrival_outcome self.old (messages.Plain (plain.Ask request)) (why_ask self.old request)).node) }
+        ensures fired { IfOk result (λ o. o.fired ≡ (arrival_outcome self.old (messages.Plain (plain.Ask request)) (why_ask self.old request)).fired) }
+        ensures dropped { IfOk result (λ o. o.dropped ≡ (arrival_outcome self.old (messages.Plain (plain.Ask request)) (why_ask self.old request)).dropped) }
     {
         let asked = request.statement();
         let (client, seq) = (asked.client, asked.seq);
@@ -61,7 +62,7 @@ impl<S: Service> NodeCore<S> {
     fn take_request(&mut self, request: Signed<Request>) -> Result<Option<Why>, AllocError>
         requires { request.signer ≡ request.statement.client }
         ensures why { IfOk result (λ why. why ≡ why_ask self.old request) }
-        ensures node { IfOk result (λ why. self.new ≡ kept_unless why self.old (messages.Ask request)) }
+        ensures node { IfOk result (λ why. self.new ≡ kept_unless why self.old (messages.Plain (plain.Ask request))) }
     {
         if !self.view().is_member(self.id()) {
             return Ok(Some(Why::NotMember));
@@ -82,7 +83,7 @@ impl<S: Service> NodeCore<S> {
         requires client { request.signer ≡ request.statement.client }
         requires known { (request.signer == 0) ≡ false }
         ensures why { IfOk result (λ why. why ≡ why_ask self.old request) }
-        ensures node { IfOk result (λ why. self.new ≡ kept_unless why self.old (messages.Ask request)) }
+        ensures node { IfOk result (λ why. self.new ≡ kept_unless why self.old (messages.Plain (plain.Ask request))) }
     {
         let asked = request.statement();
         let last = self.replica.replica().table.last_seq(asked.client);

@@ -1,51 +1,60 @@
-//! The rules of a node: what is due, what the rule does with it, and both.
-ghost use Rattle.std.specs.Prelude.{◌≡◌, None, ◌==◌, if◌then◌else◌, ◌<◌, ◌^◌, ◌++◌, true, IfOk, IfSome, OnOk, IsSome, Some, option_map};
+//! The rules by which a node orders requests and answers them: what is due, what the rule does with
+//! it, and both.
+ghost use Rattle.std.specs.Prelude.{◌≡◌, None, ◌==◌, if◌then◌else◌, ◌+◌, ◌<◌, ◌^◌, ◌++◌, true, IfOk, IfSome, OnOk, IsSome, Some, option_map, filter_map};
 ghost use Rattle.std.specs.Option.{option_copied};
-ghost use Rattle.smart_messages.specs.declared.message.Proposed.{Proposed};
-ghost use Rattle.smart_messages.specs.declared.entry.LogEntry.TheVariants as entries;
-ghost use Rattle.node_rules.specs.Nodes.{next_place, proposal_of, open_slot, is_free, holding, recording, certificate, view_of};
-ghost use Rattle.node_rules.specs.Seals.{signed, digest_of};
 ghost use Rattle.smart_messages.specs.Kinds.{proposals};
-ghost use Rattle.node_core.specs.Digests.{ballot_for};
-ghost use Rattle.consensus_instance.specs.Nodes.{due_at};
+ghost use Rattle.smart_messages.specs.declared.message.Proposed.{Proposed};
 ghost use Rattle.smart_messages.specs.declared.statement.VoteKind.TheVariants as kinds;
+ghost use Rattle.smart_messages.specs.declared.any.AnyMessage.TheVariants as messages;
+ghost use Rattle.smart_base.specs.Lists.{or_else};
+ghost use Rattle.vote_book.specs.declared.entry.Accept.{Accept};
+ghost use Rattle.vote_book.specs.declared.entry.LogEntry.TheVariants as entries;
+ghost use Rattle.node_core.specs.Following.{named};
+ghost use Rattle.replica_rules.specs.Seals.{signed, digest_of};
+ghost use Rattle.node_rules.specs.Rules.{reply_of};
+ghost use Rattle.node_rules.specs.Nodes.{next_place, open_slot, is_free, holding, recording, view_of, regency_of, bound_at, start_of};
+ghost use Rattle.node_rules.specs.Votes.{named_in, named_by, accepted_under, accepted_in, decision_by, certificate_votes};
 ghost use Rattle.node_rules.specs.declared.node.Target.TheVariants as targets;
-ghost use Rattle.node_rules.specs.Replicas.{delivered, executed_lines};
-ghost use Rattle.node_rules.specs.Rules.{reply_of, replying, delivers, delivery, proposing, propose_batch, proposes, ballot, writing, write_batch, writes, backed, backers, accepting, accept_batch, accepts, deciding, decide_batch, decides, answer_line, fired_answer, fired_if};
 ghost use Rattle.node_rules.specs.declared.node.Fired.TheVariants as fires;
+ghost use Rattle.node_rules.specs.Rules.{replying, delivers, delivery, batch_under, proposing, propose_batch, proposes, ballot, writing, write_batch, writes, accepting, accept_batch, accepts, slot_in, decision_in, decision_ahead, deciding, decide_batch, decides, answer_line, fired_if};
 ghost use Rattle.node_rules.specs.Steps.{votes, fired_votes, passes, fired_pass};
+ghost use Rattle.consensus_instance.specs.Instances.{name_of};
+ghost use Rattle.consensus_instance.specs.Nodes.{due_at};
 
-use crate::find::has_proposed;
-use crate::node::NodeCore;
+use crate::find::{accept_by_quorum, accept_under, has_proposed};
+use crate::node::NodeState;
 use crate::seal::digest_of;
 use consensus_instance::rule::Rule;
 use delivery::replica::deliver;
 use node_rules::node::{Delivery, Fired, Target};
 use smart_base::bytes::Digest32;
 use smart_base::duplicate::Duplicate;
-use smart_base::name::MemberId;
+use smart_base::number::{Place, Regency};
 use smart_base::sequence::Sequence;
+use smart_messages::any::AnyMessage;
 use smart_messages::batch::Batch;
-use smart_messages::entry::LogEntry;
 use smart_messages::message::{Message, Proposed};
 use smart_messages::signed::Signed;
-use smart_messages::statement::{Answer, Ballot, Proposal, VoteKind};
+use smart_messages::statement::{Answer, Ballot, Proposal, Slot, VoteKind};
 use smart_service::service::Service;
 use smart_service::table::TableLine;
 use std::alloc::AllocError;
+use vote_book::entry::{Accept, Decision, LogEntry, Write};
 
-impl<S: Service> NodeCore<S> {
+impl<S: Service> NodeState<S> {
     /// One pass of all rules behind delivery. Adds what they tell.
     #[tactic(auto, unfolding(node_rules::specs::Steps::passes, node_rules::specs::Steps::fired_pass))]
     pub(super) fn passes(&mut self, fired: &mut Sequence<Fired>) -> Result<(), AllocError>
         ensures node { OnOk result (self.new ≡ passes self.old) }
         ensures fired { OnOk result (fired.new ≡ fired.old ++ fired_pass self.old) }
     {
+        self.turns(fired)?;
         self.votes(fired)?;
         self.decides(fired)?;
         Ok(())
     }
 
+    /// Proposes, writes and accepts.
     #[tactic(auto, unfolding(node_rules::specs::Steps::votes, node_rules::specs::Steps::fired_votes))]
     fn votes(&mut self, fired: &mut Sequence<Fired>) -> Result<(), AllocError>
         ensures node { OnOk result (self.new ≡ votes self.old) }
@@ -58,8 +67,8 @@ impl<S: Service> NodeCore<S> {
     }
 
     /// The node's reply to a request that was executed.
-    fn reply_of(&self, line: TableLine) -> Result<Message, AllocError>
-        ensures { IfOk result (λ reply. reply ≡ reply_of self.now.secret self.now.id line) }
+    fn reply_of(&self, line: TableLine) -> Result<AnyMessage, AllocError>
+        ensures { IfOk result (λ reply. reply ≡ messages.Plain (reply_of self.now.secret self.now.id line)) }
     {
         let answer = Answer {
             view: line.view,
@@ -69,7 +78,7 @@ impl<S: Service> NodeCore<S> {
             seq: line.seq,
             reply: line.reply,
         };
-        Ok(Message::Reply(self.keys.sealed(self.alloc, answer)?))
+        Ok(AnyMessage::Plain(Message::Reply(self.keys.sealed(self.alloc, answer)?)))
     }
 
     /// Holds the replies to the requests that were executed.
@@ -101,6 +110,7 @@ impl<S: Service> NodeCore<S> {
                 self.instance.delivered();
                 let lines = deliver(self.alloc, &mut self.replica, &batch)?;
                 self.pool.settle(&self.replica.replica().table);
+                self.impatient = false;
                 fired.push(Fired::Delivered(Delivery {
                     place: self.place(),
                     batch,
@@ -111,6 +121,56 @@ impl<S: Service> NodeCore<S> {
                 }
                 Ok(fired)
             }
+        }
+    }
+
+    /// The first batch of a digest that the node accepted at the next place, in whatever regency.
+    fn accepted_under(&self, digest: &Digest32) -> Option<&Accept>
+        requires { is_free self.now ≡ true }
+        ensures { option_map (λ (a : Accept). a.batch) (option_copied result) ≡ accepted_under (view_of self.now).number (next_place self.now) digest.now self.now.entries }
+    {
+        let view = self.view().number();
+        let place = self.place().next();
+        accept_under(&self.book, view, place, digest)
+    }
+
+    /// The batch that binds under a digest: one that a report brought, or that the node accepted.
+    #[tactic(auto, unfolding(node_rules::specs::Rules::batch_under))]
+    fn bound_batch(&self, digest: &Digest32) -> Option<&Batch>
+        requires { is_free self.now ≡ true }
+        ensures { option_copied result ≡ batch_under self.now (Some digest.now) }
+    {
+        let reported = self.synchronizer().batch_of(self.view(), digest);
+        if reported.is_some() {
+            return reported;
+        }
+        match self.accepted_under(digest) {
+            None => None,
+            Some(accept) => Some(&accept.batch),
+        }
+    }
+
+    /// The digest of the batch that binds at a place, if one does.
+    fn is_bound_to(&self, place: Place) -> Option<&Digest32>
+        ensures { option_copied result ≡ bound_at place (start_of self.now) }
+    {
+        self.instance.is_bound_to(place)
+    }
+
+    /// The batch that is proposed at the next place: the one that binds there, or of requests that
+    /// wait.
+    #[tactic(auto, unfolding(node_rules::specs::Rules::batch_under))]
+    fn next_batch(&self) -> Result<Option<Batch>, AllocError>
+        requires { is_free self.now ≡ true }
+        ensures { IfOk result (λ batch. batch ≡ batch_under self.now (bound_at (next_place self.now) (start_of self.now))) }
+    {
+        let place = self.place().next();
+        match self.is_bound_to(place) {
+            None => self.pool.gather(place),
+            Some(digest) => match self.bound_batch(digest) {
+                None => Ok(None),
+                Some(batch) => Ok(Some(batch.duplicate(self.alloc)?)),
+            },
         }
     }
 
@@ -126,7 +186,7 @@ impl<S: Service> NodeCore<S> {
         if has_proposed(self.proposed.as_slice(), &slot) {
             return Ok(None);
         }
-        self.pool.gather(slot.place)
+        self.next_batch()
     }
 
     /// The node's proposal of a digest for the slot that is open.
@@ -148,7 +208,8 @@ impl<S: Service> NodeCore<S> {
         let digest = digest_of(self.alloc, &batch)?;
         let head = self.proposal(digest)?;
         self.proposed.push(slot)?;
-        self.hold(Target::View, Message::Propose(Proposed { head, batch }))?;
+        let message = Message::Propose(Proposed { head, batch });
+        self.hold(Target::View, AnyMessage::Plain(message))?;
         Ok(())
     }
 
@@ -168,19 +229,18 @@ impl<S: Service> NodeCore<S> {
     }
 
     /// The node's vote for a digest in the slot that is open.
-    fn ballot(&self, kind: VoteKind, digest: Digest32) -> Result<Message, AllocError>
+    fn ballot(&self, kind: VoteKind, digest: Digest32) -> Result<AnyMessage, AllocError>
         requires { is_free self.now ≡ true }
-        ensures { IfOk result (λ vote. vote ≡ ballot_for self.now kind digest) }
+        ensures { IfOk result (λ vote. vote ≡ ballot self.now kind digest) }
     {
         let slot = self.open_slot();
         let ballot = Ballot { kind, slot, digest };
-        Ok(Message::Vote(self.keys.sealed(self.alloc, ballot)?))
+        Ok(AnyMessage::Plain(Message::Vote(self.keys.sealed(self.alloc, ballot)?)))
     }
 
-    /// The proposal for which a rule is due. It states the digest of its batch.
+    /// The proposal for which a rule is due.
     fn due(&self, rule: Rule) -> Option<&Proposed>
-        ensures batch { option_map (λ (p : Proposed). p.batch) (option_copied result) ≡ due_at rule self.now }
-        ensures digest { IfSome result (λ p. p.now.head.statement.digest ≡ digest_of p.now.batch) }
+        ensures proposal { option_copied result ≡ due_at rule self.now }
         ensures free { IsSome result → is_free self.now ≡ true }
     {
         self.instance.due(self.view(), rule)
@@ -189,11 +249,11 @@ impl<S: Service> NodeCore<S> {
     /// Writes for the batch of a digest.
     fn write_digest(&mut self, digest: Digest32) -> Result<(), AllocError>
         requires { is_free self.old ≡ true }
-        ensures { OnOk result (self.new ≡ holding (recording self.old (entries.Wrote (open_slot self.old) digest)) targets.View (ballot_for self.old kinds.Write digest)) }
+        ensures { OnOk result (self.new ≡ holding (recording self.old (entries.Wrote (record { slot = open_slot self.old; digest = digest }))) targets.View (ballot self.old kinds.Write digest)) }
     {
         let slot = self.open_slot();
         let vote = self.ballot(VoteKind::Write, digest)?;
-        self.entries.push(LogEntry::Wrote { slot, digest })?;
+        self.book.push(LogEntry::Wrote(Write { slot, digest }))?;
         self.instance.wrote();
         self.hold(Target::View, vote)?;
         Ok(())
@@ -215,31 +275,24 @@ impl<S: Service> NodeCore<S> {
         }
     }
 
-    /// The members whose votes back a digest in the slot that is open.
-    fn backers(&self, kind: VoteKind, digest: &Digest32) -> Result<Sequence<MemberId>, AllocError>
-        requires { is_free self.now ≡ true }
-        ensures { IfOk result (λ members. members ≡ certificate self.now.arrivals (view_of self.now) kind (open_slot self.now) digest.now) }
-    {
-        self.instance
-            .certificate(self.alloc, self.view(), kind, digest)
-    }
-
-    /// Accepts a batch, whose digest comes with it.
-    #[tactic(auto, unfolding(node_rules::specs::Rules::accept_batch))]
-    fn accept_batch(&mut self, digest: Digest32, batch: Batch) -> Result<(), AllocError>
-        requires free { is_free self.old ≡ true }
-        requires digest { digest ≡ digest_of batch }
-        ensures { OnOk result (self.new ≡ accept_batch self.old (Some batch)) }
+    /// Accepts a batch under a digest, with the writes that it rests on.
+    fn accept_digest(&mut self, digest: Digest32, batch: Batch) -> Result<(), AllocError>
+        requires { is_free self.old ≡ true }
+        ensures { OnOk result (self.new ≡ holding (recording self.old (entries.Accepted (record { slot = open_slot self.old; digest = digest; writes = certificate_votes self.old.arrivals (view_of self.old) kinds.Write (open_slot self.old) digest; batch = batch }))) targets.View (ballot self.old kinds.Accept digest)) }
     {
         let slot = self.open_slot();
-        let members = self.backers(VoteKind::Write, &digest)?;
         let vote = self.ballot(VoteKind::Accept, digest)?;
-        self.entries.push(LogEntry::Accepted {
+        let view = self.view();
+        let writes = self
+            .instance
+            .votes(self.alloc, view, VoteKind::Write, &slot, &digest)?;
+        self.book.push(LogEntry::Accepted(Accept {
             slot,
-            voters: members,
+            digest,
+            writes,
             batch,
-        })?;
-        self.instance.accepted(digest);
+        }))?;
+        self.instance.accepted();
         self.hold(Target::View, vote)?;
         Ok(())
     }
@@ -255,27 +308,153 @@ impl<S: Service> NodeCore<S> {
                 let digest = proposed.head.statement().digest;
                 let batch = proposed.batch.duplicate(self.alloc)?;
                 fired.push(Fired::Accepted)?;
-                self.accept_batch(digest, batch)?;
+                self.accept_digest(digest, batch)?;
                 Ok(())
             }
         }
     }
 
-    /// Decides a batch, whose digest comes with it.
-    #[tactic(auto, unfolding(node_rules::specs::Rules::decide_batch))]
-    fn decide_batch(&mut self, digest: Digest32, batch: Batch) -> Result<(), AllocError>
-        requires free { is_free self.old ≡ true }
-        requires digest { digest ≡ digest_of batch }
-        ensures { OnOk result (self.new ≡ decide_batch self.old (Some batch)) }
+    /// The slot of the next place in a regency.
+    fn slot_in(&self, regency: Regency) -> Slot
+        requires { is_free self.now ≡ true }
+        ensures { result ≡ slot_in self.now regency }
     {
-        let slot = self.open_slot();
-        let members = self.backers(VoteKind::Accept, &digest)?;
-        let copy = batch.duplicate(self.alloc)?;
-        self.entries.push(LogEntry::Decided {
-            slot,
-            voters: members,
-            batch: copy,
-        })?;
+        Slot {
+            view: self.view().number(),
+            place: self.place().next(),
+            regency,
+        }
+    }
+
+    /// The decision in a slot of a batch, whose digest comes with it.
+    fn decision_of(
+        &self,
+        slot: &Slot,
+        digest: &Digest32,
+        batch: &Batch,
+    ) -> Result<Decision, AllocError>
+        ensures decision { IfOk result (λ d. Some d ≡ decision_by (view_of self.now) slot.now self.now.arrivals (Some (record { digest = digest.now; batch = batch.now }))) }
+        ensures slot { IfOk result (λ d. d.slot ≡ slot.now) }
+    {
+        let view = self.view();
+        let accepts = self
+            .instance
+            .votes(self.alloc, view, VoteKind::Accept, slot, digest)?;
+        Ok(Decision {
+            slot: *slot,
+            batch: batch.duplicate(self.alloc)?,
+            accepts,
+        })
+    }
+
+    /// The first proposal for the place of a slot, in the regency in force or a later one, whose batch
+    /// a quorum accepted in that slot.
+    fn proposed_by_quorum(&self, slot: &Slot) -> Option<&Proposed>
+        ensures { option_map name_of (option_copied result) ≡ accepted_in (view_of self.now) slot.now self.now.arrivals (filter_map (named_in slot.now.view slot.now.place (regency_of self.now)) self.now.arrivals) }
+    {
+        self.instance.accepted_proposal(self.view(), slot)
+    }
+
+    /// The decision in a slot of a batch that was proposed.
+    fn proposed_decision(&self, slot: &Slot) -> Result<Option<Decision>, AllocError>
+        ensures decision { IfOk result (λ d. d ≡ decision_by (view_of self.now) slot.now self.now.arrivals (accepted_in (view_of self.now) slot.now self.now.arrivals (filter_map (named_in slot.now.view slot.now.place (regency_of self.now)) self.now.arrivals))) }
+        ensures slot { IfOk result (λ d. IfSome d (λ d. d.slot ≡ slot.now)) }
+    {
+        match self.proposed_by_quorum(slot) {
+            None => Ok(None),
+            Some(proposed) => {
+                let digest = &proposed.head.statement().digest;
+                Ok(Some(self.decision_of(slot, digest, &proposed.batch)?))
+            }
+        }
+    }
+
+    /// The first batch that the node accepted at the place of a slot, in whatever regency, and that a
+    /// quorum accepted in that slot.
+    fn accepted_by_quorum(&self, slot: &Slot) -> Option<&Accept>
+        requires free { is_free self.now ≡ true }
+        requires place { slot.now.place ≡ next_place self.now }
+        ensures { option_map named (option_copied result) ≡ accepted_in (view_of self.now) slot.now self.now.arrivals (filter_map (named_by slot.now.view slot.now.place) self.now.entries) }
+    {
+        accept_by_quorum(&self.book, &self.instance, self.view(), slot)
+    }
+
+    /// The decision in a slot of a batch that the node accepted.
+    fn own_decision(&self, slot: &Slot) -> Result<Option<Decision>, AllocError>
+        requires free { is_free self.now ≡ true }
+        requires place { slot.now.place ≡ next_place self.now }
+        ensures decision { IfOk result (λ d. d ≡ decision_by (view_of self.now) slot.now self.now.arrivals (accepted_in (view_of self.now) slot.now self.now.arrivals (filter_map (named_by slot.now.view slot.now.place) self.now.entries))) }
+        ensures slot { IfOk result (λ d. IfSome d (λ d. d.slot ≡ slot.now)) }
+    {
+        match self.accepted_by_quorum(slot) {
+            None => Ok(None),
+            Some(accept) => { Ok(Some(self.decision_of(slot, &accept.digest, &accept.batch)?)) }
+        }
+    }
+
+    /// A decision in a slot of the next place, or else one of a batch that the node accepted.
+    fn or_own(&self, first: Option<Decision>, slot: &Slot) -> Result<Option<Decision>, AllocError>
+        requires free { is_free self.now ≡ true }
+        requires place { slot.now.place ≡ next_place self.now }
+        requires slot { IfSome first (λ d. d.slot ≡ slot.now) }
+        ensures decision { IfOk result (λ d. d ≡ or_else first (decision_by (view_of self.now) slot.now self.now.arrivals (accepted_in (view_of self.now) slot.now self.now.arrivals (filter_map (named_by slot.now.view slot.now.place) self.now.entries)))) }
+        ensures slot { IfOk result (λ d. IfSome d (λ d. d.slot ≡ slot.now)) }
+    {
+        if first.is_some() {
+            return Ok(first);
+        }
+        self.own_decision(slot)
+    }
+
+    /// The decision that is due in a regency at the next place.
+    fn decision_in(&self, regency: Regency) -> Result<Option<Decision>, AllocError>
+        requires { is_free self.now ≡ true }
+        ensures decision { IfOk result (λ d. d ≡ decision_in self.now regency) }
+        ensures place { IfOk result (λ d. IfSome d (λ d. d.slot.place ≡ next_place self.now)) }
+    {
+        let slot = self.slot_in(regency);
+        let first = self.proposed_decision(&slot)?;
+        let found = self.or_own(first, &slot)?;
+        Ok(found)
+    }
+
+    /// The decision that is due in the next regency.
+    fn decision_ahead(&self) -> Result<Option<Decision>, AllocError>
+        requires { is_free self.now ≡ true }
+        ensures decision { IfOk result (λ d. d ≡ decision_ahead self.now) }
+        ensures place { IfOk result (λ d. IfSome d (λ d. d.slot.place ≡ next_place self.now)) }
+    {
+        let present = self.regency().get();
+        if present == u32::MAX {
+            return Ok(None);
+        }
+        self.decision_in(Regency::new(present + 1))
+    }
+
+    #[tactic(auto, unfolding(node_rules::specs::Rules::deciding))]
+    fn deciding(&self) -> Result<Option<Decision>, AllocError>
+        ensures decision { IfOk result (λ d. d ≡ deciding self.now) }
+        ensures free { IfOk result (λ d. IsSome d → is_free self.now ≡ true) }
+        ensures place { IfOk result (λ d. IfSome d (λ d. d.slot.place ≡ next_place self.now)) }
+    {
+        if !self.is_free() {
+            return Ok(None);
+        }
+        let found = self.decision_in(self.regency())?;
+        if found.is_some() {
+            return Ok(found);
+        }
+        self.decision_ahead()
+    }
+
+    #[tactic(auto, unfolding(node_rules::specs::Rules::decide_batch))]
+    fn decide_batch(&mut self, decision: Decision) -> Result<(), AllocError>
+        requires free { is_free self.old ≡ true }
+        requires place { decision.slot.place ≡ next_place self.old }
+        ensures { OnOk result (self.new ≡ decide_batch self.old (Some decision)) }
+    {
+        let batch = decision.batch.duplicate(self.alloc)?;
+        self.book.push(LogEntry::Decided(decision))?;
         self.waiting = Some(batch);
         self.instance.decided();
         Ok(())
@@ -286,13 +465,11 @@ impl<S: Service> NodeCore<S> {
         ensures node { OnOk result (self.new ≡ decides self.old) }
         ensures fired { OnOk result (fired.new ≡ fired.old ++ fired_if (fires.Decided (next_place self.old)) (deciding self.old)) }
     {
-        match self.due(Rule::Decide) {
+        match self.deciding()? {
             None => Ok(()),
-            Some(proposed) => {
-                let digest = proposed.head.statement().digest;
-                let batch = proposed.batch.duplicate(self.alloc)?;
+            Some(decision) => {
                 fired.push(Fired::Decided(self.place().next()))?;
-                self.decide_batch(digest, batch)?;
+                self.decide_batch(decision)?;
                 Ok(())
             }
         }
@@ -306,7 +483,7 @@ impl<S: Service> NodeCore<S> {
         fired: &mut Sequence<Fired>,
     ) -> Result<(), AllocError>
         ensures node { OnOk result (self.new ≡ answer_line self.old line) }
-        ensures fired { OnOk result (fired.new ≡ fired.old ++ fired_answer line) }
+        ensures fired { OnOk result (fired.new ≡ fired.old ++ fired_if fires.Answered line) }
     {
         match line {
             None => Ok(()),

@@ -94,9 +94,67 @@ sent 3 x raw\n\
 sent 4 x ask 2 1 0\n\
 end 16 4\n";
 
+/// A leader that does nothing is replaced.
+const NEW_LEADER: &[u8] = b"group 4 1\n\
+app count\n\
+faulty 1\n\
+ask 1 5\n\
+flow\n\
+tick 2 3 4\n\
+tick 2 3 4\n\
+flow\n\
+show\n";
+
+const NEW_LEADER_TOLD: &[u8] = b"group 4 1 count 1024\n\
+sent 1 c1 ask 1 1 0\n\
+sent 2 n2 ask 1 1 0\n\
+sent 3 n3 ask 1 1 0\n\
+sent 4 n4 ask 1 1 0\n\
+sent 5 n2 stop 0 1\n\
+sent 6 n3 stop 0 1\n\
+sent 7 n4 stop 0 1\n\
+promised n2 0 1\n\
+sent 8 n2 stopdata 0 1 0 -\n\
+promised n3 0 1\n\
+sent 9 n3 stopdata 0 1 0 -\n\
+promised n4 0 1\n\
+sent 10 n4 stopdata 0 1 0 -\n\
+sent 11 n2 sync 0 1 1 free\n\
+synced n2 0 1 1 free\n\
+sent 12 n2 propose 0 1 1 1\n\
+synced n3 0 1 1 free\n\
+synced n4 0 1 1 free\n\
+sent 13 n2 write 0 1 1\n\
+sent 14 n3 write 0 1 1\n\
+sent 15 n4 write 0 1 1\n\
+sent 16 n2 accept 0 1 1\n\
+sent 17 n3 accept 0 1 1\n\
+sent 18 n4 accept 0 1 1\n\
+decided n2 1\n\
+delivered n2 1 1\n\
+sent 19 n2 reply 1 1 1 0\n\
+decided n3 1\n\
+delivered n3 1 1\n\
+sent 20 n3 reply 1 1 1 0\n\
+decided n4 1\n\
+delivered n4 1 1\n\
+sent 21 n4 reply 1 1 1 0\n\
+counted c1 1 3\n\
+counted c1 2 3\n\
+accepted c1 1 1 0 5\n\
+place n2 1 0 1\n\
+place n3 1 0 1\n\
+place n4 1 0 1\n\
+seen c1 1\n\
+end 9 21\n";
+
 #[test]
 fn who_breaks_the_rules_is_played(rt: HostRuntime) -> Result<(), Fail> {
-    for (script, told) in [(TWO_FACES, TWO_FACES_TOLD), (PASSED_OVER, PASSED_OVER_TOLD)] {
+    for (script, told) in [
+        (TWO_FACES, TWO_FACES_TOLD),
+        (PASSED_OVER, PASSED_OVER_TOLD),
+        (NEW_LEADER, NEW_LEADER_TOLD),
+    ] {
         let played = run_word(&rt, "world", script, &[], &[])?;
         assert_eq!(rt; played.status, Status::Ok);
         assert_eq!(rt; played.written.as_slice(), told);

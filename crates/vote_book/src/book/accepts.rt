@@ -1,5 +1,5 @@
 //! The accepts of places that are not yet made.
-ghost use Rattle.std.specs.Prelude.{◌≡◌, ◌++◌, ◌∷◌, [], length, take, filter, OnOk, OnErr};
+ghost use Rattle.std.specs.Prelude.{◌≡◌, ◌++◌, ◌∷◌, [], length, take, filter, slice_get, OnOk, OnErr};
 ghost use Rattle.vote_book.specs.BookIndex.{is_open, is_open_for, is_greater, greatest_open};
 
 use smart_base::number::{Place, ViewNo};
@@ -87,6 +87,25 @@ impl OpenAccepts {
             }
         }
         greatest
+    }
+
+    /// The one at an index among those for a place of a view.
+    pub fn nth(&self, view: ViewNo, place: u64, index: usize) -> Option<OpenAccept>
+        ensures { result ≡ slice_get (filter (is_open_for view place) self.now) index }
+    {
+        let mut left = index;
+        for accept in self.list.as_slice() {
+            if is_for(view, place, accept) {
+                if left == 0 {
+                    return Some(OpenAccept {
+                        index: accept.index,
+                        slot: accept.slot,
+                    });
+                }
+                left -= 1;
+            }
+        }
+        None
     }
 }
 

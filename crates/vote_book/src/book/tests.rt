@@ -377,6 +377,44 @@ fn a_book_reports_its_last_place_and_its_lock(rt: HostRuntime) -> Result<(), Fai
     Ok(())
 }
 
+/// Rows of a book, and of the digests of its accepts in view 0 for the place behind the last, in
+/// their order.
+const OPEN: &str = "\
+0 =
+0 a0105 a0116 =56
+0 a0116 a1107 a0207 w0108 a0105 =65
+0 a0205 d1 a0216 a0307 =56
+0 a0105 d1 =";
+
+/// The number whose bytes the digest of such an accept is, 0 behind the last of them.
+fn open_number(book: &Book, index: usize) -> u8 {
+    let last = book.last();
+    if last.get() >= 9 {
+        return 0;
+    }
+    match book.accept_for(ViewNo::new(0), last.next(), index) {
+        Some(accept) => first_byte(accept.digest.as_slice()),
+        None => 0,
+    }
+}
+
+#[test]
+fn a_book_gives_its_accepts_behind_the_last_place(rt: HostRuntime) -> Result<(), Fail> {
+    let alloc = rt.alloc();
+    for row in OPEN.lines() {
+        let (book, open) = row.rsplit_once(' ').ok_or("no accepts")?;
+        let book = book_of(alloc, book)?;
+        for index in 0..3 {
+            assert_eq!(rt;
+                open_number(&book, index),
+                digit(open.as_bytes(), index + 1),
+                "{row}"
+            );
+        }
+    }
+    Ok(())
+}
+
 #[test]
 fn what_is_pushed_stands_in_its_order(rt: HostRuntime) -> Result<(), Fail> {
     let alloc = rt.alloc();

@@ -1,5 +1,5 @@
-use Rattle.agreement_laws.proofs.Decisions.{decided_was_written}
+use Rattle.agreement_laws.proofs.Regencies.{decided_is_written}
 use Rattle.agreement_laws.proofs.agreement.a_decision_was_written.Goals as goal
 
 pub returns : goal.returns
-returns c = decided_was_written
+returns c = decided_is_written

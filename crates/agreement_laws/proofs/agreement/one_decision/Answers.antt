@@ -1,4 +1,4 @@
-use Rattle.agreement_laws.proofs.Decisions.{decided_once}
+use Rattle.agreement_laws.proofs.Regencies.{decided_once}
 use Rattle.agreement_laws.proofs.agreement.one_decision.Goals as goal
 
 pub returns : goal.returns

@@ -1,5 +1,5 @@
 use Rattle.std.proofs.Common.{◌∙◌, sym, arith, ap, length}
-use Rattle.node_rules.specs.Nodes.{has_vote}
+use Rattle.node_rules.specs.Votes.{has_vote}
 use Rattle.consensus_instance.proofs.Lists.{filter_keeps, filter_passes}
 use Rattle.consensus_instance.proofs.find.count_voters.Goals.{then-has_vote, else-has_vote}
 use Rattle.consensus_instance.proofs.find.count_voters.Goals as goal

@@ -1,7 +1,7 @@
 use Rattle.std.proofs.Common.{◌≡◌, ◌+◌, ◌≤◌, drop, length}
 use Rattle.std.specs.Prelude.{filter}
 use Rattle.std.specs.List.{list_any}
-use Rattle.node_rules.specs.Nodes.{is_vote}
+use Rattle.node_rules.specs.Votes.{is_vote}
 use Rattle.consensus_instance.proofs.find.count_voters.Given as goal
 
 -- the voters so far and those of the members left are all

@@ -1,5 +1,5 @@
 use Rattle.std.proofs.Common.{◌≡◌, ◌++◌, drop}
-use Rattle.node_rules.specs.Replicas.{execute_all, lines_of}
+use Rattle.replica_rules.specs.Replicas.{execute_all, lines_of}
 use Rattle.delivery.proofs.execute.execute_all.Given as goal
 
 -- what was executed so far and what is left are all
@@ -7,5 +7,6 @@ abbrev pub invariant-loop-i : goal.invariant-loop-i
 invariant-loop-i g l = record {
   state : execute_all g.S.Service.meaning l.replica l.i (drop l.i l.batch) ≡ execute_all g.S.Service.meaning l.fn.replica 0 l.batch;
   place : l.replica.place ≡ l.fn.replica.place;
+  views : l.replica.views ≡ l.fn.replica.views;
   lines : l.lines ++ lines_of g.S.Service.meaning l.replica l.i (drop l.i l.batch) ≡ lines_of g.S.Service.meaning l.fn.replica 0 l.batch;
 }

@@ -1,5 +1,5 @@
 use Rattle.std.proofs.Common.{◌≡◌, drop}
-use Rattle.node_rules.specs.Pools.{gathered}
+use Rattle.replica_rules.specs.Pools.{gathered}
 use Rattle.request_pool.proofs.gather.gathered.Given as goal
 
 -- the batch of the requests left is that of all

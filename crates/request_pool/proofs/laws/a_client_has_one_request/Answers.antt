@@ -1,4 +1,4 @@
-use Rattle.node_rules.specs.Replicas.{is_next}
+use Rattle.replica_rules.specs.Replicas.{is_next}
 use Rattle.request_pool.proofs.Clients.{distinct_offered, distinct_filtered, distinct_sub}
 use Rattle.request_pool.proofs.Gathered.{gathered_in_order}
 use Rattle.request_pool.proofs.laws.a_client_has_one_request.Goals as goal

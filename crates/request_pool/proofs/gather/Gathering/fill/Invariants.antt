@@ -1,5 +1,5 @@
 use Rattle.std.proofs.Common.{◌≡◌, drop}
-use Rattle.node_rules.specs.Pools.{filled}
+use Rattle.replica_rules.specs.Pools.{filled}
 use Rattle.request_pool.proofs.Filters.{besides}
 use Rattle.request_pool.proofs.gather.Gathering.fill.Given as goal
 

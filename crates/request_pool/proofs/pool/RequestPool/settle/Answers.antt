@@ -1,7 +1,7 @@
 use Rattle.std.proofs.Common.{rules}
 use Rattle.smart_messages.specs.Forms.{SignedBy}
 use Rattle.smart_messages.specs.declared.statement.Request.{Request}
-use Rattle.node_rules.specs.Replicas.{is_next}
+use Rattle.replica_rules.specs.Replicas.{is_next}
 use Rattle.indexmap.proofs.CallerLemmas.{filter-RetainsPairs}
 use Rattle.request_pool.proofs.Entries.{settled_stands, settled_values}
 use Rattle.request_pool.proofs.pool.RequestPool.settle.Goals as goal

@@ -1,5 +1,5 @@
 use Rattle.std.proofs.Common.{◌≡◌, drop}
-use Rattle.kept_arrivals.specs.Kept.{core_step}
+use Rattle.node_rules.specs.Kept.{core_step}
 use Rattle.world_rules.specs.Worlds.{arrives_at}
 use Rattle.world_core.proofs.state.WorldState.arrive_at.Given as goal
 

@@ -1,6 +1,6 @@
 use Rattle.std.proofs.Common.{◌≡◌, ◌-◌}
 use Rattle.smart_messages.specs.declared.entry.NodeEvent.TheVariants.{Arrive}
-use Rattle.kept_arrivals.specs.Kept.{core_step}
+use Rattle.node_rules.specs.Kept.{core_step}
 use Rattle.world_rules.specs.Repeats.{each_from}
 use Rattle.world_rules.specs.Worlds.{gives, at_listed, give_all}
 use Rattle.world_core.proofs.state.WorldState.give_all.Given as goal

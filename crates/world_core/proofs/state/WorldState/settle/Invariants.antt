@@ -1,5 +1,5 @@
 use Rattle.std.proofs.Common.{◌≡◌, ◌-◌}
-use Rattle.kept_arrivals.specs.Kept.{core_step}
+use Rattle.node_rules.specs.Kept.{core_step}
 use Rattle.world_rules.specs.Repeats.{repeated, turns, until_rest}
 use Rattle.world_rules.specs.Worlds.{settle_once}
 use Rattle.world_core.proofs.state.WorldState.settle.Given as goal

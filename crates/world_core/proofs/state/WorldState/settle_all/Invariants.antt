@@ -1,5 +1,5 @@
 use Rattle.std.proofs.Common.{◌≡◌, ◌-◌, slice_get}
-use Rattle.kept_arrivals.specs.Kept.{core_step}
+use Rattle.node_rules.specs.Kept.{core_step}
 use Rattle.world_rules.specs.Repeats.{each_from}
 use Rattle.world_rules.specs.Worlds.{settle_present, at_listed, settle_all}
 use Rattle.world_core.proofs.state.WorldState.settle_all.Given as goal

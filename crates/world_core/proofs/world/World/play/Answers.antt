@@ -1,7 +1,7 @@
 use Rattle.std.proofs.Common.{ap, ◌∙◌, sym}
 use Rattle.world_rules.specs.Plays.{Play}
 use Rattle.world_core.proofs.Played.{is_play-more}
-use Rattle.kept_arrivals.specs.Kept.{core_step}
+use Rattle.node_rules.specs.Kept.{core_step}
 use Rattle.world_core.proofs.world.World.play.Goals as goal
 
 pub invariant_of-self-2 : goal.invariant_of-self-2

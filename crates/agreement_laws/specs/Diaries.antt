@@ -1,0 +1,60 @@
+-- What a member's diary shows of what the member has stated.
+use Rattle.std.specs.Prelude.{◌≡◌, ℕ, ◌+◌, ◌≤◌, List, ◌∷◌, ◌++◌, Some, slice_get}
+use Rattle.smart_messages.specs.Forms.{SignedBy}
+use Rattle.smart_messages.specs.Messages.{Batch}
+use Rattle.smart_messages.specs.declared.statement.Request.{Request}
+use Rattle.smart_messages.specs.declared.statement.Slot.{Slot}
+use Rattle.smart_messages.specs.declared.statement.VoteKind.{VoteKind}
+use Rattle.smart_messages.specs.declared.statement.VoteKind.TheVariants.{Write, Accept}
+use Rattle.smart_messages.specs.declared.statement.Answer.{Answer}
+use Rattle.smart_messages.specs.declared.report.Report.{Report}
+use Rattle.vote_book.specs.declared.entry.Accept as accept
+use Rattle.vote_book.specs.declared.entry.Decision.{Decision}
+use Rattle.vote_book.specs.declared.entry.LogEntry.{LogEntry}
+use Rattle.vote_book.specs.declared.entry.LogEntry.TheVariants as entries
+use Rattle.vote_book.specs.Books.{last_made, Among}
+use Rattle.vote_book.specs.BookReports.{Reports}
+use Rattle.agreement_laws.specs.Statements.{Statement, Asked, Proposed, Voted, Stopped, Reported, Synced, Marked, Replied, Informed}
+
+-- the member has accepted the digest in the slot
+pub record HasAccepted (diary : List LogEntry) (slot : Slot) (digest : List ℕ) : Type 0 where
+  pub entry : accept.Accept
+  pub there : Among (entries.Accepted entry) diary
+  pub slot_is : entry.slot ≡ slot
+  pub digest_is : entry.digest ≡ digest
+
+-- the member has voted so: a write by its own entry, an accept by its own
+abbrev pub HasVoted : List LogEntry → VoteKind → Slot → List ℕ → Type 0
+HasVoted diary Write slot digest = Among (entries.Wrote (record { slot = slot; digest = digest })) diary
+HasVoted diary Accept slot digest = HasAccepted diary slot digest
+
+-- the member has promised the report's regency, and the report says what stands before that promise
+pub record HasReported (digest_of : Batch → List ℕ) (diary : List LogEntry) (report : Report) : Type 0 where
+  pub before : List LogEntry
+  pub after : List LogEntry
+  pub split : diary ≡ before ++ entries.Promised (record { view = report.view; regency = report.regency }) ∷ after
+  pub reports : Reports digest_of report before
+
+-- the member has decided the request that the reply answers, at the reply's place and index
+pub record HasAnswered (diary : List LogEntry) (a : Answer) : Type 0 where
+  pub decision : Decision
+  pub there : Among (entries.Decided decision) diary
+  pub place_is : decision.slot.place ≡ a.place
+  pub request : SignedBy Request
+  pub request_is : slice_get decision.batch a.index ≡ Some request
+  pub client_is : request.statement.client ≡ a.client
+  pub seq_is : request.statement.seq ≡ a.seq
+
+-- A diary shows a statement of its member: a vote, a mark and a reply by an entry, a report by a promise and what stands before it, a view by having
+-- reached the place before the view's first. A request, a proposal, a stop and a sync need no entry.
+-- A reply of a place that was taken over from other members, and not decided here, is shown by none: no member sends one so far.
+abbrev pub IsShown : (Batch → List ℕ) → List LogEntry → Statement → Type 0
+IsShown digest_of diary (Asked q) = Unit {0}
+IsShown digest_of diary (Proposed p) = Unit {0}
+IsShown digest_of diary (Voted b) = HasVoted diary b.statement.kind b.statement.slot b.statement.digest
+IsShown digest_of diary (Stopped s) = Unit {0}
+IsShown digest_of diary (Reported r) = HasReported digest_of diary r.statement
+IsShown digest_of diary (Synced s) = Unit {0}
+IsShown digest_of diary (Marked m) = Among (entries.Marked m.statement) diary
+IsShown digest_of diary (Replied a) = HasAnswered diary a.statement
+IsShown digest_of diary (Informed i) = i.statement.view.start ≤ last_made diary + 1

@@ -1,0 +1,280 @@
+-- Arrivals, on what is needed.
+use Rattle.std.proofs.Common.{◌≡◌, ℕ, ◌+◌, ◌++◌, ◌≤◌, ◌<◌, Bool, true, false, not, ◌||◌, ◌==◌, nat_lt, nat_le, List, [], ◌∷◌, refl, ap, ◌∙◌, cond, arith, Option, Some, None}
+use Rattle.std.proofs.lemmas.Bool.{leb-false, le-leb, ltb-false, eq-eqb}
+use Rattle.std.specs.Prelude.{filter}
+use Rattle.std.specs.List.{list_any}
+use Rattle.smart_base.specs.Lists.{or_else}
+use Rattle.smart_base.specs.Views.{leader}
+use Rattle.smart_messages.specs.Forms.{SignedBy}
+use Rattle.smart_messages.specs.Kinds.{proposals, ballots}
+use Rattle.smart_messages.specs.Reports.{reports}
+use Rattle.smart_messages.specs.Regencies.{stops, syncs}
+use Rattle.smart_messages.specs.declared.statement.Request.{Request}
+use Rattle.smart_messages.specs.declared.statement.Slot.{Slot}
+use Rattle.smart_messages.specs.declared.statement.Ballot.{Ballot}
+use Rattle.smart_messages.specs.declared.statement.Answer.{Answer}
+use Rattle.smart_messages.specs.declared.regency.Stop.{Stop}
+use Rattle.smart_messages.specs.declared.regency.Sync.{Sync}
+use Rattle.smart_messages.specs.declared.regency.Reported.{Reported}
+use Rattle.smart_messages.specs.declared.regency.RegencyMessage.TheVariants as changes
+use Rattle.smart_messages.specs.declared.message.Message.{Message}
+use Rattle.smart_messages.specs.declared.message.Message.TheVariants.{Ask, Propose, Vote, Reply}
+use Rattle.smart_messages.specs.declared.message.Proposed.{Proposed}
+use Rattle.smart_messages.specs.declared.any.AnyMessage.{AnyMessage}
+use Rattle.smart_messages.specs.declared.any.AnyMessage.TheVariants.{Plain, Change}
+use Rattle.regency_sync.specs.Choices.{choice}
+use Rattle.regency_sync.specs.Synchronizers.{is_needed, needs_stop, needs_report, needs_sync, repeats_stop, repeats_report, repeats_sync}
+use Rattle.regency_sync.proofs.Lists.{any_filter, filter_end}
+use Rattle.regency_sync.proofs.Needs.{stop_repeats, report_repeats, sync_repeats}
+use Rattle.replica_rules.specs.Replicas.{is_next}
+use Rattle.replica_rules.specs.Seals.{is_verified}
+use Rattle.node_rules.specs.Arrivals.{is_same_proposal, is_same_vote, signer_why, view_why, place_why, regency_why, wish_why, slot_why, why_ask, is_batch_for, is_unbound, why_propose, why_vote, why_reply, why_stop, is_proven, why_report, is_collect, why_sync, why_dropped, noted, kept_plain, kept_change, kept}
+use Rattle.replica_rules.specs.Pools.{offered}
+use Rattle.node_rules.specs.Nodes.{Node, view_of, regency_of, start_of, decided_place, synchronizer_of}
+use Rattle.node_rules.specs.declared.node.Why.{Why}
+use Rattle.node_rules.specs.declared.node.Why.TheVariants.{OldView, NewView, OldPlace, FarPlace, OldRegency, NewRegency, NotLeader, InvalidBatch, BadProof, Unbound, Repeated}
+use Rattle.node_rules.specs.Kept.{ahead_of, needed_by, trimmed}
+use Rattle.kept_arrivals.proofs.Filters.{or_else_where, or_else-none}
+use Rattle.kept_arrivals.proofs.Needed.{ahead_from, same_vote_needed, same_proposal_needed}
+use Rattle.kept_arrivals.proofs.Rules.{synchronizer_same}
+use Rattle.kept_arrivals.proofs.Changes.{trimmed-if}
+
+-- ---- what gives no reason is needed
+
+neither : (a b : Bool) (x y : Why) → cond a (Some x) (cond b (Some y) None) ≡ None → (a ≡ false) × (b ≡ false)
+neither true b x y none = absurd (cc)
+neither false true x y none = absurd (cc)
+neither false false x y none = (refl, refl)
+
+not_first : {A : Type 0} (a : Bool) (x : A) (rest : Option A) → cond a (Some x) rest ≡ None → (a ≡ false) × (rest ≡ None)
+not_first true x rest none = absurd (cc)
+not_first false x rest none = (refl, none)
+
+view_is : {S : Type 0} (n : Node S) (view : ℕ) → view_why n view ≡ None → view ≡ (view_of n).number
+view_is n view none =
+    let no = neither (nat_lt view (view_of n).number) (nat_lt (view_of n).number view) OldView NewView none in
+    omega (arith, ltb-false view (view_of n).number no.0, ltb-false (view_of n).number view no.1)
+
+place_is : {S : Type 0} (n : Node S) (place : ℕ) → place_why n place ≡ None → decided_place n < place
+place_is n place none = leb-false place (decided_place n) (neither (nat_le place (decided_place n)) (nat_lt (decided_place n + 2) place) OldPlace FarPlace none).0
+
+regency_is : {S : Type 0} (n : Node S) (regency : ℕ) → regency_why n regency ≡ None → regency_of n ≤ regency
+regency_is n regency none = ltb-false regency (regency_of n) (neither (nat_lt regency (regency_of n)) (nat_lt (regency_of n + 1) regency) OldRegency NewRegency none).0
+
+wish_is : {S : Type 0} (n : Node S) (regency : ℕ) → wish_why n regency ≡ None → regency_of n ≤ regency
+wish_is n regency none =
+    let above = leb-false regency (regency_of n) (neither (nat_le regency (regency_of n)) (nat_lt (regency_of n + 1) regency) OldRegency NewRegency none).0 in
+    omega (arith, above)
+
+-- a slot that gives no reason is ahead
+pub ahead_where : {S : Type 0} (n : Node S) (slot : Slot) → slot_why n slot ≡ None → ahead_of n slot ≡ true
+unfolding slot_why
+ahead_where n slot none =
+    let outer = or_else-none (view_why n slot.view) (or_else (place_why n slot.place) (regency_why n slot.regency)) none in
+    let inner = or_else-none (place_why n slot.place) (regency_why n slot.regency) outer.1 in
+    let same = view_is n slot.view outer.0 in
+    ahead_from (view_of n).number (decided_place n) (regency_of n) slot (omega (arith, same)) (place_is n slot.place inner.0) (regency_is n slot.regency inner.1)
+
+-- ---- why an arrival is dropped
+
+vote_repeats : {S : Type 0} (n : Node S) (b : SignedBy Ballot) → slot_why n b.statement.slot ≡ None → list_any (is_same_vote b) (filter (needed_by n) n.arrivals) ≡ list_any (is_same_vote b) n.arrivals
+vote_repeats n b none =
+    any_filter (is_same_vote b) (needed_by n) (same_vote_needed (view_of n).number (decided_place n) (regency_of n) b (ahead_where n b.statement.slot none)) n.arrivals
+
+proposal_repeats : {S : Type 0} (n : Node S) (p : Proposed) → slot_why n p.head.statement.slot ≡ None → list_any (is_same_proposal p) (filter (needed_by n) n.arrivals) ≡ list_any (is_same_proposal p) n.arrivals
+proposal_repeats n p none =
+    any_filter (is_same_proposal p) (needed_by n) (same_proposal_needed (view_of n).number (decided_place n) (regency_of n) p (ahead_where n p.head.statement.slot none)) n.arrivals
+
+why_ask_same : {S : Type 0} (n : Node S) (q : SignedBy Request) → why_ask (trimmed n) q ≡ why_ask n q
+unfolding why_ask trimmed
+why_ask_same n q = refl
+
+why_propose_same : {S : Type 0} (n : Node S) (p : Proposed) → why_propose (trimmed n) p ≡ why_propose n p
+unfolding why_propose signer_why slot_why trimmed regency_of start_of
+why_propose_same n p =
+    ap (λ (why : Option Why). or_else (signer_why n (is_verified proposals n.secret p.head) p.head.signer) why)
+    (or_else_where (slot_why n p.head.statement.slot) _ _ (λ none.
+    ap (λ (again : Bool).
+    cond (not (p.head.signer == leader (view_of n) p.head.statement.slot.regency)) (Some NotLeader)
+    (cond (not (is_batch_for n.secret p.head.statement.slot.place p.head.statement.digest p.batch)) (Some InvalidBatch)
+    (cond (is_unbound n p) (Some Unbound) (cond again (Some Repeated) None))))
+    (proposal_repeats n p none)))
+
+why_vote_same : {S : Type 0} (n : Node S) (b : SignedBy Ballot) → why_vote (trimmed n) b ≡ why_vote n b
+unfolding why_vote signer_why slot_why trimmed regency_of
+why_vote_same n b =
+    ap (λ (why : Option Why). or_else (signer_why n (is_verified ballots n.secret b) b.signer) why)
+    (or_else_where (slot_why n b.statement.slot) _ _ (λ none. ap (λ (again : Bool). cond again (Some Repeated) None) (vote_repeats n b none)))
+
+why_reply_same : {S : Type 0} (n : Node S) (a : SignedBy Answer) → why_reply (trimmed n) a ≡ why_reply n a
+unfolding why_reply signer_why trimmed
+why_reply_same n a = refl
+
+-- of the view in force, and of the regency in force or a later one
+needed_here : {S : Type 0} (n : Node S) (view regency : ℕ) → view ≡ (view_of n).number → regency_of n ≤ regency
+    → is_needed (view_of n).number (regency_of n) view regency ≡ true
+needed_here n view regency here later = rw (eq-eqb view (view_of n).number here, le-leb (regency_of n) regency later) refl
+
+stop_repeats_same : {S : Type 0} (n : Node S) (s : SignedBy Stop) → needs_stop (view_of n).number (regency_of n) s ≡ true
+    → repeats_stop (synchronizer_of (trimmed n)) s ≡ repeats_stop (synchronizer_of n) s
+stop_repeats_same n s needed = ap (λ x. repeats_stop x s) (synchronizer_same n) ∙ stop_repeats (view_of n) (synchronizer_of n) s needed
+
+report_repeats_same : {S : Type 0} (n : Node S) (r : Reported) → needs_report (view_of n).number (regency_of n) r ≡ true
+    → repeats_report (synchronizer_of (trimmed n)) r.head ≡ repeats_report (synchronizer_of n) r.head
+report_repeats_same n r needed = ap (λ x. repeats_report x r.head) (synchronizer_same n) ∙ report_repeats (view_of n) (synchronizer_of n) r needed
+
+sync_repeats_same : {S : Type 0} (n : Node S) (s : SignedBy Sync) → needs_sync (view_of n).number (regency_of n) s ≡ true
+    → repeats_sync (synchronizer_of (trimmed n)) s ≡ repeats_sync (synchronizer_of n) s
+sync_repeats_same n s needed = ap (λ x. repeats_sync x s) (synchronizer_same n) ∙ sync_repeats (view_of n) (synchronizer_of n) s needed
+
+why_stop_same : {S : Type 0} (n : Node S) (s : SignedBy Stop) → why_stop (trimmed n) s ≡ why_stop n s
+unfolding why_stop signer_why trimmed regency_of
+why_stop_same n s =
+    ap (λ (why : Option Why). or_else (signer_why n (is_verified stops n.secret s) s.signer) why)
+    (or_else_where (view_why n s.statement.view) _ _ (λ here.
+    or_else_where (wish_why n s.statement.regency) _ _ (λ later.
+    ap (λ (again : Bool). cond again (Some Repeated) None)
+    (stop_repeats_same n s (needed_here n s.statement.view s.statement.regency (view_is n s.statement.view here) (wish_is n s.statement.regency later))))))
+
+why_report_same : {S : Type 0} (n : Node S) (r : Reported) → why_report (trimmed n) r ≡ why_report n r
+unfolding why_report is_proven signer_why trimmed regency_of
+why_report_same n r =
+    ap (λ (why : Option Why). or_else (signer_why n (is_verified reports n.secret r.head) r.head.signer) why)
+    (or_else_where (view_why n r.head.statement.view) _ _ (λ here.
+    or_else_where (regency_why n r.head.statement.regency) _ _ (λ later.
+    ap (λ (again : Bool).
+    cond (not (leader (view_of n) r.head.statement.regency == n.id)) (Some NotLeader)
+    (cond (not (is_proven n r)) (Some BadProof) (cond again (Some Repeated) None)))
+    (report_repeats_same n r (needed_here n r.head.statement.view r.head.statement.regency (view_is n r.head.statement.view here) (regency_is n r.head.statement.regency later))))))
+
+-- a choice that matters only where its test fails
+where_false : {A : Type 0} (test : Bool) (first x y : A) → (test ≡ false → x ≡ y) → cond test first x ≡ cond test first y
+where_false true first x y same = refl
+where_false false first x y same = same refl
+
+why_sync_same : {S : Type 0} (n : Node S) (s : SignedBy Sync) → why_sync (trimmed n) s ≡ why_sync n s
+unfolding why_sync is_collect signer_why trimmed regency_of
+why_sync_same n s =
+    ap (λ (why : Option Why). or_else (signer_why n (is_verified syncs n.secret s) s.signer) why)
+    (or_else_where (view_why n s.statement.view) _ _ (λ here.
+    where_false (nat_lt s.statement.regency (regency_of n)) (Some OldRegency) _ _ (λ later.
+    ap (λ (again : Bool).
+    cond (not (s.signer == leader (view_of n) s.statement.regency)) (Some NotLeader)
+    (cond (not (is_collect n s.statement)) (Some BadProof) (cond again (Some Repeated) None)))
+    (sync_repeats_same n s (needed_here n s.statement.view s.statement.regency (view_is n s.statement.view here) (ltb-false s.statement.regency (regency_of n) later))))))
+
+pub why_same : {S : Type 0} (n : Node S) (message : AnyMessage) → why_dropped (trimmed n) message ≡ why_dropped n message
+why_same n (Plain (Ask q)) = why_ask_same n q
+why_same n (Plain (Propose p)) = why_propose_same n p
+why_same n (Plain (Vote b)) = why_vote_same n b
+why_same n (Plain (Reply a)) = why_reply_same n a
+why_same n (Change (changes.Stop s)) = why_stop_same n s
+why_same n (Change (changes.StopData r)) = why_report_same n r
+why_same n (Change (changes.Sync s)) = why_sync_same n s
+
+-- ---- what an arrival tells
+
+-- that a node is behind gives no reason
+pub why_noted : {S : Type 0} (n : Node S) (behind : Bool) (message : AnyMessage) → why_dropped (record n { behind = behind }) message ≡ why_dropped n message
+unfolding why_ask why_propose why_vote why_reply why_stop why_report why_sync is_proven is_collect signer_why slot_why regency_of start_of
+why_noted n behind (Plain (Ask q)) = refl
+why_noted n behind (Plain (Propose p)) = refl
+why_noted n behind (Plain (Vote b)) = refl
+why_noted n behind (Plain (Reply a)) = refl
+why_noted n behind (Change (changes.Stop s)) = refl
+why_noted n behind (Change (changes.StopData r)) = refl
+why_noted n behind (Change (changes.Sync s)) = refl
+
+pub noted_same : {S : Type 0} (n : Node S) (message : AnyMessage) → noted (trimmed n) message ≡ trimmed (noted n message)
+unfolding noted signer_why trimmed regency_of
+noted_same n (Plain (Ask q)) = refl
+noted_same n (Plain (Propose p)) = refl
+noted_same n (Plain (Vote b)) = refl
+noted_same n (Plain (Reply a)) = refl
+noted_same n (Change (changes.Stop s)) = refl
+noted_same n (Change (changes.StopData r)) = refl
+noted_same n (Change (changes.Sync s)) = refl
+
+-- ---- what is kept
+
+vote_ahead : {S : Type 0} (n : Node S) (b : SignedBy Ballot) → why_vote n b ≡ None → ahead_of n b.statement.slot ≡ true
+unfolding why_vote
+vote_ahead n b none = ahead_where n b.statement.slot (or_else-none (slot_why n b.statement.slot) _ (or_else-none (signer_why n (is_verified ballots n.secret b) b.signer) _ none).1).0
+
+propose_ahead : {S : Type 0} (n : Node S) (p : Proposed) → why_propose n p ≡ None → ahead_of n p.head.statement.slot ≡ true
+unfolding why_propose
+propose_ahead n p none = ahead_where n p.head.statement.slot (or_else-none (slot_why n p.head.statement.slot) _ (or_else-none (signer_why n (is_verified proposals n.secret p.head) p.head.signer) _ none).1).0
+
+stop_needed : {S : Type 0} (n : Node S) (s : SignedBy Stop) → why_stop n s ≡ None → needs_stop (view_of n).number (regency_of n) s ≡ true
+unfolding why_stop
+stop_needed n s none =
+    let first = or_else-none (signer_why n (is_verified stops n.secret s) s.signer) _ none in
+    let second = or_else-none (view_why n s.statement.view) _ first.1 in
+    let third = or_else-none (wish_why n s.statement.regency) _ second.1 in
+    needed_here n s.statement.view s.statement.regency (view_is n s.statement.view second.0) (wish_is n s.statement.regency third.0)
+
+report_needed : {S : Type 0} (n : Node S) (r : Reported) → why_report n r ≡ None → needs_report (view_of n).number (regency_of n) r ≡ true
+unfolding why_report
+report_needed n r none =
+    let first = or_else-none (signer_why n (is_verified reports n.secret r.head) r.head.signer) _ none in
+    let second = or_else-none (view_why n r.head.statement.view) _ first.1 in
+    let third = or_else-none (regency_why n r.head.statement.regency) _ second.1 in
+    needed_here n r.head.statement.view r.head.statement.regency (view_is n r.head.statement.view second.0) (regency_is n r.head.statement.regency third.0)
+
+sync_needed : {S : Type 0} (n : Node S) (s : SignedBy Sync) → why_sync n s ≡ None → needs_sync (view_of n).number (regency_of n) s ≡ true
+unfolding why_sync
+sync_needed n s none =
+    let first = or_else-none (signer_why n (is_verified syncs n.secret s) s.signer) _ none in
+    let second = or_else-none (view_why n s.statement.view) _ first.1 in
+    let third = not_first (nat_lt s.statement.regency (regency_of n)) OldRegency _ second.1 in
+    needed_here n s.statement.view s.statement.regency (view_is n s.statement.view second.0) (ltb-false s.statement.regency (regency_of n) third.0)
+
+-- what is needed comes to the needed ones
+added : {S : Type 0} (n : Node S) (message : Message) → needed_by n message ≡ true
+    → record (trimmed n) { arrivals = filter (needed_by n) n.arrivals ++ message ∷ [] } ≡ trimmed (record n { arrivals = n.arrivals ++ message ∷ [] })
+unfolding trimmed regency_of
+added n message needed = ap (λ (ms : List Message). record (trimmed n) { arrivals = ms }) (filter_end (needed_by n) n.arrivals message needed)
+
+kept_ask : {S : Type 0} (n : Node S) (q : SignedBy Request) → kept_plain (trimmed n) (Ask q) ≡ trimmed (kept_plain n (Ask q))
+unfolding kept_plain trimmed regency_of
+kept_ask n q = trimmed-if (is_next n.replica.table q.statement) (record n { pool = offered n.pool q }) n
+
+kept_propose : {S : Type 0} (n : Node S) (p : Proposed) → ahead_of n p.head.statement.slot ≡ true → kept_plain (trimmed n) (Propose p) ≡ trimmed (kept_plain n (Propose p))
+unfolding kept_plain trimmed
+kept_propose n p ahead = added n (Propose p) ahead
+
+kept_vote : {S : Type 0} (n : Node S) (b : SignedBy Ballot) → ahead_of n b.statement.slot ≡ true → kept_plain (trimmed n) (Vote b) ≡ trimmed (kept_plain n (Vote b))
+unfolding kept_plain trimmed
+kept_vote n b ahead = added n (Vote b) ahead
+
+kept_reply : {S : Type 0} (n : Node S) (a : SignedBy Answer) → kept_plain (trimmed n) (Reply a) ≡ trimmed (kept_plain n (Reply a))
+unfolding kept_plain trimmed
+kept_reply n a = refl
+
+kept_stop : {S : Type 0} (n : Node S) (s : SignedBy Stop) → needs_stop (view_of n).number (regency_of n) s ≡ true
+    → kept_change (trimmed n) (changes.Stop s) ≡ trimmed (kept_change n (changes.Stop s))
+unfolding kept_change trimmed regency_of
+kept_stop n s needed =
+    ap (λ (kept_ones : List (SignedBy Stop)). record (trimmed n) { stops = kept_ones }) (filter_end (needs_stop (view_of n).number (regency_of n)) n.stops s needed)
+
+kept_report : {S : Type 0} (n : Node S) (r : Reported) → needs_report (view_of n).number (regency_of n) r ≡ true
+    → kept_change (trimmed n) (changes.StopData r) ≡ trimmed (kept_change n (changes.StopData r))
+unfolding kept_change trimmed regency_of
+kept_report n r needed =
+    ap (λ (kept_ones : List Reported). record (trimmed n) { reports = kept_ones }) (filter_end (needs_report (view_of n).number (regency_of n)) n.reports r needed)
+
+kept_sync : {S : Type 0} (n : Node S) (s : SignedBy Sync) → needs_sync (view_of n).number (regency_of n) s ≡ true
+    → kept_change (trimmed n) (changes.Sync s) ≡ trimmed (kept_change n (changes.Sync s))
+unfolding kept_change trimmed regency_of
+kept_sync n s needed =
+    ap (λ (kept_ones : List (SignedBy Sync)). record (trimmed n) { syncs = kept_ones; behind = n.behind || nat_lt (decided_place n + 1) (choice s.statement.collect).base })
+    (filter_end (needs_sync (view_of n).number (regency_of n)) n.syncs s needed)
+
+pub kept_same : {S : Type 0} (n : Node S) (message : AnyMessage) → why_dropped n message ≡ None → kept (trimmed n) message ≡ trimmed (kept n message)
+kept_same n (Plain (Ask q)) none = kept_ask n q
+kept_same n (Plain (Propose p)) none = kept_propose n p (propose_ahead n p none)
+kept_same n (Plain (Vote b)) none = kept_vote n b (vote_ahead n b none)
+kept_same n (Plain (Reply a)) none = kept_reply n a
+kept_same n (Change (changes.Stop s)) none = kept_stop n s (stop_needed n s none)
+kept_same n (Change (changes.StopData r)) none = kept_report n r (report_needed n r none)
+kept_same n (Change (changes.Sync s)) none = kept_sync n s (sync_needed n s none)

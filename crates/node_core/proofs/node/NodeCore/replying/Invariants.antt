@@ -1,7 +1,0 @@
-use Rattle.std.proofs.Common.{◌≡◌}
-use Rattle.node_rules.specs.Rules.{replying}
-use Rattle.node_core.proofs.node.NodeCore.replying.Given as goal
-
--- the lines left complete what all make
-abbrev pub invariant-loop-line : goal.invariant-loop-line
-invariant-loop-line g l = replying l.self l.line-iterator.rest.items ≡ replying l.fn.self l.fn.lines

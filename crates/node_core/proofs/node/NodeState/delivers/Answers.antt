@@ -1,0 +1,19 @@
+use Rattle.std.proofs.Common.{ap, List}
+use Rattle.smart_base.specs.Views.{View, present}
+use Rattle.node_core.proofs.Following.{delivered_after}
+use Rattle.node_core.proofs.node.NodeState.delivers.Goals as goal
+
+pub invariant_of-self-in-Break-1 : goal.invariant_of-self-in-Break-1
+invariant_of-self-in-Break-1 g c =
+    delivered_after _ _ _ c.self.inside.replica.replica.place _ c.self.inside.waiting _ _ c.self.inside.instance c.delivered.new.self c.self.inside.synchronizer c.in-Some.batch c.self.invariant
+    c.in-Some.ensures.value c.take.ensures.after c.deliver.ensures.place (ap (λ (vs : List View). present vs) c.deliver.ensures.views) c.delivered.ensures
+
+pub invariant_of-self-in-Some : goal.invariant_of-self-in-Some
+invariant_of-self-in-Some g c =
+    delivered_after _ _ _ c.self.inside.replica.replica.place _ c.self.inside.waiting _ _ c.self.inside.instance c.delivered.new.self c.self.inside.synchronizer c.in-Some.batch c.self.invariant
+    c.in-Some.ensures.value c.take.ensures.after c.deliver.ensures.place (ap (λ (vs : List View). present vs) c.deliver.ensures.views) c.delivered.ensures
+
+pub invariant_of-self-in-Some-2 : goal.invariant_of-self-in-Some-2
+invariant_of-self-in-Some-2 g c =
+    delivered_after _ _ _ c.self.inside.replica.replica.place _ c.self.inside.waiting _ _ c.self.inside.instance c.delivered.new.self c.self.inside.synchronizer c.in-Some.batch c.self.invariant
+    c.in-Some.ensures.value c.take.ensures.after c.deliver.ensures.place (ap (λ (vs : List View). present vs) c.deliver.ensures.views) c.delivered.ensures

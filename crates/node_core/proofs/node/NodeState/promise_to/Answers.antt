@@ -1,0 +1,33 @@
+use Rattle.std.proofs.Common.{ap, sym, subst, ◌∙◌, ℕ, ◌<◌}
+use Rattle.node_rules.specs.Nodes.{Node, view_of}
+use Rattle.node_core.proofs.Following.{regency_after, promised_after, promised_regency, promised_unsynced}
+use Rattle.node_core.proofs.node.NodeState.promise_to.Goals as goal
+
+pub promised-requires : goal.promised-requires
+promised-requires g c =
+    subst (λ (r : ℕ). r < c.args.promise.regency) (sym (regency_after c.args.self.now _ c.self.inside.instance c.self.view_is c.self.invariant.instance)) c.requires.later
+
+pub invariant_of-self-2 : goal.invariant_of-self-2
+invariant_of-self-2 g c =
+    promised_after _ _ _ _ c.self.inside.book c.push.new.self c.self.inside.instance c.promised.new.self c.self.inside.synchronizer c.promised_to.new.self c.args.promise c.self.invariant
+    (c.requires.view ∙ ap (λ (n : Node g.row.S.Denot). (view_of n).number) (sym c.self.view_is))
+    (subst (λ (r : ℕ). r < c.args.promise.regency) (sym (regency_after c.args.self.now _ c.self.inside.instance c.self.view_is c.self.invariant.instance)) c.requires.later)
+    c.in_ok-push.ensures.ok c.promised.ensures c.promised_to.ensures
+
+pub returns-clause-regency : goal.returns-clause-regency
+returns-clause-regency g c =
+    promised_regency _ c.promised.new.self c.self.inside.instance c.args.promise.regency
+    (promised_after _ _ _ _ c.self.inside.book c.push.new.self c.self.inside.instance c.promised.new.self c.self.inside.synchronizer c.promised_to.new.self c.args.promise c.self.invariant
+    (c.requires.view ∙ ap (λ (n : Node g.row.S.Denot). (view_of n).number) (sym c.self.view_is))
+    (subst (λ (r : ℕ). r < c.args.promise.regency) (sym (regency_after c.args.self.now _ c.self.inside.instance c.self.view_is c.self.invariant.instance)) c.requires.later)
+    c.in_ok-push.ensures.ok c.promised.ensures c.promised_to.ensures).instance
+    c.promised.ensures
+
+pub returns-clause-unbegun : goal.returns-clause-unbegun
+returns-clause-unbegun g c =
+    promised_unsynced _ c.promised.new.self c.self.inside.instance c.args.promise.regency
+    (promised_after _ _ _ _ c.self.inside.book c.push.new.self c.self.inside.instance c.promised.new.self c.self.inside.synchronizer c.promised_to.new.self c.args.promise c.self.invariant
+    (c.requires.view ∙ ap (λ (n : Node g.row.S.Denot). (view_of n).number) (sym c.self.view_is))
+    (subst (λ (r : ℕ). r < c.args.promise.regency) (sym (regency_after c.args.self.now _ c.self.inside.instance c.self.view_is c.self.invariant.instance)) c.requires.later)
+    c.in_ok-push.ensures.ok c.promised.ensures c.promised_to.ensures).instance
+    c.promised.ensures

@@ -1,0 +1,188 @@
+-- A node that adopts the reports with which a leader began a regency stays sound.
+use Rattle.std.proofs.Common.{Bool, List, None, Option, Some, append-nil, arith, cond, false, inl, inr, nat_le, nat_lt, not, refl, subst, suc, sym, true, zero, ℕ, ⊎_elim, ◌≡◌, [], ◌≤◌, ◌<◌, ◌==◌, ◌&&◌, ◌||◌, ◌++◌, ◌∷◌, ◌∙◌}
+use Rattle.std.proofs.lemmas.Bool.{eq-eqb, eqb-true, leb-true, ltb-false, ltb-true}
+use Rattle.std.specs.List.{flat_map, list_any}
+use Rattle.std.specs.Prelude.{is_none, is_some}
+use Rattle.certificates.proofs.Reported.{collect-exact}
+use Rattle.certificates.specs.Certificates.{AreSigned}
+use Rattle.certificates.specs.Collects.{IsCollect, IsReportOf, collect_fault}
+use Rattle.replica_rules.specs.Seals.{is_verified}
+use Rattle.agreement_laws.specs.Certificates.{IsChosen, IsLockedCollect, IsLockedReport}
+use Rattle.agreement_laws.specs.Statements.{Statement}
+use Rattle.node_rules.specs.Arrivals.{is_collect, rests_on_marks}
+use Rattle.node_rules.specs.Changes.{adoption, adopts, adopts_by, promised_for, start_by_sync}
+use Rattle.node_rules.specs.Nodes.{Node, next_place, recording, regency_of, start_in, synchronizer_of, view_of}
+use Rattle.regency_sync.specs.Choices.{choice}
+use Rattle.regency_sync.specs.Synchronizers.{adopting, collect, is_adoptable}
+use Rattle.smart_base.specs.Lists.{Each}
+use Rattle.smart_base.specs.Views.{View, present}
+use Rattle.smart_messages.specs.Forms.{SignedBy}
+use Rattle.smart_messages.specs.Reports.{reports}
+use Rattle.smart_messages.specs.declared.any.AnyMessage.TheVariants.{Change}
+use Rattle.smart_messages.specs.declared.regency.Sync.{Sync}
+use Rattle.smart_messages.specs.declared.report.Report.{Report}
+use Rattle.vote_book.specs.Books.{Among}
+use Rattle.vote_book.specs.declared.entry.LogEntry.{LogEntry}
+use Rattle.vote_book.specs.declared.entry.LogEntry.TheVariants.{Promised, Synced}
+use Rattle.vote_book.specs.declared.entry.Promise.{Promise}
+use Rattle.vote_book.specs.declared.entry.Start.{Start}
+use Rattle.node_laws.proofs.Books.{none_begins}
+use Rattle.node_laws.proofs.Lists.{among_either, among_flat, among_left, and_true, each_among, each_of, each_weaker, found, not_true, or_false}
+use Rattle.node_laws.proofs.Nodes.{SyncKept, aside}
+use Rattle.node_laws.proofs.Promised.{records_promise, records_start, regency_then}
+use Rattle.node_laws.proofs.Stated.{covers}
+use Rattle.node_laws.proofs.Votes.{in_force}
+use Rattle.node_laws.specs.Sound.{IsSound, IsStated, IsWithin}
+use Rattle.smart_messages.specs.declared.regency.RegencyMessage.TheVariants as changes
+use Rattle.agreement_laws.specs.Statements as says
+
+-- ---- the choice of a collect that has been stated
+
+none_is : {A : Type 0} (o : Option A) → is_none o ≡ true → o ≡ None
+none_is None is = refl
+none_is (Some x) is = absurd (cc)
+
+locked_of : (secret : List ℕ) (v : View) (views : List View) (regency : ℕ) (items : List (SignedBy Report)) → AreSigned Report secret reports v (IsReportOf secret v views regency) items
+    → AreSigned Report secret reports v (IsLockedReport secret v regency) items
+locked_of secret v views regency items is = record {
+  members = is.members;
+  distinct = is.distinct;
+  stated = each_weaker (λ (r : SignedBy Report). IsReportOf secret v views regency r.statement) (λ (r : SignedBy Report). IsLockedReport secret v regency r.statement)
+      (λ r of. record { of_view = of.of_view; of_regency = of.of_regency; lock = of.lock }) items is.stated;
+  verified = is.verified;
+}
+
+-- a report stands in the beginning that collects it
+report_within : (s : SignedBy Sync) (r : SignedBy Report) → Among r s.statement.collect → Among (says.Reported r) (flat_map says.within (says.said (Change (changes.Sync s))))
+report_within s r there =
+    inr (among_left (says.Reported r) (flat_map says.in_report s.statement.collect) []
+    (among_flat says.in_report r s.statement.collect (says.Reported r) there (inl refl)))
+
+chosen_by : (secret : List ℕ) (stated : List Statement) (view : View) (views : List View) (s : SignedBy Sync) → present views ≡ view → IsStated secret stated (Change (changes.Sync s))
+    → IsCollect secret views s.statement.regency s.statement.collect → IsChosen secret view stated (start_by_sync s.statement)
+unfolding choice
+chosen_by secret stated view views s same was collect =
+    let items : List (SignedBy Report) = s.statement.collect in
+    let locked : IsLockedCollect secret (present views) s.statement.regency items = record {
+      signed = locked_of secret (present views) views s.statement.regency items collect.0;
+      enough = collect.1;
+    } in
+    record {
+      items = items;
+      collect = subst (λ (v : View). IsLockedCollect secret v s.statement.regency items) same locked;
+      drawn = each_of (λ r. Among (says.Reported r) stated) items
+          (λ r there. covers secret stated (Change (changes.Sync s)) was (says.Reported r) (report_within s r there)
+          (each_among (λ r. is_verified reports secret r ≡ true) items r collect.0.verified there));
+      choice_is = refl;
+    }
+
+pub sync_chosen : {S : Type 0} (stated : List Statement) (view : View) (n : Node S) (s : SignedBy Sync) → IsSound stated view n → SyncKept n stated view s
+    → IsChosen n.secret view stated (start_by_sync s.statement)
+unfolding is_collect
+sync_chosen stated view n s is kept =
+    let fault = collect_fault n.secret n.replica.views s.statement.regency s.statement.collect in
+    let parts = and_true (is_none fault) (not (list_any (λ (r : SignedBy Report). rests_on_marks r.statement) s.statement.collect)) kept.1 in
+    chosen_by n.secret stated view n.replica.views s (in_force stated view n is) kept.2
+    ((collect-exact n.secret n.replica.views s.statement.regency s.statement.collect).0 (none_is fault parts.0))
+
+-- ---- a beginning that is adopted
+
+pub record Adopts {S : Type 0} (n : Node S) (s : SignedBy Sync) : Type 0 where
+  pub there : Among s n.syncs
+  pub view_is : s.statement.view ≡ (view_of n).number
+  pub least : regency_of n ≤ s.statement.regency
+  pub some : 0 < s.statement.regency
+  pub once : s.statement.regency ≡ regency_of n → is_some (start_in (view_of n).number (regency_of n) n.entries) ≡ false
+
+fresh_some : (r R : ℕ) (synced : Bool) → R ≤ r → ((r == R) && ((R == 0) || synced)) ≡ false → 0 < r
+fresh_some zero R synced least fresh =
+    let none : R ≡ 0 = omega (arith, least) in
+    let clash : ((0 == 0) && ((0 == 0) || synced)) ≡ false = subst (λ (k : ℕ). ((0 == k) && ((k == 0) || synced)) ≡ false) none fresh in
+    absurd (cc)
+fresh_some (suc r) R synced least fresh = omega arith
+
+fresh_once : (r R : ℕ) (synced : Bool) → ((r == R) && ((R == 0) || synced)) ≡ false → r ≡ R → synced ≡ false
+fresh_once r R synced fresh same =
+    let rest : (true && ((R == 0) || synced)) ≡ false = rw (eq-eqb r R same) at fresh in
+    (or_false (R == 0) synced rest).1
+
+adopts_it : {S : Type 0} (n : Node S) (s : SignedBy Sync) → adoption n ≡ Some s → Adopts n s
+unfolding adoption adopting
+adopts_it n s is =
+    let f = found (is_adoptable (view_of n) (synchronizer_of n)) n.syncs s is in
+    let r : ℕ = s.statement.regency in
+    let synced : Bool = is_some (start_in (view_of n).number (regency_of n) n.entries) in
+    let outer = and_true ((s.statement.view == (view_of n).number) && nat_le (regency_of n) r) (not ((r == regency_of n) && ((regency_of n == 0) || synced))) f.passes in
+    let inner = and_true (s.statement.view == (view_of n).number) (nat_le (regency_of n) r) outer.0 in
+    let fresh = not_true ((r == regency_of n) && ((regency_of n == 0) || synced)) outer.1 in
+    let least : regency_of n ≤ r = leb-true (regency_of n) r inner.1 in
+    record {
+      there = f.there;
+      view_is = eqb-true s.statement.view (view_of n).number inner.0;
+      least = least;
+      some = fresh_some r (regency_of n) synced least fresh;
+      once = fresh_once r (regency_of n) synced fresh;
+    }
+
+-- the node with the entries of an adoption
+with_entries : {S : Type 0} → Node S → List LogEntry → Node S
+with_entries n es = record n { entries = es }
+
+-- a regency that is in force begins
+begins_now : {S : Type 0} (stated : List Statement) (view : View) (n : Node S) (s : SignedBy Sync) → IsSound stated view n → Adopts n s → s.statement.regency ≡ regency_of n
+    → IsChosen n.secret view stated (start_by_sync s.statement) → IsSound stated view (with_entries n (n.entries ++ Synced (start_by_sync s.statement) ∷ []))
+unfolding with_entries
+begins_now stated view n s is a same chosen =
+    records_start stated view n (start_by_sync s.statement) is a.view_is same a.some
+    (λ other there v r. none_begins (view_of n).number (regency_of n) n.entries other (a.once same) there (v ∙ a.view_is) (r ∙ same)) chosen
+
+-- no entry begins a regency past the one in force
+none_later : (view : View) (place regency : ℕ) (es : List LogEntry) (p : Promise) (start other : Start) → Each (IsWithin view place regency) es → regency < start.regency
+    → Among (Synced other) (es ++ Promised p ∷ []) → other.regency ≡ start.regency → ⊥
+none_later view place regency es p start other all later there same =
+    ⊎_elim
+    (λ (before : Among (Synced other) es).
+    let is = each_among (IsWithin view place regency) es (Synced other) all before in
+    let most : other.regency ≤ regency = is.most in
+    omega (arith, most, later, same))
+    (λ (last : Among (Synced other) (Promised p ∷ [])). ⊎_elim (λ (clash : Synced other ≡ Promised p). cc) (λ none. absurd none) last)
+    (among_either (Synced other) es (Promised p ∷ []) there)
+
+-- a later regency is promised, and begins
+begins_later : {S : Type 0} (stated : List Statement) (view : View) (n : Node S) (s : SignedBy Sync) → IsSound stated view n → Adopts n s → regency_of n < s.statement.regency
+    → IsChosen n.secret view stated (start_by_sync s.statement)
+    → IsSound stated view (with_entries n ((n.entries ++ Promised (record { view = s.statement.view; regency = s.statement.regency }) ∷ []) ++ Synced (start_by_sync s.statement) ∷ []))
+unfolding with_entries
+begins_later {S = S} stated view n s is a later chosen =
+    let p : Promise = record { view = s.statement.view; regency = s.statement.regency } in
+    let m : Node S = recording n (Promised p) in
+    let promised : IsSound stated view m = records_promise stated view n p is a.view_is later in
+    records_start stated view m (start_by_sync s.statement) promised a.view_is (sym (regency_then n p a.view_is later)) a.some
+    (λ other there v r. none_later view (next_place n) (regency_of n) n.entries p (start_by_sync s.statement) other is.within later there r) chosen
+
+entries_by : {S : Type 0} (stated : List Statement) (view : View) (n : Node S) (s : SignedBy Sync) (later : Bool) → nat_lt (regency_of n) s.statement.regency ≡ later
+    → IsSound stated view n → Adopts n s → IsChosen n.secret view stated (start_by_sync s.statement)
+    → IsSound stated view (with_entries n
+    ((n.entries ++ cond later (Promised (record { view = s.statement.view; regency = s.statement.regency }) ∷ []) []) ++ Synced (start_by_sync s.statement) ∷ []))
+entries_by stated view n s true at is a chosen =
+    begins_later stated view n s is a (ltb-true (regency_of n) s.statement.regency at) chosen
+entries_by stated view n s false at is a chosen =
+    let least : s.statement.regency ≤ regency_of n = ltb-false (regency_of n) s.statement.regency at in
+    let most : regency_of n ≤ s.statement.regency = a.least in
+    subst (λ (es : List LogEntry). IsSound stated view (with_entries n (es ++ Synced (start_by_sync s.statement) ∷ []))) (sym (append-nil n.entries))
+    (begins_now stated view n s is a (omega (arith, least, most)) chosen)
+
+adopts_with : {S : Type 0} (stated : List Statement) (view : View) (n : Node S) (o : Option (SignedBy Sync)) → IsSound stated view n → adoption n ≡ o → IsSound stated view (adopts_by n o)
+unfolding adopts_by with_entries
+adopts_with stated view n None is at = is
+adopts_with {S = S} stated view n (Some s) is at =
+    let a = adopts_it n s at in
+    let kept = each_among (SyncKept n stated view) n.syncs s is.syncs a.there in
+    let r : ℕ = s.statement.regency in
+    let es : List LogEntry = (n.entries ++ promised_for n s.statement) ++ Synced (start_by_sync s.statement) ∷ [] in
+    let begun : IsSound stated view (with_entries n es) = entries_by stated view n s (nat_lt (regency_of n) r) refl is a (sync_chosen stated view n s is kept) in
+    aside stated view (with_entries n es) n.firm n.held n.proposed (n.stop_made && (r == regency_of n)) (n.sync_made && (r == regency_of n)) false n.behind begun begun.held
+
+pub sound_adopts : {S : Type 0} (stated : List Statement) (view : View) (n : Node S) → IsSound stated view n → IsSound stated view (adopts n)
+unfolding adopts
+sound_adopts stated view n is = adopts_with stated view n (adoption n) is refl

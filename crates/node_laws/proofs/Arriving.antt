@@ -1,0 +1,195 @@
+-- A node that keeps what comes stays sound.
+use Rattle.std.proofs.Common.{Bool, List, None, Some, ap, arith, cond, false, nat_lt, not, refl, subst, true, ℕ, ◌≡◌, ◌≤◌, ◌∙◌, [], ◌∷◌, ◌==◌, ◌++◌, ◌||◌, ◌+◌}
+use Rattle.std.proofs.lemmas.Bool.{eqb-true, ltb-false}
+use Rattle.replica_rules.specs.Pools.{offered}
+use Rattle.replica_rules.specs.Replicas.{is_next}
+use Rattle.replica_rules.specs.Seals.{is_verified}
+use Rattle.agreement_laws.specs.Statements.{Statement}
+use Rattle.node_rules.specs.Arrivals.{is_batch_for, is_collect, is_proven, kept, kept_change, kept_plain, noted, place_why, regency_why, signer_why, slot_why, tells_behind, view_why, why_ask, why_change, why_dropped, why_plain, why_propose, why_report, why_stop, why_sync, why_vote}
+use Rattle.node_rules.specs.Nodes.{Node, decided_place, regency_of, view_of}
+use Rattle.node_rules.specs.declared.node.Why.TheVariants.{BadProof, BadTag, InvalidBatch, NewView, NotLeader, NotMember, OldRegency, OldView, Stranger}
+use Rattle.regency_sync.specs.Choices.{choice}
+use Rattle.smart_base.specs.Lists.{Each, or_else}
+use Rattle.smart_base.specs.Views.{View, is_member, leader}
+use Rattle.smart_messages.specs.Forms.{SignedBy}
+use Rattle.smart_messages.specs.Kinds.{ballots, proposals, requests}
+use Rattle.smart_messages.specs.Regencies.{stops, syncs}
+use Rattle.smart_messages.specs.Reports.{reports}
+use Rattle.smart_messages.specs.declared.any.AnyMessage.{AnyMessage}
+use Rattle.smart_messages.specs.declared.any.AnyMessage.TheVariants.{Change, Plain}
+use Rattle.smart_messages.specs.declared.message.Message.{Message}
+use Rattle.smart_messages.specs.declared.message.Message.TheVariants.{Ask, Propose, Reply, Vote}
+use Rattle.smart_messages.specs.declared.message.Proposed.{Proposed}
+use Rattle.smart_messages.specs.declared.regency.RegencyMessage.{RegencyMessage}
+use Rattle.smart_messages.specs.declared.regency.Reported.{Reported}
+use Rattle.smart_messages.specs.declared.regency.Stop.{Stop}
+use Rattle.smart_messages.specs.declared.regency.Sync.{Sync}
+use Rattle.smart_messages.specs.declared.statement.Ballot.{Ballot}
+use Rattle.smart_messages.specs.declared.statement.Request.{Request}
+use Rattle.smart_messages.specs.declared.statement.Slot.{Slot}
+use Rattle.node_laws.proofs.Lists.{each_end, either, else_none, no_reason}
+use Rattle.node_laws.proofs.Nodes.{Arrived, ReportKept, StopKept, SyncKept, aside, keeps}
+use Rattle.node_laws.proofs.Votes.{in_force}
+use Rattle.node_laws.specs.Sound.{IsMembers, IsProposal, IsSound, IsStated}
+use Rattle.smart_messages.specs.declared.regency.RegencyMessage.TheVariants as changes
+
+-- ---- reasons that are none
+
+not_false : (a : Bool) → not a ≡ false → a ≡ true
+not_false true is = refl
+not_false false is = absurd (cc)
+
+pub record Signs {S : Type 0} (n : Node S) (verified : Bool) (signer : ℕ) : Type 0 where
+  pub tagged : verified ≡ true
+  pub member : is_member (view_of n) signer ≡ true
+
+signs : {S : Type 0} (n : Node S) (verified : Bool) (signer : ℕ) → signer_why n verified signer ≡ None → Signs n verified signer
+unfolding signer_why
+signs n verified signer none =
+    let own = no_reason (not (is_member (view_of n) n.id)) NotMember
+    (cond (not verified) (Some BadTag) (cond (not (is_member (view_of n) signer)) (Some Stranger) None)) none in
+    let tag = no_reason (not verified) BadTag (cond (not (is_member (view_of n) signer)) (Some Stranger) None) own.1 in
+    let name = no_reason (not (is_member (view_of n) signer)) Stranger None tag.1 in
+    record { tagged = not_false verified tag.0; member = not_false (is_member (view_of n) signer) name.0 }
+
+same_view : {S : Type 0} (n : Node S) (view : ℕ) → view_why n view ≡ None → view ≡ (view_of n).number
+same_view n view none =
+    let old = no_reason (nat_lt view (view_of n).number) OldView (cond (nat_lt (view_of n).number view) (Some NewView) None) none in
+    let new = no_reason (nat_lt (view_of n).number view) NewView None old.1 in
+    let least : (view_of n).number ≤ view = ltb-false view (view_of n).number old.0 in
+    let most : view ≤ (view_of n).number = ltb-false (view_of n).number view new.0 in
+    omega (arith, least, most)
+
+slot_view : {S : Type 0} (n : Node S) (slot : Slot) → slot_why n slot ≡ None → slot.view ≡ (view_of n).number
+unfolding slot_why
+slot_view n slot none = same_view n slot.view (else_none (view_why n slot.view) (or_else (place_why n slot.place) (regency_why n slot.regency)) none).0
+
+members_of : {S : Type 0} (n : Node S) (view : View) (verified : Bool) (signer of : ℕ) → view_of n ≡ view → Signs n verified signer → of ≡ (view_of n).number → IsMembers view verified signer of
+members_of n view verified signer of same s at = record {
+  tagged = s.tagged;
+  member = subst (λ (v : View). is_member v signer ≡ true) same s.member;
+  of_view = at ∙ ap (λ (v : View). v.number) same;
+}
+
+-- ---- requests, proposals and votes
+
+each_offered : (P : SignedBy Request → Type 0) (pool : List (SignedBy Request)) (q : SignedBy Request) → Each P pool → P q → Each P (offered pool q)
+each_offered P [] q each is = (is, tt)
+each_offered P (old ∷ olds) q each is =
+    either (λ (qs : List (SignedBy Request)). Each P qs) (old.statement.client == q.statement.client) (q ∷ olds) (old ∷ offered olds q) (is, each.1)
+    (each.0, each_offered P olds q each.1 is)
+
+ask_tagged : {S : Type 0} (n : Node S) (q : SignedBy Request) → why_ask n q ≡ None → is_verified requests n.secret q ≡ true
+unfolding why_ask
+ask_tagged n q none =
+    let own = no_reason (not (is_member (view_of n) n.id)) NotMember _ none in
+    not_false (is_verified requests n.secret q) (no_reason (not (is_verified requests n.secret q)) BadTag _ own.1).0
+
+propose_kept : {S : Type 0} (stated : List Statement) (view : View) (n : Node S) (p : Proposed) → IsSound stated view n → why_propose n p ≡ None → IsProposal n.secret view p
+unfolding why_propose
+propose_kept stated view n p is none =
+    let slot : Slot = p.head.statement.slot in
+    let lead : Bool = p.head.signer == leader (view_of n) slot.regency in
+    let batch : Bool = is_batch_for n.secret slot.place p.head.statement.digest p.batch in
+    let same : view_of n ≡ view = in_force stated view n is in
+    let first = else_none (signer_why n (is_verified proposals n.secret p.head) p.head.signer) _ none in
+    let second = else_none (slot_why n slot) _ first.1 in
+    let third = no_reason (not lead) NotLeader _ second.1 in
+    let fourth = no_reason (not batch) InvalidBatch _ third.1 in
+    record {
+      members = members_of n view (is_verified proposals n.secret p.head) p.head.signer slot.view same (signs n (is_verified proposals n.secret p.head) p.head.signer first.0) (slot_view n slot second.0);
+      leaders = subst (λ (v : View). p.head.signer ≡ leader v slot.regency) same (eqb-true p.head.signer (leader (view_of n) slot.regency) (not_false lead third.0));
+      batch = not_false batch fourth.0;
+    }
+
+vote_kept : {S : Type 0} (stated : List Statement) (view : View) (n : Node S) (b : SignedBy Ballot) → IsSound stated view n → why_vote n b ≡ None
+    → IsMembers view (is_verified ballots n.secret b) b.signer b.statement.slot.view
+unfolding why_vote
+vote_kept stated view n b is none =
+    let first = else_none (signer_why n (is_verified ballots n.secret b) b.signer) _ none in
+    let second = else_none (slot_why n b.statement.slot) _ first.1 in
+    members_of n view (is_verified ballots n.secret b) b.signer b.statement.slot.view (in_force stated view n is) (signs n (is_verified ballots n.secret b) b.signer first.0) (slot_view n b.statement.slot second.0)
+
+sound_plain : {S : Type 0} (stated : List Statement) (view : View) (n : Node S) (message : Message) (behind : Bool) → IsSound stated view n → why_plain n message ≡ None
+    → IsStated n.secret stated (Plain message) → IsSound stated view (kept_plain (record n { behind = behind }) message)
+unfolding kept_plain
+sound_plain {S = S} stated view n (Ask q) behind is none was =
+    let tagged = ask_tagged n q none in
+    let IsAsked : SignedBy Request → Type 0 = λ r. (is_verified requests n.secret r ≡ true) × IsStated n.secret stated (Plain (Ask r)) in
+    either (λ (m : Node S). IsSound stated view m) (is_next n.replica.table q.statement) (record n { pool = offered n.pool q; behind = behind }) (record n { behind = behind })
+    (keeps stated view n (offered n.pool q) n.arrivals n.stops n.reports n.syncs behind is (each_offered IsAsked n.pool q is.pool (tagged, was)) is.arrivals is.stops is.reports is.syncs)
+    (aside stated view n n.firm n.held n.proposed n.stop_made n.sync_made n.impatient behind is is.held)
+sound_plain stated view n (Propose p) behind is none was =
+    keeps stated view n n.pool (n.arrivals ++ Propose p ∷ []) n.stops n.reports n.syncs behind is is.pool
+    (each_end (Arrived n.secret stated view) n.arrivals (Propose p) is.arrivals (propose_kept stated view n p is none, was)) is.stops is.reports is.syncs
+sound_plain stated view n (Vote b) behind is none was =
+    keeps stated view n n.pool (n.arrivals ++ Vote b ∷ []) n.stops n.reports n.syncs behind is is.pool
+    (each_end (Arrived n.secret stated view) n.arrivals (Vote b) is.arrivals (vote_kept stated view n b is none, was)) is.stops is.reports is.syncs
+sound_plain stated view n (Reply a) behind is none was = aside stated view n n.firm n.held n.proposed n.stop_made n.sync_made n.impatient behind is is.held
+
+-- ---- what changes the regency
+
+stop_kept : {S : Type 0} (stated : List Statement) (view : View) (n : Node S) (s : SignedBy Stop) → IsSound stated view n → why_stop n s ≡ None
+    → IsMembers view (is_verified stops n.secret s) s.signer s.statement.view
+unfolding why_stop
+stop_kept stated view n s is none =
+    let first = else_none (signer_why n (is_verified stops n.secret s) s.signer) _ none in
+    let second = else_none (view_why n s.statement.view) _ first.1 in
+    members_of n view (is_verified stops n.secret s) s.signer s.statement.view (in_force stated view n is) (signs n (is_verified stops n.secret s) s.signer first.0) (same_view n s.statement.view second.0)
+
+report_kept : {S : Type 0} (stated : List Statement) (view : View) (n : Node S) (r : Reported) → IsSound stated view n → why_report n r ≡ None
+    → IsMembers view (is_verified reports n.secret r.head) r.head.signer r.head.statement.view × (is_proven n r ≡ true)
+unfolding why_report
+report_kept stated view n r is none =
+    let lead : Bool = leader (view_of n) r.head.statement.regency == n.id in
+    let first = else_none (signer_why n (is_verified reports n.secret r.head) r.head.signer) _ none in
+    let second = else_none (view_why n r.head.statement.view) _ first.1 in
+    let third = else_none (regency_why n r.head.statement.regency) _ second.1 in
+    let fourth = no_reason (not lead) NotLeader _ third.1 in
+    let fifth = no_reason (not (is_proven n r)) BadProof _ fourth.1 in (
+      members_of n view (is_verified reports n.secret r.head) r.head.signer r.head.statement.view (in_force stated view n is)
+          (signs n (is_verified reports n.secret r.head) r.head.signer first.0) (same_view n r.head.statement.view second.0),
+      not_false (is_proven n r) fifth.0,
+    )
+
+sync_kept : {S : Type 0} (stated : List Statement) (view : View) (n : Node S) (s : SignedBy Sync) → IsSound stated view n → why_sync n s ≡ None
+    → IsMembers view (is_verified syncs n.secret s) s.signer s.statement.view × (is_collect n s.statement ≡ true)
+unfolding why_sync
+sync_kept stated view n s is none =
+    let lead : Bool = s.signer == leader (view_of n) s.statement.regency in
+    let first = else_none (signer_why n (is_verified syncs n.secret s) s.signer) _ none in
+    let second = else_none (view_why n s.statement.view) _ first.1 in
+    let third = no_reason (nat_lt s.statement.regency (regency_of n)) OldRegency _ second.1 in
+    let fourth = no_reason (not lead) NotLeader _ third.1 in
+    let fifth = no_reason (not (is_collect n s.statement)) BadProof _ fourth.1 in (
+      members_of n view (is_verified syncs n.secret s) s.signer s.statement.view (in_force stated view n is)
+          (signs n (is_verified syncs n.secret s) s.signer first.0) (same_view n s.statement.view second.0),
+      not_false (is_collect n s.statement) fifth.0,
+    )
+
+sound_change : {S : Type 0} (stated : List Statement) (view : View) (n : Node S) (message : RegencyMessage) (behind : Bool) → IsSound stated view n → why_change n message ≡ None
+    → IsStated n.secret stated (Change message) → IsSound stated view (kept_change (record n { behind = behind }) message)
+unfolding kept_change
+sound_change stated view n (changes.Stop s) behind is none was =
+    keeps stated view n n.pool n.arrivals (n.stops ++ s ∷ []) n.reports n.syncs behind is is.pool is.arrivals
+    (each_end (StopKept n.secret stated view) n.stops s is.stops (stop_kept stated view n s is none, was)) is.reports is.syncs
+sound_change stated view n (changes.StopData r) behind is none was =
+    let k = report_kept stated view n r is none in
+    keeps stated view n n.pool n.arrivals n.stops (n.reports ++ r ∷ []) n.syncs behind is is.pool is.arrivals is.stops
+    (each_end (ReportKept n stated view) n.reports r is.reports (k.0, k.1, was)) is.syncs
+sound_change stated view n (changes.Sync s) behind is none was =
+    let k = sync_kept stated view n s is none in
+    keeps stated view n n.pool n.arrivals n.stops n.reports (n.syncs ++ s ∷ []) (behind || nat_lt (decided_place n + 1) (choice s.statement.collect).base) is is.pool is.arrivals is.stops is.reports
+    (each_end (SyncKept n stated view) n.syncs s is.syncs (k.0, k.1, was))
+
+-- ---- what comes
+
+pub sound_noted : {S : Type 0} (stated : List Statement) (view : View) (n : Node S) (message : AnyMessage) → IsSound stated view n → IsSound stated view (noted n message)
+unfolding noted
+sound_noted stated view n message is = aside stated view n n.firm n.held n.proposed n.stop_made n.sync_made n.impatient (n.behind || tells_behind n message) is is.held
+
+pub sound_kept : {S : Type 0} (stated : List Statement) (view : View) (n : Node S) (message : AnyMessage) → IsSound stated view n → why_dropped n message ≡ None
+    → IsStated n.secret stated message → IsSound stated view (kept (noted n message) message)
+unfolding noted
+sound_kept stated view n (Plain m) is none was = sound_plain stated view n m (n.behind || tells_behind n (Plain m)) is none was
+sound_kept stated view n (Change m) is none was = sound_change stated view n m (n.behind || tells_behind n (Change m)) is none was

@@ -1,0 +1,208 @@
+-- A node that decides stays sound.
+use Rattle.std.proofs.Common.{List, None, Option, Some, ap, arith, nat_le, nat_lt, refl, subst, suc, sym, true, zero, ℕ, ⊎_elim, ◌≡◌, ◌==◌, ◌&&◌, ◌∙◌, ◌≤◌, ◌+◌, ◌++◌, ◌∷◌, []}
+use Rattle.std.proofs.lemmas.Bool.{eqb-true}
+use Rattle.std.specs.List.{filter_map}
+use Rattle.std.specs.Prelude.{is_none, option_map, ◌^◌}
+use Rattle.certificates.specs.Certificates.{accept_of}
+use Rattle.certificates.specs.Collects.{slot_of}
+use Rattle.node_rules.specs.Votes.{has_quorum, Named, accepted_in, certificate_votes, decision_by, known, named_by, named_in}
+use Rattle.replica_rules.specs.Seals.{digest_of}
+use Rattle.agreement_laws.specs.Certificates.{IsDrawn}
+use Rattle.agreement_laws.specs.Statements.{Statement}
+use Rattle.node_rules.specs.Nodes.{Node, is_free, next_place, regency_of, view_of}
+use Rattle.node_rules.specs.Rules.{decide_batch, decides, deciding, decision_ahead, decision_in, slot_in}
+use Rattle.smart_base.specs.Lists.{Each, or_else}
+use Rattle.smart_base.specs.Views.{View, is_view}
+use Rattle.smart_messages.specs.declared.message.Message.{Message}
+use Rattle.smart_messages.specs.declared.message.Message.TheVariants.{Ask, Propose, Reply, Vote}
+use Rattle.smart_messages.specs.declared.statement.Slot.{Slot}
+use Rattle.vote_book.proofs.Last.{last_push, latest_push}
+use Rattle.vote_book.specs.BookReports.{accept_for}
+use Rattle.vote_book.specs.Books.{Among, Follows}
+use Rattle.vote_book.specs.declared.entry.Accept.{Accept}
+use Rattle.vote_book.specs.declared.entry.Decision.{Decision}
+use Rattle.vote_book.specs.declared.entry.LogEntry.{LogEntry}
+use Rattle.vote_book.specs.declared.entry.LogEntry.TheVariants.{Accepted, Decided, Installed, Marked, Opened, Promised, Synced, Wrote}
+use Rattle.node_laws.proofs.Lists.{among_last, and_true, each_among, each_append, each_filter_map_in, else_some, found, guard, some_equal}
+use Rattle.node_laws.proofs.Nodes.{Arrived, Makes, MayPush, pushes}
+use Rattle.node_laws.proofs.Stated.{may_stand}
+use Rattle.node_laws.proofs.Votes.{in_force, made_last, made_latest, place_of_some}
+use Rattle.node_laws.proofs.Voting.{drawn_at, proposal_may}
+use Rattle.node_laws.specs.Sound.{HasBatch, IsBatchAt, IsSound, place_if}
+use Rattle.smart_messages.specs.declared.statement.VoteKind.TheVariants as kinds
+
+-- ---- batches that are known
+
+abbrev IsNamed : List ℕ → List Statement → ℕ → Named → Type 0
+IsNamed secret stated place x = IsBatchAt secret stated place x.digest x.batch
+
+named_proposed : (secret : List ℕ) (stated : List Statement) (view : View) (number place regency : ℕ) (m : Message) (x : Named) → Arrived secret stated view m
+    → named_in number place regency m ≡ Some x → IsNamed secret stated place x
+named_proposed secret stated view number place regency (Ask q) x is at = absurd (cc)
+named_proposed secret stated view number place regency (Vote b) x is at = absurd (cc)
+named_proposed secret stated view number place regency (Reply a) x is at = absurd (cc)
+named_proposed secret stated view number place regency (Propose p) x is at =
+    let slot : Slot = p.head.statement.slot in
+    let it : Named = record { digest = p.head.statement.digest; batch = p.batch } in
+    let parts = guard ((slot.view == number) && (slot.place == place) && nat_le regency slot.regency) (Some it) x at in
+    let tests = and_true ((slot.view == number) && (slot.place == place)) (nat_le regency slot.regency) parts.0 in
+    let front = and_true (slot.view == number) (slot.place == place) tests.0 in
+    let is_place : slot.place ≡ place = eqb-true slot.place place front.1 in
+    let there : IsBatchAt secret stated slot.place p.head.statement.digest p.batch = proposal_may secret stated view p slot is refl in
+    subst (λ (y : Named). IsNamed secret stated place y) (some_equal it x parts.1)
+    (subst (λ (k : ℕ). IsBatchAt secret stated k p.head.statement.digest p.batch) is_place there)
+
+-- an accept for a place of a view
+pub record IsAcceptFor (view place : ℕ) (e : LogEntry) (a : Accept) : Type 0 where
+  pub entry_is : e ≡ Accepted a
+  pub view_is : a.slot.view ≡ view
+  pub place_is : a.slot.place ≡ place
+
+pub accept_for_is : (view place : ℕ) (e : LogEntry) (a : Accept) → accept_for view place e ≡ Some a → IsAcceptFor view place e a
+accept_for_is view place (Accepted b) a is =
+    let parts = guard ((b.slot.view == view) && (b.slot.place == place)) (Some b) a is in
+    let same : b ≡ a = some_equal b a parts.1 in
+    let tests = and_true (b.slot.view == view) (b.slot.place == place) parts.0 in
+    record {
+      entry_is = ap (λ (x : Accept). Accepted x) same;
+      view_is = ap (λ (x : Accept). x.slot.view) (sym same) ∙ eqb-true b.slot.view view tests.0;
+      place_is = ap (λ (x : Accept). x.slot.place) (sym same) ∙ eqb-true b.slot.place place tests.1;
+    }
+accept_for_is view place (Opened o) a is = absurd (cc)
+accept_for_is view place (Wrote w) a is = absurd (cc)
+accept_for_is view place (Promised p) a is = absurd (cc)
+accept_for_is view place (Synced s) a is = absurd (cc)
+accept_for_is view place (Decided d) a is = absurd (cc)
+accept_for_is view place (Installed i) a is = absurd (cc)
+accept_for_is view place (Marked m) a is = absurd (cc)
+
+named_step : (view place : ℕ) (e : LogEntry) (x : Named) (o : Option Accept) → accept_for view place e ≡ o
+    → option_map (λ (a : Accept). record { digest = a.digest; batch = a.batch }) o ≡ Some x
+    → (a : Accept) × (accept_for view place e ≡ Some a) × (x ≡ record { digest = a.digest; batch = a.batch })
+named_step view place e x None at is = absurd (cc)
+named_step view place e x (Some a) at is = (a, at, sym (some_equal (record { digest = a.digest; batch = a.batch }) x is))
+
+pub named_accepted : (secret : List ℕ) (stated : List Statement) (view place : ℕ) (e : LogEntry) (x : Named) → HasBatch secret stated e → named_by view place e ≡ Some x
+    → IsNamed secret stated place x
+named_accepted secret stated view place e x has is =
+    let named = named_step view place e x (accept_for view place e) refl is in
+    let a : Accept = named.0 in
+    let for_it = accept_for_is view place e a named.1 in
+    let there : HasBatch secret stated (Accepted a) = subst (λ (y : LogEntry). HasBatch secret stated y) for_it.entry_is has in
+    subst (λ (y : Named). IsNamed secret stated place y) (sym named.2)
+    (subst (λ (k : ℕ). IsBatchAt secret stated k a.digest a.batch) for_it.place_is there)
+
+pub all_known : {S : Type 0} (stated : List Statement) (view : View) (n : Node S) (number place regency : ℕ) → IsSound stated view n
+    → Each (IsNamed n.secret stated place) (known number place regency n.arrivals n.entries)
+all_known stated view n number place regency is =
+    each_append (IsNamed n.secret stated place) (filter_map (named_in number place regency) n.arrivals) (filter_map (named_by number place) n.entries)
+    (each_filter_map_in (IsNamed n.secret stated place) (named_in number place regency) n.arrivals
+    (λ m x there at. named_proposed n.secret stated view number place regency m x (each_among (Arrived n.secret stated view) n.arrivals m is.arrivals there) at))
+    (each_filter_map_in (IsNamed n.secret stated place) (named_by number place) n.entries
+    (λ e x there at. named_accepted n.secret stated number place e x (each_among (HasBatch n.secret stated) n.entries e is.batches there) at))
+
+-- ---- a decision that is due
+
+pub record Decides {S : Type 0} (n : Node S) (regency : ℕ) (d : Decision) : Type 0 where
+  pub named : Named
+  pub there : Among named (known (view_of n).number (next_place n) (regency_of n) n.arrivals n.entries)
+  pub accepted : has_quorum n.arrivals (view_of n) kinds.Accept (slot_in n regency) named.digest ≡ true
+  pub decision_is : d ≡ record { slot = slot_in n regency; batch = named.batch; accepts = certificate_votes n.arrivals (view_of n) kinds.Accept (slot_in n regency) named.digest }
+
+decides_by : {S : Type 0} (n : Node S) (regency : ℕ) (d : Decision) (o : Option Named)
+    → accepted_in (view_of n) (slot_in n regency) n.arrivals (known (view_of n).number (next_place n) (regency_of n) n.arrivals n.entries) ≡ o
+    → decision_by (view_of n) (slot_in n regency) n.arrivals o ≡ Some d → Decides n regency d
+decides_by n regency d None at is = absurd (cc)
+decides_by n regency d (Some x) at is =
+    let all = known (view_of n).number (next_place n) (regency_of n) n.arrivals n.entries in
+    let f = found (λ (y : Named). has_quorum n.arrivals (view_of n) kinds.Accept (slot_in n regency) y.digest) all x at in
+    let it : Decision = record { slot = slot_in n regency; batch = x.batch; accepts = certificate_votes n.arrivals (view_of n) kinds.Accept (slot_in n regency) x.digest } in
+    record { named = x; there = f.there; accepted = f.passes; decision_is = sym (some_equal it d is) }
+
+decides_in : {S : Type 0} (n : Node S) (regency : ℕ) (d : Decision) → decision_in n regency ≡ Some d → Decides n regency d
+unfolding decision_in
+decides_in n regency d is =
+    decides_by n regency d (accepted_in (view_of n) (slot_in n regency) n.arrivals (known (view_of n).number (next_place n) (regency_of n) n.arrivals n.entries)) refl is
+
+-- in the regency in force, or in the next
+pub record IsDue {S : Type 0} (n : Node S) (d : Decision) : Type 0 where
+  pub free : is_none n.waiting ≡ true
+  pub regency : ℕ
+  pub most : regency ≤ regency_of n + 1
+  pub decides : Decides n regency d
+
+pub due_is : {S : Type 0} (n : Node S) (d : Decision) → deciding n ≡ Some d → IsDue n d
+unfolding deciding
+due_is n d is =
+    let parts = guard (is_free n) (or_else (decision_in n (regency_of n)) (decision_ahead n)) d is in
+    let free = (and_true (is_none n.waiting) (nat_lt (next_place n) (2 ^ 63)) parts.0).0 in
+    ⊎_elim
+    (λ here. record { free = free; regency = regency_of n; most = omega arith; decides = decides_in n (regency_of n) d here })
+    (λ ahead.
+    let next = guard (nat_lt (regency_of n + 1) (2 ^ 32)) (decision_in n (regency_of n + 1)) d ahead in
+    record { free = free; regency = regency_of n + 1; most = omega arith; decides = decides_in n (regency_of n + 1) d next.1 })
+    (else_some (decision_in n (regency_of n)) (decision_ahead n) d parts.1)
+
+-- ---- decide
+
+follows_next : (k : ℕ) → Follows 0 (place_if k) (k + 1)
+follows_next zero = omega arith
+follows_next (suc k) = omega arith
+
+next_if : (k : ℕ) → place_if (k + 1) ≡ Some (k + 1)
+next_if k = place_of_some (k + 1) (omega arith)
+
+-- the decision itself
+it_is : {S : Type 0} (n : Node S) (regency : ℕ) (x : Named) → Decision
+it_is n regency x = record { slot = slot_in n regency; batch = x.batch; accepts = certificate_votes n.arrivals (view_of n) kinds.Accept (slot_in n regency) x.digest }
+
+may_decide : {S : Type 0} (stated : List Statement) (view : View) (n : Node S) (regency : ℕ) (x : Named) → is_view view ≡ true → IsSound stated view n → is_none n.waiting ≡ true
+    → regency ≤ regency_of n + 1 → IsNamed n.secret stated (next_place n) x → has_quorum n.arrivals (view_of n) kinds.Accept (slot_in n regency) x.digest ≡ true
+    → MayPush stated view n (Decided (it_is n regency x))
+unfolding it_is
+may_decide stated view n regency x viewed is free most named enough =
+    let same : digest_of x.batch ≡ x.digest = (may_stand n.secret (next_place n) x.digest x.batch named.may).named in
+    record {
+      admits = subst (λ (o : Option ℕ). Follows 0 o (next_place n)) (sym (made_latest stated view n is free)) (follows_next n.replica.place);
+      tidy = tt;
+      within = record { of_view = ap (λ (v : View). v.number) (in_force stated view n is); place_is = omega arith; regency_is = omega (arith, most) };
+      backed = λ of. subst
+          (λ (d : List ℕ). IsDrawn n.secret view stated (accept_of (slot_of view (next_place n) regency) d) (certificate_votes n.arrivals (view_of n) kinds.Accept (slot_in n regency) x.digest))
+          (sym same) (drawn_at n.secret stated view (view_of n) n.arrivals kinds.Accept (next_place n) regency x.digest (in_force stated view n is) viewed is.arrivals enough);
+      batch = subst (λ (d : List ℕ). IsBatchAt n.secret stated (next_place n) d x.batch) (sym same) named;
+    }
+
+decides_makes : {S : Type 0} (stated : List Statement) (view : View) (n : Node S) (d : Decision) → IsSound stated view n → is_none n.waiting ≡ true → d.slot.place ≡ next_place n
+    → Makes n (Decided d) (Some d.batch)
+decides_makes stated view n d is free at =
+    let before = made_last stated view n is free in
+    let last = last_push n.entries (Decided d) in
+    record {
+      last = omega (arith, before, last, at);
+      latest = latest_push n.entries (Decided d) ∙ (ap (λ (k : ℕ). Some k) at ∙ sym (next_if n.replica.place));
+      waiting = record { decision = d; there = among_last (Decided d) n.entries; place_is = at; batch_is = refl };
+    }
+
+decides_it : {S : Type 0} (stated : List Statement) (view : View) (n : Node S) (d : Decision) → is_view view ≡ true → IsSound stated view n → IsDue n d
+    → IsSound stated view (record n { entries = n.entries ++ Decided d ∷ []; waiting = Some d.batch })
+unfolding it_is
+decides_it {S = S} stated view n d viewed is due =
+    let r = due.regency in
+    let x = due.decides.named in
+    let it : Decision = it_is n r x in
+    let named = each_among (IsNamed n.secret stated (next_place n)) (known (view_of n).number (next_place n) (regency_of n) n.arrivals n.entries) x
+    (all_known stated view n (view_of n).number (next_place n) (regency_of n) is) due.decides.there in
+    let pushed : IsSound stated view (record n { entries = n.entries ++ Decided it ∷ []; waiting = Some it.batch }) =
+    pushes stated view n (Decided it) (Some it.batch) is (may_decide stated view n r x viewed is due.free due.most named due.decides.accepted)
+    (decides_makes stated view n it is due.free refl) in
+    subst (λ (y : Decision). IsSound stated view (record n { entries = n.entries ++ Decided y ∷ []; waiting = Some y.batch })) (sym due.decides.decision_is) pushed
+
+decides_with : {S : Type 0} (stated : List Statement) (view : View) (n : Node S) (o : Option Decision) → is_view view ≡ true → IsSound stated view n → deciding n ≡ o
+    → IsSound stated view (decide_batch n o)
+unfolding decide_batch
+decides_with stated view n None viewed is at = is
+decides_with stated view n (Some d) viewed is at = decides_it stated view n d viewed is (due_is n d at)
+
+pub sound_decides : {S : Type 0} (stated : List Statement) (view : View) (n : Node S) → is_view view ≡ true → IsSound stated view n → IsSound stated view (decides n)
+unfolding decides
+sound_decides stated view n viewed is = decides_with stated view n (deciding n) viewed is refl

@@ -1,0 +1,17 @@
+pub mod Lists
+pub mod Books
+pub mod Nodes
+pub mod Votes
+pub mod Stated
+pub mod Certified
+pub mod Voting
+pub mod Deciding
+pub mod Promised
+pub mod Adopting
+pub mod Promising
+pub mod Leading
+pub mod Proposing
+pub mod Delivering
+pub mod Arriving
+pub mod More
+pub mod Passes

@@ -1,0 +1,102 @@
+-- A node stays sound where more has been stated.
+use Rattle.std.proofs.Common.{List, inl, inr, take, true, ℕ, ⊎_elim, ◌≡◌, ◌⊎◌}
+use Rattle.replica_rules.specs.Seals.{digest_of, is_verified}
+use Rattle.agreement_laws.specs.Certificates.{IsBacked, IsChosen, IsDrawn}
+use Rattle.agreement_laws.specs.Diaries.{IsShown}
+use Rattle.agreement_laws.specs.Statements.{Statement, signer_of, statements}
+use Rattle.node_rules.specs.Nodes.{Node}
+use Rattle.node_rules.specs.Steps.{votes}
+use Rattle.node_rules.specs.declared.node.Held.{Held}
+use Rattle.smart_base.specs.Views.{View}
+use Rattle.smart_base.specs.declared.party.Party.TheVariants.{Member}
+use Rattle.smart_messages.specs.Forms.{SignedBy}
+use Rattle.smart_messages.specs.Kinds.{requests}
+use Rattle.smart_messages.specs.Messages.{Batch}
+use Rattle.smart_messages.specs.declared.any.AnyMessage.TheVariants.{Change, Plain}
+use Rattle.smart_messages.specs.declared.message.Message.TheVariants.{Ask}
+use Rattle.smart_messages.specs.declared.statement.Ballot.{Ballot}
+use Rattle.vote_book.specs.Books.{Among}
+use Rattle.vote_book.specs.declared.entry.LogEntry.{LogEntry}
+use Rattle.vote_book.specs.declared.entry.LogEntry.TheVariants.{Accepted, Decided, Installed, Marked, Opened, Promised, Synced, Wrote}
+use Rattle.vote_book.specs.declared.entry.Start.{Start}
+use Rattle.node_laws.proofs.Lists.{each_among, each_weaker}
+use Rattle.node_laws.proofs.Nodes.{Arrived, ReportKept, StopKept, SyncKept}
+use Rattle.node_laws.specs.Sound.{AreAmong, AreAsked, HasBatch, IsBatchAt, IsHeld, IsSound, IsStated}
+use Rattle.smart_messages.specs.declared.regency.RegencyMessage.TheVariants as changes
+use Rattle.agreement_laws.specs.Statements as says
+
+module _ (stated more : List Statement) (grows_to : AreAmong stated more) where
+  among_more : (s : Statement) → Among s stated → Among s more
+  among_more s there = each_among (λ x. Among x more) stated s grows_to there
+
+  areamong_more : (few : List Statement) → AreAmong few stated → AreAmong few more
+  areamong_more few all = each_weaker (λ s. Among s stated) (λ s. Among s more) among_more few all
+
+  drawn_more : (secret : List ℕ) (view : View) (wanted : Ballot) (votes : List (SignedBy Ballot)) → IsDrawn secret view stated wanted votes → IsDrawn secret view more wanted votes
+  drawn_more secret view wanted votes is = record {
+    holds = is.holds;
+    drawn = each_weaker (λ b. Among (says.Voted b) stated) (λ b. Among (says.Voted b) more) (λ b there. among_more (says.Voted b) there) votes is.drawn;
+  }
+
+  chosen_more : (secret : List ℕ) (view : View) (start : Start) → IsChosen secret view stated start → IsChosen secret view more start
+  chosen_more secret view start is = record {
+    items = is.items;
+    collect = is.collect;
+    drawn = each_weaker (λ r. Among (says.Reported r) stated) (λ r. Among (says.Reported r) more) (λ r there. among_more (says.Reported r) there) is.items is.drawn;
+    choice_is = is.choice_is;
+  }
+
+  backed_more : (secret : List ℕ) (view : View) (e : LogEntry) → IsBacked secret digest_of view stated e → IsBacked secret digest_of view more e
+  backed_more secret view (Opened o) is = tt
+  backed_more secret view (Wrote w) is = tt
+  backed_more secret view (Accepted a) is = λ of. drawn_more secret view _ a.writes (is of)
+  backed_more secret view (Promised p) is = tt
+  backed_more secret view (Synced s) is = λ of some. chosen_more secret view s (is of some)
+  backed_more secret view (Decided d) is = λ of. drawn_more secret view _ d.accepts (is of)
+  backed_more secret view (Installed i) is = tt
+  backed_more secret view (Marked m) is = tt
+
+  asked_more : (secret : List ℕ) (batch : Batch) → AreAsked secret stated batch → AreAsked secret more batch
+  asked_more secret batch asked =
+      each_weaker (λ q. (is_verified requests secret q ≡ true) × IsStated secret stated (Plain (Ask q))) (λ q. (is_verified requests secret q ≡ true) × IsStated secret more (Plain (Ask q)))
+      (λ q is. (is.0, areamong_more (statements secret (Plain (Ask q))) is.1)) batch asked
+
+  at_more : (secret : List ℕ) (place : ℕ) (digest : List ℕ) (batch : Batch) → IsBatchAt secret stated place digest batch → IsBatchAt secret more place digest batch
+  at_more secret place digest batch is = record { may = is.may; asked = asked_more secret batch is.asked }
+
+  has_more : (secret : List ℕ) (e : LogEntry) → HasBatch secret stated e → HasBatch secret more e
+  has_more secret (Opened o) is = tt
+  has_more secret (Wrote w) is = tt
+  has_more secret (Accepted a) is = at_more secret a.slot.place a.digest a.batch is
+  has_more secret (Promised p) is = tt
+  has_more secret (Synced s) is = tt
+  has_more secret (Decided d) is = at_more secret d.slot.place (digest_of d.batch) d.batch is
+  has_more secret (Installed i) is = tt
+  has_more secret (Marked m) is = tt
+
+  held_more : (secret : List ℕ) (id : ℕ) (es : List LogEntry) (h : Held) → IsHeld secret id stated es h → IsHeld secret id more es h
+  held_more secret id es h is = record {
+    needs = is.needs;
+    shown = each_weaker (λ s. Among s stated ⊎ ((signer_of s ≡ Member id) × IsShown digest_of (take h.needs es) s)) (λ s. Among s more ⊎ ((signer_of s ≡ Member id) × IsShown digest_of (take h.needs es) s))
+        (λ s is. ⊎_elim (λ there. inl (among_more s there)) (λ own. inr own) is) (statements secret h.message) is.shown;
+  }
+
+  pub sound_more : {S : Type 0} (view : View) (n : Node S) → IsSound stated view n → IsSound more view n
+  sound_more view n is = record {
+    views = is.views;
+    lawful = is.lawful;
+    tidy = is.tidy;
+    last = is.last;
+    latest = is.latest;
+    within = is.within;
+    backed = each_weaker (IsBacked n.secret digest_of view stated) (IsBacked n.secret digest_of view more) (backed_more n.secret view) n.entries is.backed;
+    batches = each_weaker (HasBatch n.secret stated) (HasBatch n.secret more) (has_more n.secret) n.entries is.batches;
+    waiting = is.waiting;
+    table = is.table;
+    arrivals = each_weaker (Arrived n.secret stated view) (Arrived n.secret more view) (λ m k. (k.0, areamong_more (statements n.secret (Plain m)) k.1)) n.arrivals is.arrivals;
+    stops = each_weaker (StopKept n.secret stated view) (StopKept n.secret more view) (λ s k. (k.0, areamong_more (statements n.secret (Change (changes.Stop s))) k.1)) n.stops is.stops;
+    reports = each_weaker (ReportKept n stated view) (ReportKept n more view) (λ r k. (k.0, k.1, areamong_more (statements n.secret (Change (changes.StopData r))) k.2)) n.reports is.reports;
+    syncs = each_weaker (SyncKept n stated view) (SyncKept n more view) (λ s k. (k.0, k.1, areamong_more (statements n.secret (Change (changes.Sync s))) k.2)) n.syncs is.syncs;
+    pool = asked_more n.secret n.pool is.pool;
+    held = each_weaker (IsHeld n.secret n.id stated n.entries) (IsHeld n.secret n.id more n.entries) (held_more n.secret n.id n.entries) n.held is.held;
+  }

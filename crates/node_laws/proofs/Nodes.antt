@@ -1,0 +1,178 @@
+-- A node stays sound where it changes in part.
+use Rattle.std.proofs.Common.{Bool, List, None, Option, ap, arith, length, max, subst, sym, true, ℕ, ◌≡◌, ◌⊎◌, ◌++◌, ◌∷◌, [], ◌∙◌}
+use Rattle.std.proofs.lemmas.List.{take_all}
+use Rattle.std.specs.Prelude.{IfSome}
+use Rattle.replica_rules.specs.Seals.{digest_of, is_verified}
+use Rattle.agreement_laws.specs.Certificates.{IsBacked}
+use Rattle.agreement_laws.specs.Diaries.{HasAnswered, IsShown}
+use Rattle.agreement_laws.specs.Statements.{Statement, signer_of, statements}
+use Rattle.node_rules.specs.Arrivals.{is_collect, is_proven}
+use Rattle.node_rules.specs.Nodes.{Node, decided_place, holding, next_place, recording, regency_in, regency_of, view_of}
+use Rattle.node_rules.specs.declared.node.Held.{Held}
+use Rattle.node_rules.specs.declared.node.Target.{Target}
+use Rattle.smart_base.specs.Lists.{Each, or_else}
+use Rattle.smart_base.specs.Views.{View}
+use Rattle.smart_base.specs.declared.party.Party.TheVariants.{Member}
+use Rattle.smart_messages.specs.Forms.{SignedBy}
+use Rattle.smart_messages.specs.Messages.{Batch}
+use Rattle.smart_messages.specs.Regencies.{stops, syncs}
+use Rattle.smart_messages.specs.Reports.{reports}
+use Rattle.smart_messages.specs.declared.any.AnyMessage.{AnyMessage}
+use Rattle.smart_messages.specs.declared.any.AnyMessage.TheVariants.{Change, Plain}
+use Rattle.smart_messages.specs.declared.message.Message.{Message}
+use Rattle.smart_messages.specs.declared.regency.Reported.{Reported}
+use Rattle.smart_messages.specs.declared.regency.Stop.{Stop}
+use Rattle.smart_messages.specs.declared.regency.Sync.{Sync}
+use Rattle.smart_messages.specs.declared.statement.Request.{Request}
+use Rattle.smart_messages.specs.declared.statement.Slot.{Slot}
+use Rattle.vote_book.proofs.Growth.{grows}
+use Rattle.vote_book.proofs.Last.{last_push, latest_push}
+use Rattle.vote_book.proofs.Tidy.{grows_tidy}
+use Rattle.vote_book.specs.Books.{Admits, Among, last_made, latest_made, number_or, place_made}
+use Rattle.vote_book.specs.Tidy.{IsTidyAfter}
+use Rattle.vote_book.specs.declared.entry.LogEntry.{LogEntry}
+use Rattle.node_laws.proofs.Books.{answered_push, decided_push, held_push, within_push}
+use Rattle.node_laws.proofs.Lists.{each_end, each_weaker}
+use Rattle.node_laws.specs.Sound.{AreAsked, HasBatch, HasDecided, IsHeld, IsKept, IsMembers, IsSound, IsStated, IsWithin, answer_by, place_if}
+use Rattle.smart_messages.specs.declared.regency.RegencyMessage.TheVariants as changes
+
+-- ---- what is kept
+
+abbrev pub Arrived : List ℕ → List Statement → View → Message → Type 0
+Arrived secret stated view m = IsKept secret view m × IsStated secret stated (Plain m)
+
+abbrev pub StopKept : List ℕ → List Statement → View → SignedBy Stop → Type 0
+StopKept secret stated view s = IsMembers view (is_verified stops secret s) s.signer s.statement.view × IsStated secret stated (Change (changes.Stop s))
+
+abbrev pub ReportKept : {S : Type 0} → Node S → List Statement → View → Reported → Type 0
+ReportKept n stated view r =
+    IsMembers view (is_verified reports n.secret r.head) r.head.signer r.head.statement.view × (is_proven n r ≡ true) × IsStated n.secret stated (Change (changes.StopData r))
+
+abbrev pub SyncKept : {S : Type 0} → Node S → List Statement → View → SignedBy Sync → Type 0
+SyncKept n stated view s =
+    IsMembers view (is_verified syncs n.secret s) s.signer s.statement.view × (is_collect n s.statement ≡ true) × IsStated n.secret stated (Change (changes.Sync s))
+
+-- ---- what is held, and what the law says nothing of
+
+pub aside : {S : Type 0} (stated : List Statement) (view : View) (n : Node S) (firm : ℕ) (held : List Held) (proposed : List Slot) (stop_made sync_made impatient behind : Bool)
+    → IsSound stated view n → Each (IsHeld n.secret n.id stated n.entries) held
+    → IsSound stated view (record n { firm = firm; held = held; proposed = proposed; stop_made = stop_made; sync_made = sync_made; impatient = impatient; behind = behind })
+unfolding regency_of is_proven is_collect
+aside stated view n firm held proposed stop_made sync_made impatient behind is shown = record {
+  views = is.views;
+  lawful = is.lawful;
+  tidy = is.tidy;
+  last = is.last;
+  latest = is.latest;
+  within = is.within;
+  backed = is.backed;
+  batches = is.batches;
+  waiting = is.waiting;
+  table = is.table;
+  arrivals = is.arrivals;
+  stops = is.stops;
+  reports = is.reports;
+  syncs = is.syncs;
+  pool = is.pool;
+  held = shown;
+}
+
+-- a message is held: each statement in it has been stated, or is the member's own and shown by the entries so far
+abbrev pub Shows : {S : Type 0} → List Statement → Node S → Statement → Type 0
+Shows stated n s = Among s stated ⊎ ((signer_of s ≡ Member n.id) × IsShown digest_of n.entries s)
+
+pub held_now : {S : Type 0} (stated : List Statement) (n : Node S) (to : Target) (m : AnyMessage) → Each (Shows stated n) (statements n.secret m)
+    → IsHeld n.secret n.id stated n.entries (record { to = to; message = m; needs = length n.entries })
+held_now stated n to m shown = record {
+  needs = omega arith;
+  shown = subst (λ (front : List LogEntry). Each (λ s. Among s stated ⊎ ((signer_of s ≡ Member n.id) × IsShown digest_of front s)) (statements n.secret m))
+      (sym (take_all (length n.entries) n.entries (omega arith))) shown;
+}
+
+pub holds : {S : Type 0} (stated : List Statement) (view : View) (n : Node S) (to : Target) (m : AnyMessage) → IsSound stated view n → Each (Shows stated n) (statements n.secret m)
+    → IsSound stated view (holding n to m)
+holds stated view n to m is shown =
+    let h : Held = record { to = to; message = m; needs = length n.entries } in
+    aside stated view n n.firm (n.held ++ h ∷ []) n.proposed n.stop_made n.sync_made n.impatient n.behind is
+    (each_end (IsHeld n.secret n.id stated n.entries) n.held h is.held (held_now stated n to m shown))
+
+-- ---- what comes
+
+pub keeps : {S : Type 0} (stated : List Statement) (view : View) (n : Node S) (pool : List (SignedBy Request)) (arrivals : List Message)
+    (ss : List (SignedBy Stop)) (rs : List Reported) (ys : List (SignedBy Sync)) (behind : Bool)
+    → IsSound stated view n → AreAsked n.secret stated pool → Each (Arrived n.secret stated view) arrivals → Each (StopKept n.secret stated view) ss
+    → Each (ReportKept n stated view) rs → Each (SyncKept n stated view) ys
+    → IsSound stated view (record n { pool = pool; arrivals = arrivals; stops = ss; reports = rs; syncs = ys; behind = behind })
+unfolding regency_of is_proven is_collect
+keeps stated view n pool arrivals ss rs ys behind is asked kept_arrivals kept_stops kept_reports kept_syncs = record {
+  views = is.views;
+  lawful = is.lawful;
+  tidy = is.tidy;
+  last = is.last;
+  latest = is.latest;
+  within = is.within;
+  backed = is.backed;
+  batches = is.batches;
+  waiting = is.waiting;
+  table = is.table;
+  arrivals = kept_arrivals;
+  stops = kept_stops;
+  reports = kept_reports;
+  syncs = kept_syncs;
+  pool = asked;
+  held = is.held;
+}
+
+-- ---- entries
+
+-- an entry that may be pushed, whatever it makes
+pub record MayPush {S : Type 0} (stated : List Statement) (view : View) (n : Node S) (e : LogEntry) : Type 0 where
+  pub admits : Admits 0 0 n.entries e
+  pub tidy : IsTidyAfter n.entries e
+  pub within : IsWithin view (next_place n) (max (regency_of n) (regency_in (view_of n).number e)) e
+  pub backed : IsBacked n.secret digest_of view stated e
+  pub batch : HasBatch n.secret stated e
+
+-- the places that are made with one more
+pub record Makes {S : Type 0} (n : Node S) (e : LogEntry) (left : Option Batch) : Type 0 where
+  pub last : last_made (n.entries ++ e ∷ []) ≡ decided_place (record n { waiting = left })
+  pub latest : latest_made (n.entries ++ e ∷ []) ≡ place_if (decided_place (record n { waiting = left }))
+  pub waiting : IfSome left (HasDecided (n.entries ++ e ∷ []) (next_place n))
+
+pub pushes : {S : Type 0} (stated : List Statement) (view : View) (n : Node S) (e : LogEntry) (waiting : Option Batch) → IsSound stated view n → MayPush stated view n e → Makes n e waiting
+    → IsSound stated view (record n { entries = n.entries ++ e ∷ []; waiting = waiting })
+unfolding regency_of is_proven is_collect
+pushes stated view n e waiting is may made = record {
+  views = is.views;
+  lawful = grows 0 0 n.entries e is.lawful may.admits;
+  tidy = grows_tidy n.entries e is.tidy may.tidy;
+  last = made.last;
+  latest = made.latest;
+  within = within_push view (view_of n).number (next_place n) n.entries e is.within may.within;
+  backed = each_end (IsBacked n.secret digest_of view stated) n.entries e is.backed may.backed;
+  batches = each_end (HasBatch n.secret stated) n.entries e is.batches may.batch;
+  waiting = made.waiting;
+  table = each_weaker (λ line. HasAnswered n.entries (answer_by line)) (λ line. HasAnswered (n.entries ++ e ∷ []) (answer_by line))
+      (λ line has. answered_push n.entries e (answer_by line) has) n.replica.table is.table;
+  arrivals = is.arrivals;
+  stops = is.stops;
+  reports = is.reports;
+  syncs = is.syncs;
+  pool = is.pool;
+  held = each_weaker (IsHeld n.secret n.id stated n.entries) (IsHeld n.secret n.id stated (n.entries ++ e ∷ []))
+      (λ h shown. held_push n.secret n.id stated n.entries e h shown) n.held is.held;
+}
+
+-- an entry that makes no place
+pub records : {S : Type 0} (stated : List Statement) (view : View) (n : Node S) (e : LogEntry) → IsSound stated view n → MayPush stated view n e → place_made e ≡ None
+    → IsSound stated view (recording n e)
+records stated view n e is may none =
+    let last : last_made (n.entries ++ e ∷ []) ≡ max (last_made n.entries) (number_or (place_made e) 0) = last_push n.entries e in
+    let nothing : number_or (place_made e) 0 ≡ 0 = ap (λ (o : Option ℕ). number_or o 0) none in
+    let before : last_made n.entries ≡ decided_place n = is.last in
+    let same : max (last_made n.entries) (number_or (place_made e) 0) ≡ last_made n.entries = omega (arith, nothing) in
+    pushes stated view n e n.waiting is may (record {
+      last = last ∙ (same ∙ before);
+      latest = latest_push n.entries e ∙ (ap (λ (o : Option ℕ). or_else o (latest_made n.entries)) none ∙ is.latest);
+      waiting = decided_push n.entries e (next_place n) n.waiting is.waiting;
+    })

@@ -1,0 +1,124 @@
+-- A node that promises the next regency, and reports what its book has, stays sound.
+use Rattle.std.proofs.Common.{List, None, Option, Some, arith, false, inl, inr, refl, subst, sym, true, ℕ, ⊎_elim, ◌≡◌, ◌∙◌, ◌++◌, ◌∷◌, [], ◌+◌, ◌⊎◌}
+use Rattle.std.specs.List.{flat_map}
+use Rattle.std.specs.Prelude.{map, option_map}
+use Rattle.replica_rules.specs.Seals.{digest_of, signed}
+use Rattle.agreement_laws.specs.Certificates.{IsBacked}
+use Rattle.agreement_laws.specs.Diaries.{HasReported, IsShown}
+use Rattle.agreement_laws.specs.Statements.{Statement, signer_of}
+use Rattle.node_rules.specs.Changes.{next_promise, promise_next, promises, promising, report_of, reported_by}
+use Rattle.node_rules.specs.Nodes.{Node, next_place, recording, regency_of, view_of}
+use Rattle.smart_base.specs.Lists.{Each}
+use Rattle.smart_base.specs.Views.{View, leader}
+use Rattle.smart_base.specs.declared.party.Party.TheVariants.{Member}
+use Rattle.smart_messages.specs.Forms.{SignedBy}
+use Rattle.smart_messages.specs.Reports.{reports}
+use Rattle.smart_messages.specs.declared.any.AnyMessage.{AnyMessage}
+use Rattle.smart_messages.specs.declared.any.AnyMessage.TheVariants.{Change}
+use Rattle.smart_messages.specs.declared.report.Report.{Report}
+use Rattle.vote_book.proofs.Locks.{lock_is, maker_is}
+use Rattle.vote_book.specs.BookReports.{certificate_of, evidence_by, evidence_of, last_maker, lock_of}
+use Rattle.vote_book.specs.Books.{Among}
+use Rattle.vote_book.specs.declared.entry.Accept.{Accept}
+use Rattle.vote_book.specs.declared.entry.LogEntry.{LogEntry}
+use Rattle.vote_book.specs.declared.entry.LogEntry.TheVariants.{Accepted, Decided, Installed, Marked, Opened, Promised, Synced, Wrote}
+use Rattle.node_laws.proofs.Lists.{among_either, each_among, each_map, either}
+use Rattle.node_laws.proofs.Nodes.{aside, holds}
+use Rattle.node_laws.proofs.Promised.{number_in_force, records_promise}
+use Rattle.node_laws.proofs.Stated.{batch_covers, each_verified}
+use Rattle.node_laws.specs.Sound.{HasBatch, IsSound, IsWithin}
+use Rattle.smart_messages.specs.declared.regency.RegencyMessage.TheVariants as changes
+use Rattle.node_rules.specs.declared.node.Target.TheVariants as targets
+use Rattle.agreement_laws.specs.Statements as says
+
+-- ---- what a report of the book has in it has been stated
+
+among_mapped : {A : Type 0} (P : Statement → Type 0) (f : A → Statement) (xs : List A) (s : Statement) → Each (λ x. P (f x)) xs → Among s (map f xs) → P s
+among_mapped P f xs s each there = each_among P (map f xs) s (each_map P f xs each) there
+
+evidence_by_entry : (secret : List ℕ) (stated : List Statement) (view : View) (place regency : ℕ) (e : LogEntry) (s : Statement) → IsWithin view place regency e
+    → IsBacked secret digest_of view stated e → Among s (says.parts_of_evidence (evidence_by digest_of e)) → Among s stated
+evidence_by_entry secret stated view place regency (Decided d) s within backed there = among_mapped (λ x. Among x stated) says.Voted d.accepts s (backed within.of_view).drawn there
+evidence_by_entry secret stated view place regency (Installed i) s within backed there = absurd within
+evidence_by_entry secret stated view place regency (Opened o) s within backed there = absurd there
+evidence_by_entry secret stated view place regency (Wrote w) s within backed there = absurd there
+evidence_by_entry secret stated view place regency (Accepted a) s within backed there = absurd there
+evidence_by_entry secret stated view place regency (Promised p) s within backed there = absurd there
+evidence_by_entry secret stated view place regency (Synced t) s within backed there = absurd there
+evidence_by_entry secret stated view place regency (Marked m) s within backed there = absurd there
+
+evidence_stated : {S : Type 0} (stated : List Statement) (view : View) (n : Node S) (s : Statement) (o : Option LogEntry) → last_maker n.entries ≡ o → IsSound stated view n
+    → Among s (says.parts_of_evidence (evidence_of digest_of o)) → Among s stated
+evidence_stated stated view n s None at is there = absurd there
+evidence_stated stated view n s (Some e) at is there =
+    let made = maker_is n.entries e at in
+    evidence_by_entry n.secret stated view (next_place n) (regency_of n) e s (each_among (IsWithin view (next_place n) (regency_of n)) n.entries e is.within made.0)
+    (each_among (IsBacked n.secret digest_of view stated) n.entries e is.backed made.0) there
+
+lock_stated : {S : Type 0} (stated : List Statement) (view : View) (n : Node S) (s : Statement) (o : Option Accept) → lock_of (view_of n).number n.entries ≡ o → IsSound stated view n
+    → Among s (says.parts_of_lock (option_map certificate_of o)) → Among s stated
+lock_stated stated view n s None at is there = absurd there
+lock_stated stated view n s (Some a) at is there =
+    let lock = lock_is (view_of n).number n.entries a at in
+    let backed = each_among (IsBacked n.secret digest_of view stated) n.entries (Accepted a) is.backed lock.there in
+    among_mapped (λ x. Among x stated) says.Voted a.writes s (backed (lock.view_is ∙ number_in_force stated view n is)).drawn there
+
+batch_stated : {S : Type 0} (stated : List Statement) (view : View) (n : Node S) (s : Statement) (o : Option Accept) → lock_of (view_of n).number n.entries ≡ o → IsSound stated view n
+    → Among s (flat_map says.within (says.requests_of (option_map (λ (a : Accept). a.batch) o))) → says.verifies n.secret s ≡ true → Among s stated
+batch_stated stated view n s None at is there ok = absurd there
+batch_stated stated view n s (Some a) at is there ok =
+    let lock = lock_is (view_of n).number n.entries a at in
+    let has = each_among (HasBatch n.secret stated) n.entries (Accepted a) is.batches lock.there in
+    batch_covers n.secret stated a.batch has.asked s there ok
+
+-- ---- the report
+
+abbrev Own : {S : Type 0} → Node S → ℕ → SignedBy Report
+Own n regency = signed reports n.secret n.id (report_of n regency)
+
+-- the promise that it is of, pushed behind the book, shows it
+own_shown : {S : Type 0} (n : Node S) → HasReported digest_of (n.entries ++ Promised (next_promise n) ∷ []) (report_of n (regency_of n + 1))
+unfolding report_of
+own_shown n = record { before = n.entries; after = []; split = refl; reports = record { last = refl; evidence = refl; lock = refl } }
+
+abbrev Tells : {S : Type 0} → List Statement → Node S → Statement → Type 0
+Tells stated n s = Among s stated ⊎ ((signer_of s ≡ Member n.id) × IsShown digest_of (n.entries ++ Promised (next_promise n) ∷ []) s)
+
+part_shown : {S : Type 0} (stated : List Statement) (view : View) (n : Node S) → IsSound stated view n → (s : Statement)
+    → Among s (says.parts_of_evidence (report_of n (regency_of n + 1)).evidence ++ says.parts_of_lock (report_of n (regency_of n + 1)).lock) → Tells stated n s
+unfolding report_of
+part_shown stated view n is s there =
+    ⊎_elim
+    (λ evidence. inl (evidence_stated stated view n s (last_maker n.entries) refl is evidence))
+    (λ lock. inl (lock_stated stated view n s (lock_of (view_of n).number n.entries) refl is lock))
+    (among_either s (says.parts_of_evidence (evidence_of digest_of (last_maker n.entries))) (says.parts_of_lock (option_map certificate_of (lock_of (view_of n).number n.entries))) there)
+
+report_shown : {S : Type 0} (stated : List Statement) (view : View) (n : Node S) → IsSound stated view n → (s : Statement)
+    → Among s (says.in_report (Own n (regency_of n + 1))) → Tells stated n s
+report_shown stated view n is s (inl same) = subst (λ (x : Statement). Tells stated n x) (sym same) (inr (refl, own_shown n))
+report_shown stated view n is s (inr there) = part_shown stated view n is s there
+
+all_shown : {S : Type 0} (stated : List Statement) (view : View) (n : Node S) → IsSound stated view n → (s : Statement)
+    → Among s (flat_map says.within (says.said (Change (changes.StopData (reported_by n (regency_of n + 1)))))) → says.verifies n.secret s ≡ true → Tells stated n s
+unfolding reported_by
+all_shown stated view n is s there ok =
+    ⊎_elim
+    (λ report. report_shown stated view n is s report)
+    (λ batch. inl (batch_stated stated view n s (lock_of (view_of n).number n.entries) refl is batch ok))
+    (among_either s (says.in_report (Own n (regency_of n + 1))) (flat_map says.within (says.requests_of (option_map (λ (a : Accept). a.batch) (lock_of (view_of n).number n.entries)))) there)
+
+-- ---- promise
+
+sound_promise : {S : Type 0} (stated : List Statement) (view : View) (n : Node S) → IsSound stated view n → IsSound stated view (promise_next n)
+unfolding promise_next
+sound_promise {S = S} stated view n is =
+    let pushed : IsSound stated view (recording n (Promised (next_promise n))) = records_promise stated view n (next_promise n) is refl (omega arith) in
+    let m : Node S = record (recording n (Promised (next_promise n))) { stop_made = false; sync_made = false; impatient = true } in
+    let marked : IsSound stated view m = aside stated view (recording n (Promised (next_promise n))) n.firm n.held n.proposed false false true n.behind pushed pushed.held in
+    let message : AnyMessage = Change (changes.StopData (reported_by n (regency_of n + 1))) in
+    holds stated view m (targets.Node (leader (view_of n) (regency_of n + 1))) message marked
+    (each_verified n.secret (Tells stated n) (flat_map says.within (says.said message)) (all_shown stated view n is))
+
+pub sound_promises : {S : Type 0} (stated : List Statement) (view : View) (n : Node S) → IsSound stated view n → IsSound stated view (promises n)
+unfolding promises
+sound_promises {S = S} stated view n is = either (λ (m : Node S). IsSound stated view m) (promising n) (promise_next n) n (sound_promise stated view n is) is

@@ -1,0 +1,163 @@
+-- What holds of a node, whatever came to it, by what has been stated. So far the view that it began with is in force throughout.
+use Rattle.std.specs.Prelude.{◌≡◌, Bool, ℕ, zero, suc, ◌+◌, ◌<◌, ◌≤◌, ◌⊎◌, true, List, [], ◌∷◌, length, take, Option, Some, None, IfSome, Ok}
+use Rattle.smart_base.specs.Lists.{Each}
+use Rattle.smart_base.specs.Views.{View, is_member, leader}
+use Rattle.smart_base.specs.declared.party.Party.TheVariants.{Member}
+use Rattle.smart_messages.specs.Forms.{SignedBy}
+use Rattle.smart_messages.specs.Kinds.{requests, proposals, ballots}
+use Rattle.smart_messages.specs.Messages.{Batch}
+use Rattle.smart_messages.specs.Reports.{reports}
+use Rattle.smart_messages.specs.Regencies.{stops, syncs}
+use Rattle.smart_messages.specs.RegencyMessages.{any_decoded}
+use Rattle.smart_messages.specs.declared.statement.Answer.{Answer}
+use Rattle.smart_messages.specs.declared.statement.Slot.{Slot}
+use Rattle.smart_messages.specs.declared.regency.Stop.{Stop}
+use Rattle.smart_messages.specs.declared.regency.Sync.{Sync}
+use Rattle.smart_messages.specs.declared.regency.Reported.{Reported}
+use Rattle.smart_messages.specs.declared.regency.RegencyMessage.TheVariants as changes
+use Rattle.smart_messages.specs.declared.message.Message.{Message}
+use Rattle.smart_messages.specs.declared.message.Message.TheVariants.{Ask, Propose, Vote, Reply}
+use Rattle.smart_messages.specs.declared.message.Proposed.{Proposed}
+use Rattle.smart_messages.specs.declared.any.AnyMessage.{AnyMessage}
+use Rattle.smart_messages.specs.declared.any.AnyMessage.TheVariants.{Plain, Change}
+use Rattle.smart_messages.specs.declared.entry.NodeEvent.{NodeEvent}
+use Rattle.smart_messages.specs.declared.entry.NodeEvent.TheVariants.{Arrive, Tick, Deliver, Firm}
+use Rattle.smart_service.specs.declared.table.TableLine.{TableLine}
+use Rattle.vote_book.specs.Books.{Among, Lawful, last_made, latest_made}
+use Rattle.vote_book.specs.Tidy.{IsTidy}
+use Rattle.vote_book.specs.declared.entry.Decision.{Decision}
+use Rattle.vote_book.specs.declared.entry.LogEntry.{LogEntry}
+use Rattle.vote_book.specs.declared.entry.LogEntry.TheVariants.{Opened, Wrote, Accepted, Promised, Synced, Decided, Installed, Marked}
+use Rattle.replica_rules.specs.Seals.{is_verified, digest_of}
+use Rattle.agreement_laws.specs.Statements.{Statement, statements, signer_of}
+use Rattle.agreement_laws.specs.Diaries.{IsShown, HasAnswered}
+use Rattle.agreement_laws.specs.Certificates.{IsBacked}
+use Rattle.node_rules.specs.Nodes.{Node, regency_of, next_place, decided_place}
+use Rattle.node_rules.specs.Arrivals.{is_batch_for, is_proven, is_collect}
+use Rattle.node_rules.specs.declared.node.Held.{Held}
+
+-- ---- what has been stated
+
+abbrev pub AreAmong : List Statement → List Statement → Type 0
+AreAmong few all = Each (λ s. Among s all) few
+
+-- all that stands in a message, at any depth, and bears the tag of its signer has been stated
+abbrev pub IsStated : List ℕ → List Statement → AnyMessage → Type 0
+IsStated secret stated m = AreAmong (statements secret m) stated
+
+-- so has what stands in bytes that come
+abbrev pub IsStatedEvent : List ℕ → List Statement → NodeEvent → Type 0
+IsStatedEvent secret stated (Arrive bytes) = (m : AnyMessage) → any_decoded bytes ≡ Ok m → IsStated secret stated m
+IsStatedEvent secret stated Tick = Unit {0}
+IsStatedEvent secret stated Deliver = Unit {0}
+IsStatedEvent secret stated (Firm count) = Unit {0}
+
+-- the requests of a batch
+abbrev pub AreAsked : List ℕ → List Statement → Batch → Type 0
+AreAsked secret stated batch = Each (λ q. (is_verified requests secret q ≡ true) × IsStated secret stated (Plain (Ask q))) batch
+
+-- ---- what is kept
+
+-- a member of the view states something of the view
+pub record IsMembers (view : View) (verified : Bool) (signer of : ℕ) : Type 0 where
+  pub tagged : verified ≡ true
+  pub member : is_member view signer ≡ true
+  pub of_view : of ≡ view.number
+
+-- a leader's proposal of a batch that may stand at its place
+pub record IsProposal (secret : List ℕ) (view : View) (p : Proposed) : Type 0 where
+  pub members : IsMembers view (is_verified proposals secret p.head) p.head.signer p.head.statement.slot.view
+  pub leaders : p.head.signer ≡ leader view p.head.statement.slot.regency
+  pub batch : is_batch_for secret p.head.statement.slot.place p.head.statement.digest p.batch ≡ true
+
+abbrev pub IsKept : List ℕ → View → Message → Type 0
+IsKept secret view (Ask q) = ⊥
+IsKept secret view (Propose p) = IsProposal secret view p
+IsKept secret view (Vote b) = IsMembers view (is_verified ballots secret b) b.signer b.statement.slot.view
+IsKept secret view (Reply a) = ⊥
+
+-- ---- what the book has
+
+-- a batch that may stand at a place, under its digest, and whose requests have been stated
+pub record IsBatchAt (secret : List ℕ) (stated : List Statement) (place : ℕ) (digest : List ℕ) (batch : Batch) : Type 0 where
+  pub may : is_batch_for secret place digest batch ≡ true
+  pub asked : AreAsked secret stated batch
+
+abbrev pub HasBatch : List ℕ → List Statement → LogEntry → Type 0
+HasBatch secret stated (Opened o) = Unit {0}
+HasBatch secret stated (Wrote w) = Unit {0}
+HasBatch secret stated (Accepted a) = IsBatchAt secret stated a.slot.place a.digest a.batch
+HasBatch secret stated (Promised p) = Unit {0}
+HasBatch secret stated (Synced s) = Unit {0}
+HasBatch secret stated (Decided d) = IsBatchAt secret stated d.slot.place (digest_of d.batch) d.batch
+HasBatch secret stated (Installed i) = Unit {0}
+HasBatch secret stated (Marked m) = Unit {0}
+
+-- a slot of a view, up to a place and up to a regency
+pub record IsUpTo (view : View) (place regency : ℕ) (slot : Slot) : Type 0 where
+  pub of_view : slot.view ≡ view.number
+  pub place_is : slot.place ≤ place
+  pub regency_is : slot.regency ≤ regency
+
+-- a regency of a view, which is not its first, up to a regency
+pub record IsLater (view : View) (regency of r : ℕ) : Type 0 where
+  pub of_view : of ≡ view.number
+  pub some : 0 < r
+  pub most : r ≤ regency
+
+-- An entry of a view, whose votes are of no later place and regency; a decision may be of the next regency. So far nothing is installed or marked.
+abbrev pub IsWithin : View → ℕ → ℕ → LogEntry → Type 0
+IsWithin view place regency (Opened o) = Unit {0}
+IsWithin view place regency (Wrote w) = IsUpTo view place regency w.slot
+IsWithin view place regency (Accepted a) = IsUpTo view place regency a.slot
+IsWithin view place regency (Promised p) = IsLater view regency p.view p.regency
+IsWithin view place regency (Synced s) = IsLater view regency s.view s.regency
+IsWithin view place regency (Decided d) = IsUpTo view place (regency + 1) d.slot
+IsWithin view place regency (Installed i) = ⊥
+IsWithin view place regency (Marked m) = ⊥
+
+-- the place made last, if one is
+abbrev pub place_if : ℕ → Option ℕ
+place_if zero = None
+place_if (suc k) = Some (suc k)
+
+pub record HasDecided (entries : List LogEntry) (place : ℕ) (batch : Batch) : Type 0 where
+  pub decision : Decision
+  pub there : Among (Decided decision) entries
+  pub place_is : decision.slot.place ≡ place
+  pub batch_is : decision.batch ≡ batch
+
+abbrev pub answer_by : TableLine → Answer
+answer_by line = record { view = line.view; place = line.place; index = line.index; client = line.client; seq = line.seq; reply = line.reply }
+
+-- ---- what is held
+
+-- Each statement in a message that is held has been stated, or it is the member's own and the entries show it that the message needs.
+pub record IsHeld (secret : List ℕ) (id : ℕ) (stated : List Statement) (entries : List LogEntry) (h : Held) : Type 0 where
+  pub needs : h.needs ≤ length entries
+  pub shown : Each (λ s. Among s stated ⊎ ((signer_of s ≡ Member id) × IsShown digest_of (take h.needs entries) s)) (statements secret h.message)
+
+-- ---- the node
+
+pub record IsSound {S : Type 0} (stated : List Statement) (view : View) (n : Node S) : Type 0 where
+  pub views : n.replica.views ≡ view ∷ []
+  -- the book is lawful and tidy, and reaches as far as the node
+  pub lawful : Lawful 0 0 n.entries
+  pub tidy : IsTidy n.entries
+  pub last : last_made n.entries ≡ decided_place n
+  pub latest : latest_made n.entries ≡ place_if (decided_place n)
+  pub within : Each (IsWithin view (next_place n) (regency_of n)) n.entries
+  -- it rests on what has been stated
+  pub backed : Each (IsBacked n.secret digest_of view stated) n.entries
+  pub batches : Each (HasBatch n.secret stated) n.entries
+  -- what waits is decided, and what the replica remembers of a client was
+  pub waiting : IfSome n.waiting (HasDecided n.entries (next_place n))
+  pub table : Each (λ line. HasAnswered n.entries (answer_by line)) n.replica.table
+  -- what is kept passed the node's checks and has been stated
+  pub arrivals : Each (λ m. IsKept n.secret view m × IsStated n.secret stated (Plain m)) n.arrivals
+  pub stops : Each (λ (s : SignedBy Stop). IsMembers view (is_verified stops n.secret s) s.signer s.statement.view × IsStated n.secret stated (Change (changes.Stop s))) n.stops
+  pub reports : Each (λ (r : Reported). IsMembers view (is_verified reports n.secret r.head) r.head.signer r.head.statement.view × (is_proven n r ≡ true) × IsStated n.secret stated (Change (changes.StopData r))) n.reports
+  pub syncs : Each (λ (s : SignedBy Sync). IsMembers view (is_verified syncs n.secret s) s.signer s.statement.view × (is_collect n s.statement ≡ true) × IsStated n.secret stated (Change (changes.Sync s))) n.syncs
+  pub pool : AreAsked n.secret stated n.pool
+  -- what is held is shown
+  pub held : Each (IsHeld n.secret n.id stated n.entries) n.held

@@ -1,0 +1,119 @@
+-- A node that is told that it is behind, and the table lines that it answers with again.
+use Rattle.std.proofs.Common.{◌≡◌, ℕ, ◌+◌, ◌++◌, ◌==◌, Bool, true, false, List, [], ◌∷◌, refl, cond, Option, Some, None, nat_lt}
+use Rattle.std.specs.List.{flat_map}
+use Rattle.std.specs.Option.{option_to_list}
+use Rattle.smart_base.specs.Lists.{Each}
+use Rattle.smart_messages.specs.Messages.{Batch}
+use Rattle.smart_messages.specs.declared.statement.Request.{Request}
+use Rattle.smart_messages.specs.declared.message.Message.TheVariants.{Ask, Propose, Vote, Reply}
+use Rattle.smart_messages.specs.declared.any.AnyMessage.{AnyMessage}
+use Rattle.smart_messages.specs.declared.any.AnyMessage.TheVariants.{Plain, Change}
+use Rattle.smart_service.specs.Services.{Meaning}
+use Rattle.smart_service.specs.Tables.{last_seq, line_for, with_line}
+use Rattle.smart_service.specs.declared.table.TableLine.{TableLine}
+use Rattle.smart_service.specs.declared.replica.Replica.{Replica}
+use Rattle.replica_rules.specs.Replicas.{is_next, line_of, execute, execute_all, line_made, lines_of, at_next, delivered, executed_lines, after_batches, executions_from}
+use Rattle.node_rules.specs.Nodes.{Node}
+use Rattle.node_rules.specs.Arrivals.{noted}
+use Rattle.node_rules.specs.Rules.{fired_if, answering, answer_line, answers_again}
+use Rattle.node_rules.specs.declared.node.Fired.TheVariants as fires
+use Rattle.world_rules.specs.Worlds.{delivery_in}
+use Rattle.replica_laws.proofs.Lists.{either}
+
+-- the node that is told
+
+pub entries-noted : {S : Type 0} (n : Node S) (message : AnyMessage) → (noted n message).entries ≡ n.entries
+unfolding noted
+entries-noted n message = refl
+
+pub replica-noted : {S : Type 0} (n : Node S) (message : AnyMessage) → (noted n message).replica ≡ n.replica
+unfolding noted
+replica-noted n message = refl
+
+-- an answer again
+
+pub entries-answer_line : {S : Type 0} (n : Node S) (line : Option TableLine) → (answer_line n line).entries ≡ n.entries
+unfolding answer_line
+entries-answer_line n None = refl
+entries-answer_line n (Some line) = refl
+
+pub entries-answers_again : {S : Type 0} (n : Node S) (message : AnyMessage) → (answers_again n message).entries ≡ n.entries
+unfolding answers_again
+entries-answers_again n message = entries-answer_line n (answering n message)
+
+pub replica-answer_line : {S : Type 0} (n : Node S) (line : Option TableLine) → (answer_line n line).replica ≡ n.replica
+unfolding answer_line
+replica-answer_line n None = refl
+replica-answer_line n (Some line) = refl
+
+pub replica-answers_again : {S : Type 0} (n : Node S) (message : AnyMessage) → (answers_again n message).replica ≡ n.replica
+unfolding answers_again
+replica-answers_again n message = replica-answer_line n (answering n message)
+
+-- it delivers nothing
+pub delivers-answer : (line : Option TableLine) → flat_map delivery_in (fired_if fires.Answered line) ≡ []
+delivers-answer None = refl
+delivers-answer (Some line) = refl
+
+-- the line of an answer
+
+-- what holds of a line, if there is one
+abbrev pub ForLine : Option TableLine → (TableLine → Type 0) → Type 0
+ForLine None P = Unit {0}
+ForLine (Some line) P = P line
+
+-- a client's line is one of the table
+line_for-each : (P : TableLine → Type 0) (lines : List TableLine) (client : ℕ) → Each P lines → ForLine (line_for lines client) P
+line_for-each P [] client each = tt
+line_for-each P (l ∷ ls) client each = either (λ (found : Option TableLine). ForLine found P) (l.client == client) (Some l) (line_for ls client) each.0 (line_for-each P ls client each.1)
+
+-- so is the line of an answer
+pub answering-each : {S : Type 0} (P : TableLine → Type 0) (n : Node S) (message : AnyMessage) → Each P n.replica.table → ForLine (answering n message) P
+unfolding answering
+answering-each P n (Plain (Ask q)) each =
+    either (λ (found : Option TableLine). ForLine found P) (q.statement.seq == last_seq n.replica.table q.statement.client) (line_for n.replica.table q.statement.client) None
+    (line_for-each P n.replica.table q.statement.client each) tt
+answering-each P n (Plain (Propose p)) each = tt
+answering-each P n (Plain (Vote b)) each = tt
+answering-each P n (Plain (Reply a)) each = tt
+answering-each P n (Change x) each = tt
+
+-- the lines of a table
+
+-- what holds of a table's lines and of one that is put, holds of the lines then
+each_with_line : (P : TableLine → Type 0) (table : List TableLine) (line : TableLine) → Each P table → P line → Each P (with_line table line)
+each_with_line P [] line each is = (is, tt)
+each_with_line P (old ∷ olds) line each is =
+    either (λ (lines : List TableLine). Each P lines) (old.client == line.client) (line ∷ olds) (cond (nat_lt line.client old.client) (line ∷ old ∷ olds) (old ∷ with_line olds line)) (is, each.1)
+    (either (λ (lines : List TableLine). Each P lines) (nat_lt line.client old.client) (line ∷ old ∷ olds) (old ∷ with_line olds line) (is, each) (each.0, each_with_line P olds line each.1 is))
+
+-- both parts of a list
+each_parts : (P : TableLine → Type 0) (xs ys : List TableLine) → Each P (xs ++ ys) → Each P xs × Each P ys
+each_parts P [] ys each = (tt, each)
+each_parts P (x ∷ xs) ys each = let rest = each_parts P xs ys each.1 in ((each.0, rest.0), rest.1)
+
+-- a request puts the line that it makes
+each-execute : {S : Type 0} (P : TableLine → Type 0) (m : Meaning S) (r : Replica S) (i : ℕ) (q : Request) (next : Bool) → is_next r.table q ≡ next → Each P r.table
+    → Each P (option_to_list (cond next (Some (line_of m r i q)) None)) → Each P (execute m r i q).table
+unfolding execute
+each-execute P m r i q true is table made = rw is (each_with_line P r.table (line_of m r i q) table made.0)
+each-execute P m r i q false is table made = rw is table
+
+-- requests put the lines that they make
+each-execute_all : {S : Type 0} (P : TableLine → Type 0) (m : Meaning S) (r : Replica S) (i : ℕ) (qs : Batch) → Each P r.table → Each P (lines_of m r i qs) → Each P (execute_all m r i qs).table
+each-execute_all P m r i [] table each = table
+each-execute_all P m r i (q ∷ qs) table each =
+    let parts = each_parts P (option_to_list (line_made m r i q.statement)) (lines_of m (execute m r i q.statement) (i + 1) qs) each in
+    each-execute_all P m (execute m r i q.statement) (i + 1) qs (each-execute P m r i q.statement (is_next r.table q.statement) refl table parts.0) parts.1
+
+-- so does a batch
+pub each-delivered : {S : Type 0} (P : TableLine → Type 0) (m : Meaning S) (r : Replica S) (batch : Batch) → Each P r.table → Each P (executed_lines m r batch) → Each P (delivered m r batch).table
+unfolding delivered executed_lines
+each-delivered P m r batch table each = each-execute_all P m (at_next r) 0 batch table each
+
+-- and a list of batches
+pub each-after_batches : {S : Type 0} (P : TableLine → Type 0) (m : Meaning S) (r : Replica S) (list : List Batch) → Each P r.table → Each P (executions_from m r list) → Each P (after_batches m r list).table
+each-after_batches P m r [] table each = table
+each-after_batches P m r (batch ∷ list) table each =
+    let parts = each_parts P (executed_lines m r batch) (executions_from m (delivered m r batch) list) each in
+    each-after_batches P m (delivered m r batch) list (each-delivered P m r batch table parts.0) parts.1

@@ -1,0 +1,245 @@
+-- What a longer list executes, and what a line of a list's executions says.
+use Rattle.std.proofs.Common.{◌≡◌, ℕ, zero, suc, ◌+◌, ◌-◌, ◌≤◌, ◌++◌, Bool, true, false, List, [], ◌∷◌, length, refl, ap, ◌∙◌, sym, cond, Some, None, inl, inr, subst, take, arith, append_assoc, add-one}
+use Rattle.std.proofs.lemmas.Option.{slice_get_within}
+use Rattle.std.specs.Prelude.{slice_get}
+use Rattle.std.specs.Option.{option_to_list}
+use Rattle.smart_base.specs.Lists.{Each}
+use Rattle.smart_base.specs.Views.{View, present}
+use Rattle.smart_messages.specs.Forms.{SignedBy}
+use Rattle.smart_messages.specs.Messages.{Batch}
+use Rattle.smart_messages.specs.declared.statement.Request.{Request}
+use Rattle.smart_service.specs.Services.{Meaning}
+use Rattle.smart_service.specs.declared.table.TableLine.{TableLine}
+use Rattle.smart_service.specs.declared.replica.Replica.{Replica}
+use Rattle.replica_rules.specs.Replicas.{is_next, line_of, execute, execute_all, line_made, lines_of, at_next, delivered, executed_lines, empty, after_batches, state, executions_from, executions, batch_at, request_at, view_at}
+use Rattle.replica_laws.specs.Lines.{HasLine}
+use Rattle.replica_laws.proofs.Lists.{each_append, each_weaker}
+use Rattle.replica_laws.proofs.OnePlace.{each_line, place-execute, place-delivered}
+
+-- lines among lines
+
+-- a line of the first list is among both
+pub has_left : (xs ys : List TableLine) (l : TableLine) → HasLine xs l → HasLine (xs ++ ys) l
+has_left [] ys l has = absurd has
+has_left (x ∷ xs) ys l has = elim has [ inl here ↦ inl here | inr later ↦ inr (has_left xs ys l later) ]
+
+-- a line of the second list is among both
+pub has_right : (xs ys : List TableLine) (l : TableLine) → HasLine ys l → HasLine (xs ++ ys) l
+has_right [] ys l has = has
+has_right (x ∷ xs) ys l has = inr (has_right xs ys l has)
+
+-- a longer list
+
+-- a longer list executes what the shorter one does, and then more
+executions-append : {S : Type 0} (m : Meaning S) (r : Replica S) (list more : List Batch) → executions_from m r (list ++ more) ≡ executions_from m r list ++ executions_from m (after_batches m r list) more
+executions-append m r [] more = refl
+executions-append m r (batch ∷ list) more =
+    ap (λ lines. executed_lines m r batch ++ lines) (executions-append m (delivered m r batch) list more)
+    ∙ sym (append_assoc (executed_lines m r batch) (executions_from m (delivered m r batch) list) (executions_from m (after_batches m (delivered m r batch) list) more))
+
+-- what is executed stays executed
+pub executions-more : {S : Type 0} (m : Meaning S) (v : View) (list more : List Batch) (l : TableLine) → HasLine (executions m v list) l → HasLine (executions m v (list ++ more)) l
+executions-more m v list more l has =
+    subst (λ lines. HasLine lines l) (sym (executions-append m (empty m v) list more))
+    (has_left (executions m v list) (executions_from m (state m v list) more) l has)
+
+-- one more batch is delivered last
+after_end : {S : Type 0} (m : Meaning S) (r : Replica S) (list : List Batch) (batch : Batch) → after_batches m r (list ++ batch ∷ []) ≡ delivered m (after_batches m r list) batch
+after_end m r [] batch = refl
+after_end m r (b ∷ list) batch = after_end m (delivered m r b) list batch
+
+-- one more batch is delivered to the state before it
+pub state-end : {S : Type 0} (m : Meaning S) (v : View) (list : List Batch) (batch : Batch) → state m v (list ++ batch ∷ []) ≡ delivered m (state m v list) batch
+state-end m v list batch = after_end m (empty m v) list batch
+
+-- each batch takes a place behind the replica's
+after_place : {S : Type 0} (m : Meaning S) (r : Replica S) (list : List Batch) → (after_batches m r list).place ≡ r.place + length list
+after_place m r [] = omega arith
+after_place m r (batch ∷ list) =
+    let place = place-delivered m r batch in
+    let rest = after_place m (delivered m r batch) list in
+    omega (arith, place, rest)
+
+-- each batch takes a place
+pub state-place : {S : Type 0} (m : Meaning S) (v : View) (list : List Batch) → (state m v list).place ≡ length list
+state-place m v list = let place = after_place m (empty m v) list in omega (arith, place)
+
+-- of two replicas with the same views, a choice has them
+views_if : {S : Type 0} (b : Bool) (x y : Replica S) → x.views ≡ y.views → (cond b x y).views ≡ y.views
+views_if true x y same = same
+views_if false x y same = refl
+
+-- a request leaves the views
+pub views-execute : {S : Type 0} (m : Meaning S) (r : Replica S) (i : ℕ) (q : Request) → (execute m r i q).views ≡ r.views
+unfolding execute
+views-execute m r i q = views_if (is_next r.table q) _ r refl
+
+-- requests leave the views
+views-execute_all : {S : Type 0} (m : Meaning S) (r : Replica S) (i : ℕ) (qs : Batch) → (execute_all m r i qs).views ≡ r.views
+views-execute_all m r i [] = refl
+views-execute_all m r i (q ∷ qs) = views-execute_all m (execute m r i q.statement) (i + 1) qs ∙ views-execute m r i q.statement
+
+-- a batch leaves the views
+pub views-delivered : {S : Type 0} (m : Meaning S) (r : Replica S) (batch : Batch) → (delivered m r batch).views ≡ r.views
+unfolding delivered
+views-delivered m r batch = views-execute_all m (at_next r) 0 batch
+
+-- batches leave the views
+after_views : {S : Type 0} (m : Meaning S) (r : Replica S) (list : List Batch) → (after_batches m r list).views ≡ r.views
+after_views m r [] = refl
+after_views m r (batch ∷ list) = after_views m (delivered m r batch) list ∙ views-delivered m r batch
+
+-- no batch changes the view
+pub state-views : {S : Type 0} (m : Meaning S) (v : View) (list : List Batch) → (state m v list).views ≡ v ∷ []
+state-views m v list = after_views m (empty m v) list
+
+-- what a batch executes in its turn, the batches execute
+executed_from : {S : Type 0} (m : Meaning S) (r : Replica S) (list : List Batch) (k : ℕ) (batch : Batch) (l : TableLine)
+    → slice_get list k ≡ Some batch → HasLine (executed_lines m (after_batches m r (take k list)) batch) l → HasLine (executions_from m r list) l
+executed_from m r [] k batch l at has = absurd (cc)
+executed_from m r (b ∷ list) zero batch l at has =
+    let same : b ≡ batch = cc in
+    has_left (executed_lines m r b) (executions_from m (delivered m r b) list) l (subst (λ c. HasLine (executed_lines m r c) l) (sym same) has)
+executed_from m r (b ∷ list) (suc k) batch l at has =
+    has_right (executed_lines m r b) (executions_from m (delivered m r b) list) l (executed_from m (delivered m r b) list k batch l at has)
+
+-- what the batch at a place executes, the list executes
+pub executed-at : {S : Type 0} (m : Meaning S) (v : View) (list : List Batch) (k : ℕ) (batch : Batch) (l : TableLine)
+    → batch_at list (k + 1) ≡ Some batch → HasLine (executed_lines m (state m v (take k list)) batch) l → HasLine (executions m v list) l
+executed-at m v list k batch l at has = executed_from m (empty m v) list k batch l (sym (ap (batch_at list) (add-one k)) ∙ at) has
+
+-- what a line says
+
+-- the request that a line is of, among requests that stand from an index on
+pub record OfRequest {S : Type 0} (r : Replica S) (from : ℕ) (qs : Batch) (l : TableLine) : Type 0 where
+  pub request : SignedBy Request
+  pub step : ℕ
+  pub at_place : l.place ≡ r.place
+  pub at_index : l.index ≡ from + step
+  pub in_view : l.view ≡ (present r.views).number
+  pub there : slice_get qs step ≡ Some request
+  pub own_client : request.statement.client ≡ l.client
+  pub own_seq : request.statement.seq ≡ l.seq
+
+-- the line of the first request
+of_one : {S : Type 0} (m : Meaning S) (r : Replica S) (i : ℕ) (q : SignedBy Request) (qs : Batch) (next : Bool) → Each (OfRequest r i (q ∷ qs)) (option_to_list (cond next (Some (line_of m r i q.statement)) None))
+of_one m r i q qs true = (record { request = q; step = 0; at_place = refl; at_index = omega arith; in_view = refl; there = refl; own_client = refl; own_seq = refl }, tt)
+of_one m r i q qs false = tt
+
+-- a line of the later requests is of the requests
+of_later : {S : Type 0} (m : Meaning S) (r : Replica S) (i : ℕ) (q : SignedBy Request) (qs : Batch) (l : TableLine) → OfRequest (execute m r i q.statement) (i + 1) qs l → OfRequest r i (q ∷ qs) l
+of_later m r i q qs l is = record {
+  request = is.request;
+  step = suc is.step;
+  at_place = is.at_place ∙ place-execute m r i q.statement;
+  at_index = omega (arith, is.at_index);
+  in_view = is.in_view ∙ ap (λ (vs : List View). (present vs).number) (views-execute m r i q.statement);
+  there = is.there;
+  own_client = is.own_client;
+  own_seq = is.own_seq;
+}
+
+-- each line of requests is of one of them
+of_all : {S : Type 0} (m : Meaning S) (r : Replica S) (i : ℕ) (qs : Batch) → Each (OfRequest r i qs) (lines_of m r i qs)
+of_all m r i [] = tt
+of_all m r i (q ∷ qs) =
+    each_append (OfRequest r i (q ∷ qs)) (option_to_list (line_made m r i q.statement)) (lines_of m (execute m r i q.statement) (i + 1) qs)
+    (of_one m r i q qs (is_next r.table q.statement))
+    (each_weaker (OfRequest (execute m r i q.statement) (i + 1) qs) (OfRequest r i (q ∷ qs)) (of_later m r i q qs) _ (of_all m (execute m r i q.statement) (i + 1) qs))
+
+-- each line of a batch is of one of its requests
+pub of_delivered : {S : Type 0} (m : Meaning S) (r : Replica S) (batch : Batch) → Each (OfRequest (at_next r) 0 batch) (executed_lines m r batch)
+unfolding executed_lines
+of_delivered m r batch = of_all m (at_next r) 0 batch
+
+-- the batch and the request that a line is of, among batches behind a replica
+record OfBatch {S : Type 0} (r : Replica S) (list : List Batch) (l : TableLine) : Type 0 where
+  batch : Batch
+  request : SignedBy Request
+  step : ℕ
+  at_place : l.place ≡ r.place + suc step
+  in_view : l.view ≡ (present r.views).number
+  batch_there : slice_get list step ≡ Some batch
+  there : slice_get batch l.index ≡ Some request
+  own_client : request.statement.client ≡ l.client
+  own_seq : request.statement.seq ≡ l.seq
+
+-- a line of the first batch
+batch_here : {S : Type 0} (r : Replica S) (batch : Batch) (list : List Batch) (l : TableLine) → OfRequest (at_next r) 0 batch l → OfBatch r (batch ∷ list) l
+batch_here r batch list l is =
+    let index : l.index ≡ is.step = omega (arith, is.at_index) in
+    record {
+      batch = batch;
+      request = is.request;
+      step = 0;
+      at_place = omega (arith, is.at_place);
+      in_view = is.in_view;
+      batch_there = refl;
+      there = ap (slice_get batch) index ∙ is.there;
+      own_client = is.own_client;
+      own_seq = is.own_seq;
+    }
+
+-- a line of the later batches is of the batches
+batch_later : {S : Type 0} (m : Meaning S) (r : Replica S) (batch : Batch) (list : List Batch) (l : TableLine) → OfBatch (delivered m r batch) list l → OfBatch r (batch ∷ list) l
+batch_later m r batch list l is =
+    let place = place-delivered m r batch in
+    record {
+      batch = is.batch;
+      request = is.request;
+      step = suc is.step;
+      at_place = omega (arith, place, is.at_place);
+      in_view = is.in_view ∙ ap (λ (vs : List View). (present vs).number) (views-delivered m r batch);
+      batch_there = is.batch_there;
+      there = is.there;
+      own_client = is.own_client;
+      own_seq = is.own_seq;
+    }
+
+-- each line of batches is of one of them
+batch_all : {S : Type 0} (m : Meaning S) (r : Replica S) (list : List Batch) → Each (OfBatch r list) (executions_from m r list)
+batch_all m r [] = tt
+batch_all m r (batch ∷ list) =
+    each_append (OfBatch r (batch ∷ list)) (executed_lines m r batch) (executions_from m (delivered m r batch) list)
+    (each_weaker (OfRequest (at_next r) 0 batch) (OfBatch r (batch ∷ list)) (batch_here r batch list) _ (of_delivered m r batch))
+    (each_weaker (OfBatch (delivered m r batch) list) (OfBatch r (batch ∷ list)) (batch_later m r batch list) _ (batch_all m (delivered m r batch) list))
+
+-- a line of a list's executions is of one of its batches
+of_line : {S : Type 0} (m : Meaning S) (v : View) (list : List Batch) (l : TableLine) → HasLine (executions m v list) l → OfBatch (empty m v) list l
+of_line m v list l has = each_line (OfBatch (empty m v) list) (executions m v list) l (batch_all m (empty m v) list) has
+
+-- a line stands at a place of the list
+pub place-line : {S : Type 0} (m : Meaning S) (v : View) (list : List Batch) (l : TableLine) → HasLine (executions m v list) l → (1 ≤ l.place) × (l.place ≤ length list)
+place-line m v list l has =
+    let is = of_line m v list l has in
+    let within = slice_get_within list is.step is.batch is.batch_there in
+    (omega (arith, is.at_place), omega (arith, is.at_place, within))
+
+-- the request of a line: it stands at the line's place and index
+pub record IsOfRequest (list : List Batch) (l : TableLine) : Type 0 where
+  pub request : Request
+  pub there : request_at list l.place l.index ≡ Some request
+  pub client : request.client ≡ l.client
+  pub seq : request.seq ≡ l.seq
+
+-- the request at a place that counts from 1
+request_there : (list : List Batch) (place k index : ℕ) (batch : Batch) (q : SignedBy Request) → place ≡ suc k → slice_get list k ≡ Some batch → slice_get batch index ≡ Some q
+    → request_at list place index ≡ Some q.statement
+request_there list place k index batch q is at there = rw (is, at, there) refl
+
+-- a line is of the request at its place and index
+pub request-line : {S : Type 0} (m : Meaning S) (v : View) (list : List Batch) (l : TableLine) → HasLine (executions m v list) l → IsOfRequest list l
+request-line m v list l has =
+    let is = of_line m v list l has in
+    record {
+      request = is.request.statement;
+      there = request_there list l.place is.step l.index is.batch is.request (omega (arith, is.at_place)) is.batch_there is.there;
+      client = is.own_client;
+      seq = is.own_seq;
+    }
+
+-- a line states the view in force at its place
+pub view-line : {S : Type 0} (m : Meaning S) (v : View) (list : List Batch) (l : TableLine) → HasLine (executions m v list) l → l.view ≡ (view_at m v list l.place).number
+view-line m v list l has =
+    let is = of_line m v list l has in
+    is.in_view ∙ ap (λ (vs : List View). (present vs).number) (sym (state-views m v (take (l.place - 1) list)))

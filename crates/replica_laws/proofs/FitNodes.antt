@@ -1,0 +1,1227 @@
+-- What a node holds and sends has a spelling, and bears its signers' tags: rule by rule.
+use Rattle.std.proofs.Common.{◌≡◌, ◌⊎◌, inl, inr, ⊎_elim, ℕ, zero, suc, ◌+◌, ◌^◌, ◌<◌, ◌≤◌, ◌++◌, ◌==◌, ◌&&◌, ◌||◌, max, Bool, true, false, not, List, [], ◌∷◌, length, length-append, append-nil, refl, ap, sym, subst, cond, Option, Some, None, is_some, is_none, nat_lt, nat_le, filter, take, arith, Result, Ok, Err}
+use Rattle.std.proofs.lemmas.Bool.{ltb-true, leb-true}
+use Rattle.std.specs.Prelude.{IfSome, option_map, find}
+use Rattle.std.specs.List.{list_any, list_all, filter_map, cons_option, AllByRecursion}
+use Rattle.std.specs.Option.{option_to_list}
+use Rattle.smart_base.specs.Lists.{Each, or_else, same_bytes}
+use Rattle.smart_base.specs.Spelling.{IsCount, IsPayload}
+use Rattle.smart_base.specs.Views.{View, is_view, is_member, leader, present, quorum}
+use Rattle.smart_base.proofs.ViewLaws.{members-few}
+use Rattle.smart_view.specs.Sizes.{collect_size}
+use Rattle.smart_messages.specs.Equality.{same_slot, same_kind}
+use Rattle.smart_messages.specs.Forms.{SignedBy}
+use Rattle.smart_messages.specs.Kinds.{requests, ballots, proposals}
+use Rattle.smart_messages.specs.Messages.{Batch, batch_text, FitsBatch}
+use Rattle.smart_messages.specs.Spelling as spells
+use Rattle.smart_messages.specs.Spelling.{FitsSlot, FitsBallot, FitsRequest, IsSigner, FitsSigned}
+use Rattle.smart_messages.specs.SignedLists.{optional, FitsOptional}
+use Rattle.smart_messages.specs.Reports.{reports, votes_of, FitsVote, FitsReport}
+use Rattle.smart_messages.specs.Regencies.{stops, syncs}
+use Rattle.smart_messages.specs.RegencyMessages.{change_spelling, FitsAny, any_decoded}
+use Rattle.smart_messages.proofs.AnyMessages.{decoded_any_is}
+use Rattle.smart_base.specs.Cuts.{IsBytes}
+use Rattle.node_rules.specs.Kept.{node_after}
+use Rattle.smart_messages.specs.declared.statement.Request.{Request}
+use Rattle.smart_messages.specs.declared.statement.Slot.{Slot}
+use Rattle.smart_messages.specs.declared.statement.Ballot.{Ballot}
+use Rattle.smart_messages.specs.declared.statement.VoteKind.{VoteKind}
+use Rattle.smart_messages.specs.declared.statement.VoteKind.TheVariants.{Write, Accept}
+use Rattle.smart_messages.specs.declared.report.LockCertificate.{LockCertificate}
+use Rattle.smart_messages.specs.declared.report.Report.{Report}
+use Rattle.smart_messages.specs.declared.regency.Sync.{Sync}
+use Rattle.smart_messages.specs.declared.regency.Reported.{Reported}
+use Rattle.smart_messages.specs.declared.regency.RegencyMessage.TheVariants as changes
+use Rattle.smart_messages.specs.declared.message.Message.{Message}
+use Rattle.smart_messages.specs.declared.message.Message.TheVariants.{Ask, Propose, Vote, Reply}
+use Rattle.smart_messages.specs.declared.message.Proposed.{Proposed}
+use Rattle.smart_messages.specs.declared.any.AnyMessage.{AnyMessage}
+use Rattle.smart_messages.specs.declared.any.AnyMessage.TheVariants.{Plain, Change}
+use Rattle.smart_messages.specs.declared.entry.NodeEvent.{NodeEvent}
+use Rattle.smart_messages.specs.declared.entry.NodeEvent.TheVariants.{Arrive, Tick, Deliver, Firm}
+use Rattle.smart_service.specs.Services.{Meaning}
+use Rattle.smart_service.specs.declared.table.TableLine.{TableLine}
+use Rattle.smart_service.specs.declared.replica.Replica.{Replica}
+use Rattle.vote_book.specs.Books.{Among, HasMade, place_made, last_made, number_or}
+use Rattle.vote_book.specs.BookReports.{last_maker, evidence_of, accept_for, greatest_accept, lock_of, certificate_of}
+use Rattle.vote_book.proofs.Locks.{maker_is, no_maker}
+use Rattle.vote_book.specs.declared.entry.Accept as accept
+use Rattle.vote_book.specs.declared.entry.Decision.{Decision}
+use Rattle.vote_book.specs.declared.entry.LogEntry.{LogEntry}
+use Rattle.vote_book.specs.declared.entry.LogEntry.TheVariants as entries
+use Rattle.regency_sync.specs.Synchronizers.{Synchronizer, needs_report, is_lock_of, bears, batch_in, batch_of as bound_batch, is_adoptable, adopting, has_next, is_joining, is_promising, is_report, first_report, is_collecting, collect, collecting}
+use Rattle.replica_rules.specs.Seals.{is_verified, signed, digest_of, is_managers, request_fits}
+use Rattle.replica_rules.specs.Replicas.{is_next, line_of, execute, line_made, lines_of, at_next, delivered, executed_lines}
+use Rattle.node_rules.specs.Votes.{is_vote, has_vote, certificate, Named, vote_in, first_vote, certificate_votes, proposed_in, proposed_for, named_in, named_by, known, decision_by, accepted_under}
+use Rattle.replica_rules.specs.Pools.{offered, settled, is_within as is_within_limits, filled, batch_of, gathered}
+use Rattle.node_rules.specs.Rules.{reply_of, replying, lines_to_answer, deliver_batch, delivers, batch_under, proposing, propose_batch, proposes, ballot, votable, writing, write_batch, writes, written, accepting, accept_batch, accepts, slot_in, decision_in, decision_ahead, deciding, decide_batch, decides, answering, answer_line, answers_again}
+use Rattle.node_rules.specs.Nodes.{Node, view_of, regency_of, regency_in, greatest_regency, start_of, next_place, open_slot, is_free, is_open, bound_at, synchronizer_of, holding, recording}
+use Rattle.node_rules.specs.Arrivals.{signer_why, view_why, regency_why, bears_lock, is_batch_for, rests_on_marks, is_proven, why_report, why_dropped, kept_plain, kept_change, kept, noted}
+use Rattle.node_rules.specs.Changes.{start_by_sync, promised_for, adopts_by, adoption, adopts, stop_for, asks_next, joining, joins, report_of, reported_by, next_promise, promising, promise_next, promises, leading, lead_with, leads, is_pressed, timing, passes_on, presses, times}
+use Rattle.node_rules.specs.Steps.{step_of, released, opened}
+use Rattle.node_rules.specs.declared.node.Why.TheVariants.{NotLeader, BadProof}
+use Rattle.node_rules.specs.declared.node.Held.{Held}
+use Rattle.node_rules.specs.declared.node.Target.{Target}
+use Rattle.node_rules.specs.declared.node.Target.TheVariants as targets
+use Rattle.replica_laws.proofs.Lists.{and_true, not_true, either, either_by, each_end, each_append, each_weaker, each_filter, each_given, if_weaker, if_or, if_cond, if_map, if_find, if_found, or_else-none, or_else-first, third-none}
+use Rattle.replica_laws.proofs.Equal.{same_kind-equal}
+use Rattle.replica_laws.proofs.Executions.{views-execute, views-delivered}
+use Rattle.replica_laws.proofs.OnePlace.{place-execute}
+use Rattle.replica_laws.proofs.Waiting.{each-staying}
+use Rattle.replica_laws.proofs.Entered.{IsQuiet, quiet-wrote, quiet-accepted, quiet-decided, greatest-end, regency-quiet}
+use Rattle.replica_laws.proofs.Authentic.{for_batch-weaker, for_batch-or, each_offered, verified_where_asked, verified_where_signed, valid_where_kept, fits_where_valid, fits_each, greater-if, votable-if, written-if}
+use Rattle.certificates.specs.Collects.{evidence_holds, has_no_false_lock}
+use Rattle.replica_laws.proofs.Collected.{report-short}
+use Rattle.replica_laws.proofs.Genuine.{IsGood, good-genuine, AreVerified, FitVotes, FitEvidence, FitLock, FitReport, FitsSome, FitsCollected, digest_of-length, ask-good, vote-good, reply-good, propose-good, stop-good, report-good, sync-good, single-fits, single-verified, longer-fits, longer-verified}
+use Rattle.replica_laws.proofs.Again.{ForLine, answering-each, each-delivered}
+use Rattle.replica_laws.proofs.Rulewise.{KeptByRules, KeptInSteps, keeps_step}
+use Rattle.replica_laws.specs.Sending.{IsTerse, ForRead, ForEvent, ForBatch, IsByteEvent, HoldsGenuine, IsGenuine}
+
+-- ---- what has a spelling
+
+-- a batch that may be sent: it has a spelling, and each request in it its client's tag
+abbrev pub FitsSending : List ℕ → Batch → Type 0
+FitsSending secret batch = FitsBatch batch × AreVerified secret batch
+
+-- a proposal that was kept: its digest has its length, and its batch may be sent. A vote that was kept
+abbrev pub FitsArrival : List ℕ → Message → Type 0
+FitsArrival secret (Ask q) = Unit {0}
+FitsArrival secret (Propose p) = FitsSending secret p.batch × (length p.head.statement.digest ≡ 32)
+FitsArrival secret (Vote b) = FitsSigned ballots (λ signer. FitsBallot) b
+FitsArrival secret (Reply a) = Unit {0}
+
+-- a batch that has a spelling, at a place that has one
+abbrev pub FitsAt : ℕ → Batch → Type 0
+FitsAt place batch = FitsBatch batch × (place < 2 ^ 63)
+
+-- a request of the pool has a spelling, and its client's tag
+pub record FitsPool (secret : List ℕ) (q : SignedBy Request) : Type 0 where
+  pub fits : FitsSigned requests FitsRequest q
+  pub tagged : is_verified requests secret q ≡ true
+
+-- a batch that may be proposed at a place
+abbrev pub FitsProposed : List ℕ → ℕ → Batch → Type 0
+FitsProposed secret place batch = FitsAt place batch × AreVerified secret batch
+
+-- a line of the table that a reply can state
+pub record FitsLine (line : TableLine) : Type 0 where
+  pub view : line.view < 2 ^ 32
+  pub place : IsCount line.place
+  pub index : line.index < 2 ^ 16
+  pub client : line.client < 2 ^ 16
+  pub seq : IsCount line.seq
+  pub reply : IsPayload line.reply
+
+-- an accept that a report can state as its lock
+pub record FitsAccept (secret : List ℕ) (a : accept.Accept) : Type 0 where
+  pub regency_fits : a.slot.regency < 2 ^ 32
+  pub digest_fits : length a.digest ≡ 32
+  pub writes_fit : FitVotes Write a.writes
+  pub batch_fits : FitsSending secret a.batch
+
+-- a decision that a report can state as its evidence
+pub record FitsDecision (d : Decision) : Type 0 where
+  pub view_fits : d.slot.view < 2 ^ 32
+  pub place_fits : d.slot.place < 2 ^ 63
+  pub regency_fits : d.slot.regency < 2 ^ 32
+  pub accepts_fit : FitVotes Accept d.accepts
+  pub batch_fits : FitsBatch d.batch
+
+abbrev pub FitsEntry : List ℕ → LogEntry → Type 0
+FitsEntry secret (entries.Opened o) = Unit {0}
+FitsEntry secret (entries.Wrote w) = Unit {0}
+FitsEntry secret (entries.Accepted a) = FitsAccept secret a
+FitsEntry secret (entries.Promised p) = Unit {0}
+FitsEntry secret (entries.Synced s) = Unit {0}
+FitsEntry secret (entries.Decided d) = FitsDecision d
+FitsEntry secret (entries.Installed i) = ⊥
+FitsEntry secret (entries.Marked m) = ⊥
+
+-- the batch that comes with a lock may be sent
+abbrev pub FitsLocked : List ℕ → Option LockCertificate → Option Batch → Type 0
+FitsLocked secret None batch = Unit {0}
+FitsLocked secret (Some lock) batch = ForBatch batch (FitsSending secret)
+
+-- a report that was kept
+pub record FitsReported (secret : List ℕ) (r : Reported) : Type 0 where
+  pub head_fits : FitsCollected secret r.head
+  pub locked : FitsLocked secret r.head.statement.lock r.batch
+
+-- a beginning of a regency that was kept
+abbrev pub FitsBegun : SignedBy Sync → Type 0
+FitsBegun s = s.statement.regency < 2 ^ 32
+
+-- all that a node holds has a spelling, and what it sends
+pub record FitNode {S : Type 0} (secret : List ℕ) (n : Node S) : Type 0 where
+  pub named : IsSigner 1 n.id
+  pub shared : n.secret ≡ secret
+  pub view : is_view (view_of n) ≡ true
+  pub views : Each (λ v. is_view v ≡ true) n.replica.views
+  pub regency : regency_of n < 2 ^ 32
+  pub lines : Each FitsLine n.replica.table
+  pub pool : Each (FitsPool secret) n.pool
+  pub arrivals : Each (FitsArrival secret) n.arrivals
+  pub told : Each (FitsReported secret) n.reports
+  pub begun : Each FitsBegun n.syncs
+  pub book : Each (FitsEntry secret) n.entries
+  pub waiting : ForBatch n.waiting (FitsAt (next_place n))
+  pub held : Each (λ h. IsGood secret h.message) n.held
+
+-- a view's number
+pub view-low : (v : View) → is_view v ≡ true → v.number < 2 ^ 32
+unfolding is_view
+view-low v is =
+    let a = and_true _ _ is in
+    let b = and_true _ _ a.0 in
+    let c = and_true _ _ b.0 in
+    let d = and_true _ _ c.0 in
+    let e = and_true _ _ d.0 in
+    let f = and_true _ _ e.0 in
+    let low = leb-true v.number 1023 f.0 in
+    omega (arith, low)
+
+-- ---- messages that wait to leave, and entries
+
+-- a node that differs in what has no spelling
+fit-as : {S : Type 0} (secret : List ℕ) (n : Node S) (firm : ℕ) (slots : List Slot) (stopped led pressed told : Bool) → FitNode secret n
+    → FitNode secret (record n { firm = firm; proposed = slots; stop_made = stopped; sync_made = led; impatient = pressed; behind = told })
+unfolding regency_of
+fit-as secret n firm slots stopped led pressed told is =
+    record {
+      named = is.named;
+      shared = is.shared;
+      view = is.view;
+      views = is.views;
+      regency = is.regency;
+      lines = is.lines;
+      pool = is.pool;
+      arrivals = is.arrivals;
+      told = is.told;
+      begun = is.begun;
+      book = is.book;
+      waiting = is.waiting;
+      held = is.held;
+    }
+
+-- a message waits to leave
+fit-holding : {S : Type 0} (secret : List ℕ) (n : Node S) (to : Target) (message : AnyMessage) → IsGood secret message → FitNode secret n → FitNode secret (holding n to message)
+unfolding regency_of
+fit-holding secret n to message good is =
+    record {
+      named = is.named;
+      shared = is.shared;
+      view = is.view;
+      views = is.views;
+      regency = is.regency;
+      lines = is.lines;
+      pool = is.pool;
+      arrivals = is.arrivals;
+      told = is.told;
+      begun = is.begun;
+      book = is.book;
+      waiting = is.waiting;
+      held = each_end (λ (h : Held). IsGood secret h.message) n.held _ is.held good;
+    }
+
+-- entries are recorded
+fit-book : {S : Type 0} (secret : List ℕ) (n : Node S) (more : List LogEntry) → regency_of (record n { entries = n.entries ++ more }) < 2 ^ 32 → Each (FitsEntry secret) more → FitNode secret n
+    → FitNode secret (record n { entries = n.entries ++ more })
+fit-book secret n more regency fit is =
+    record {
+      named = is.named;
+      shared = is.shared;
+      view = is.view;
+      views = is.views;
+      regency = regency;
+      lines = is.lines;
+      pool = is.pool;
+      arrivals = is.arrivals;
+      told = is.told;
+      begun = is.begun;
+      book = each_append (FitsEntry secret) n.entries more is.book fit;
+      waiting = is.waiting;
+      held = is.held;
+    }
+
+fit-recording : {S : Type 0} (secret : List ℕ) (n : Node S) (e : LogEntry) → IsQuiet e → FitsEntry secret e → FitNode secret n → FitNode secret (recording n e)
+fit-recording secret n e quiet fit is = fit-book secret n (e ∷ []) (let low = is.regency in let same = regency-quiet n e quiet in omega (arith, same, low)) (fit, tt) is
+
+-- a reply has a spelling
+line-good : (secret own : List ℕ) (id : ℕ) (line : TableLine) → own ≡ secret → IsSigner 1 id → FitsLine line → IsGood secret (Plain (reply_of own id line))
+line-good secret own id line shared named fit =
+    subst (λ (s : List ℕ). IsGood secret (Plain (reply_of s id line))) (sym shared)
+    (reply-good secret id (record { view = line.view; place = line.place; index = line.index; client = line.client; seq = line.seq; reply = line.reply }) named
+    (record { view_fits = fit.view; place_fits = fit.place; index_fits = fit.index; client_fits = fit.client; seq_fits = fit.seq; reply_fits = fit.reply }))
+
+-- replies wait to leave
+fit-replying : {S : Type 0} (secret : List ℕ) (n : Node S) (lines : List TableLine) → Each FitsLine lines → FitNode secret n → FitNode secret (replying n lines)
+fit-replying secret n [] each is = is
+fit-replying secret n (l ∷ ls) each is =
+    fit-replying secret (holding n (targets.Client l.client) (Plain (reply_of n.secret n.id l))) ls each.1
+    (fit-holding secret n (targets.Client l.client) (Plain (reply_of n.secret n.id l)) (line-good secret n.secret n.id l is.shared is.named each.0) is)
+
+-- ---- arrivals
+
+-- each request of a batch that may stand at a place bears its client's tag
+verified_each : (secret : List ℕ) (place : ℕ) (batch : Batch) → list_all (request_fits secret place) batch ≡ true → AreVerified secret batch
+verified_each secret place [] all = refl
+verified_each secret place (q ∷ qs) all =
+    let parts = and_true (request_fits secret place q) (list_all (request_fits secret place) qs) all in
+    let one = (and_true _ (is_verified requests secret q) parts.0).1 in
+    both (is_verified requests secret q) (list_all (λ x. is_verified requests secret x) qs) one (verified_each secret place qs parts.1)
+  where
+    both : (a b : Bool) → a ≡ true → b ≡ true → (a && b) ≡ true
+    both true b ea eb = eb
+    both false b ea eb = absurd (cc)
+
+verified_where_valid : (secret : List ℕ) (place : ℕ) (digest : List ℕ) (batch : Batch) → is_batch_for secret place digest batch ≡ true → AreVerified secret batch
+verified_where_valid secret place digest batch valid = verified_each secret place batch (fits_each secret batch place (fits_where_valid secret place digest batch valid))
+
+-- a report that is not dropped is proven
+proven_where_kept : {S : Type 0} (n : Node S) (r : Reported) → why_report n r ≡ None → is_proven n r ≡ true
+unfolding why_report
+proven_where_kept n r none =
+    third-none (not (leader (view_of n) r.head.statement.regency == n.id)) (is_proven n r) NotLeader BadProof _
+    (or_else-none (regency_why n r.head.statement.regency) _
+    (or_else-none (view_why n r.head.statement.view) _ (or_else-none (signer_why n (is_verified reports n.secret r.head) r.head.signer) _ none)))
+
+-- and bears its member's tag
+report_verified : {S : Type 0} (n : Node S) (r : Reported) → why_report n r ≡ None → is_verified reports n.secret r.head ≡ true
+unfolding why_report
+report_verified n r none = verified_where_signed n (is_verified reports n.secret r.head) r.head.signer (or_else-first (signer_why n (is_verified reports n.secret r.head) r.head.signer) _ none)
+
+-- and with its lock comes a batch of it
+lock_borne : {S : Type 0} (n : Node S) (r : Reported) → is_proven n r ≡ true → bears_lock n.secret (r.head.statement.last + 1) r.head.statement.lock r.batch ≡ true
+unfolding is_proven
+lock_borne n r is = (and_true _ (bears_lock n.secret (r.head.statement.last + 1) r.head.statement.lock r.batch) is).1
+
+-- and is short where it bears no idle evidence
+proven-brief : {S : Type 0} (n : Node S) (r : Reported) → Each (λ v. is_view v ≡ true) n.replica.views → is_view (view_of n) ≡ true → FitsSigned reports (λ signer. FitsReport) r.head
+    → is_verified reports n.secret r.head ≡ true → is_proven n r ≡ true → IsTerse r.head.statement → length (spells.signed reports r.head) ≤ 5720
+unfolding is_proven
+proven-brief n r views view fit tagged is terse =
+    let one = and_true _ (bears_lock n.secret (r.head.statement.last + 1) r.head.statement.lock r.batch) is in
+    let two = and_true _ (has_no_false_lock n.secret (view_of n) r.head.statement.last r.head.statement.regency r.head.statement.lock) one.0 in
+    let three = and_true (evidence_holds n.secret n.replica.views r.head.statement.last r.head.statement.evidence) (not (rests_on_marks r.head.statement)) two.0 in
+    report-short n.secret n.replica.views (view_of n) r.head views view fit tagged three.0 (not_true (rests_on_marks r.head.statement) three.1) two.1 terse
+
+locked-fits : (secret : List ℕ) (place : ℕ) (lock : Option LockCertificate) (batch : Option Batch) → bears_lock secret place lock batch ≡ true → FitsOptional FitsBatch batch → FitsLocked secret lock batch
+locked-fits secret place None batch borne fit = tt
+locked-fits secret place (Some lock) None borne fit = tt
+locked-fits secret place (Some lock) (Some batch) borne fit = (fit, verified_where_valid secret place lock.digest batch borne)
+
+-- a report is no longer than the message that bears it
+head-short : (r : Reported) → length (change_spelling (changes.StopData r)) ≤ 1048576 → length (spells.signed reports r.head) ≤ 1048576
+unfolding change_spelling
+head-short r short =
+    let long = length-append (spells.signed reports r.head) (optional batch_text r.batch) in
+    omega (arith, short, long)
+
+-- an arrival that is not dropped is kept
+fit-kept : {S : Type 0} (secret : List ℕ) (n : Node S) (message : AnyMessage) → why_dropped n message ≡ None → FitsAny message → FitNode secret n → FitNode secret (kept n message)
+unfolding kept_plain kept_change regency_of
+fit-kept {S = S} secret n (Plain (Ask q)) fine fit is =
+    either (λ (x : Node S). FitNode secret x) (is_next n.replica.table q.statement) (record n { pool = offered n.pool q }) n
+    (record {
+      named = is.named;
+      shared = is.shared;
+      view = is.view;
+      views = is.views;
+      regency = is.regency;
+      lines = is.lines;
+      pool = each_offered (FitsPool secret) n.pool q is.pool
+          (record { fits = fit.content_fits; tagged = subst (λ (s : List ℕ). is_verified requests s q ≡ true) is.shared (verified_where_asked n q fine) });
+      arrivals = is.arrivals;
+      told = is.told;
+      begun = is.begun;
+      book = is.book;
+      waiting = is.waiting;
+      held = is.held;
+    }) is
+fit-kept secret n (Plain (Propose p)) fine fit is =
+    record {
+      named = is.named;
+      shared = is.shared;
+      view = is.view;
+      views = is.views;
+      regency = is.regency;
+      lines = is.lines;
+      pool = is.pool;
+      arrivals = each_end (FitsArrival secret) n.arrivals (Propose p) is.arrivals (
+        (
+          fit.content_fits.1,
+          subst (λ (s : List ℕ). AreVerified s p.batch) is.shared
+              (verified_where_valid n.secret p.head.statement.slot.place p.head.statement.digest p.batch (valid_where_kept n p fine)),
+        ),
+        fit.content_fits.0.statement_fits.digest_fits,
+      );
+      told = is.told;
+      begun = is.begun;
+      book = is.book;
+      waiting = is.waiting;
+      held = is.held;
+    }
+fit-kept secret n (Plain (Vote b)) fine fit is =
+    record {
+      named = is.named;
+      shared = is.shared;
+      view = is.view;
+      views = is.views;
+      regency = is.regency;
+      lines = is.lines;
+      pool = is.pool;
+      arrivals = each_end (FitsArrival secret) n.arrivals (Vote b) is.arrivals fit.content_fits;
+      told = is.told;
+      begun = is.begun;
+      book = is.book;
+      waiting = is.waiting;
+      held = is.held;
+    }
+fit-kept secret n (Plain (Reply a)) fine fit is = is
+fit-kept secret n (Change (changes.Stop s)) fine fit is =
+    record {
+      named = is.named;
+      shared = is.shared;
+      view = is.view;
+      views = is.views;
+      regency = is.regency;
+      lines = is.lines;
+      pool = is.pool;
+      arrivals = is.arrivals;
+      told = is.told;
+      begun = is.begun;
+      book = is.book;
+      waiting = is.waiting;
+      held = is.held;
+    }
+fit-kept secret n (Change (changes.StopData r)) fine fit is =
+    record {
+      named = is.named;
+      shared = is.shared;
+      view = is.view;
+      views = is.views;
+      regency = is.regency;
+      lines = is.lines;
+      pool = is.pool;
+      arrivals = is.arrivals;
+      told = each_end (FitsReported secret) n.reports r is.told (record {
+        head_fits = record {
+          signed_fits = fit.content_fits.0;
+          short = head-short r fit.bytes_fit;
+          brief = λ terse. proven-brief n r is.views is.view fit.content_fits.0 (report_verified n r fine) (proven_where_kept n r fine) terse;
+          tagged = subst (λ (s : List ℕ). is_verified reports s r.head ≡ true) is.shared (report_verified n r fine);
+        };
+        locked = subst (λ (s : List ℕ). FitsLocked s r.head.statement.lock r.batch) is.shared
+            (locked-fits n.secret (r.head.statement.last + 1) r.head.statement.lock r.batch (lock_borne n r (proven_where_kept n r fine)) fit.content_fits.1);
+      });
+      begun = is.begun;
+      book = is.book;
+      waiting = is.waiting;
+      held = is.held;
+    }
+fit-kept secret n (Change (changes.Sync s)) fine fit is =
+    record {
+      named = is.named;
+      shared = is.shared;
+      view = is.view;
+      views = is.views;
+      regency = is.regency;
+      lines = is.lines;
+      pool = is.pool;
+      arrivals = is.arrivals;
+      told = is.told;
+      begun = each_end FitsBegun n.syncs s is.begun fit.content_fits.statement_fits.regency_fits;
+      book = is.book;
+      waiting = is.waiting;
+      held = is.held;
+    }
+
+-- a node is told that it is behind
+fit-noted : {S : Type 0} (secret : List ℕ) (n : Node S) (message : AnyMessage) → FitNode secret n → FitNode secret (noted n message)
+unfolding noted
+fit-noted secret n message is = fit-as secret n n.firm n.proposed n.stop_made n.sync_made n.impatient _ is
+
+-- a node answers again
+fit-answer_line : {S : Type 0} (secret : List ℕ) (n : Node S) (line : Option TableLine) → ForLine line FitsLine → FitNode secret n → FitNode secret (answer_line n line)
+unfolding answer_line
+fit-answer_line secret n None fit is = is
+fit-answer_line secret n (Some line) fit is =
+    fit-holding secret n (targets.Client line.client) (Plain (reply_of n.secret n.id line)) (line-good secret n.secret n.id line is.shared is.named fit) is
+
+fit-answers_again : {S : Type 0} (secret : List ℕ) (n : Node S) (message : AnyMessage) → FitNode secret n → FitNode secret (answers_again n message)
+unfolding answers_again
+fit-answers_again secret n message is = fit-answer_line secret n (answering n message) (answering-each FitsLine n message is.lines) is
+
+-- ---- deliver
+
+-- replies have at most 4,096 bytes
+abbrev pub IsBrief : {S : Type 0} → Meaning S → Type 0
+IsBrief {S} m = (s : S) (op : List ℕ) → length (m.reply s op) ≤ 4096
+
+-- the line of a request that is executed
+line_made-fits : {S : Type 0} (m : Meaning S) → IsBrief m → (r : Replica S) (index : ℕ) (q : SignedBy Request) → (present r.views).number < 2 ^ 32 → IsCount r.place → index < 2 ^ 16
+    → FitsSigned requests FitsRequest q → Each FitsLine (option_to_list (line_made m r index q.statement))
+line_made-fits m brief r index q view place low fit =
+    either (λ (line : Option TableLine). Each FitsLine (option_to_list line)) (is_next r.table q.statement) (Some (line_of m r index q.statement)) None (
+      record {
+        view = view;
+        place = place;
+        index = low;
+        client = fit.statement_fits.client_fits;
+        seq = fit.statement_fits.seq_fits;
+        reply = brief r.service q.statement.op;
+      },
+      tt,
+    ) tt
+
+-- the lines of the requests that are
+lines_of-fit : {S : Type 0} (m : Meaning S) → IsBrief m → (r : Replica S) (index : ℕ) (qs : Batch) → (present r.views).number < 2 ^ 32 → IsCount r.place → index + length qs ≤ 64
+    → AllByRecursion (FitsSigned requests FitsRequest) qs → Each FitsLine (lines_of m r index qs)
+lines_of-fit m brief r index [] view place few all = tt
+lines_of-fit m brief r index (q ∷ qs) view place few all =
+    each_append FitsLine (option_to_list (line_made m r index q.statement)) (lines_of m (execute m r index q.statement) (index + 1) qs)
+    (line_made-fits m brief r index q view place (omega (arith, few)) all.0)
+    (lines_of-fit m brief (execute m r index q.statement) (index + 1) qs
+    (rw (views-execute m r index q.statement) view) (rw (place-execute m r index q.statement) place) (omega (arith, few)) all.1)
+
+-- the lines of a batch
+executed_lines-fit : {S : Type 0} (m : Meaning S) → IsBrief m → (n : Node S) (batch : Batch) → (view_of n).number < 2 ^ 32 → FitsAt (next_place n) batch → Each FitsLine (executed_lines m n.replica batch)
+unfolding executed_lines
+executed_lines-fit m brief n batch view fit =
+    lines_of-fit m brief (at_next n.replica) 0 batch view (omega arith, fit.1) (omega (arith, fit.0.count_fits.1)) fit.0.each_fits
+
+-- the lines that a node answers with
+lines_to_answer-fit : {S : Type 0} (m : Meaning S) → IsBrief m → (n : Node S) (batch : Batch) → (view_of n).number < 2 ^ 32 → FitsAt (next_place n) batch → Each FitsLine (lines_to_answer m n batch)
+lines_to_answer-fit m brief n batch view fit =
+    either (λ (lines : List TableLine). Each FitsLine lines) (is_member (view_of n) n.id) (executed_lines m n.replica batch) [] (executed_lines-fit m brief n batch view fit) tt
+
+-- a batch is delivered
+delivered-view : {S : Type 0} (m : Meaning S) (r : Replica S) (batch : Batch) → present (delivered m r batch).views ≡ present r.views
+delivered-view m r batch = ap present (views-delivered m r batch)
+
+regency-view : (v w : View) (es : List LogEntry) → w ≡ v → greatest_regency v.number es < 2 ^ 32 → greatest_regency w.number es < 2 ^ 32
+regency-view v w es same low = subst (λ (x : View). greatest_regency x.number es < 2 ^ 32) (sym same) low
+
+fit-deliver_batch : {S : Type 0} (secret : List ℕ) (m : Meaning S) → IsBrief m → (n : Node S) (batch : Option Batch) → ForBatch batch (FitsAt (next_place n)) → FitNode secret n → FitNode secret (deliver_batch m n batch)
+unfolding deliver_batch regency_of
+fit-deliver_batch secret m brief n None fit is = is
+fit-deliver_batch secret m brief n (Some batch) fit is =
+    let low = view-low (view_of n) is.view in
+    fit-replying secret
+    (record n { replica = delivered m n.replica batch; waiting = None; pool = settled (delivered m n.replica batch).table n.pool; impatient = false })
+    (lines_to_answer m n batch)
+    (lines_to_answer-fit m brief n batch low fit)
+    (record {
+      named = is.named;
+      shared = is.shared;
+      view = subst (λ (v : View). is_view v ≡ true) (sym (delivered-view m n.replica batch)) is.view;
+      views = subst (λ (vs : List View). Each (λ v. is_view v ≡ true) vs) (sym (views-delivered m n.replica batch)) is.views;
+      regency = regency-view (view_of n) (present (delivered m n.replica batch).views) n.entries (delivered-view m n.replica batch) is.regency;
+      lines = each-delivered FitsLine m n.replica batch is.lines (executed_lines-fit m brief n batch low fit);
+      pool = each_filter (FitsPool secret) (λ q. is_next (delivered m n.replica batch).table q.statement) n.pool is.pool;
+      arrivals = is.arrivals;
+      told = is.told;
+      begun = is.begun;
+      book = is.book;
+      waiting = tt;
+      held = is.held;
+    })
+
+fit-delivers : {S : Type 0} (secret : List ℕ) (m : Meaning S) → IsBrief m → (n : Node S) → FitNode secret n → FitNode secret (delivers m n)
+unfolding delivers
+fit-delivers secret m brief n is = fit-deliver_batch secret m brief n n.waiting is.waiting is
+
+-- ---- lists that are no longer
+
+length-filter_map : {A B : Type 0} (f : A → Option B) (xs : List A) → length (filter_map f xs) ≤ length xs
+length-filter_map f [] = omega arith
+length-filter_map {B = B} f (x ∷ xs) = by (f x) (length-filter_map f xs)
+  where
+    by : (o : Option B) → length (filter_map f xs) ≤ length xs → length (cons_option o (filter_map f xs)) ≤ suc (length xs)
+    by None rest = omega (arith, rest)
+    by (Some y) rest = omega (arith, rest)
+
+length-filter : {A : Type 0} (p : A → Bool) (xs : List A) → length (filter p xs) ≤ length xs
+length-filter p [] = omega arith
+length-filter {A = A} p (x ∷ xs) =
+    let rest = length-filter p xs in
+    either (λ (ys : List A). length ys ≤ suc (length xs)) (p x) (x ∷ filter p xs) (filter p xs) (omega (arith, rest)) (omega (arith, rest))
+
+length-take : {A : Type 0} (k : ℕ) (xs : List A) → length (take k xs) ≤ length xs
+length-take zero xs = omega arith
+length-take (suc k) [] = omega arith
+length-take (suc k) (x ∷ xs) = let rest = length-take k xs in omega (arith, rest)
+
+each_take : {A : Type 0} (P : A → Type 0) (k : ℕ) (xs : List A) → Each P xs → Each P (take k xs)
+each_take P zero xs each = tt
+each_take P (suc k) [] each = tt
+each_take P (suc k) (x ∷ xs) each = (each.0, each_take P k xs each.1)
+
+each_any : {A : Type 0} (xs : List A) → Each (λ x. Unit {0}) xs
+each_any [] = tt
+each_any (x ∷ xs) = (tt, each_any xs)
+
+each_all : {A : Type 0} (P : A → Type 0) (xs : List A) → Each P xs → AllByRecursion P xs
+each_all P [] each = tt
+each_all P (x ∷ xs) each = (each.0, each_all P xs each.1)
+
+-- ---- certificates
+
+-- a vote of a kind
+vote-fits : (kind : VoteKind) (member : ℕ) (slot : Slot) (digest : List ℕ) (b : SignedBy Ballot) → is_vote kind member slot digest (Vote b) ≡ true → FitsSigned ballots (λ signer. FitsBallot) b
+    → FitsSigned (votes_of kind) (λ signer. FitsVote kind) b
+vote-fits kind member slot digest b is fit =
+    let one = and_true ((same_kind b.statement.kind kind && (b.signer == member)) && same_slot b.statement.slot slot) (same_bytes b.statement.digest digest) is in
+    let two = and_true (same_kind b.statement.kind kind && (b.signer == member)) (same_slot b.statement.slot slot) one.0 in
+    let three = and_true (same_kind b.statement.kind kind) (b.signer == member) two.0 in
+    record {
+      signer_fits = fit.signer_fits;
+      statement_fits = record { kind_is = same_kind-equal b.statement.kind kind three.0; ballot_fits = fit.statement_fits };
+      text_fits = fit.text_fits;
+      tag_fits = fit.tag_fits;
+    }
+
+vote_in-fits : (secret : List ℕ) (kind : VoteKind) (slot : Slot) (digest : List ℕ) (member : ℕ) (m : Message) → FitsArrival secret m
+    → IfSome (vote_in kind slot digest member m) (FitsSigned (votes_of kind) (λ signer. FitsVote kind))
+vote_in-fits secret kind slot digest member (Ask q) fit = tt
+vote_in-fits secret kind slot digest member (Propose p) fit = tt
+vote_in-fits secret kind slot digest member (Vote b) fit =
+    if_cond (FitsSigned (votes_of kind) (λ signer. FitsVote kind)) (is_vote kind member slot digest (Vote b)) (Some b) (λ is. vote-fits kind member slot digest b is fit)
+vote_in-fits secret kind slot digest member (Reply a) fit = tt
+
+first_vote-fits : (secret : List ℕ) (arrivals : List Message) (kind : VoteKind) (slot : Slot) (digest : List ℕ) (member : ℕ) → Each (FitsArrival secret) arrivals
+    → IfSome (first_vote arrivals kind slot digest member) (FitsSigned (votes_of kind) (λ signer. FitsVote kind))
+first_vote-fits secret [] kind slot digest member each = tt
+first_vote-fits secret (m ∷ ms) kind slot digest member each =
+    if_or (FitsSigned (votes_of kind) (λ signer. FitsVote kind)) (vote_in kind slot digest member m) (first_vote ms kind slot digest member)
+    (vote_in-fits secret kind slot digest member m each.0) (first_vote-fits secret ms kind slot digest member each.1)
+
+certificate-fits : (secret : List ℕ) (arrivals : List Message) (view : View) (kind : VoteKind) (slot : Slot) (digest : List ℕ) → is_view view ≡ true → Each (FitsArrival secret) arrivals
+    → FitVotes kind (certificate_votes arrivals view kind slot digest)
+certificate-fits secret arrivals view kind slot digest is each =
+    let members = members-few view is in
+    let passing = length-filter (has_vote arrivals kind slot digest) view.members in
+    let first = length-take (quorum view) (filter (has_vote arrivals kind slot digest) view.members) in
+    let votes = length-filter_map (first_vote arrivals kind slot digest) (certificate arrivals view kind slot digest) in
+    record {
+      few = omega (arith, members, passing, first, votes);
+      all = each_all (FitsSigned (votes_of kind) (λ signer. FitsVote kind)) (certificate_votes arrivals view kind slot digest)
+          (each_given (λ (m : ℕ). Unit {0}) (FitsSigned (votes_of kind) (λ signer. FitsVote kind)) (first_vote arrivals kind slot digest)
+          (λ member any. first_vote-fits secret arrivals kind slot digest member each) (certificate arrivals view kind slot digest) (each_any (certificate arrivals view kind slot digest)));
+    }
+
+-- ---- changes of the regency
+
+-- a later regency is a number of 32 bits
+promise-low : (view : ℕ) (v r : ℕ) (same : Bool) → (v == view) ≡ same → r < 2 ^ 32 → regency_in view (entries.Promised (record { view = v; regency = r })) < 2 ^ 32
+promise-low view v r true is low = rw is low
+promise-low view v r false is low = rw is (omega arith)
+
+-- a wish for the next one
+asks-fit : {S : Type 0} (secret : List ℕ) (n : Node S) → regency_of n + 1 < 2 ^ 32 → FitNode secret n → FitNode secret (asks_next n)
+asks-fit {S = S} secret n low is =
+    let x : Node S = record n { stop_made = true } in
+    fit-holding secret x targets.View (stop_for n)
+    (subst (λ (s : List ℕ). IsGood secret (Change (changes.Stop (signed stops s n.id (record { view = (view_of n).number; regency = regency_of n + 1 }))))) (sym is.shared)
+    (stop-good secret n.id (record { view = (view_of n).number; regency = regency_of n + 1 }) is.named (record { view_fits = view-low (view_of n) is.view; regency_fits = low })))
+    (fit-as secret n n.firm n.proposed true n.sync_made n.impatient n.behind is)
+
+joining-low : {S : Type 0} (n : Node S) → joining n ≡ true → regency_of n + 1 < 2 ^ 32
+unfolding joining is_joining
+joining-low n is = ltb-true (regency_of n + 1) (2 ^ 32) (and_true (has_next (synchronizer_of n)) (not n.stop_made) (and_true _ _ is).0).0
+
+fit-joins : {S : Type 0} (secret : List ℕ) (n : Node S) → FitNode secret n → FitNode secret (joins n)
+unfolding joins
+fit-joins {S = S} secret n is = either_by (λ (x : Node S). FitNode secret x) (joining n) (asks_next n) n (λ due. asks-fit secret n (joining-low n due) is) (λ not_due. is)
+
+-- a beginning is adopted
+adopted-low : {S : Type 0} (n : Node S) (s : Sync) → regency_of n < 2 ^ 32 → s.regency < 2 ^ 32
+    → greatest_regency (view_of n).number (n.entries ++ promised_for n s ++ entries.Synced (start_by_sync s) ∷ []) < 2 ^ 32
+unfolding regency_of
+adopted-low n s low begun =
+    let v = (view_of n).number in
+    let last = greatest-end v (n.entries ++ promised_for n s) (entries.Synced (start_by_sync s)) in
+    let first : greatest_regency v (n.entries ++ promised_for n s) < 2 ^ 32 =
+    either (λ (es : List LogEntry). greatest_regency v (n.entries ++ es) < 2 ^ 32) (nat_lt (regency_of n) s.regency) _ []
+    (let grown = greatest-end v n.entries (entries.Promised (record { view = s.view; regency = s.regency })) in
+    let own = promise-low v s.view s.regency (s.view == v) refl begun in
+    omega (arith, grown, own, low))
+    (subst (λ (es : List LogEntry). greatest_regency v es < 2 ^ 32) (sym (append-nil n.entries)) low) in
+    omega (arith, last, first)
+
+promised_for-fit : {S : Type 0} (secret : List ℕ) (n : Node S) (s : Sync) → Each (FitsEntry secret) (promised_for n s)
+promised_for-fit secret n s = either (λ (es : List LogEntry). Each (FitsEntry secret) es) (nat_lt (regency_of n) s.regency) _ [] (tt, tt) tt
+
+fit-adopts_by : {S : Type 0} (secret : List ℕ) (n : Node S) (sync : Option (SignedBy Sync)) → IfSome sync FitsBegun → FitNode secret n → FitNode secret (adopts_by n sync)
+unfolding adopts_by regency_of
+fit-adopts_by secret n None begun is = is
+fit-adopts_by secret n (Some sync) begun is =
+    record {
+      named = is.named;
+      shared = is.shared;
+      view = is.view;
+      views = is.views;
+      regency = adopted-low n sync.statement is.regency begun;
+      lines = is.lines;
+      pool = is.pool;
+      arrivals = is.arrivals;
+      told = is.told;
+      begun = is.begun;
+      book = each_end (FitsEntry secret) (n.entries ++ promised_for n sync.statement) (entries.Synced (start_by_sync sync.statement))
+          (each_append (FitsEntry secret) n.entries (promised_for n sync.statement) is.book (promised_for-fit secret n sync.statement)) tt;
+      waiting = is.waiting;
+      held = is.held;
+    }
+
+fit-adopts : {S : Type 0} (secret : List ℕ) (n : Node S) → FitNode secret n → FitNode secret (adopts n)
+unfolding adopts adoption adopting
+fit-adopts secret n is =
+    fit-adopts_by secret n (find (is_adoptable (view_of n) (synchronizer_of n)) n.syncs) (if_find FitsBegun (is_adoptable (view_of n) (synchronizer_of n)) n.syncs is.begun) is
+
+-- the last place that a book makes
+last-low : (secret : List ℕ) (es : List LogEntry) → Each (FitsEntry secret) es → last_made es < 2 ^ 63
+last-low secret [] each = omega arith
+last-low secret (e ∷ es) each = let rest = last-low secret es each.1 in let one = entry-low secret e each.0 in omega (arith, rest, one)
+  where
+    entry-low : (secret : List ℕ) (e : LogEntry) → FitsEntry secret e → number_or (place_made e) 0 < 2 ^ 63
+    entry-low secret (entries.Opened o) fit = omega arith
+    entry-low secret (entries.Wrote w) fit = omega arith
+    entry-low secret (entries.Accepted a) fit = omega arith
+    entry-low secret (entries.Promised p) fit = omega arith
+    entry-low secret (entries.Synced s) fit = omega arith
+    entry-low secret (entries.Decided d) fit = fit.place_fits
+    entry-low secret (entries.Installed i) fit = absurd fit
+    entry-low secret (entries.Marked m) fit = absurd fit
+
+-- entries make a place, or the last one is 0
+last-made : (es : List LogEntry) → (last_made es ≡ 0) ⊎ HasMade es (last_made es)
+last-made [] = inl refl
+last-made (e ∷ es) = step e es (place_made e) refl (last-made es)
+  where
+    step : (e : LogEntry) (es : List LogEntry) (made : Option ℕ) → place_made e ≡ made → (last_made es ≡ 0) ⊎ HasMade es (last_made es)
+        → (max (number_or made 0) (last_made es) ≡ 0) ⊎ HasMade (e ∷ es) (max (number_or made 0) (last_made es))
+    step e es None is (inl zero_is) = inl (omega (arith, zero_is))
+    step e es None is (inr has) =
+        inr (subst (λ (k : ℕ). HasMade (e ∷ es) k) (omega arith) (record { entry = has.entry; there = inr has.there; made = has.made }))
+    step e es (Some k) is rest = greater_of e es k is rest (compare k (last_made es))
+      where
+        compare : (a b : ℕ) → (b ≤ a) ⊎ (a < b)
+        compare a b = grind arith
+
+        greater_of : (e : LogEntry) (es : List LogEntry) (k : ℕ) → place_made e ≡ Some k → (last_made es ≡ 0) ⊎ HasMade es (last_made es) → (last_made es ≤ k) ⊎ (k < last_made es)
+            → (max k (last_made es) ≡ 0) ⊎ HasMade (e ∷ es) (max k (last_made es))
+        greater_of e es k is rest (inl le) = inr (subst (λ (j : ℕ). HasMade (e ∷ es) j) (omega (arith, le)) (record { entry = e; there = inl refl; made = is }))
+        greater_of e es k is (inl zero_is) (inr less) = absurd (omega (arith, zero_is, less))
+        greater_of e es k is (inr has) (inr less) =
+            inr (subst (λ (j : ℕ). HasMade (e ∷ es) j) (omega (arith, less)) (record { entry = has.entry; there = inr has.there; made = has.made }))
+
+each_there : (secret : List ℕ) (es : List LogEntry) (e : LogEntry) → Each (FitsEntry secret) es → Among e es → FitsEntry secret e
+each_there secret [] e each there = absurd there
+each_there secret (x ∷ xs) e each (inl is) = subst (FitsEntry secret) (sym is) each.0
+each_there secret (x ∷ xs) e each (inr there) = each_there secret xs e each.1 there
+
+-- what a book shows of its last place
+evidence-made : (secret : List ℕ) (last : ℕ) (e : LogEntry) → FitsEntry secret e → place_made e ≡ Some last → FitEvidence last (evidence_of digest_of (Some e))
+evidence-made secret last (entries.Decided d) fit made = ((fit.view_fits, fit.regency_fits), (digest_of-length d.batch, fit.accepts_fit))
+evidence-made secret last (entries.Installed i) fit made = absurd fit
+evidence-made secret last (entries.Opened o) fit made = absurd (cc)
+evidence-made secret last (entries.Wrote w) fit made = absurd (cc)
+evidence-made secret last (entries.Accepted a) fit made = absurd (cc)
+evidence-made secret last (entries.Promised p) fit made = absurd (cc)
+evidence-made secret last (entries.Synced s) fit made = absurd (cc)
+evidence-made secret last (entries.Marked m) fit made = absurd fit
+
+evidence-good : (secret : List ℕ) (es : List LogEntry) (maker : Option LogEntry) → last_maker es ≡ maker → Each (FitsEntry secret) es → FitEvidence (last_made es) (evidence_of digest_of maker)
+evidence-good secret es None is each =
+    ⊎_elim (λ (zero_is : last_made es ≡ 0). zero_is) (λ (has : HasMade es (last_made es)). absurd (no_maker es (last_made es) is has)) (last-made es)
+evidence-good secret es (Some e) is each = let found = maker_is es e is in evidence-made secret (last_made es) e (each_there secret es e each found.0) found.1
+
+-- an accept of the book
+accept_for-fits : (secret : List ℕ) (view place : ℕ) (e : LogEntry) → FitsEntry secret e → IfSome (accept_for view place e) (FitsAccept secret)
+accept_for-fits secret view place (entries.Accepted a) fit = if_cond (FitsAccept secret) ((a.slot.view == view) && (a.slot.place == place)) (Some a) (λ is. fit)
+accept_for-fits secret view place (entries.Opened o) fit = tt
+accept_for-fits secret view place (entries.Wrote w) fit = tt
+accept_for-fits secret view place (entries.Promised p) fit = tt
+accept_for-fits secret view place (entries.Synced s) fit = tt
+accept_for-fits secret view place (entries.Decided d) fit = tt
+accept_for-fits secret view place (entries.Installed i) fit = tt
+accept_for-fits secret view place (entries.Marked m) fit = tt
+
+lock-fits : (secret : List ℕ) (view place : ℕ) (es : List LogEntry) → Each (FitsEntry secret) es → IfSome (greatest_accept view place es) (FitsAccept secret)
+lock-fits secret view place [] each = tt
+lock-fits secret view place (e ∷ es) each =
+    greater-if (FitsAccept secret) (accept_for view place e) (greatest_accept view place es) (accept_for-fits secret view place e each.0) (lock-fits secret view place es each.1)
+
+lock-good : (secret : List ℕ) (lock : Option accept.Accept) → IfSome lock (FitsAccept secret) → FitLock (option_map certificate_of lock)
+lock-good secret None fit = tt
+lock-good secret (Some a) fit = (fit.regency_fits, (fit.digest_fits, fit.writes_fit))
+
+lock-batch : (secret : List ℕ) (lock : Option accept.Accept) → IfSome lock (FitsAccept secret) → FitsSome secret (option_map (λ (a : accept.Accept). a.batch) lock)
+lock-batch secret None fit = tt
+lock-batch secret (Some a) fit = fit.batch_fits
+
+-- what a node reports
+report_of-fits : {S : Type 0} (secret : List ℕ) (n : Node S) (regency : ℕ) → regency < 2 ^ 32 → FitNode secret n → FitReport (report_of n regency)
+unfolding report_of
+report_of-fits secret n regency low is = record {
+  view_fits = view-low (view_of n) is.view;
+  regency_fits = low;
+  last_fits = last-low secret n.entries is.book;
+  evidence_fits = evidence-good secret n.entries (last_maker n.entries) refl is.book;
+  lock_fits = lock-good secret (lock_of (view_of n).number n.entries) (lock-fits secret (view_of n).number (last_made n.entries + 1) n.entries is.book);
+}
+
+reported_by-good : {S : Type 0} (secret : List ℕ) (n : Node S) (regency : ℕ) → regency < 2 ^ 32 → FitNode secret n → IsGood secret (Change (changes.StopData (reported_by n regency)))
+unfolding reported_by
+reported_by-good secret n regency low is =
+    let lock = lock_of (view_of n).number n.entries in
+    subst (λ (s : List ℕ). IsGood secret (Change (changes.StopData (record { head = signed reports s n.id (report_of n regency); batch = option_map (λ (a : accept.Accept). a.batch) (lock_of (view_of n).number n.entries) }))))
+    (sym is.shared)
+    (report-good secret n.id (report_of n regency) (option_map (λ (a : accept.Accept). a.batch) (lock_of (view_of n).number n.entries)) is.named (report_of-fits secret n regency low is)
+    (lock-batch secret (lock_of (view_of n).number n.entries) (lock-fits secret (view_of n).number (last_made n.entries + 1) n.entries is.book)))
+
+promising-low : {S : Type 0} (n : Node S) → promising n ≡ true → regency_of n + 1 < 2 ^ 32
+unfolding promising is_promising
+promising-low n is = ltb-true (regency_of n + 1) (2 ^ 32) (and_true (has_next (synchronizer_of n)) _ is).0
+
+fit-promised : {S : Type 0} (secret : List ℕ) (n : Node S) → regency_of n + 1 < 2 ^ 32 → FitNode secret n → FitNode secret (recording n (entries.Promised (next_promise n)))
+unfolding regency_of
+fit-promised secret n low is =
+    fit-book secret n (entries.Promised (next_promise n) ∷ [])
+    (let v = (view_of n).number in
+    let grown = greatest-end v n.entries (entries.Promised (next_promise n)) in
+    let own = promise-low v v (regency_of n + 1) (v == v) refl low in
+    let old = is.regency in
+    omega (arith, grown, own, old)) (tt, tt) is
+
+fit-promise_next : {S : Type 0} (secret : List ℕ) (n : Node S) → regency_of n + 1 < 2 ^ 32 → FitNode secret n → FitNode secret (promise_next n)
+unfolding promise_next
+fit-promise_next {S = S} secret n low is =
+    let x : Node S = recording n (entries.Promised (next_promise n)) in
+    let y : Node S = record x { stop_made = false; sync_made = false; impatient = true } in
+    fit-holding secret y (targets.Node (leader (view_of n) (regency_of n + 1))) (Change (changes.StopData (reported_by n (regency_of n + 1)))) (reported_by-good secret n (regency_of n + 1) low is)
+    (fit-as secret x x.firm x.proposed false false true x.behind (fit-promised secret n low is))
+
+fit-promises : {S : Type 0} (secret : List ℕ) (n : Node S) → FitNode secret n → FitNode secret (promises n)
+unfolding promises
+fit-promises {S = S} secret n is = either_by (λ (x : Node S). FitNode secret x) (promising n) (promise_next n) n (λ due. fit-promise_next secret n (promising-low n due) is) (λ not_due. is)
+
+-- the reports with which a leader begins
+pub record FitsCollect (secret : List ℕ) (rs : List (SignedBy Report)) : Type 0 where
+  pub few : length rs ≤ 31
+  pub each : Each (FitsCollected secret) rs
+
+first_report-fits : (secret : List ℕ) (view regency : ℕ) (rs : List Reported) (member : ℕ) → Each (FitsReported secret) rs → IfSome (first_report view regency rs member) (FitsCollected secret)
+first_report-fits secret view regency rs member each =
+    if_map (FitsCollected secret) (λ (r : Reported). r.head) (find (is_report view regency member) rs)
+    (if_weaker (FitsReported secret) (λ r. FitsCollected secret r.head) (λ r fit. fit.head_fits) (find (is_report view regency member) rs) (if_find (FitsReported secret) (is_report view regency member) rs each))
+
+collect-fits : (secret : List ℕ) (view : View) (s : Synchronizer) → is_view view ≡ true → Each (FitsReported secret) s.reports → FitsCollect secret (collect view s)
+collect-fits secret view s is each =
+    let members = members-few view is in
+    let all = filter_map (first_report view.number s.regency s.reports) view.members in
+    let some = length-filter_map (first_report view.number s.regency s.reports) view.members in
+    let front = length-take (collect_size view) (filter_map (first_report view.number s.regency s.reports) view.members) in
+    record {
+      few = omega (arith, members, some, front);
+      each = each_take (FitsCollected secret) (collect_size view) (filter_map (first_report view.number s.regency s.reports) view.members)
+          (each_given (λ (m : ℕ). Unit {0}) (FitsCollected secret) (first_report view.number s.regency s.reports) (λ member any. first_report-fits secret view.number s.regency s.reports member each) view.members (each_any view.members));
+    }
+
+leading-fits : {S : Type 0} (secret : List ℕ) (n : Node S) → FitNode secret n → IfSome (leading n) (FitsCollect secret)
+unfolding leading collecting
+leading-fits secret n is =
+    if_cond (FitsCollect secret) (is_collecting (view_of n) (synchronizer_of n)) (Some (collect (view_of n) (synchronizer_of n)))
+    (λ due. collect-fits secret (view_of n) (synchronizer_of n) is.view is.told)
+
+fit-lead_with : {S : Type 0} (secret : List ℕ) (n : Node S) (collected : Option (List (SignedBy Report))) → IfSome collected (FitsCollect secret) → FitNode secret n → FitNode secret (lead_with n collected)
+unfolding lead_with
+fit-lead_with secret n None fit is = is
+fit-lead_with {S = S} secret n (Some collected) fit is =
+    let x : Node S = record n { sync_made = true } in
+    fit-holding secret x targets.View (Change (changes.Sync (signed syncs n.secret n.id (record { view = (view_of n).number; regency = regency_of n; collect = collected }))))
+    (subst (λ (s : List ℕ). IsGood secret (Change (changes.Sync (signed syncs s n.id (record { view = (view_of n).number; regency = regency_of n; collect = collected }))))) (sym is.shared)
+    (sync-good secret n.id (record { view = (view_of n).number; regency = regency_of n; collect = collected }) is.named (view-low (view_of n) is.view) is.regency fit.few fit.each))
+    (fit-as secret n n.firm n.proposed n.stop_made true n.impatient n.behind is)
+
+fit-leads : {S : Type 0} (secret : List ℕ) (n : Node S) → FitNode secret n → FitNode secret (leads n)
+unfolding leads
+fit-leads secret n is = fit-lead_with secret n (leading n) (leading-fits secret n is) is
+
+-- time passes
+fit-passes_on : {S : Type 0} (secret : List ℕ) (n : Node S) (pool : List (SignedBy Request)) → Each (FitsPool secret) pool → FitNode secret n → FitNode secret (passes_on n pool)
+fit-passes_on secret n [] each is = is
+fit-passes_on secret n (q ∷ qs) each is = fit-holding secret n (targets.Node (leader (view_of n) (regency_of n))) (Plain (Ask q)) (ask-good secret q each.0.fits each.0.tagged) is
+
+-- an impatient node asks for the next regency where there is one
+timing-low : {S : Type 0} (n : Node S) (impatient : Bool) → (is_pressed n && (not impatient || nat_lt (regency_of n + 1) (2 ^ 32))) ≡ true → impatient ≡ true → regency_of n + 1 < 2 ^ 32
+timing-low n true is same = ltb-true (regency_of n + 1) (2 ^ 32) (and_true (is_pressed n) (nat_lt (regency_of n + 1) (2 ^ 32)) is).1
+timing-low n false is same = absurd (cc)
+
+fit-presses : {S : Type 0} (secret : List ℕ) (n : Node S) → timing n ≡ true → FitNode secret n → FitNode secret (presses n)
+unfolding presses timing
+fit-presses {S = S} secret n due is =
+    let x : Node S = record n { impatient = true } in
+    either_by (λ (y : Node S). FitNode secret y) n.impatient (asks_next n) (passes_on x n.pool)
+    (λ impatient. asks-fit secret n (timing-low n n.impatient due impatient) is)
+    (λ patient. fit-passes_on secret x n.pool is.pool (fit-as secret n n.firm n.proposed n.stop_made n.sync_made true n.behind is))
+
+fit-times : {S : Type 0} (secret : List ℕ) (n : Node S) → FitNode secret n → FitNode secret (times n)
+unfolding times
+fit-times {S = S} secret n is = either_by (λ (x : Node S). FitNode secret x) (timing n) (presses n) n (λ due. fit-presses secret n due is) (λ not_due. is)
+
+-- ---- propose, write and accept
+
+-- a batch behind a test
+guarded : (P : Batch → Type 0) (test : Bool) (batch : Option Batch) → (test ≡ true → ForBatch batch P) → ForBatch (cond test batch None) P
+guarded P true batch p = p refl
+guarded P false batch p = tt
+
+-- where a vote is open, the next place is a number of 63 bits
+free-low : {S : Type 0} (n : Node S) → is_free n ≡ true → next_place n < 2 ^ 63
+free-low n is = ltb-true (next_place n) (2 ^ 63) (and_true (is_none n.waiting) (nat_lt (next_place n) (2 ^ 63)) is).1
+
+open-low : {S : Type 0} (n : Node S) → is_open n ≡ true → next_place n < 2 ^ 63
+open-low n is = free-low n (and_true (is_member (view_of n) n.id) (is_free n) (and_true _ _ is).0).1
+
+-- the slot that is open has a spelling
+open-fits : {S : Type 0} (secret : List ℕ) (n : Node S) → FitNode secret n → next_place n < 2 ^ 63 → FitsSlot (open_slot n)
+open-fits secret n is low = record { view_fits = view-low (view_of n) is.view; place_fits = (omega arith, low); regency_fits = is.regency }
+
+-- what fits is filled with what the limits leave room for
+filled-fits : (secret : List ℕ) (batch qs : Batch) → FitsSending secret batch → Each (FitsPool secret) qs → FitsSending secret (filled batch qs)
+filled-fits secret batch [] fit each = fit
+filled-fits secret batch (q ∷ qs) fit each =
+    either_by (λ (b : Batch). FitsSending secret b) (is_within_limits (batch ++ q ∷ [])) (filled (batch ++ q ∷ []) qs) batch
+    (λ within. let limits = and_true (nat_le (length (batch ++ q ∷ [])) 64) (nat_le (length (batch_text (batch ++ q ∷ []))) 262144) within in
+    filled-fits secret (batch ++ q ∷ []) qs
+    (longer-fits batch q fit.0 each.0.fits (leb-true (length (batch ++ q ∷ [])) 64 limits.0) (leb-true (length (batch_text (batch ++ q ∷ []))) 262144 limits.1), longer-verified secret batch q fit.1 each.0.tagged) each.1)
+    (λ full. fit)
+
+-- the batch of some requests
+batch_of-fits : (secret : List ℕ) (qs : Batch) → Each (FitsPool secret) qs → ForBatch (batch_of qs) (FitsSending secret)
+batch_of-fits secret [] each = tt
+batch_of-fits secret (q ∷ qs) each =
+    let one : FitsSending secret (q ∷ []) = (single-fits q each.0.fits, single-verified secret q each.0.tagged) in
+    either (λ (batch : Option Batch). ForBatch batch (FitsSending secret)) (is_managers q) (Some (q ∷ [])) (Some (filled (q ∷ []) (filter (λ p. not (is_managers p)) qs))) one
+    (filled-fits secret (q ∷ []) (filter (λ p. not (is_managers p)) qs) one (each_filter (FitsPool secret) (λ p. not (is_managers p)) qs each.1))
+
+-- what the pool gives
+gathered-fits : (secret : List ℕ) (pool : Batch) (place : ℕ) → Each (FitsPool secret) pool → ForBatch (gathered pool place) (FitsSending secret)
+unfolding gathered
+gathered-fits secret pool place each =
+    batch_of-fits secret (filter (λ (q : SignedBy Request). nat_lt q.statement.after place) pool) (each_filter (FitsPool secret) (λ (q : SignedBy Request). nat_lt q.statement.after place) pool each)
+
+-- the batch of a report that bears a lock
+lock-there : (secret digest : List ℕ) (lock : Option LockCertificate) (batch : Option Batch) → is_lock_of digest lock ≡ true → FitsLocked secret lock batch → ForBatch batch (FitsSending secret)
+lock-there secret digest None batch is fit = absurd (cc)
+lock-there secret digest (Some lock) batch is fit = fit
+
+batch_in-fits : (secret : List ℕ) (view : View) (s : Synchronizer) (digest : List ℕ) (found : Option Reported) → IfSome found (λ r. FitsReported secret r × (bears view s digest r ≡ true))
+    → ForBatch (batch_in found) (FitsSending secret)
+batch_in-fits secret view s digest None fit = tt
+batch_in-fits secret view s digest (Some r) fit =
+    let one = and_true (needs_report view.number s.regency r && is_lock_of digest r.head.statement.lock) (is_some r.batch) fit.1 in
+    let two = and_true (needs_report view.number s.regency r) (is_lock_of digest r.head.statement.lock) one.0 in
+    lock-there secret digest r.head.statement.lock r.batch two.1 fit.0.locked
+
+-- the batches that the book names
+named_by-fits : (secret : List ℕ) (view place : ℕ) (e : LogEntry) → FitsEntry secret e → IfSome (named_by view place e) (λ (x : Named). FitsSending secret x.batch)
+named_by-fits secret view place e fit =
+    if_map (λ (x : Named). FitsSending secret x.batch) (λ (a : accept.Accept). record { digest = a.digest; batch = a.batch }) (accept_for view place e)
+    (if_weaker (FitsAccept secret) (λ a. FitsSending secret a.batch) (λ a is. is.batch_fits) (accept_for view place e) (accept_for-fits secret view place e fit))
+
+accepted_under-fits : (secret : List ℕ) (view place : ℕ) (digest : List ℕ) (es : List LogEntry) → Each (FitsEntry secret) es → ForBatch (accepted_under view place digest es) (FitsSending secret)
+accepted_under-fits secret view place digest es each =
+    named (find (λ (x : Named). same_bytes x.digest digest) (filter_map (named_by view place) es))
+    (if_find (λ (x : Named). FitsSending secret x.batch) (λ (x : Named). same_bytes x.digest digest) (filter_map (named_by view place) es)
+    (each_given (FitsEntry secret) (λ (x : Named). FitsSending secret x.batch) (named_by view place) (named_by-fits secret view place) es each))
+  where
+    named : (o : Option Named) → IfSome o (λ (x : Named). FitsSending secret x.batch) → ForBatch (option_map (λ (x : Named). x.batch) o) (FitsSending secret)
+    named None fit = tt
+    named (Some x) fit = fit
+
+batch_under-fits : {S : Type 0} (secret : List ℕ) (n : Node S) (bound : Option (List ℕ)) → FitNode secret n → ForBatch (batch_under n bound) (FitsSending secret)
+unfolding batch_under bound_batch
+batch_under-fits secret n None is = gathered-fits secret n.pool (next_place n) is.pool
+batch_under-fits secret n (Some digest) is =
+    for_batch-or (FitsSending secret) (bound_batch (view_of n) (synchronizer_of n) digest) (accepted_under (view_of n).number (next_place n) digest n.entries)
+    (batch_in-fits secret (view_of n) (synchronizer_of n) digest (find (bears (view_of n) (synchronizer_of n) digest) n.reports)
+    (if_found (FitsReported secret) (bears (view_of n) (synchronizer_of n) digest) n.reports is.told))
+    (accepted_under-fits secret (view_of n).number (next_place n) digest n.entries is.book)
+
+proposing-fits : {S : Type 0} (secret : List ℕ) (n : Node S) → FitNode secret n → ForBatch (proposing n) (FitsProposed secret (next_place n))
+unfolding proposing
+proposing-fits secret n is =
+    guarded (FitsProposed secret (next_place n)) _ (batch_under n (bound_at (next_place n) (start_of n)))
+    (λ guard. let one = and_true (is_open n && (leader (view_of n) (regency_of n) == n.id)) (not (list_any (same_slot (open_slot n)) n.proposed)) guard in
+    let two = and_true (is_open n) (leader (view_of n) (regency_of n) == n.id) one.0 in
+    for_batch-weaker (FitsSending secret) (FitsProposed secret (next_place n)) (λ batch fit. ((fit.0, open-low n two.0), fit.1)) (batch_under n (bound_at (next_place n) (start_of n)))
+    (batch_under-fits secret n (bound_at (next_place n) (start_of n)) is))
+
+fit-propose_batch : {S : Type 0} (secret : List ℕ) (n : Node S) (batch : Option Batch) → ForBatch batch (FitsProposed secret (next_place n)) → FitNode secret n → FitNode secret (propose_batch n batch)
+unfolding propose_batch
+fit-propose_batch secret n None fit is = is
+fit-propose_batch {S = S} secret n (Some batch) fit is =
+    let x : Node S = record n { proposed = n.proposed ++ open_slot n ∷ [] } in
+    fit-holding secret x targets.View
+    (Plain (Propose (record { head = signed proposals n.secret n.id (record { slot = open_slot n; digest = digest_of batch }); batch = batch })))
+    (subst (λ (s : List ℕ). IsGood secret (Plain (Propose (record { head = signed proposals s n.id (record { slot = open_slot n; digest = digest_of batch }); batch = batch })))) (sym is.shared)
+    (propose-good secret n.id (record { slot = open_slot n; digest = digest_of batch }) batch is.named
+    (record { slot_fits = open-fits secret n is fit.0.1; digest_fits = digest_of-length batch }) fit.0.0 fit.1))
+    (fit-as secret n n.firm x.proposed n.stop_made n.sync_made n.impatient n.behind is)
+
+fit-proposes : {S : Type 0} (secret : List ℕ) (n : Node S) → FitNode secret n → FitNode secret (proposes n)
+unfolding proposes
+fit-proposes secret n is = fit-propose_batch secret n (proposing n) (proposing-fits secret n is) is
+
+-- a vote has a spelling
+ballot-good : {S : Type 0} (secret : List ℕ) (n : Node S) (kind : VoteKind) (digest : List ℕ) → next_place n < 2 ^ 63 → length digest ≡ 32 → FitNode secret n → IsGood secret (ballot n kind digest)
+ballot-good secret n kind digest low long is =
+    subst (λ (s : List ℕ). IsGood secret (Plain (Vote (signed ballots s n.id (record { kind = kind; slot = open_slot n; digest = digest }))))) (sym is.shared)
+    (vote-good secret n.id (record { kind = kind; slot = open_slot n; digest = digest }) is.named (record { slot_fits = open-fits secret n is low; digest_fits = long }))
+
+-- a proposal that may get the node's vote
+pub record FitsVoted (secret : List ℕ) (place : ℕ) (p : Proposed) : Type 0 where
+  pub low : place < 2 ^ 63
+  pub batch_fits : FitsSending secret p.batch
+  pub digest_fits : length p.head.statement.digest ≡ 32
+
+proposed_in-fits : (secret : List ℕ) (slot : Slot) (message : Message) → FitsArrival secret message
+    → IfSome (proposed_in slot message) (λ (p : Proposed). FitsSending secret p.batch × (length p.head.statement.digest ≡ 32))
+proposed_in-fits secret slot (Ask q) fit = tt
+proposed_in-fits secret slot (Propose p) fit =
+    if_cond (λ (x : Proposed). FitsSending secret x.batch × (length x.head.statement.digest ≡ 32)) (same_slot p.head.statement.slot slot) (Some p) (λ is. fit)
+proposed_in-fits secret slot (Vote b) fit = tt
+proposed_in-fits secret slot (Reply a) fit = tt
+
+proposed_for-fits : (secret : List ℕ) (slot : Slot) (arrivals : List Message) → Each (FitsArrival secret) arrivals
+    → IfSome (proposed_for arrivals slot) (λ (p : Proposed). FitsSending secret p.batch × (length p.head.statement.digest ≡ 32))
+proposed_for-fits secret slot [] each = tt
+proposed_for-fits secret slot (x ∷ xs) each =
+    if_or (λ (p : Proposed). FitsSending secret p.batch × (length p.head.statement.digest ≡ 32)) (proposed_in slot x) (proposed_for xs slot) (proposed_in-fits secret slot x each.0) (proposed_for-fits secret slot xs each.1)
+
+voted-fits : {S : Type 0} (secret : List ℕ) (n : Node S) → next_place n < 2 ^ 63 → FitNode secret n → IfSome (votable n (proposed_for n.arrivals (open_slot n))) (FitsVoted secret (next_place n))
+voted-fits secret n low is =
+    votable-if (FitsVoted secret (next_place n)) n (proposed_for n.arrivals (open_slot n))
+    (if_weaker (λ (p : Proposed). FitsSending secret p.batch × (length p.head.statement.digest ≡ 32)) (FitsVoted secret (next_place n))
+    (λ p fit. record { low = low; batch_fits = fit.0; digest_fits = fit.1 }) (proposed_for n.arrivals (open_slot n)) (proposed_for-fits secret (open_slot n) n.arrivals is.arrivals))
+
+writing-fits : {S : Type 0} (secret : List ℕ) (n : Node S) → FitNode secret n → IfSome (writing n) (FitsVoted secret (next_place n))
+unfolding writing
+writing-fits secret n is =
+    if_cond (FitsVoted secret (next_place n)) _ (votable n (proposed_for n.arrivals (open_slot n))) (λ may. voted-fits secret n (open-low n (and_true (is_open n) _ may).0) is)
+
+fit-write_batch : {S : Type 0} (secret : List ℕ) (n : Node S) (p : Option Proposed) → IfSome p (FitsVoted secret (next_place n)) → FitNode secret n → FitNode secret (write_batch n p)
+unfolding write_batch
+fit-write_batch secret n None fit is = is
+fit-write_batch secret n (Some p) fit is =
+    let entry : LogEntry = entries.Wrote (record { slot = open_slot n; digest = p.head.statement.digest }) in
+    fit-holding secret (recording n entry) targets.View (ballot n Write p.head.statement.digest) (ballot-good secret n Write p.head.statement.digest fit.low fit.digest_fits is)
+    (fit-recording secret n entry (quiet-wrote _) tt is)
+
+fit-writes : {S : Type 0} (secret : List ℕ) (n : Node S) → FitNode secret n → FitNode secret (writes n)
+unfolding writes
+fit-writes secret n is = fit-write_batch secret n (writing n) (writing-fits secret n is) is
+
+accepting-fits : {S : Type 0} (secret : List ℕ) (n : Node S) → FitNode secret n → IfSome (accepting n) (FitsVoted secret (next_place n))
+unfolding accepting
+accepting-fits secret n is =
+    if_cond (FitsVoted secret (next_place n)) _ (written n (votable n (proposed_for n.arrivals (open_slot n))))
+    (λ may. written-if (FitsVoted secret (next_place n)) n (votable n (proposed_for n.arrivals (open_slot n))) (voted-fits secret n (open-low n (and_true (is_open n) _ may).0) is))
+
+fit-accept_batch : {S : Type 0} (secret : List ℕ) (n : Node S) (p : Option Proposed) → IfSome p (FitsVoted secret (next_place n)) → FitNode secret n → FitNode secret (accept_batch n p)
+unfolding accept_batch
+fit-accept_batch secret n None fit is = is
+fit-accept_batch secret n (Some p) fit is =
+    let entry : LogEntry = entries.Accepted (record {
+      slot = open_slot n;
+      digest = p.head.statement.digest;
+      writes = certificate_votes n.arrivals (view_of n) Write (open_slot n) p.head.statement.digest;
+      batch = p.batch;
+    }) in
+    fit-holding secret (recording n entry) targets.View (ballot n Accept p.head.statement.digest) (ballot-good secret n Accept p.head.statement.digest fit.low fit.digest_fits is)
+    (fit-recording secret n entry (quiet-accepted _) (record {
+      regency_fits = is.regency;
+      digest_fits = fit.digest_fits;
+      writes_fit = certificate-fits secret n.arrivals (view_of n) Write (open_slot n) p.head.statement.digest is.view is.arrivals;
+      batch_fits = fit.batch_fits;
+    }) is)
+
+fit-accepts : {S : Type 0} (secret : List ℕ) (n : Node S) → FitNode secret n → FitNode secret (accepts n)
+unfolding accepts
+fit-accepts secret n is = fit-accept_batch secret n (accepting n) (accepting-fits secret n is) is
+
+-- ---- decide
+
+-- the batches that a node has for a place
+named_in-fits : (secret : List ℕ) (view place regency : ℕ) (message : Message) → FitsArrival secret message → IfSome (named_in view place regency message) (λ (x : Named). FitsSending secret x.batch)
+named_in-fits secret view place regency (Ask q) fit = tt
+named_in-fits secret view place regency (Propose p) fit =
+    let slot : Slot = p.head.statement.slot in
+    if_cond (λ (x : Named). FitsSending secret x.batch) (((slot.view == view) && (slot.place == place)) && nat_le regency slot.regency) (Some (record { digest = p.head.statement.digest; batch = p.batch })) (λ is. fit.0)
+named_in-fits secret view place regency (Vote b) fit = tt
+named_in-fits secret view place regency (Reply a) fit = tt
+
+known-fits : (secret : List ℕ) (view place regency : ℕ) (arrivals : List Message) (es : List LogEntry) → Each (FitsArrival secret) arrivals → Each (FitsEntry secret) es
+    → Each (λ (x : Named). FitsSending secret x.batch) (known view place regency arrivals es)
+known-fits secret view place regency arrivals es came book =
+    each_append (λ (x : Named). FitsSending secret x.batch) (filter_map (named_in view place regency) arrivals) (filter_map (named_by view place) es)
+    (each_given (FitsArrival secret) (λ (x : Named). FitsSending secret x.batch) (named_in view place regency) (named_in-fits secret view place regency) arrivals came)
+    (each_given (FitsEntry secret) (λ (x : Named). FitsSending secret x.batch) (named_by view place) (named_by-fits secret view place) es book)
+
+decision_by-fits : {S : Type 0} (secret : List ℕ) (n : Node S) (regency : ℕ) (found : Option Named) → next_place n < 2 ^ 63 → regency < 2 ^ 32 → FitNode secret n → IfSome found (λ (x : Named). FitsSending secret x.batch)
+    → IfSome (decision_by (view_of n) (slot_in n regency) n.arrivals found) FitsDecision
+decision_by-fits secret n regency None low small is fit = tt
+decision_by-fits secret n regency (Some x) low small is fit = record {
+  view_fits = view-low (view_of n) is.view;
+  place_fits = low;
+  regency_fits = small;
+  accepts_fit = certificate-fits secret n.arrivals (view_of n) Accept (slot_in n regency) x.digest is.view is.arrivals;
+  batch_fits = fit.0;
+}
+
+decision_in-fits : {S : Type 0} (secret : List ℕ) (n : Node S) (regency : ℕ) → next_place n < 2 ^ 63 → regency < 2 ^ 32 → FitNode secret n → IfSome (decision_in n regency) FitsDecision
+unfolding decision_in
+decision_in-fits secret n regency low small is =
+    decision_by-fits secret n regency _ low small is
+    (if_find (λ (x : Named). FitsSending secret x.batch) _ (known (view_of n).number (next_place n) (regency_of n) n.arrivals n.entries)
+    (known-fits secret (view_of n).number (next_place n) (regency_of n) n.arrivals n.entries is.arrivals is.book))
+
+deciding-fits : {S : Type 0} (secret : List ℕ) (n : Node S) → FitNode secret n → IfSome (deciding n) (λ d. FitsDecision d × (next_place n < 2 ^ 63))
+unfolding deciding
+deciding-fits secret n is =
+    if_cond (λ d. FitsDecision d × (next_place n < 2 ^ 63)) (is_free n) (or_else (decision_in n (regency_of n)) (decision_ahead n))
+    (λ free. let low = free-low n free in
+    if_weaker FitsDecision (λ d. FitsDecision d × (next_place n < 2 ^ 63)) (λ d fit. (fit, low)) (or_else (decision_in n (regency_of n)) (decision_ahead n))
+    (if_or FitsDecision (decision_in n (regency_of n)) (decision_ahead n) (decision_in-fits secret n (regency_of n) low is.regency is)
+    (if_cond FitsDecision (nat_lt (regency_of n + 1) (2 ^ 32)) (decision_in n (regency_of n + 1))
+    (λ room. decision_in-fits secret n (regency_of n + 1) low (ltb-true (regency_of n + 1) (2 ^ 32) room) is))))
+
+-- a batch waits at the next place
+waits : {S : Type 0} (secret : List ℕ) (n : Node S) (batch : Batch) → FitsAt (next_place n) batch → FitNode secret n → FitNode secret (record n { waiting = Some batch })
+unfolding regency_of
+waits secret n batch fit is =
+    record {
+      named = is.named;
+      shared = is.shared;
+      view = is.view;
+      views = is.views;
+      regency = is.regency;
+      lines = is.lines;
+      pool = is.pool;
+      arrivals = is.arrivals;
+      told = is.told;
+      begun = is.begun;
+      book = is.book;
+      waiting = fit;
+      held = is.held;
+    }
+
+fit-decide_batch : {S : Type 0} (secret : List ℕ) (n : Node S) (d : Option Decision) → IfSome d (λ x. FitsDecision x × (next_place n < 2 ^ 63)) → FitNode secret n → FitNode secret (decide_batch n d)
+unfolding decide_batch
+fit-decide_batch secret n None fit is = is
+fit-decide_batch {S = S} secret n (Some d) fit is =
+    waits secret (recording n (entries.Decided d)) d.batch (fit.0.batch_fits, fit.1) (fit-recording secret n (entries.Decided d) (quiet-decided d) fit.0 is)
+
+fit-decides : {S : Type 0} (secret : List ℕ) (n : Node S) → FitNode secret n → FitNode secret (decides n)
+unfolding decides
+fit-decides secret n is = fit-decide_batch secret n (deciding n) (deciding-fits secret n is) is
+
+-- ---- a step
+
+fit-rules : {S : Type 0} (secret : List ℕ) → KeptByRules {S = S} (λ n. FitNode secret n)
+fit-rules secret = record {
+  by_adopts = λ n is. fit-adopts secret n is;
+  by_joins = λ n is. fit-joins secret n is;
+  by_promises = λ n is. fit-promises secret n is;
+  by_leads = λ n is. fit-leads secret n is;
+  by_proposes = λ n is. fit-proposes secret n is;
+  by_writes = λ n is. fit-writes secret n is;
+  by_accepts = λ n is. fit-accepts secret n is;
+  by_decides = λ n is. fit-decides secret n is;
+}
+
+fit-in_steps : {S : Type 0} (secret : List ℕ) (m : Meaning S) → IsBrief m → KeptInSteps m (λ n. FitNode secret n) FitsAny
+fit-in_steps secret m brief = record {
+  by_rules = fit-rules secret;
+  by_times = λ n is. fit-times secret n is;
+  by_answers = λ n message is. fit-answers_again secret n message is;
+  by_noted = λ n message is. fit-noted secret n message is;
+  by_kept = λ n message fine fit is. fit-kept secret n message fine fit is;
+  by_delivers = λ n is. fit-delivers secret m brief n is;
+}
+
+-- what comes has a spelling
+abbrev pub FitsEvent : NodeEvent → Type 0
+FitsEvent event = ForEvent FitsAny event
+
+-- each event keeps that what a node holds has a spelling
+pub fit-step : {S : Type 0} (secret : List ℕ) (m : Meaning S) → IsBrief m → (n : Node S) (event : NodeEvent) → FitsEvent event → FitNode secret n → FitNode secret (step_of m n event).node
+fit-step secret m brief n event fit is =
+    keeps_step m (λ x. FitNode secret x) FitsAny n event (fit-in_steps secret m brief) (λ x count good. fit-as secret x count x.proposed x.stop_made x.sync_made x.impatient x.behind good) fit is
+
+-- what is firm has left
+pub fit-released : {S : Type 0} (secret : List ℕ) (n : Node S) → FitNode secret n → FitNode secret (released n)
+unfolding regency_of
+fit-released secret n is =
+    record {
+      named = is.named;
+      shared = is.shared;
+      view = is.view;
+      views = is.views;
+      regency = is.regency;
+      lines = is.lines;
+      pool = is.pool;
+      arrivals = is.arrivals;
+      told = is.told;
+      begun = is.begun;
+      book = is.book;
+      waiting = is.waiting;
+      held = each-staying (λ (h : Held). IsGood secret h.message) n.firm n.held is.held;
+    }
+
+-- a node begins so
+pub fit-opened : {S : Type 0} (secret : List ℕ) (m : Meaning S) (id : ℕ) (view : View) (period : ℕ) → IsSigner 1 id → is_view view ≡ true → FitNode secret (opened m secret id view period)
+unfolding regency_of
+fit-opened secret m id view period named is =
+    record {
+      named = named;
+      shared = refl;
+      view = is;
+      views = (is, tt);
+      regency = omega arith;
+      lines = tt;
+      pool = tt;
+      arrivals = tt;
+      told = tt;
+      begun = tt;
+      book = (tt, tt);
+      waiting = tt;
+      held = tt;
+    }
+
+-- ---- whatever comes
+
+-- bytes that are a message are its spelling
+bytes-fit : (bytes : List ℕ) (read : Result AnyMessage ℕ) → IsBytes bytes → any_decoded bytes ≡ read → ForRead FitsAny read
+bytes-fit bytes (Ok m) are is = (decoded_any_is bytes m are is).0
+bytes-fit bytes (Err at) are is = tt
+
+event-fits : (event : NodeEvent) → IsByteEvent event → FitsEvent event
+event-fits (Arrive bytes) are = bytes-fit bytes (any_decoded bytes) are refl
+event-fits Tick are = tt
+event-fits Deliver are = tt
+event-fits (Firm count) are = tt
+
+pub fit_after : {S : Type 0} (secret : List ℕ) (m : Meaning S) → IsBrief m → (n : Node S) (events : List NodeEvent) → Each IsByteEvent events → FitNode secret n → FitNode secret (node_after m n events)
+fit_after secret m brief n [] each is = is
+fit_after secret m brief n (e ∷ es) each is = fit_after secret m brief (step_of m n e).node es each.1 (fit-step secret m brief n e (event-fits e each.0) is)
+
+pub holds_genuine : {S : Type 0} (m : Meaning S) → IsBrief m → (secret : List ℕ) (id : ℕ) (view : View) (period : ℕ) (events : List NodeEvent) → IsSigner 1 id → is_view view ≡ true → Each IsByteEvent events
+    → HoldsGenuine (node_after m (opened m secret id view period) events)
+holds_genuine {S = S} m brief secret id view period events named viewed each =
+    let n : Node S = node_after m (opened m secret id view period) events in
+    let fit : FitNode secret n = fit_after secret m brief (opened m secret id view period) events each (fit-opened secret m id view period named viewed) in
+    each_weaker (λ (h : Held). IsGood secret h.message) (λ (h : Held). IsGenuine n.secret h.message)
+    (λ h good. subst (λ (s : List ℕ). IsGenuine s h.message) (sym fit.shared) (good-genuine secret h.message good)) n.held fit.held

@@ -1,0 +1,247 @@
+-- A node accepts once for each slot.
+use Rattle.std.proofs.Common.{◌≡◌, ℕ, ◌+◌, ◌≤◌, ◌++◌, Bool, true, false, not, List, [], ◌∷◌, refl, ap, arith, cond, nat_lt, Option, Some, None, is_some, ◌∙◌, subst, sym, append-nil}
+use Rattle.std.specs.List.{list_any}
+use Rattle.smart_messages.specs.Forms.{SignedBy}
+use Rattle.smart_messages.specs.Messages.{Batch}
+use Rattle.smart_messages.specs.Equality.{same_slot}
+use Rattle.smart_messages.specs.declared.statement.Request.{Request}
+use Rattle.smart_messages.specs.declared.statement.Slot.{Slot}
+use Rattle.smart_messages.specs.declared.report.Report.{Report}
+use Rattle.smart_messages.specs.declared.regency.Sync.{Sync}
+use Rattle.smart_messages.specs.declared.regency.RegencyMessage.TheVariants as changes
+use Rattle.smart_messages.specs.declared.message.Message.TheVariants.{Ask, Propose, Vote, Reply}
+use Rattle.smart_messages.specs.declared.message.Proposed.{Proposed}
+use Rattle.smart_messages.specs.declared.any.AnyMessage.{AnyMessage}
+use Rattle.smart_messages.specs.declared.any.AnyMessage.TheVariants.{Plain, Change}
+use Rattle.smart_messages.specs.declared.entry.NodeEvent.{NodeEvent}
+use Rattle.smart_service.specs.Services.{Meaning}
+use Rattle.smart_service.specs.declared.table.TableLine.{TableLine}
+use Rattle.vote_book.specs.Admission.{accepts_in}
+use Rattle.vote_book.specs.declared.entry.Accept.{Accept}
+use Rattle.vote_book.specs.declared.entry.Decision.{Decision}
+use Rattle.vote_book.specs.declared.entry.Promise.{Promise}
+use Rattle.vote_book.specs.declared.entry.Start.{Start}
+use Rattle.vote_book.specs.declared.entry.LogEntry.{LogEntry}
+use Rattle.vote_book.specs.declared.entry.LogEntry.TheVariants.{Wrote, Accepted, Promised, Synced, Decided}
+use Rattle.replica_rules.specs.Replicas.{delivered}
+use Rattle.replica_rules.specs.Pools.{settled}
+use Rattle.node_rules.specs.Rules.{reply_of, replying, lines_to_answer, deliver_batch, delivers, proposing, propose_batch, proposes, writing, write_batch, writes, accepting, accept_batch, accepts, deciding, decide_batch, decides, answers_again}
+use Rattle.node_rules.specs.Nodes.{Node, regency_of, holding, is_open, open_slot}
+use Rattle.node_rules.specs.Arrivals.{kept_plain, kept_change, kept, noted}
+use Rattle.node_rules.specs.Changes.{start_by_sync, promised_for, adopts_by, adoption, adopts, asks_next, joining, joins, next_promise, promising, promise_next, promises, leading, lead_with, leads, timing, passes_on, presses, times}
+use Rattle.node_rules.specs.Kept.{node_after}
+use Rattle.node_rules.specs.Steps.{step_of}
+use Rattle.node_rules.specs.declared.node.Target.TheVariants as targets
+use Rattle.replica_laws.specs.Books.{passing, AcceptsOnce}
+use Rattle.replica_laws.proofs.Lists.{and_true, or_false, not_true, either}
+use Rattle.replica_laws.proofs.Equal.{same_slot-equal}
+use Rattle.replica_laws.proofs.Again.{entries-noted, entries-answers_again}
+use Rattle.replica_laws.proofs.Rulewise.{KeptByRules, KeptInSteps, free-event, keeps_step}
+
+-- rules that record nothing
+
+-- held replies
+pub entries-replying : {S : Type 0} (n : Node S) (lines : List TableLine) → (replying n lines).entries ≡ n.entries
+entries-replying n [] = refl
+entries-replying n (l ∷ ls) = entries-replying (holding n (targets.Client l.client) (Plain (reply_of n.secret n.id l))) ls
+
+-- both branches keep the book
+pub entries-if : {S : Type 0} (b : Bool) (x y : Node S) → x.entries ≡ y.entries → (cond b x y).entries ≡ y.entries
+entries-if true x y same = same
+entries-if false x y same = refl
+
+-- an arrival that is kept
+pub entries-kept : {S : Type 0} (n : Node S) (message : AnyMessage) → (kept n message).entries ≡ n.entries
+unfolding kept_plain kept_change
+entries-kept n (Plain (Ask q)) = entries-if _ _ n refl
+entries-kept n (Plain (Propose p)) = refl
+entries-kept n (Plain (Vote b)) = refl
+entries-kept n (Plain (Reply a)) = refl
+entries-kept n (Change (changes.Stop s)) = refl
+entries-kept n (Change (changes.StopData r)) = refl
+entries-kept n (Change (changes.Sync s)) = refl
+
+-- with what it tells
+pub entries-arrives : {S : Type 0} (n : Node S) (message : AnyMessage) → (kept (noted n message) message).entries ≡ n.entries
+entries-arrives n message = entries-kept (noted n message) message ∙ entries-noted n message
+
+-- a delivery
+pub entries-deliver_batch : {S : Type 0} (m : Meaning S) (n : Node S) (batch : Option Batch) → (deliver_batch m n batch).entries ≡ n.entries
+unfolding deliver_batch
+entries-deliver_batch m n None = refl
+entries-deliver_batch m n (Some batch) =
+    entries-replying
+    (record n { replica = delivered m n.replica batch; waiting = None; pool = settled (delivered m n.replica batch).table n.pool; impatient = false })
+    (lines_to_answer m n batch)
+
+-- the rule that delivers
+pub entries-delivers : {S : Type 0} (m : Meaning S) (n : Node S) → (delivers m n).entries ≡ n.entries
+unfolding delivers
+entries-delivers m n = entries-deliver_batch m n n.waiting
+
+-- a proposal
+pub entries-propose_batch : {S : Type 0} (n : Node S) (batch : Option Batch) → (propose_batch n batch).entries ≡ n.entries
+unfolding propose_batch
+entries-propose_batch n None = refl
+entries-propose_batch n (Some batch) = refl
+
+pub entries-proposes : {S : Type 0} (n : Node S) → (proposes n).entries ≡ n.entries
+unfolding proposes
+entries-proposes n = entries-propose_batch n (proposing n)
+
+-- a wish for the next regency
+pub entries-joins : {S : Type 0} (n : Node S) → (joins n).entries ≡ n.entries
+unfolding joins
+entries-joins n = entries-if (joining n) (asks_next n) n refl
+
+-- the beginning of a regency by its leader
+pub entries-lead_with : {S : Type 0} (n : Node S) (collect : Option (List (SignedBy Report))) → (lead_with n collect).entries ≡ n.entries
+unfolding lead_with
+entries-lead_with n None = refl
+entries-lead_with n (Some collect) = refl
+
+pub entries-leads : {S : Type 0} (n : Node S) → (leads n).entries ≡ n.entries
+unfolding leads
+entries-leads n = entries-lead_with n (leading n)
+
+-- what time does
+pub entries-passes_on : {S : Type 0} (n : Node S) (pool : List (SignedBy Request)) → (passes_on n pool).entries ≡ n.entries
+entries-passes_on n [] = refl
+entries-passes_on n (q ∷ qs) = refl
+
+pub entries-times : {S : Type 0} (n : Node S) → (times n).entries ≡ n.entries
+unfolding times presses
+entries-times {S = S} n =
+    either (λ (x : Node S). x.entries ≡ n.entries) (timing n) _ n
+    (either (λ (x : Node S). x.entries ≡ n.entries) n.impatient (asks_next n) (passes_on (record n { impatient = true }) n.pool) refl (entries-passes_on (record n { impatient = true }) n.pool)) refl
+
+-- rules that record entries
+
+-- what one more promise and one more beginning leave, the adoption of a beginning leaves
+pub entries_adopted : {S : Type 0} (P : List LogEntry → Type 0) → ((es : List LogEntry) (p : Promise) → P es → P (es ++ Promised p ∷ []))
+    → ((es : List LogEntry) (s : Start) → P es → P (es ++ Synced s ∷ [])) → (n : Node S) (sync : Option (SignedBy Sync)) → P n.entries → P (adopts_by n sync).entries
+unfolding adopts_by
+entries_adopted P promised synced n None is = is
+entries_adopted P promised synced n (Some sync) is =
+    synced (n.entries ++ promised_for n sync.statement) (start_by_sync sync.statement)
+    (either (λ (more : List LogEntry). P (n.entries ++ more)) (nat_lt (regency_of n) sync.statement.regency) _ [] (promised n.entries _ is) (subst P (sym (append-nil n.entries)) is))
+
+-- how many pass with one more at the end
+pub passing-end : {A : Type 0} (p : A → Bool) (xs : List A) (x : A) → passing p (xs ++ x ∷ []) ≡ passing p xs + passing p (x ∷ [])
+passing-end p [] x = omega arith
+passing-end p (y ∷ xs) x = omega (arith, passing-end p xs x)
+
+-- a test counted
+abbrev pub passed : Bool → ℕ
+passed b = cond b 1 0
+
+-- an entry that accepts nothing
+pub once_more : (entries : List LogEntry) (entry : LogEntry) → ((slot : Slot) → accepts_in slot entry ≡ false) → AcceptsOnce entries → AcceptsOnce (entries ++ entry ∷ [])
+once_more entries entry none once slot = omega (arith, passing-end (accepts_in slot) entries entry, ap (λ b. passed b) (none slot), once slot)
+
+-- where none passes, the count is 0
+pub none_passes : {A : Type 0} (p : A → Bool) (xs : List A) → list_any p xs ≡ false → passing p xs ≡ 0
+none_passes p [] none = refl
+none_passes p (x ∷ xs) none =
+    let parts = or_false (p x) (list_any p xs) none in
+    omega (arith, ap (λ b. passed b) parts.0, none_passes p xs parts.1)
+
+-- an entry that accepts at a slot where none was accepted
+pub once_accepted : (entries : List LogEntry) (a : Accept) → list_any (accepts_in a.slot) entries ≡ false → AcceptsOnce entries → AcceptsOnce (entries ++ Accepted a ∷ [])
+once_accepted entries a none once other = rw passing-end (cases (same_slot a.slot other) refl)
+  where
+    cases : (b : Bool) → same_slot a.slot other ≡ b → passing (accepts_in other) entries + (cond b 1 0 + 0) ≤ 1
+    cases true is = rw (← same_slot-equal a.slot other is) (omega (arith, none_passes (accepts_in a.slot) entries none))
+    cases false is = omega (arith, once other)
+
+-- a node whose book accepts once for each slot
+abbrev pub Once : {S : Type 0} → Node S → Type 0
+Once n = AcceptsOnce n.entries
+
+-- a node with the same book
+pub once_as : {S : Type 0} (n n' : Node S) → n'.entries ≡ n.entries → Once n → Once n'
+once_as n n' same once slot = rw same (once slot)
+
+-- nor does a beginning that is adopted accept anything
+once-adopts : {S : Type 0} (n : Node S) → Once n → Once (adopts n)
+unfolding adopts
+once-adopts n once =
+    entries_adopted AcceptsOnce (λ es p is. once_more es (Promised p) (λ slot. refl) is) (λ es s is. once_more es (Synced s) (λ slot. refl) is) n (adoption n) once
+
+-- nor does a promise
+once-promises : {S : Type 0} (n : Node S) → Once n → Once (promises n)
+unfolding promises promise_next
+once-promises {S = S} n once =
+    either (λ (x : Node S). Once x) (promising n) (promise_next n) n (once_more n.entries (Promised (next_promise n)) (λ slot. refl) once) once
+
+-- a batch that is written accepts nothing
+once-write_batch : {S : Type 0} (n : Node S) (p : Option Proposed) → Once n → Once (write_batch n p)
+unfolding write_batch
+once-write_batch n None once = once
+once-write_batch n (Some p) once = once_more n.entries (Wrote (record { slot = open_slot n; digest = p.head.statement.digest })) (λ slot. refl) once
+
+-- a batch that is decided accepts nothing
+once-decide_batch : {S : Type 0} (n : Node S) (decision : Option Decision) → Once n → Once (decide_batch n decision)
+unfolding decide_batch
+once-decide_batch n None once = once
+once-decide_batch n (Some d) once = once_more n.entries (Decided d) (λ slot. refl) once
+
+-- a batch is accepted only where none was
+once-accept_batch : {S : Type 0} (n : Node S) (p : Option Proposed) → (is_some p ≡ true → list_any (accepts_in (open_slot n)) n.entries ≡ false) → Once n → Once (accept_batch n p)
+unfolding accept_batch
+once-accept_batch n None none once = once
+once-accept_batch n (Some p) none once = once_accepted n.entries _ (none refl) once
+
+-- what is due behind a test passed it
+pub guard_passed : {A : Type 0} (test : Bool) (x : Option A) → is_some (cond test x None) ≡ true → test ≡ true
+guard_passed true x some = refl
+guard_passed false x some = absurd (cc)
+
+-- a node accepts where its book has not
+pub accepts_where_none : {S : Type 0} (n : Node S) → is_some (accepting n) ≡ true → list_any (accepts_in (open_slot n)) n.entries ≡ false
+unfolding accepting
+accepts_where_none n some =
+    not_true _ (and_true (is_open n) (not (list_any (accepts_in (open_slot n)) n.entries)) (guard_passed _ _ some)).1
+
+once-writes : {S : Type 0} (n : Node S) → Once n → Once (writes n)
+unfolding writes
+once-writes n once = once-write_batch n (writing n) once
+
+once-accepts : {S : Type 0} (n : Node S) → Once n → Once (accepts n)
+unfolding accepts
+once-accepts n once = once-accept_batch n (accepting n) (accepts_where_none n) once
+
+once-decides : {S : Type 0} (n : Node S) → Once n → Once (decides n)
+unfolding decides
+once-decides n once = once-decide_batch n (deciding n) once
+
+once-rules : {S : Type 0} → KeptByRules {S = S} (λ n. Once n)
+once-rules {S} = record {
+  by_adopts = λ n once. once-adopts n once;
+  by_joins = λ n once. once_as n (joins n) (entries-joins n) once;
+  by_promises = λ n once. once-promises n once;
+  by_leads = λ n once. once_as n (leads n) (entries-leads n) once;
+  by_proposes = λ n once. once_as n (proposes n) (entries-proposes n) once;
+  by_writes = λ n once. once-writes n once;
+  by_accepts = λ n once. once-accepts n once;
+  by_decides = λ n once. once-decides n once;
+}
+
+once-in_steps : {S : Type 0} (m : Meaning S) → KeptInSteps m (λ n. Once n) (λ message. Unit {0})
+once-in_steps m = record {
+  by_rules = once-rules;
+  by_times = λ n once. once_as n (times n) (entries-times n) once;
+  by_answers = λ n message once. once_as n (answers_again n message) (entries-answers_again n message) once;
+  by_noted = λ n message once. once_as n (noted n message) (entries-noted n message) once;
+  by_kept = λ n message fine may once. once_as n (kept n message) (entries-kept n message) once;
+  by_delivers = λ n once. once_as n (delivers m n) (entries-delivers m n) once;
+}
+
+-- a step
+once-step : {S : Type 0} (m : Meaning S) (n : Node S) (event : NodeEvent) → Once n → Once (step_of m n event).node
+once-step m n event once = keeps_step m (λ n. Once n) (λ message. Unit {0}) n event (once-in_steps m) (λ x count once. once) (free-event event) once
+
+-- whatever comes, a node accepts once for each slot
+pub once_after : {S : Type 0} (m : Meaning S) (n : Node S) (events : List NodeEvent) → AcceptsOnce n.entries → AcceptsOnce (node_after m n events).entries
+once_after m n [] once = once
+once_after m n (e ∷ es) once = once_after m (step_of m n e).node es (once-step m n e once)

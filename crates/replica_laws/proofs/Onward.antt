@@ -1,0 +1,534 @@
+-- Each message that a node holds is its own and rests on entries that it waits for; and a node's book only grows.
+use Rattle.std.proofs.Common.{◌≡◌, inl, inr, ℕ, zero, suc, ◌+◌, ◌^◌, ◌≤◌, ◌++◌, nat_lt, true, false, List, [], ◌∷◌, length, refl, ap, ◌∙◌, sym, arith, Option, Some, None, subst, append-nil, append_assoc, length-append, take}
+use Rattle.std.proofs.lemmas.List.{take_all}
+use Rattle.std.specs.Prelude.{IfSome, slice_get}
+use Rattle.smart_base.specs.Lists.{Each, or_else}
+use Rattle.smart_base.specs.Views.{View, is_member, leader}
+use Rattle.smart_messages.specs.Forms.{SignedBy}
+use Rattle.smart_messages.specs.Messages.{Batch}
+use Rattle.smart_messages.specs.RegencyMessages.{any_decoded}
+use Rattle.smart_messages.specs.Kinds.{proposals}
+use Rattle.smart_messages.specs.Regencies.{syncs}
+use Rattle.smart_messages.specs.declared.statement.Request.{Request}
+use Rattle.smart_messages.specs.declared.statement.Slot.{Slot}
+use Rattle.smart_messages.specs.declared.statement.Answer.{Answer}
+use Rattle.smart_messages.specs.declared.statement.VoteKind.TheVariants.{Write, Accept}
+use Rattle.smart_messages.specs.declared.statement.VoteKind.{VoteKind}
+use Rattle.smart_messages.specs.declared.report.Report.{Report}
+use Rattle.smart_messages.specs.declared.regency.Sync.{Sync}
+use Rattle.smart_messages.specs.declared.regency.RegencyMessage.TheVariants as changes
+use Rattle.smart_messages.specs.declared.message.Message.TheVariants.{Ask, Propose, Vote, Reply}
+use Rattle.smart_messages.specs.declared.message.Message.{Message}
+use Rattle.smart_messages.specs.declared.message.Proposed.{Proposed}
+use Rattle.smart_messages.specs.declared.any.AnyMessage.{AnyMessage}
+use Rattle.smart_messages.specs.declared.any.AnyMessage.TheVariants.{Plain, Change}
+use Rattle.smart_messages.specs.declared.entry.NodeEvent.{NodeEvent}
+use Rattle.smart_messages.specs.declared.entry.NodeEvent.TheVariants.{Arrive, Tick, Deliver, Firm}
+use Rattle.smart_service.specs.Services.{Meaning}
+use Rattle.smart_service.specs.declared.table.TableLine.{TableLine}
+use Rattle.vote_book.specs.Books.{Among}
+use Rattle.vote_book.specs.declared.entry.Decision.{Decision}
+use Rattle.vote_book.specs.declared.entry.LogEntry.{LogEntry}
+use Rattle.vote_book.specs.declared.entry.LogEntry.TheVariants as entries
+use Rattle.agreement_laws.specs.Diaries.{HasVoted, HasReported, HasAnswered}
+use Rattle.replica_rules.specs.Replicas.{is_next, delivered, executed_lines, at_next}
+use Rattle.replica_rules.specs.Seals.{signed, digest_of}
+use Rattle.replica_rules.specs.Pools.{offered, settled}
+use Rattle.node_rules.specs.Rules.{reply_of, replying, lines_to_answer, deliver_batch, delivers, proposing, propose_batch, proposes, ballot, writing, write_batch, writes, accepting, accept_batch, accepts, slot_in, decision_in, decision_ahead, deciding, decide_batch, decides, answering, answer_line, answers_again}
+use Rattle.node_rules.specs.Nodes.{Node, view_of, regency_of, next_place, open_slot, is_free, holding, recording}
+use Rattle.node_rules.specs.Votes.{Named, certificate_votes, decision_by}
+use Rattle.node_rules.specs.Arrivals.{kept_plain, kept_change, kept, noted}
+use Rattle.node_rules.specs.Changes.{start_by_sync, promised_for, adopts_by, adoption, adopts, stop_for, asks_next, joining, joins, report_of, reported_by, next_promise, promising, promise_next, promises, leading, lead_with, leads, timing, passes_on, presses, times}
+use Rattle.node_rules.specs.Steps.{passes, step_of, released, opened}
+use Rattle.node_rules.specs.declared.node.Held.{Held}
+use Rattle.node_rules.specs.declared.node.Target.{Target}
+use Rattle.node_rules.specs.declared.node.Target.TheVariants as targets
+use Rattle.replica_laws.specs.Sending.{IsOwn, RestsOn}
+use Rattle.replica_laws.proofs.Lists.{either, each_end, each_weaker, if_or, if_cond}
+use Rattle.replica_laws.proofs.Executions.{OfRequest, of_delivered}
+use Rattle.replica_laws.proofs.Waiting.{each-staying}
+use Rattle.replica_laws.proofs.Again.{ForLine, answering-each, each-delivered}
+use Rattle.replica_laws.proofs.Rulewise.{KeptByRules, KeptInSteps, free-read, keeps_passes, keeps_reading}
+
+-- ---- longer books
+
+pub record Longer (xs ys : List LogEntry) : Type 0 where
+  pub more : List LogEntry
+  pub split : ys ≡ xs ++ more
+
+pub longer-append : (xs ys : List LogEntry) → Longer xs (xs ++ ys)
+longer-append xs ys = record { more = ys; split = refl }
+
+-- fronts of the same length
+pub longer-take : (k : ℕ) (xs ys : List LogEntry) → Longer (take k xs) (take k (xs ++ ys))
+longer-take zero xs ys = record { more = []; split = refl }
+longer-take (suc k) [] ys = record { more = take (suc k) ys; split = refl }
+longer-take (suc k) (x ∷ xs) ys = let rest = longer-take k xs ys in record { more = rest.more; split = ap (λ zs. x ∷ zs) rest.split }
+
+-- a longer front
+pub longer-front : (k j : ℕ) (xs : List LogEntry) → k ≤ j → Longer (take k xs) (take j xs)
+longer-front zero j xs le = record { more = take j xs; split = refl }
+longer-front (suc k) zero xs le = absurd (omega (arith, le))
+longer-front (suc k) (suc j) [] le = record { more = []; split = refl }
+longer-front (suc k) (suc j) (x ∷ xs) le = let rest = longer-front k j xs (omega (arith, le)) in record { more = rest.more; split = ap (λ zs. x ∷ zs) rest.split }
+
+pub among-append : {A : Type 0} (x : A) (xs ys : List A) → Among x xs → Among x (xs ++ ys)
+among-append x [] ys there = absurd there
+among-append x (y ∷ xs) ys (inl is) = inl is
+among-append x (y ∷ xs) ys (inr there) = inr (among-append x xs ys there)
+
+pub among-end : {A : Type 0} (x : A) (xs : List A) → Among x (xs ++ x ∷ [])
+among-end x [] = inl refl
+among-end x (y ∷ xs) = inr (among-end x xs)
+
+voted-append : (es more : List LogEntry) (kind : VoteKind) (slot : Slot) (digest : List ℕ) → HasVoted es kind slot digest → HasVoted (es ++ more) kind slot digest
+voted-append es more Write slot digest has = among-append _ es more has
+voted-append es more Accept slot digest has = record { entry = has.entry; there = among-append (entries.Accepted has.entry) es more has.there; slot_is = has.slot_is; digest_is = has.digest_is }
+
+pub answered-append : (es more : List LogEntry) (a : Answer) → HasAnswered es a → HasAnswered (es ++ more) a
+answered-append es more a has = record {
+  decision = has.decision;
+  there = among-append (entries.Decided has.decision) es more has.there;
+  place_is = has.place_is;
+  request = has.request;
+  request_is = has.request_is;
+  client_is = has.client_is;
+  seq_is = has.seq_is;
+}
+
+reported-append : (es more : List LogEntry) (r : Report) → HasReported digest_of es r → HasReported digest_of (es ++ more) r
+reported-append es more r has = record {
+  before = has.before;
+  after = has.after ++ more;
+  split = ap (λ xs. xs ++ more) has.split ∙ append_assoc has.before (entries.Promised (record { view = r.view; regency = r.regency }) ∷ has.after) more;
+  reports = has.reports;
+}
+
+rests-append : (es more : List LogEntry) (message : AnyMessage) → RestsOn es message → RestsOn (es ++ more) message
+rests-append es more (Plain (Ask q)) rests = tt
+rests-append es more (Plain (Propose p)) rests = tt
+rests-append es more (Plain (Vote b)) rests = voted-append es more b.statement.kind b.statement.slot b.statement.digest rests
+rests-append es more (Plain (Reply a)) rests = answered-append es more a.statement rests
+rests-append es more (Change (changes.Stop s)) rests = tt
+rests-append es more (Change (changes.StopData r)) rests = reported-append es more r.head.statement rests
+rests-append es more (Change (changes.Sync s)) rests = tt
+
+-- what a message rests on stands in a longer book too
+pub rests-more : (xs ys : List LogEntry) → Longer xs ys → (message : AnyMessage) → RestsOn xs message → RestsOn ys message
+rests-more xs ys longer message rests = subst (λ (es : List LogEntry). RestsOn es message) (sym longer.split) (rests-append xs longer.more message rests)
+
+-- ---- nodes
+
+-- a held message is its node's own, and rests on the entries that it waits for
+pub record HoldsRight (id : ℕ) (es : List LogEntry) (h : Held) : Type 0 where
+  pub own : IsOwn id h.to h.message
+  pub needs_are : h.needs ≤ length es
+  pub rests : RestsOn (take h.needs es) h.message
+
+-- a book has decided a batch at a place
+pub record HasDecided (es : List LogEntry) (place : ℕ) (batch : Batch) : Type 0 where
+  pub decision : Decision
+  pub there : Among (entries.Decided decision) es
+  pub place_is : decision.slot.place ≡ place
+  pub batch_is : decision.batch ≡ batch
+
+-- a book has decided the batch that waits, if one does, at a place
+abbrev pub IsDecided : ℕ → List LogEntry → Option Batch → Type 0
+IsDecided place es waiting = IfSome waiting (HasDecided es place)
+
+-- what a reply that is made of a table line states
+abbrev pub answer_by : TableLine → Answer
+answer_by line = record { view = line.view; place = line.place; index = line.index; client = line.client; seq = line.seq; reply = line.reply }
+
+-- a reply made of a table line rests on a book
+abbrev pub LineRests : List LogEntry → TableLine → Type 0
+LineRests es line = HasAnswered es (answer_by line)
+
+-- all held messages are right, the batch that waits is decided, and so is the request of each line of the table
+pub record NodeRests {S : Type 0} (n : Node S) : Type 0 where
+  pub held : Each (HoldsRight n.id n.entries) n.held
+  pub waits : IsDecided (next_place n) n.entries n.waiting
+  pub lines : Each (LineRests n.entries) n.replica.table
+
+-- a node whose book has grown, and is right
+pub record Onward {S : Type 0} (n n' : Node S) : Type 0 where
+  pub id : n'.id ≡ n.id
+  pub firm : n'.firm ≡ n.firm
+  pub more : List LogEntry
+  pub book : n'.entries ≡ n.entries ++ more
+  pub rests : NodeRests n'
+
+pub onward-same : {S : Type 0} (n : Node S) → NodeRests n → Onward n n
+onward-same n is = record { id = refl; firm = refl; more = []; book = sym (append-nil n.entries); rests = is }
+
+pub onward-then : {S : Type 0} (a b c : Node S) → Onward a b → Onward b c → Onward a c
+onward-then a b c f g =
+    record {
+      id = g.id ∙ f.id;
+      firm = g.firm ∙ f.firm;
+      more = f.more ++ g.more;
+      book = g.book ∙ (ap (λ es. es ++ g.more) f.book ∙ append_assoc a.entries f.more g.more);
+      rests = g.rests;
+    }
+
+-- a batch that is decided is so in a longer book
+decided-more : (place : ℕ) (es more : List LogEntry) (waiting : Option Batch) → IsDecided place es waiting → IsDecided place (es ++ more) waiting
+decided-more place es more None is = tt
+decided-more place es more (Some batch) is =
+    record { decision = is.decision; there = among-append (entries.Decided is.decision) es more is.there; place_is = is.place_is; batch_is = is.batch_is }
+
+-- messages that wait, of a longer book
+holds-more : (id : ℕ) (es more : List LogEntry) (held : List Held) → Each (HoldsRight id es) held → Each (HoldsRight id (es ++ more)) held
+holds-more id es more held each =
+    each_weaker (HoldsRight id es) (HoldsRight id (es ++ more))
+    (λ h right. let needs = right.needs_are in
+    record {
+      own = right.own;
+      needs_are = omega (arith, needs, length-append es more);
+      rests = rests-more (take h.needs es) (take h.needs (es ++ more)) (longer-take h.needs es more) h.message right.rests;
+    }) held each
+
+-- a message is held that rests on the book
+holds-one : {S : Type 0} (n : Node S) (to : Target) (message : AnyMessage) → IsOwn n.id to message → RestsOn n.entries message
+    → HoldsRight n.id n.entries (record { to = to; message = message; needs = length n.entries })
+holds-one n to message own rests = record {
+  own = own;
+  needs_are = omega arith;
+  rests = subst (λ (es : List LogEntry). RestsOn es message) (sym (take_all (length n.entries) n.entries (omega arith))) rests;
+}
+
+pub rests-holding : {S : Type 0} (n : Node S) (to : Target) (message : AnyMessage) → IsOwn n.id to message → RestsOn n.entries message → NodeRests n → NodeRests (holding n to message)
+rests-holding n to message own rests is =
+    record { held = each_end (HoldsRight n.id n.entries) n.held _ is.held (holds-one n to message own rests); waits = is.waits; lines = is.lines }
+
+-- lines of a table, of a longer book
+lines-more : (es more : List LogEntry) (lines : List TableLine) → Each (LineRests es) lines → Each (LineRests (es ++ more)) lines
+lines-more es more lines each = each_weaker (LineRests es) (LineRests (es ++ more)) (λ l rests. answered-append es more (answer_by l) rests) lines each
+
+-- an entry is recorded
+pub rests-recording : {S : Type 0} (n : Node S) (e : LogEntry) → NodeRests n → NodeRests (recording n e)
+rests-recording n e is =
+    record {
+      held = holds-more n.id n.entries (e ∷ []) n.held is.held;
+      waits = decided-more (next_place n) n.entries (e ∷ []) n.waiting is.waits;
+      lines = lines-more n.entries (e ∷ []) n.replica.table is.lines;
+    }
+
+-- a reply rests on the decision of its place
+rests-reply : (es : List LogEntry) (place : ℕ) (batch : Batch) (l : TableLine) → HasDecided es place batch → l.place ≡ place → (q : SignedBy Request) → slice_get batch l.index ≡ Some q
+    → q.statement.client ≡ l.client → q.statement.seq ≡ l.seq → LineRests es l
+rests-reply es place batch l decided at q there client seq = record {
+  decision = decided.decision;
+  there = decided.there;
+  place_is = decided.place_is ∙ sym at;
+  request = q;
+  request_is = ap (λ (b : Batch). slice_get b l.index) decided.batch_is ∙ there;
+  client_is = client;
+  seq_is = seq;
+}
+
+-- replies are held
+onward-replying : {S : Type 0} (n : Node S) (lines : List TableLine) → Each (LineRests n.entries) lines → NodeRests n → Onward n (replying n lines)
+onward-replying n [] each is = onward-same n is
+onward-replying n (l ∷ ls) each is =
+    let f = onward-replying (holding n (targets.Client l.client) (Plain (reply_of n.secret n.id l))) ls each.1
+    (rests-holding n (targets.Client l.client) (Plain (reply_of n.secret n.id l)) (refl, refl) each.0 is) in
+    record { id = f.id; firm = f.firm; more = f.more; book = f.book; rests = f.rests }
+
+-- the replies to a batch that is decided rest on its decision
+lines_rest : {S : Type 0} (m : Meaning S) (n : Node S) (batch : Batch) → HasDecided n.entries (next_place n) batch → Each (LineRests n.entries) (executed_lines m n.replica batch)
+lines_rest m n batch decided =
+    each_weaker (OfRequest (at_next n.replica) 0 batch) (LineRests n.entries)
+    (λ l of. rests-reply n.entries (next_place n) batch l decided of.at_place of.request
+    (subst (λ (i : ℕ). slice_get batch i ≡ Some of.request) (sym (of.at_index ∙ omega arith)) of.there) of.own_client of.own_seq)
+    (executed_lines m n.replica batch) (of_delivered m n.replica batch)
+
+replies_rest : {S : Type 0} (m : Meaning S) (n : Node S) (batch : Batch) → HasDecided n.entries (next_place n) batch → Each (LineRests n.entries) (lines_to_answer m n batch)
+replies_rest m n batch decided =
+    either (λ (ls : List TableLine). Each (LineRests n.entries) ls) (is_member (view_of n) n.id) (executed_lines m n.replica batch) [] (lines_rest m n batch decided) tt
+
+-- the batch that waits is delivered
+onward-deliver_batch : {S : Type 0} (m : Meaning S) (n : Node S) (batch : Option Batch) → n.waiting ≡ batch → NodeRests n → Onward n (deliver_batch m n batch)
+unfolding deliver_batch
+onward-deliver_batch m n None at is = onward-same n is
+onward-deliver_batch m n (Some batch) at is =
+    let decided : HasDecided n.entries (next_place n) batch = subst (IsDecided (next_place n) n.entries) at is.waits in
+    let f = onward-replying
+    (record n { replica = delivered m n.replica batch; waiting = None; pool = settled (delivered m n.replica batch).table n.pool; impatient = false })
+    (lines_to_answer m n batch) (replies_rest m n batch decided)
+    (record { held = is.held; waits = tt; lines = each-delivered (LineRests n.entries) m n.replica batch is.lines (lines_rest m n batch decided) }) in
+    record { id = f.id; firm = f.firm; more = f.more; book = f.book; rests = f.rests }
+
+pub onward-delivers : {S : Type 0} (m : Meaning S) (n : Node S) → NodeRests n → Onward n (delivers m n)
+unfolding delivers
+onward-delivers m n is = onward-deliver_batch m n n.waiting refl is
+
+-- an arrival is kept
+onward-kept : {S : Type 0} (n : Node S) (message : AnyMessage) → NodeRests n → Onward n (kept n message)
+unfolding kept_plain kept_change
+onward-kept {S = S} n (Plain (Ask q)) is =
+    either (λ (x : Node S). Onward n x) (is_next n.replica.table q.statement) (record n { pool = offered n.pool q }) n
+    (record { id = refl; firm = refl; more = []; book = sym (append-nil n.entries); rests = record { held = is.held; waits = is.waits; lines = is.lines } })
+    (onward-same n is)
+onward-kept n (Plain (Propose p)) is = record { id = refl; firm = refl; more = []; book = sym (append-nil n.entries); rests = record { held = is.held; waits = is.waits; lines = is.lines } }
+onward-kept n (Plain (Vote b)) is = record { id = refl; firm = refl; more = []; book = sym (append-nil n.entries); rests = record { held = is.held; waits = is.waits; lines = is.lines } }
+onward-kept n (Plain (Reply a)) is = onward-same n is
+onward-kept n (Change (changes.Stop s)) is = record { id = refl; firm = refl; more = []; book = sym (append-nil n.entries); rests = record { held = is.held; waits = is.waits; lines = is.lines } }
+onward-kept n (Change (changes.StopData r)) is = record { id = refl; firm = refl; more = []; book = sym (append-nil n.entries); rests = record { held = is.held; waits = is.waits; lines = is.lines } }
+onward-kept n (Change (changes.Sync s)) is = record { id = refl; firm = refl; more = []; book = sym (append-nil n.entries); rests = record { held = is.held; waits = is.waits; lines = is.lines } }
+
+-- a node is told that it is behind
+onward-noted : {S : Type 0} (n : Node S) (message : AnyMessage) → NodeRests n → Onward n (noted n message)
+unfolding noted
+onward-noted n message is = record { id = refl; firm = refl; more = []; book = sym (append-nil n.entries); rests = record { held = is.held; waits = is.waits; lines = is.lines } }
+
+-- a message is held, and else nothing of the book changes
+onward-holding : {S : Type 0} (n : Node S) (to : Target) (message : AnyMessage) → IsOwn n.id to message → RestsOn n.entries message → NodeRests n → Onward n (holding n to message)
+onward-holding n to message own rests is =
+    let r = rests-holding n to message own rests is in
+    record { id = refl; firm = refl; more = []; book = sym (append-nil n.entries); rests = record { held = r.held; waits = r.waits; lines = r.lines } }
+
+-- a node answers again
+onward-answer_line : {S : Type 0} (n : Node S) (line : Option TableLine) → ForLine line (LineRests n.entries) → NodeRests n → Onward n (answer_line n line)
+unfolding answer_line
+onward-answer_line n None rests is = onward-same n is
+onward-answer_line n (Some line) rests is = onward-holding n (targets.Client line.client) (Plain (reply_of n.secret n.id line)) (refl, refl) rests is
+
+onward-answers_again : {S : Type 0} (n : Node S) (message : AnyMessage) → NodeRests n → Onward n (answers_again n message)
+unfolding answers_again
+onward-answers_again n message is = onward-answer_line n (answering n message) (answering-each (LineRests n.entries) n message is.lines) is
+
+-- the next regency is asked for
+onward-asks_next : {S : Type 0} (n : Node S) → NodeRests n → Onward n (asks_next n)
+onward-asks_next {S = S} n is =
+    let f = onward-holding (record n { stop_made = true }) targets.View (stop_for n) refl tt (record { held = is.held; waits = is.waits; lines = is.lines }) in
+    record { id = f.id; firm = f.firm; more = f.more; book = f.book; rests = f.rests }
+
+onward-joins : {S : Type 0} (n : Node S) → NodeRests n → Onward n (joins n)
+unfolding joins
+onward-joins {S = S} n is = either (λ (x : Node S). Onward n x) (joining n) (asks_next n) n (onward-asks_next n is) (onward-same n is)
+
+-- a regency begins by its leader
+onward-lead_with : {S : Type 0} (n : Node S) (collect : Option (List (SignedBy Report))) → NodeRests n → Onward n (lead_with n collect)
+unfolding lead_with
+onward-lead_with n None is = onward-same n is
+onward-lead_with n (Some collect) is =
+    let f = onward-holding (record n { sync_made = true }) targets.View
+    (Change (changes.Sync (signed syncs n.secret n.id (record { view = (view_of n).number; regency = regency_of n; collect = collect })))) refl tt
+    (record { held = is.held; waits = is.waits; lines = is.lines }) in
+    record { id = f.id; firm = f.firm; more = f.more; book = f.book; rests = f.rests }
+
+onward-leads : {S : Type 0} (n : Node S) → NodeRests n → Onward n (leads n)
+unfolding leads
+onward-leads n is = onward-lead_with n (leading n) is
+
+-- time passes
+onward-passes_on : {S : Type 0} (n : Node S) (pool : List (SignedBy Request)) → NodeRests n → Onward n (passes_on n pool)
+onward-passes_on n [] is = onward-same n is
+onward-passes_on n (q ∷ qs) is = onward-holding n (targets.Node (leader (view_of n) (regency_of n))) (Plain (Ask q)) tt tt is
+
+onward-presses : {S : Type 0} (n : Node S) → NodeRests n → Onward n (presses n)
+unfolding presses
+onward-presses {S = S} n is =
+    let x : Node S = record n { impatient = true } in
+    let f = onward-passes_on x n.pool (record { held = is.held; waits = is.waits; lines = is.lines }) in
+    either (λ (y : Node S). Onward n y) n.impatient (asks_next n) (passes_on x n.pool) (onward-asks_next n is) (record { id = f.id; firm = f.firm; more = f.more; book = f.book; rests = f.rests })
+
+onward-times : {S : Type 0} (n : Node S) → NodeRests n → Onward n (times n)
+unfolding times
+onward-times {S = S} n is = either (λ (x : Node S). Onward n x) (timing n) (presses n) n (onward-presses n is) (onward-same n is)
+
+-- entries are recorded
+onward-recording : {S : Type 0} (n : Node S) (e : LogEntry) → NodeRests n → Onward n (recording n e)
+onward-recording n e is = record { id = refl; firm = refl; more = e ∷ []; book = refl; rests = rests-recording n e is }
+
+-- a beginning is adopted
+onward-promised_for : {S : Type 0} (n : Node S) (sync : Sync) → NodeRests n → Onward n (record n { entries = n.entries ++ promised_for n sync })
+onward-promised_for {S = S} n sync is =
+    either (λ (more : List LogEntry). Onward n (record n { entries = n.entries ++ more })) (nat_lt (regency_of n) sync.regency) _ []
+    (onward-recording n (entries.Promised (record { view = sync.view; regency = sync.regency })) is)
+    (record {
+      id = refl;
+      firm = refl;
+      more = [];
+      book = refl;
+      rests = record {
+        held = holds-more n.id n.entries [] n.held is.held;
+        waits = decided-more (next_place n) n.entries [] n.waiting is.waits;
+        lines = lines-more n.entries [] n.replica.table is.lines;
+      };
+    })
+
+onward-adopts_by : {S : Type 0} (n : Node S) (sync : Option (SignedBy Sync)) → NodeRests n → Onward n (adopts_by n sync)
+unfolding adopts_by
+onward-adopts_by n None is = onward-same n is
+onward-adopts_by {S = S} n (Some sync) is =
+    let x : Node S = record n { entries = n.entries ++ promised_for n sync.statement } in
+    let f : Onward n x = onward-promised_for n sync.statement is in
+    let e : LogEntry = entries.Synced (start_by_sync sync.statement) in
+    let g : Onward x (recording x e) = onward-recording x e f.rests in
+    let both = onward-then n x (recording x e) f g in
+    record { id = refl; firm = refl; more = both.more; book = both.book; rests = record { held = g.rests.held; waits = g.rests.waits; lines = g.rests.lines } }
+
+onward-adopts : {S : Type 0} (n : Node S) → NodeRests n → Onward n (adopts n)
+unfolding adopts
+onward-adopts n is = onward-adopts_by n (adoption n) is
+
+-- the next regency is promised, and its leader told what stood in the book before
+promise-reports : {S : Type 0} (n : Node S) → HasReported digest_of (n.entries ++ entries.Promised (next_promise n) ∷ []) (report_of n (regency_of n + 1))
+unfolding report_of
+promise-reports n = record { before = n.entries; after = []; split = refl; reports = record { last = refl; evidence = refl; lock = refl } }
+
+onward-promise_next : {S : Type 0} (n : Node S) → NodeRests n → Onward n (promise_next n)
+unfolding promise_next reported_by
+onward-promise_next {S = S} n is =
+    let e : LogEntry = entries.Promised (next_promise n) in
+    let x : Node S = record (recording n e) { stop_made = false; sync_made = false; impatient = true } in
+    let r = rests-recording n e is in
+    let f = onward-holding x (targets.Node (leader (view_of n) (regency_of n + 1))) (Change (changes.StopData (reported_by n (regency_of n + 1)))) (refl, tt) (promise-reports n)
+    (record { held = r.held; waits = r.waits; lines = r.lines }) in
+    record { id = refl; firm = refl; more = e ∷ []; book = refl; rests = record { held = f.rests.held; waits = f.rests.waits; lines = f.rests.lines } }
+
+onward-promises : {S : Type 0} (n : Node S) → NodeRests n → Onward n (promises n)
+unfolding promises
+onward-promises {S = S} n is = either (λ (x : Node S). Onward n x) (promising n) (promise_next n) n (onward-promise_next n is) (onward-same n is)
+
+-- a batch is proposed
+onward-propose_batch : {S : Type 0} (n : Node S) (batch : Option Batch) → NodeRests n → Onward n (propose_batch n batch)
+unfolding propose_batch
+onward-propose_batch n None is = onward-same n is
+onward-propose_batch n (Some batch) is =
+    let f = onward-holding (record n { proposed = n.proposed ++ open_slot n ∷ [] }) targets.View
+    (Plain (Propose (record { head = signed proposals n.secret n.id (record { slot = open_slot n; digest = digest_of batch }); batch = batch }))) refl tt
+    (record { held = is.held; waits = is.waits; lines = is.lines }) in
+    record { id = f.id; firm = f.firm; more = f.more; book = f.book; rests = f.rests }
+
+onward-proposes : {S : Type 0} (n : Node S) → NodeRests n → Onward n (proposes n)
+unfolding proposes
+onward-proposes n is = onward-propose_batch n (proposing n) is
+
+-- a batch is written, and the vote rests on the entry
+onward-write_batch : {S : Type 0} (n : Node S) (p : Option Proposed) → NodeRests n → Onward n (write_batch n p)
+unfolding write_batch
+onward-write_batch n None is = onward-same n is
+onward-write_batch n (Some p) is =
+    let entry : LogEntry = entries.Wrote (record { slot = open_slot n; digest = p.head.statement.digest }) in
+    let r = rests-holding (recording n entry) targets.View (ballot n Write p.head.statement.digest) refl (among-end entry n.entries) (rests-recording n entry is) in
+    record { id = refl; firm = refl; more = entry ∷ []; book = refl; rests = record { held = r.held; waits = r.waits; lines = r.lines } }
+
+onward-writes : {S : Type 0} (n : Node S) → NodeRests n → Onward n (writes n)
+unfolding writes
+onward-writes n is = onward-write_batch n (writing n) is
+
+-- so is one that is accepted
+onward-accept_batch : {S : Type 0} (n : Node S) (p : Option Proposed) → NodeRests n → Onward n (accept_batch n p)
+unfolding accept_batch
+onward-accept_batch n None is = onward-same n is
+onward-accept_batch n (Some p) is =
+    let entry : LogEntry = entries.Accepted (record {
+      slot = open_slot n;
+      digest = p.head.statement.digest;
+      writes = certificate_votes n.arrivals (view_of n) Write (open_slot n) p.head.statement.digest;
+      batch = p.batch;
+    }) in
+    let r = rests-holding (recording n entry) targets.View (ballot n Accept p.head.statement.digest) refl
+    (record { entry = _; there = among-end entry n.entries; slot_is = refl; digest_is = refl }) (rests-recording n entry is) in
+    record { id = refl; firm = refl; more = entry ∷ []; book = refl; rests = record { held = r.held; waits = r.waits; lines = r.lines } }
+
+onward-accepts : {S : Type 0} (n : Node S) → NodeRests n → Onward n (accepts n)
+unfolding accepts
+onward-accepts n is = onward-accept_batch n (accepting n) is
+
+-- a batch is decided at the next place, and waits
+
+-- a decision is of its slot
+decision_by-slot : (view : View) (slot : Slot) (n_arrivals : List Message) (found : Option Named) → IfSome (decision_by view slot n_arrivals found) (λ (d : Decision). d.slot ≡ slot)
+decision_by-slot view slot n_arrivals None = tt
+decision_by-slot view slot n_arrivals (Some x) = refl
+
+decision_in-place : {S : Type 0} (n : Node S) (regency : ℕ) → IfSome (decision_in n regency) (λ (d : Decision). d.slot.place ≡ next_place n)
+unfolding decision_in
+decision_in-place n regency = found _ (decision_by-slot (view_of n) (slot_in n regency) n.arrivals _)
+  where
+    found : (o : Option Decision) → IfSome o (λ (d : Decision). d.slot ≡ slot_in n regency) → IfSome o (λ (d : Decision). d.slot.place ≡ next_place n)
+    found None is = tt
+    found (Some d) is = ap (λ (s : Slot). s.place) is
+
+pub deciding-place : {S : Type 0} (n : Node S) → IfSome (deciding n) (λ (d : Decision). d.slot.place ≡ next_place n)
+unfolding deciding
+deciding-place n =
+    if_cond (λ (d : Decision). d.slot.place ≡ next_place n) (is_free n) (or_else (decision_in n (regency_of n)) (decision_ahead n))
+    (λ free. if_or (λ (d : Decision). d.slot.place ≡ next_place n) (decision_in n (regency_of n)) (decision_ahead n) (decision_in-place n (regency_of n))
+    (if_cond (λ (d : Decision). d.slot.place ≡ next_place n) (nat_lt (regency_of n + 1) (2 ^ 32)) (decision_in n (regency_of n + 1)) (λ room. decision_in-place n (regency_of n + 1))))
+
+onward-decide_batch : {S : Type 0} (n : Node S) (d : Option Decision) → IfSome d (λ (x : Decision). x.slot.place ≡ next_place n) → NodeRests n → Onward n (decide_batch n d)
+unfolding decide_batch
+onward-decide_batch n None at is = onward-same n is
+onward-decide_batch n (Some d) at is =
+    let r = rests-recording n (entries.Decided d) is in
+    record {
+      id = refl;
+      firm = refl;
+      more = entries.Decided d ∷ [];
+      book = refl;
+      rests = record { held = r.held; waits = record { decision = d; there = among-end (entries.Decided d) n.entries; place_is = at; batch_is = refl }; lines = r.lines };
+    }
+
+onward-decides : {S : Type 0} (n : Node S) → NodeRests n → Onward n (decides n)
+unfolding decides
+onward-decides n is = onward-decide_batch n (deciding n) (deciding-place n) is
+
+-- ---- steps
+
+onward-rules : {S : Type 0} (a : Node S) → KeptByRules (λ n. Onward a n)
+onward-rules a = record {
+  by_adopts = λ n is. onward-then a n (adopts n) is (onward-adopts n is.rests);
+  by_joins = λ n is. onward-then a n (joins n) is (onward-joins n is.rests);
+  by_promises = λ n is. onward-then a n (promises n) is (onward-promises n is.rests);
+  by_leads = λ n is. onward-then a n (leads n) is (onward-leads n is.rests);
+  by_proposes = λ n is. onward-then a n (proposes n) is (onward-proposes n is.rests);
+  by_writes = λ n is. onward-then a n (writes n) is (onward-writes n is.rests);
+  by_accepts = λ n is. onward-then a n (accepts n) is (onward-accepts n is.rests);
+  by_decides = λ n is. onward-then a n (decides n) is (onward-decides n is.rests);
+}
+
+onward-in_steps : {S : Type 0} (m : Meaning S) (a : Node S) → KeptInSteps m (λ n. Onward a n) (λ message. Unit {0})
+onward-in_steps m a = record {
+  by_rules = onward-rules a;
+  by_times = λ n is. onward-then a n (times n) is (onward-times n is.rests);
+  by_answers = λ n message is. onward-then a n (answers_again n message) is (onward-answers_again n message is.rests);
+  by_noted = λ n message is. onward-then a n (noted n message) is (onward-noted n message is.rests);
+  by_kept = λ n message fine may is. onward-then a n (kept n message) is (onward-kept n message is.rests);
+  by_delivers = λ n is. onward-then a n (delivers m n) is (onward-delivers m n is.rests);
+}
+
+-- a pass of the rules
+pub onward-passes : {S : Type 0} (a n : Node S) → Onward a n → Onward a (passes n)
+onward-passes a n is = keeps_passes (λ x. Onward a x) n (onward-rules a) is
+
+-- the node as an event finds it: firmness is what the event says
+abbrev pub told_firm : {S : Type 0} → Node S → NodeEvent → Node S
+told_firm n (Arrive bytes) = n
+told_firm n Tick = n
+told_firm n Deliver = n
+told_firm n (Firm count) = record n { firm = count }
+
+-- a step
+pub onward-step : {S : Type 0} (m : Meaning S) (n : Node S) (event : NodeEvent) → NodeRests n → Onward (told_firm n event) (step_of m n event).node
+unfolding step_of
+onward-step m n (Arrive bytes) is = keeps_reading m (λ x. Onward n x) (λ message. Unit {0}) n (any_decoded bytes) (onward-in_steps m n) (free-read (any_decoded bytes)) (onward-same n is)
+onward-step m n Tick is =
+    let f : Onward n (passes n) = onward-passes n n (onward-same n is) in
+    onward-then n (passes n) (times (passes n)) f (onward-times (passes n) f.rests)
+onward-step m n Deliver is = onward-passes n (delivers m n) (onward-delivers m n is)
+onward-step {S = S} m n (Firm count) is =
+    let x : Node S = record n { firm = count } in
+    onward-passes x x (onward-same x (record { held = is.held; waits = is.waits; lines = is.lines }))
+
+-- what is firm has left
+pub rests-released : {S : Type 0} (n : Node S) → NodeRests n → NodeRests (released n)
+rests-released n is = record { held = each-staying (HoldsRight n.id n.entries) n.firm n.held is.held; waits = is.waits; lines = is.lines }
+
+-- a node that has opened holds nothing
+pub rests-opened : {S : Type 0} (m : Meaning S) (secret : List ℕ) (id : ℕ) (view : View) (period : ℕ) → NodeRests (opened m secret id view period)
+rests-opened m secret id view period = record { held = tt; waits = tt; lines = tt }

@@ -1,0 +1,4 @@
+pub mod Books
+pub mod Lines
+pub mod Sending
+pub mod Voters

@@ -1,0 +1,169 @@
+-- A node keeps its name and its secret, and its book only grows.
+use Rattle.std.proofs.Common.{◌≡◌, ℕ, ◌++◌, false, List, [], ◌∷◌, refl, ap, ◌∙◌, sym, Option, Some, None, Result, Ok, Err, append-nil, append_assoc}
+use Rattle.smart_messages.specs.Messages.{Batch}
+use Rattle.smart_messages.specs.RegencyMessages.{any_decoded}
+use Rattle.smart_messages.specs.declared.message.Proposed.{Proposed}
+use Rattle.smart_messages.specs.declared.any.AnyMessage.{AnyMessage}
+use Rattle.smart_messages.specs.declared.any.AnyMessage.TheVariants.{Plain}
+use Rattle.smart_messages.specs.declared.entry.NodeEvent.{NodeEvent}
+use Rattle.smart_messages.specs.declared.entry.NodeEvent.TheVariants.{Arrive, Tick, Deliver, Firm}
+use Rattle.smart_service.specs.Services.{Meaning}
+use Rattle.smart_service.specs.declared.table.TableLine.{TableLine}
+use Rattle.vote_book.specs.declared.entry.Decision.{Decision}
+use Rattle.vote_book.specs.declared.entry.LogEntry.{LogEntry}
+use Rattle.replica_rules.specs.Pools.{settled}
+use Rattle.replica_rules.specs.Replicas.{delivered}
+use Rattle.node_rules.specs.Rules.{reply_of, replying, lines_to_answer, deliver_batch, delivers, proposes, writing, write_batch, writes, accepting, accept_batch, accepts, deciding, decide_batch, decides, answers_again}
+use Rattle.node_rules.specs.Nodes.{Node, holding}
+use Rattle.node_rules.specs.Arrivals.{why_dropped, noted, kept}
+use Rattle.node_rules.specs.Changes.{adoption, adopts, joins, promising, promise_next, promises, leads, times}
+use Rattle.node_rules.specs.Steps.{passes, arrival_outcome, reading_outcome, step_of}
+use Rattle.node_rules.specs.declared.node.Why.{Why}
+use Rattle.node_rules.specs.declared.node.Target.TheVariants as targets
+use Rattle.agreement_laws.specs.Fronts.{IsFront}
+use Rattle.replica_laws.proofs.Lists.{either}
+use Rattle.replica_laws.proofs.Again.{entries-noted, entries-answers_again}
+use Rattle.replica_laws.proofs.Once.{entries-kept, entries-joins, entries-leads, entries-proposes, entries-times, entries_adopted}
+use Rattle.replica_laws.proofs.Leaves.{Leaves, leaves-adopts, leaves-joins, leaves-promises, leaves-leads, leaves-proposes, leaves-writes, leaves-accepts, leaves-times, leaves-answers_again, leaves-noted, leaves-kept}
+use Rattle.replica_laws.proofs.Rulewise.{KeptByRules, keeps_passes}
+
+-- fronts
+
+front_same : {A : Type 0} (xs : List A) → IsFront xs xs
+front_same xs = record { rest = []; is = sym (append-nil xs) }
+
+front_end : {A : Type 0} (front xs : List A) (x : A) → IsFront front xs → IsFront front (xs ++ x ∷ [])
+front_end {A} front xs x f = record { rest = f.rest ++ x ∷ []; is = ap (λ (ys : List A). ys ++ x ∷ []) f.is ∙ append_assoc front f.rest (x ∷ []) }
+
+front_as : {A : Type 0} (front xs ys : List A) → ys ≡ xs → IsFront front xs → IsFront front ys
+front_as {A} front xs ys same f = record { rest = f.rest; is = same ∙ f.is }
+
+-- a node of the same name and secret, of which as much is firm, with a longer book
+pub record Longer {S : Type 0} (n n' : Node S) : Type 0 where
+  pub named : n'.id ≡ n.id
+  pub shared : n'.secret ≡ n.secret
+  pub firm_is : n'.firm ≡ n.firm
+  pub book : IsFront n.entries n'.entries
+
+longer-same : {S : Type 0} (n : Node S) → Longer n n
+longer-same n = record { named = refl; shared = refl; firm_is = refl; book = front_same n.entries }
+
+-- a rule that leaves all but the book
+longer-leaves : {S : Type 0} (a n n' : Node S) → Leaves n n' → IsFront a.entries n'.entries → Longer a n → Longer a n'
+longer-leaves a n n' l book is = record { named = l.named ∙ is.named; shared = l.shared ∙ is.shared; firm_is = l.firm_is ∙ is.firm_is; book = book }
+
+longer-as : {S : Type 0} (a n n' : Node S) → Leaves n n' → n'.entries ≡ n.entries → Longer a n → Longer a n'
+longer-as a n n' l same is = longer-leaves a n n' l (front_as a.entries n.entries n'.entries same is.book) is
+
+-- a regency begins
+front-adopts : {S : Type 0} (front : List LogEntry) (n : Node S) → IsFront front n.entries → IsFront front (adopts n).entries
+unfolding adopts
+front-adopts front n f = entries_adopted (λ (es : List LogEntry). IsFront front es) (λ es p is. front_end front es _ is) (λ es s is. front_end front es _ is) n (adoption n) f
+
+-- the next one is promised
+front-promises : {S : Type 0} (front : List LogEntry) (n : Node S) → IsFront front n.entries → IsFront front (promises n).entries
+unfolding promises promise_next
+front-promises {S = S} front n f = either (λ (x : Node S). IsFront front x.entries) (promising n) (promise_next n) n (front_end front n.entries _ f) f
+
+-- votes
+front-write_batch : {S : Type 0} (front : List LogEntry) (n : Node S) (p : Option Proposed) → IsFront front n.entries → IsFront front (write_batch n p).entries
+unfolding write_batch
+front-write_batch front n None f = f
+front-write_batch front n (Some p) f = front_end front n.entries _ f
+
+front-writes : {S : Type 0} (front : List LogEntry) (n : Node S) → IsFront front n.entries → IsFront front (writes n).entries
+unfolding writes
+front-writes front n f = front-write_batch front n (writing n) f
+
+front-accept_batch : {S : Type 0} (front : List LogEntry) (n : Node S) (p : Option Proposed) → IsFront front n.entries → IsFront front (accept_batch n p).entries
+unfolding accept_batch
+front-accept_batch front n None f = f
+front-accept_batch front n (Some p) f = front_end front n.entries _ f
+
+front-accepts : {S : Type 0} (front : List LogEntry) (n : Node S) → IsFront front n.entries → IsFront front (accepts n).entries
+unfolding accepts
+front-accepts front n f = front-accept_batch front n (accepting n) f
+
+-- a decision
+longer-decide_batch : {S : Type 0} (a n : Node S) (d : Option Decision) → Longer a n → Longer a (decide_batch n d)
+unfolding decide_batch
+longer-decide_batch a n None is = is
+longer-decide_batch a n (Some d) is = record { named = is.named; shared = is.shared; firm_is = is.firm_is; book = front_end a.entries n.entries _ is.book }
+
+longer-decides : {S : Type 0} (a n : Node S) → Longer a n → Longer a (decides n)
+unfolding decides
+longer-decides a n is = longer-decide_batch a n (deciding n) is
+
+-- a delivery
+longer-replying : {S : Type 0} (a n : Node S) (lines : List TableLine) → Longer a n → Longer a (replying n lines)
+longer-replying a n [] is = is
+longer-replying a n (l ∷ ls) is =
+    longer-replying a (holding n (targets.Client l.client) (Plain (reply_of n.secret n.id l))) ls
+    (record { named = is.named; shared = is.shared; firm_is = is.firm_is; book = is.book })
+
+longer-deliver_batch : {S : Type 0} (m : Meaning S) (a n : Node S) (batch : Option Batch) → Longer a n → Longer a (deliver_batch m n batch)
+unfolding deliver_batch
+longer-deliver_batch m a n None is = is
+longer-deliver_batch m a n (Some batch) is =
+    longer-replying a (record n { replica = delivered m n.replica batch; waiting = None; pool = settled (delivered m n.replica batch).table n.pool; impatient = false }) (lines_to_answer m n batch)
+    (record { named = is.named; shared = is.shared; firm_is = is.firm_is; book = is.book })
+
+longer-delivers : {S : Type 0} (m : Meaning S) (a n : Node S) → Longer a n → Longer a (delivers m n)
+unfolding delivers
+longer-delivers m a n is = longer-deliver_batch m a n n.waiting is
+
+-- all rules
+longer-rules : {S : Type 0} (a : Node S) → KeptByRules (λ n. Longer a n)
+longer-rules a = record {
+  by_adopts = λ n is. longer-leaves a n (adopts n) (leaves-adopts n) (front-adopts a.entries n is.book) is;
+  by_joins = λ n is. longer-as a n (joins n) (leaves-joins n) (entries-joins n) is;
+  by_promises = λ n is. longer-leaves a n (promises n) (leaves-promises n) (front-promises a.entries n is.book) is;
+  by_leads = λ n is. longer-as a n (leads n) (leaves-leads n) (entries-leads n) is;
+  by_proposes = λ n is. longer-as a n (proposes n) (leaves-proposes n) (entries-proposes n) is;
+  by_writes = λ n is. longer-leaves a n (writes n) (leaves-writes n) (front-writes a.entries n is.book) is;
+  by_accepts = λ n is. longer-leaves a n (accepts n) (leaves-accepts n) (front-accepts a.entries n is.book) is;
+  by_decides = λ n is. longer-decides a n is;
+}
+
+-- what has been told of firmness
+abbrev pub told_firm : {S : Type 0} → Node S → NodeEvent → Node S
+told_firm n (Arrive bytes) = n
+told_firm n Tick = n
+told_firm n Deliver = n
+told_firm n (Firm count) = record n { firm = count }
+
+-- a pass of the rules
+longer-passes : {S : Type 0} (a n : Node S) → Longer a n → Longer a (passes n)
+longer-passes a n is = keeps_passes (λ x. Longer a x) n (longer-rules a) is
+
+-- an arrival and its pass
+longer-arrival : {S : Type 0} (m : Meaning S) (n : Node S) (message : AnyMessage) (why : Option Why) → Longer n (arrival_outcome n message why).node
+longer-arrival {S = S} m n message None =
+    let told : Node S = noted n message in
+    let k : Node S = kept told message in
+    let one : Longer n told = longer-as n n told (leaves-noted n message) (entries-noted n message) (longer-same n) in
+    let two : Longer n k = longer-as n told k (leaves-kept told message) (entries-kept told message) one in
+    longer-as n (passes k) (answers_again (passes k) message) (leaves-answers_again (passes k) message) (entries-answers_again (passes k) message) (longer-passes n k two)
+longer-arrival m n message (Some why) = longer-as n n (noted n message) (leaves-noted n message) (entries-noted n message) (longer-same n)
+
+longer-reading : {S : Type 0} (m : Meaning S) (n : Node S) (read : Result AnyMessage ℕ) → Longer n (reading_outcome n read).node
+longer-reading m n (Ok message) = longer-arrival m n message (why_dropped n message)
+longer-reading m n (Err at) = longer-same n
+
+-- a step
+pub longer-step : {S : Type 0} (m : Meaning S) (n : Node S) (event : NodeEvent) → Longer (told_firm n event) (step_of m n event).node
+unfolding step_of
+longer-step m n (Arrive bytes) = longer-reading m n (any_decoded bytes)
+longer-step m n Tick = longer-as n (passes n) (times (passes n)) (leaves-times (passes n)) (entries-times (passes n)) (longer-passes n n (longer-same n))
+longer-step m n Deliver = longer-passes n (delivers m n) (longer-delivers m n n (longer-same n))
+longer-step {S = S} m n (Firm count) = let firmer : Node S = record n { firm = count } in longer-passes firmer firmer (longer-same firmer)
+
+-- so each step keeps the secret
+pub secret-step : {S : Type 0} (m : Meaning S) (n : Node S) (event : NodeEvent) → (step_of m n event).node.secret ≡ n.secret
+secret-step {S} m n event = (longer-step m n event).shared ∙ told n event
+  where
+    told : (x : Node S) (e : NodeEvent) → (told_firm x e).secret ≡ x.secret
+    told x (Arrive bytes) = refl
+    told x Tick = refl
+    told x Deliver = refl
+    told x (Firm count) = refl

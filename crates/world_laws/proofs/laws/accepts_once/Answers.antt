@@ -1,7 +1,0 @@
-use Rattle.std.proofs.Common.{arith}
-use Rattle.node_rules.specs.Steps.{opened}
-use Rattle.world_laws.proofs.Once.{once_after}
-use Rattle.world_laws.proofs.laws.accepts_once.Goals as goal
-
-pub returns : goal.returns
-returns g c = λ secret id view events. once_after g.S.Service.meaning (opened g.S.Service.meaning secret id view) events (λ slot. omega arith)

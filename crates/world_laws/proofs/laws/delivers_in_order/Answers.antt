@@ -1,6 +1,0 @@
-use Rattle.node_rules.specs.Steps.{opened}
-use Rattle.world_laws.proofs.InOrder.{in_order_after, in_order-opened}
-use Rattle.world_laws.proofs.laws.delivers_in_order.Goals as goal
-
-pub returns : goal.returns
-returns g c = λ secret id view events. in_order_after g.S.Service.meaning view (opened g.S.Service.meaning secret id view) events (in_order-opened g.S.Service.meaning secret id view)
