@@ -203,6 +203,19 @@ opened_as bytes gs other w cells end (SyncBody n) g kept instead are idle s = ab
 opened_as bytes gs other w cells end (Gate n) g kept instead are idle s = absurd cc
 opened_as bytes gs other w cells end (SyncGate n) g kept instead are idle s = absurd cc
 
+-- what was sure last restores what is kept
+pub sure_restores : (cells : Cells) (end : ℕ) (job : Job) (g : Group) (gs other : List Group) → Stands cells end job g gs other → restored cells.sure ≡ gs
+sure_restores cells end Rest g gs other s = ap (λ (q : Cells). restored q.sure) s.0.are ∙ restored_is gs (0 ∷ s.0.tail) s.0.fit (closed 0 s.0.tail (omega arith))
+sure_restores cells end Torn g gs other s = ap (λ (q : Cells). restored q.sure) s.are ∙ restored_is gs s.rest s.torn.fit s.torn.nothing
+sure_restores cells end (Close waiting) g gs other s = ap (λ (q : Cells). restored q.sure) s.0.are ∙ restored_is gs s.0.rest s.0.torn.fit s.0.torn.nothing
+sure_restores cells end (SyncClose waiting) g gs other s = ap (λ (q : Cells). restored q.sure) s.0.are ∙ restored_is gs s.0.rest s.0.torn.fit s.0.torn.nothing
+sure_restores cells end (Body bytes) g gs other s = ap (λ (q : Cells). restored q.sure) s.0.are ∙ restored_is gs (0 ∷ s.0.tail) s.0.fit (closed 0 s.0.tail (omega arith))
+sure_restores cells end (SyncBody next) g gs other s = ap (λ (q : Cells). restored q.sure) s.0.are ∙ restored_is gs (0 ∷ s.0.tail) s.0.fit (closed 0 s.0.tail (omega arith))
+sure_restores cells end (Gate next) g gs other s =
+    ap (λ (q : Cells). restored q.sure) s.0.are ∙ restored_is gs (0 ∷ (group_text g ++ 0 ∷ s.0.tail)) s.0.fit (closed 0 (group_text g ++ 0 ∷ s.0.tail) (omega arith))
+sure_restores cells end (SyncGate next) g gs other s =
+    ap (λ (q : Cells). restored q.sure) s.0.are ∙ restored_is gs (0 ∷ (group_text g ++ 0 ∷ s.0.tail)) s.0.fit (closed 0 (group_text g ++ 0 ∷ s.0.tail) (omega arith))
+
 -- ---- a log stays such a log
 
 pub wired_written : (cells new : Cells) (at : ℕ) (bytes : List ℕ) (gs : List Group) → new ≡ written at bytes cells → Wired cells gs → Wired new gs

@@ -1,5 +1,7 @@
 -- What was read as a group is spelled so.
-use Rattle.std.proofs.Common.{◌≡◌, ◌≢◌, ℕ, ◌-◌, ◌<◌, List, [], ◌∷◌, ◌++◌, length, get_or, drop, None, Ok, Err, refl, sym, ◌∙◌, ap, arith, length-append}
+use Rattle.std.proofs.Common.{◌≡◌, ◌≢◌, ℕ, ◌-◌, ◌<◌, ◌==◌, Bool, true, false, cond, List, [], ◌∷◌, ◌++◌, length, get_or, drop, None, Ok, Err, refl, sym, ◌∙◌, ap, arith, length-append}
+use Rattle.std.proofs.lemmas.Bool.{eqb-true}
+use Rattle.std.proofs.lemmas.List.{get_or-append-add}
 use Rattle.smart_base.specs.Cuts.{Cut, IsBytes}
 use Rattle.disk_model.specs.Cells.{Cells, settled}
 use Rattle.store_form.specs.Spelling.{Group, group_text, IsGroup}
@@ -7,6 +9,8 @@ use Rattle.store_form.specs.Reading.{all_of, group_at}
 use Rattle.store_form.specs.Laws.{group_law}
 use Rattle.batch_log.specs.Log.{log_bytes, AreGroups, found, first_group, restored}
 use Rattle.batch_log.specs.Jobs.{ToClose, Clean}
+use Rattle.batch_log.specs.Exact.{end_opened, job_opened}
+use Rattle.batch_log.specs.declared.job.Job.TheVariants.{Rest, Torn}
 use Rattle.batch_log.proofs.Restored.{log_push, groups_push, restored_is}
 
 pub takes_group : (inner : List ℕ) (g : Group) (d : Cut) → IsBytes inner → group_at (all_of inner) ≡ Ok (g, d) → (1 ∷ inner ≡ 1 ∷ (group_text g ++ d.left)) × IsGroup g
@@ -48,6 +52,33 @@ module _ (cells seen : Cells) (bytes rest : List ℕ) (gs : List Group) (same : 
       front_zero : (l : List ℕ) → 0 < length l → get_or l 0 0 ≡ 0 → l ≡ 0 ∷ drop 1 l
       front_zero [] long first = absurd (omega arith)
       front_zero (b ∷ l) long first = ap (λ (x : ℕ). x ∷ l) first
+
+  -- ---- where its groups end, and whether the gate there is closed
+
+  pub reads_end : (n : ℕ) → n ≡ length bytes - length rest → n ≡ end_opened cells.now
+  reads_end n is = end_is n is ∙ ap (λ (l : List Group). length (log_bytes l)) reads_groups
+
+  gate_is : get_or cells.now (end_opened cells.now) 1 ≡ get_or rest 0 1
+  gate_is =
+      ap (λ (n : ℕ). get_or cells.now n 1) (ap (λ (l : List Group). length (log_bytes l)) (sym reads_groups))
+      ∙ ap (λ (l : List ℕ). get_or l (length (log_bytes gs)) 1) (sym read ∙ parts) ∙ ap (λ (n : ℕ). get_or (log_bytes gs ++ rest) n 1) (omega arith) ∙ get_or-append-add (log_bytes gs) rest 0 1
+
+  job_is : (x : ℕ) → get_or rest 0 1 ≡ x → job_opened cells.now ≡ cond (x == 0) Rest Torn
+  job_is x is = ap (λ (b : ℕ). cond (b == 0) Rest Torn) (gate_is ∙ is)
+
+  pub reads_torn_job : get_or rest 0 1 ≢ 0 → Torn ≡ job_opened cells.now
+  reads_torn_job torn = sym (job_is (get_or rest 0 1) refl ∙ by (get_or rest 0 1 == 0) refl)
+    where
+      by : (t : Bool) → (get_or rest 0 1 == 0) ≡ t → cond t Rest Torn ≡ Torn
+      by true is = absurd (torn (eqb-true (get_or rest 0 1) 0 is))
+      by false is = refl
+
+  pub reads_clean_job : 0 < length rest → get_or rest 0 0 ≡ 0 → Rest ≡ job_opened cells.now
+  reads_clean_job some zero_first = sym (job_is 0 (first_zero rest some zero_first))
+    where
+      first_zero : (l : List ℕ) → 0 < length l → get_or l 0 0 ≡ 0 → get_or l 0 1 ≡ 0
+      first_zero [] long first = absurd (omega arith)
+      first_zero (b ∷ l) long first = first
 
 -- a gate that is not closed
 pub no_gate : (rest : List ℕ) → length rest ≡ 0 → get_or rest 0 1 ≢ 0

@@ -7,6 +7,7 @@ ghost use Rattle.smart_base.specs.Lists.{Each};
 ghost use Rattle.store_form.specs.Spelling.{Group, IsEntry};
 ghost use Rattle.batch_log.specs.Wires.{Wired};
 ghost use Rattle.batch_log.specs.Jobs.{IsUnderWay, IsIdle, IsBody, Begins, idle, Stands, kept_after, other_after, called, code, code_after};
+ghost use Rattle.batch_log.specs.Exact.{log_called, job_called, end_called};
 
 use disk_model::disk::Disk;
 use faults::Fault;
@@ -42,6 +43,9 @@ pub fn step<D: Disk>(device: &mut D, end: u64, job: Job) -> Result<(u64, Job), F
     ensures wired { IfOk result (λ r. D.told → (g : Group) (gs other : List Group) → Stands (D.cells device.old) end job g gs other
         → Wired (D.cells device.old) gs → Wired (D.cells device.new) (kept_after job g gs)) }
     ensures next { IfOk result (λ r. code r.1 ≡ code_after job) }
+    ensures cells { IfOk result (λ r. D.told → D.cells device.new ≡ log_called job end (D.cells device.old)) }
+    ensures job { IfOk result (λ r. r.1 ≡ job_called job end) }
+    ensures end { IfOk result (λ r. r.0 ≡ end_called job end) }
     ensures torn { D.told → Within (D.cells device.new) (called job end (D.cells device.old)) }
     ensures time { Elapses (D.moment device.old) (D.moment device.new) (D.left_since device.old) (D.left_since device.new) (IsImage (D.cells device.new)) }
     ensures cause { HasCause (D.faults device.old) (D.faults device.new) result }

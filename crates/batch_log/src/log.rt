@@ -62,14 +62,15 @@ pub struct BatchLog<D: Disk> {
 }
 
 impl<D: Disk> BatchLog<D> {
-    ghost use Rattle.std.specs.Prelude.{◌≡◌, ◌≤◌, ◌++◌, ◌∷◌, [], List, ℕ, IsTrue, ◌↔◌, IfOk, OnOk, OnErr, IsErrOf, false};
+    ghost use Rattle.std.specs.Prelude.{◌≡◌, ◌≤◌, ◌++◌, ◌∷◌, [], List, ℕ, IsTrue, ◌↔◌, IfOk, OnOk, OnErr, IsErrOf, None, false};
     ghost use Rattle.faults.specs.Counts.{Rose};
     ghost use Rattle.disk_model.specs.Cells.{IsImage};
     ghost use Rattle.disk_model.specs.Calls.{Elapses, LeavesOnly};
     ghost use Rattle.smart_base.specs.Lists.{Each};
-    ghost use Rattle.store_form.specs.Spelling.{Group, IsEntry};
+    ghost use Rattle.store_form.specs.Spelling.{Group, IsEntry, group_text};
     ghost use Rattle.batch_log.specs.Log.{restored};
     ghost use Rattle.batch_log.specs.Jobs.{IsUnderWay, Stands, Runs, Adds, Begins, IsIdle, idle, LeavesEither, OneOf, at_stake, kept_after, other_after, code, code_after};
+    ghost use Rattle.batch_log.specs.Exact.{log_called, job_called, end_called};
     ghost use Rattle.batch_log.specs.Wires.{Wired, LeavesWire};
     ghost use Rattle.batch_log.specs.Ends.{Closes};
 
@@ -111,7 +112,7 @@ impl<D: Disk> BatchLog<D> {
         ensures ok { OnOk result (D.told → (gs other : List Group) → Stands (D.cells self.old.device) self.old.end self.old.job entries.now gs other
             → Runs (D.cells self.new.device) self.new.end self.new.job entries.now gs other) }
         ensures adds { OnOk result (Adds self.new.job) }
-        ensures begins { OnOk result ((bytes : List ℕ) × Begins self.old.job bytes self.new.job) }
+        ensures begins { OnOk result (Begins self.old.job (group_text entries.now ++ 0 ∷ []) self.new.job) }
         ensures err { OnErr result (self.new ≡ self.old) }
         ensures untouched { (self.old.state ≡ State.Open → ⊥) → self.new ≡ self.old }
         ensures device { self.new.device ≡ self.old.device }
@@ -131,7 +132,7 @@ impl<D: Disk> BatchLog<D> {
         requires { self.old.job ≡ Job.Torn }
         ensures ok { OnOk result (D.told → (g : Group) (gs other : List Group) → Stands (D.cells self.old.device) self.old.end self.old.job g gs other
             → Stands (D.cells self.new.device) self.new.end self.new.job g gs other) }
-        ensures job { OnOk result (code self.new.job ≡ 8) }
+        ensures job { OnOk result (self.new.job ≡ Job.Close None) }
         ensures err { OnErr result (self.new ≡ self.old) }
         ensures untouched { (self.old.state ≡ State.Open → ⊥) → self.new ≡ self.old }
         ensures device { self.new.device ≡ self.old.device }
@@ -150,6 +151,10 @@ impl<D: Disk> BatchLog<D> {
         requires { self.old.state ≡ State.Open → D.told → IsUnderWay (D.cells self.old.device) self.old.end self.old.job }
         ensures goes { OnOk result (D.told → (g : Group) (gs other : List Group) → Stands (D.cells self.old.device) self.old.end self.old.job g gs other
             → Stands (D.cells self.new.device) self.new.end self.new.job g (kept_after self.old.job g gs) (other_after self.old.job g gs other)) }
+        // What the device holds after it, which call is next, and where the log ends.
+        ensures cells { OnOk result (D.told → D.cells self.new.device ≡ log_called self.old.job self.old.end (D.cells self.old.device)) }
+        ensures job { OnOk result (self.new.job ≡ job_called self.old.job self.old.end) }
+        ensures end { OnOk result (self.new.end ≡ end_called self.old.job self.old.end) }
         ensures next { OnOk result (code self.new.job ≡ code_after self.old.job) }
         ensures done { IfOk result (λ done. done ≡ idle self.new.job) }
         ensures underway { OnOk result (D.told → IsUnderWay (D.cells self.new.device) self.new.end self.new.job) }

@@ -6,6 +6,7 @@ ghost use Rattle.disk_model.specs.Calls.{Elapses};
 ghost use Rattle.store_form.specs.Spelling.{Group};
 ghost use Rattle.batch_log.specs.Log.{restored};
 ghost use Rattle.batch_log.specs.Jobs.{Stands, IsIdle, IsUnderWay};
+ghost use Rattle.batch_log.specs.Exact.{end_opened, job_opened};
 
 use crate::job::Job;
 use crate::log::{BatchLog, LogFault, State};
@@ -20,6 +21,8 @@ fn read_log<D: Disk>(alloc: Global, device: &mut D) -> Result<(Groups, u64, Job)
     requires { D.told → D.cells device.old ≡ settled (D.cells device.old).now }
     ensures groups { IfOk result (λ r. D.told → r.0 ≡ restored (D.cells device.old).now) }
     ensures stands { IfOk result (λ r. D.told → (g : Group) → (other : List Group) × Stands (D.cells device.new) r.1 r.2 g r.0 other) }
+    ensures end { IfOk result (λ r. D.told → r.1 ≡ end_opened (D.cells device.old).now) }
+    ensures job { IfOk result (λ r. D.told → r.2 ≡ job_opened (D.cells device.old).now) }
     ensures idle { IfOk result (λ r. IsIdle r.2) }
     ensures same { D.told → D.cells device.new ≡ D.cells device.old }
     ensures time { D.told → Elapses (D.moment device.old) (D.moment device.new) (D.left_since device.old) (D.left_since device.new) (IsImage (D.cells device.new)) }
@@ -44,6 +47,9 @@ pub fn reopen<D: Disk>(alloc: Global, device: D) -> Result<(BatchLog<D>, Groups)
     ensures groups { IfOk result (λ r. D.told → r.1 ≡ restored (D.cells device).now) }
     ensures stands { IfOk result (λ r. D.told → (g : Group) → (other : List Group) × Stands (D.cells r.0.device) r.0.end r.0.job g r.1 other) }
     ensures underway { IfOk result (λ r. D.told → IsUnderWay (D.cells r.0.device) r.0.end r.0.job) }
+    // Where its groups end, and whether the gate there is closed.
+    ensures end { IfOk result (λ r. D.told → r.0.end ≡ end_opened (D.cells device).now) }
+    ensures job { IfOk result (λ r. D.told → r.0.job ≡ job_opened (D.cells device).now) }
     ensures idle { IfOk result (λ r. IsIdle r.0.job) }
     ensures open { IfOk result (λ r. r.0.state ≡ State.Open) }
     ensures same { IfOk result (λ r. D.told → D.cells r.0.device ≡ D.cells device) }

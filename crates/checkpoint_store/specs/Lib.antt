@@ -1,3 +1,4 @@
 pub mod Slots
 pub mod SlotJobs
 pub mod Stores
+pub mod Exact

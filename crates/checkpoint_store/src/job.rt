@@ -5,6 +5,7 @@ ghost use Rattle.disk_model.specs.Cells.{IsImage, Within};
 ghost use Rattle.disk_model.specs.Calls.{Elapses};
 ghost use Rattle.store_form.specs.declared.checkpoint.Checkpoint.{Checkpoint};
 ghost use Rattle.checkpoint_store.specs.SlotJobs.{IsSlotUnderWay, SlotStands, has_after, other_after, slot_called, job_after, idle};
+ghost use Rattle.checkpoint_store.specs.Exact.{cells_called};
 
 use disk_model::disk::Disk;
 use faults::Fault;
@@ -42,6 +43,7 @@ pub fn slot_step<D: Disk>(device: &mut D, job: SlotJob) -> Result<SlotJob, Fault
     ensures goes { IfOk result (λ then. D.told → (odd : Bool) (next : Checkpoint) (has other : Option Checkpoint) → SlotStands odd (D.cells device.old) job next has other
         → SlotStands odd (D.cells device.new) then next (has_after job next has) (other_after job next has other)) }
     ensures next { IfOk result (λ then. then ≡ job_after job) }
+    ensures cells { IfOk result (λ then. D.told → D.cells device.new ≡ cells_called job (D.cells device.old)) }
     ensures torn { D.told → Within (D.cells device.new) (slot_called job (D.cells device.old)) }
     ensures time { Elapses (D.moment device.old) (D.moment device.new) (D.left_since device.old) (D.left_since device.new) (IsImage (D.cells device.new)) }
     ensures cause { HasCause (D.faults device.old) (D.faults device.new) result }

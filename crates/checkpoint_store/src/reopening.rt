@@ -6,6 +6,7 @@ ghost use Rattle.disk_model.specs.Calls.{Elapses};
 ghost use Rattle.store_form.specs.declared.checkpoint.Checkpoint.{Checkpoint};
 ghost use Rattle.checkpoint_store.specs.Slots.{slot_of, instead_of, newest};
 ghost use Rattle.checkpoint_store.specs.SlotJobs.{SlotStands, IsIdle, IsSlotUnderWay};
+ghost use Rattle.checkpoint_store.specs.Exact.{slot_opened};
 
 use crate::job::SlotJob;
 use crate::reading::{newer, slot_of};
@@ -27,6 +28,7 @@ fn open_slot<D: Disk>(
     ensures found { IfOk result (λ r. D.told → r.1 ≡ slot_of odd (D.cells device.old).now) }
     ensures stands { IfOk result (λ r. D.told → (next : Checkpoint)
         → SlotStands odd (D.cells device.new) r.0 next (slot_of odd (D.cells device.old).now) (instead_of odd (D.cells device.old).now)) }
+    ensures job { IfOk result (λ r. D.told → r.0 ≡ slot_opened odd (D.cells device.old).now) }
     ensures idle { IfOk result (λ r. IsIdle r.0) }
     ensures same { D.told → D.cells device.new ≡ D.cells device.old }
     ensures time { D.told → Elapses (D.moment device.old) (D.moment device.new) (D.left_since device.old) (D.left_since device.new) (IsImage (D.cells device.new)) }
@@ -62,6 +64,7 @@ fn open_both<D: Disk>(
         → SlotStands false (D.cells even.new) r.0 next (slot_of false (D.cells even.old).now) (instead_of false (D.cells even.old).now)) }
     ensures odd { IfOk result (λ r. D.told → (next : Checkpoint)
         → SlotStands true (D.cells odd.new) r.1 next (slot_of true (D.cells odd.old).now) (instead_of true (D.cells odd.old).now)) }
+    ensures jobs { IfOk result (λ r. D.told → (r.0 ≡ slot_opened false (D.cells even.old).now) × (r.1 ≡ slot_opened true (D.cells odd.old).now)) }
     ensures idle { IfOk result (λ r. IsIdle r.0 × IsIdle r.1) }
     ensures even_same { D.told → D.cells even.new ≡ D.cells even.old }
     ensures odd_same { D.told → D.cells odd.new ≡ D.cells odd.old }
@@ -94,6 +97,7 @@ pub fn reopen<D: Disk>(
         → SlotStands true (D.cells r.0.odd.device) r.0.odd.job next (slot_of true (D.cells odd).now) (instead_of true (D.cells odd).now)) }
     ensures underway { IfOk result (λ r. D.told
         → IsSlotUnderWay false (D.cells r.0.even.device) r.0.even.job × IsSlotUnderWay true (D.cells r.0.odd.device) r.0.odd.job) }
+    ensures jobs { IfOk result (λ r. D.told → (r.0.even.job ≡ slot_opened false (D.cells even).now) × (r.0.odd.job ≡ slot_opened true (D.cells odd).now)) }
     ensures idle { IfOk result (λ r. IsIdle r.0.even.job × IsIdle r.0.odd.job) }
     ensures open { IfOk result (λ r. r.0.state ≡ State.Open) }
     ensures same { IfOk result (λ r. D.told → (D.cells r.0.even.device ≡ D.cells even) × (D.cells r.0.odd.device ≡ D.cells odd)) }

@@ -5,6 +5,7 @@ ghost use Rattle.disk_model.specs.Cells.{IsImage, Within};
 ghost use Rattle.disk_model.specs.Calls.{Elapses};
 ghost use Rattle.store_form.specs.declared.checkpoint.Checkpoint.{Checkpoint};
 ghost use Rattle.checkpoint_store.specs.SlotJobs.{IsSlotUnderWay, SlotStands, has_after, other_after, slot_called, job_after, idle};
+ghost use Rattle.checkpoint_store.specs.Exact.{cells_called};
 ghost use Rattle.batch_log.specs.declared.log.State.TheVariants.{Open};
 
 use crate::job::{SlotJob, is_idle, slot_step};
@@ -47,6 +48,7 @@ impl<D: Disk> CheckpointStore<D> {
     ghost use Rattle.batch_log.specs.Ends.{Closes};
     ghost use Rattle.checkpoint_store.specs.Slots.{is_odd, slot_of, newest, InEachImage, IsClosed, IsReady, NoneAbove};
     ghost use Rattle.checkpoint_store.specs.Stores.{slot, beside, StandsAt, UnderWayAt, LeavesAt, IsFullAt, gate_gives};
+    ghost use Rattle.checkpoint_store.specs.Exact.{cells_called};
     ghost use Rattle.checkpoint_store.specs.SlotJobs.{IsIdle, idle, shut, Leaves, has_after, other_after, slot_stake, slot_called, has_then, other_then, job_after, end_of};
 
     /// Closes the gate of a slot. After `Ok` the slot does not count, whatever crash comes.
@@ -228,6 +230,7 @@ impl<D: Disk> CheckpointStore<D> {
             → StandsAt D.cells generation self.new next (has_after (slot generation self.old).job next has)
             (other_after (slot generation self.old).job next has other)) }
         ensures next { OnOk result ((slot generation self.new).job ≡ job_after (slot generation self.old).job) }
+        ensures cells { OnOk result (D.told → D.cells (slot generation self.new).device ≡ cells_called (slot generation self.old).job (D.cells (slot generation self.old).device)) }
         ensures done { IfOk result (λ done. done ≡ idle (slot generation self.new).job) }
         ensures rests { OnErr result (IsIdle (slot generation self.new).job) }
         ensures shut { OnErr result (self.new.state ≡ State.Open → ⊥) }
@@ -375,6 +378,7 @@ impl<D: Disk> CheckpointStore<D> {
             → StandsAt D.cells generation self.new next
             (has_after (slot generation self.old).job next has) (other_after (slot generation self.old).job next has other)) }
         ensures next { OnOk result ((slot generation self.new).job ≡ job_after (slot generation self.old).job) }
+        ensures cells { OnOk result (D.told → D.cells (slot generation self.new).device ≡ cells_called (slot generation self.old).job (D.cells (slot generation self.old).device)) }
         ensures done { IfOk result (λ done. done ≡ idle (slot generation self.new).job) }
         ensures torn { D.told → Within (D.cells (slot generation self.new).device) (slot_called (slot generation self.old).job (D.cells (slot generation self.old).device)) }
         ensures time { Elapses (D.moment (slot generation self.old).device) (D.moment (slot generation self.new).device)
@@ -447,6 +451,7 @@ fn call<D: Disk>(slot: &mut Slot<D>) -> Result<bool, Fault>
         → SlotStands odd (D.cells slot.old.device) slot.old.job next has other
         → SlotStands odd (D.cells slot.new.device) slot.new.job next (has_after slot.old.job next has) (other_after slot.old.job next has other)) }
     ensures next { OnOk result (slot.new.job ≡ job_after slot.old.job) }
+    ensures cells { OnOk result (D.told → D.cells slot.new.device ≡ cells_called slot.old.job (D.cells slot.old.device)) }
     ensures done { IfOk result (λ done. done ≡ idle slot.new.job) }
     ensures torn { D.told → Within (D.cells slot.new.device) (slot_called slot.old.job (D.cells slot.old.device)) }
     ensures time { Elapses (D.moment slot.old.device) (D.moment slot.new.device)

@@ -1,5 +1,5 @@
 -- A call of a store, whole: what it leaves, and where the store stands then.
-use Rattle.std.proofs.Common.{◌≡◌, ◌⊎◌, inl, inr, ℕ, ◌+◌, ◌-◌, ◌^◌, ◌≤◌, ◌==◌, min, length, true, false, not, cond, ◌&&◌, List, [], ◌∷◌, ◌++◌, Option, Result, Ok, Err, OnOk, OnErr, refl, sym, ap, ◌∙◌, subst, arith}
+use Rattle.std.proofs.Common.{◌≡◌, ◌⊎◌, inl, inr, ℕ, ◌+◌, ◌-◌, ◌^◌, ◌≤◌, ◌==◌, min, length, true, false, not, cond, ◌&&◌, List, [], Option, Result, Ok, Err, OnOk, OnErr, refl, sym, ap, ◌∙◌, subst, arith}
 use Rattle.disk_model.specs.Cells.{IsImage}
 use Rattle.disk_model.specs.declared.disk.Disk.{Ghosts}
 use Rattle.store_form.specs.Spelling.{Group}
@@ -12,10 +12,12 @@ use Rattle.checkpoint_store.specs.SlotJobs.{SlotStands, SlotLeaves, IsSlotUnderW
 use Rattle.durable_store.specs.Restored.{Images, log_image, restores}
 use Rattle.durable_store.specs.Turns.{closing, unsure, rests, ends_group, job_started}
 use Rattle.durable_store.specs.Calls.{NoneFalls}
-use Rattle.durable_store.specs.Standing.{first, kept_by, with, only, some, side, beside, slot_others, log_kept, log_others, log_stake, added_by, waiting_after, firm_after, kept_after, others_after, at_stake, StoreStands, IsUnderWay, LeavesEither}
+use Rattle.durable_store.specs.Standing.{first, kept_by, only, some, side, beside, slot_others, log_kept, log_others, log_stake, added_by, waiting_after, firm_after, kept_after, others_after, at_stake, StoreStands, IsUnderWay, LeavesEither}
 use Rattle.durable_store.specs.declared.kept.Kept.{Kept}
 use Rattle.durable_store.specs.declared.store.Store.{Store}
-use Rattle.durable_store.proofs.Codes.{ends_is, ends_started, firm_started, kept_is, kept_at, kept_started, others_is, others_at, others_started, stake_is, stake_at, stake_started}
+use Rattle.durable_store.proofs.Codes.{ends_is, ends_started, firm_started, kept_is, kept_at, kept_started, others_is, others_at, others_started}
+use Rattle.durable_store.specs.States.{state_of}
+use Rattle.durable_store.proofs.States.{stake_then, stake_begun}
 use Rattle.durable_store.proofs.Leaves.{slot_plain}
 use Rattle.durable_store.proofs.Pushed.{kept_push}
 use Rattle.durable_store.proofs.Moves.{even_leaves, odd_leaves, log_leaves_two, first_log, others_log, store_leaves}
@@ -60,18 +62,6 @@ module _ {D : Type 0} {g : Ghosts D} (s t : Store D g) (other_log : t.other_log 
           other_log = other_of images a.other_log;
         })
 
-    -- what is at stake in a call of the log covers what was before
-    stake_then : (job : Job) → kept_by (side s) (h.own ++ added ∷ []) (beside s) h.even h.odd ≡ with (kept_by (side s) h.own (beside s) h.even h.odd) added
-        → first kept others ≡ kept_by (side s) h.own_other (beside s) h.even h.odd → kept_by (side s) (log_at_stake job added h.own h.own_other) (beside s) h.even h.odd ≡ log_stake job added kept others
-    stake_then (jobs.Gate next) push is = push ∙ ap (λ (k : Kept). with k added) (sym h.kept_is)
-    stake_then (jobs.SyncGate next) push is = sym is
-    stake_then (jobs.SyncClose waiting) push is = sym is
-    stake_then jobs.Rest push is = sym is
-    stake_then jobs.Torn push is = sym is
-    stake_then (jobs.Close waiting) push is = sym is
-    stake_then (jobs.Body bytes) push is = sym is
-    stake_then (jobs.SyncBody next) push is = sym is
-
     pub log_crash : closing s.slots.even.job ≡ false → closing s.slots.odd.job ≡ false
         → ((a : Group) (gs other : List Group) → Stands (g.cells s.log.device) s.log.end s.log.job a gs other → LogLeaves (g.cells t.log.device) gs (log_at_stake s.log.job a gs other))
         → t.slots ≡ s.slots → LeavesEither t kept (log_stake s.log.job added kept others)
@@ -79,7 +69,7 @@ module _ {D : Type 0} {g : Ghosts D} (s t : Store D g) (other_log : t.other_log 
         let stake = log_at_stake s.log.job added h.own h.own_other in
         let same_side = subst (λ (n : ℕ). IsImage (g.cells t.log.device) (log_image (is_odd n) images)) generation a.log in
         subst (λ (x : Kept). (restores images ≡ kept) ⊎ (restores images ≡ x))
-        (stake_then s.log.job (kept_push (side s) h.own (beside s) h.even h.odd added (ap is_odd h.present)) (first_log s added kept others h calm too))
+        (stake_then (state_of s) added kept others h s.log.job (kept_push (side s) h.own (beside s) h.even h.odd added (ap is_odd h.present)) (first_log s added kept others h calm too))
         (log_leaves_two s added kept others h calm too images stake (crash added h.own h.own_other h.log (log_image (side s) images) same_side)
         (device_of t.slots.even.device s.slots.even.device images.even_slot (ap (λ q. q.even.device) slots) a.even_slot)
         (device_of t.slots.odd.device s.slots.odd.device images.odd_slot (ap (λ q. q.odd.device) slots) a.odd_slot)
@@ -130,9 +120,7 @@ module _ {D : Type 0} {g : Ghosts D} (s m t : Store D g) (added : Group) (kept :
   pub log_staked : closing s.slots.even.job ≡ false → closing s.slots.odd.job ≡ false → code m.log.job ≡ job_started (some s.waiting) s.log.job
       → LeavesEither t kept (log_stake m.log.job (cond (rests s.log.job && some s.waiting) s.waiting added) kept others) → LeavesEither t kept (at_stake s added kept others)
   log_staked calm too started each =
-      let a = cond (rests s.log.job && some s.waiting) s.waiting added in
-      let same : log_stake m.log.job a kept others ≡ log_stake s.log.job added kept others = stake_is a kept others m.log.job ∙ ap (λ (n : ℕ). stake_at n a kept others) started ∙ stake_started s.waiting added kept others (some s.waiting) s.log.job in
-      rw (calm, too) (subst (λ (k : Kept). LeavesEither t kept k) same each)
+      rw (calm, too) (subst (λ (k : Kept). LeavesEither t kept k) (stake_begun s.waiting s.log.job m.log.job added kept others started) each)
 
   -- a job that could not begin
   covered : (job : Job) (x : Kept) (other : Kept) → others ≡ only (unsure job) other → (x ≡ kept) ⊎ (x ≡ first kept others) → (x ≡ kept) ⊎ (x ≡ log_stake job added kept others)

@@ -1,5 +1,5 @@
 -- What a run of calls keeps.
-use Rattle.std.proofs.Common.{◌≡◌, ◌⊎◌, inl, inr, ⊎_elim, ℕ, Bool, true, false, not, cond, ◌&&◌, ◌||◌, List, [], ◌∷◌, ◌++◌, drop, Some, None, refl, sym, ap, ◌∙◌, subst, append_assoc}
+use Rattle.std.proofs.Common.{◌≡◌, ◌⊎◌, inl, inr, ℕ, Bool, true, false, not, cond, ◌&&◌, ◌||◌, List, [], ◌∷◌, ◌++◌, drop, Some, None, refl, sym, ap, ◌∙◌, subst, append_assoc}
 use Rattle.std.proofs.lemmas.List.{append-nil}
 use Rattle.smart_base.specs.Lists.{Each}
 use Rattle.disk_model.specs.Cells.{Cells}
@@ -306,13 +306,13 @@ module _ {D : Type 0} {g : Ghosts D} where
         (stake_known kept others ran all (calls_log s) s.log.job h.added (with kept h.past) h.others_now (cut_known kept others ran all h.past h.cut) (gate_known kept others ran all s.log.job h.added h.past h.then) h.known)
 
     -- a crash between two calls
+    pub pair_known : (s : Store D g) (h : Grown s) (x : Kept) → (x ≡ with kept h.past) ⊎ (x ≡ first (with kept h.past) h.others_now) → Grows kept others (running s0 added0) (running s0 added0 ++ s0.waiting) x
+    pair_known s h x (inl is) = subst (λ (y : Kept). Grows kept others ran all y) (sym is) (cut_known kept others ran all h.past h.cut)
+    pair_known s h x (inr is) =
+        subst (λ (y : Kept). Grows kept others ran all y) (sym is) (first_known kept others ran all (with kept h.past) h.others_now (cut_known kept others ran all h.past h.cut) h.known)
+
     pub now_known : (s : Store D g) → Grown s → (images : Images) → AreImages s images → Grows kept others (running s0 added0) (running s0 added0 ++ s0.waiting) (restores images)
-    now_known s h images are =
-        ⊎_elim
-        (λ (is : restores images ≡ with kept h.past). subst (λ (y : Kept). Grows kept others ran all y) (sym is) (cut_known kept others ran all h.past h.cut))
-        (λ (is : restores images ≡ first (with kept h.past) h.others_now).
-        subst (λ (y : Kept). Grows kept others ran all y) (sym is) (first_known kept others ran all (with kept h.past) h.others_now (cut_known kept others ran all h.past h.cut) h.known))
-        (store_leaves s h.added (with kept h.past) h.others_now h.stands images are)
+    now_known s h images are = pair_known s h (restores images) (store_leaves s h.added (with kept h.past) h.others_now h.stands images are)
 
     -- the run has ended
     pub at_end : (s : Store D g) → IsDone s → Grown s → StoreStands s [] (with kept (running s0 added0 ++ s0.waiting)) []

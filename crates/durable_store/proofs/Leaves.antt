@@ -20,7 +20,7 @@ use Rattle.durable_store.specs.Standing.{kept_by}
 
 -- ---- one device
 
-of_settled : (cells : Cells) (bytes c : List ℕ) → cells ≡ settled bytes → IsImage cells c → c ≡ bytes
+pub of_settled : (cells : Cells) (bytes c : List ℕ) → cells ≡ settled bytes → IsImage cells c → c ≡ bytes
 of_settled cells bytes c are image = image_settled bytes c (subst (λ (q : Cells). IsImage q c) are image)
 
 pub slot_plain : (odd : Bool) (has other : Option Checkpoint) (c : List ℕ) → Leaves odd has other c → (slot_of odd c ≡ has) ⊎ (slot_of odd c ≡ other)

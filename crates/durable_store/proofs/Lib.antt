@@ -15,3 +15,8 @@ pub mod Goes
 pub mod Called
 pub mod Opened
 pub mod Anytime
+pub mod Lives
+pub mod Grows
+pub mod States
+pub mod Plain
+pub mod Found

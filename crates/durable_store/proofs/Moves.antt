@@ -1,5 +1,5 @@
 -- What a crash leaves of a store, and where the store stands after a call.
-use Rattle.std.proofs.Common.{◌≡◌, ◌⊎◌, inl, inr, ⊎_elim, ℕ, Bool, true, false, not, List, [], ◌++◌, Option, refl, sym, ap, ◌∙◌, subst}
+use Rattle.std.proofs.Common.{◌≡◌, ◌⊎◌, inl, inr, ⊎_elim, ℕ, Bool, true, false, not, List, ◌++◌, Option, refl, sym, ap, ◌∙◌, subst}
 use Rattle.disk_model.specs.Cells.{IsImage}
 use Rattle.disk_model.specs.declared.disk.Disk.{Ghosts}
 use Rattle.store_form.specs.Spelling.{Group}
@@ -14,21 +14,17 @@ use Rattle.durable_store.specs.Turns.{closing, unsure}
 use Rattle.durable_store.specs.Standing.{first, kept_by, only, side, beside, StoreStands, LeavesEither}
 use Rattle.durable_store.specs.declared.kept.Kept.{Kept}
 use Rattle.durable_store.specs.declared.store.Store.{Store}
-use Rattle.durable_store.proofs.Leaves.{slot_plain, slot_still, calm_idle, log_still, log_calm, sure_still, restores_by}
+use Rattle.durable_store.specs.States.{state_of}
+use Rattle.durable_store.proofs.States.{after_none}
+use Rattle.durable_store.proofs.States.{others_log as state_others}
+use Rattle.durable_store.proofs.States.{first_log as state_first}
+use Rattle.durable_store.proofs.Leaves.{slot_plain, slot_still, calm_idle, log_still, sure_still, restores_by}
 
 -- ---- the first of the others
 
 first_of : (kept x : Kept) (others rest : List Kept) (t : Bool) → t ≡ true → others ≡ only t x ++ rest → first kept others ≡ x
 first_of kept x others rest true is are = ap (first kept) are
 first_of kept x others rest false is are = absurd cc
-
-after_none : (kept x : Kept) (others rest : List Kept) (t : Bool) → t ≡ false → others ≡ only t x ++ rest → others ≡ rest
-after_none kept x others rest true is are = absurd cc
-after_none kept x others rest false is are = are
-
-at_last : (kept x : Kept) (others : List Kept) (t : Bool) → others ≡ only t x → (first kept others ≡ x) ⊎ (t ≡ false)
-at_last kept x others true are = inl (ap (first kept) are)
-at_last kept x others false are = inr refl
 
 module _ {D : Type 0} {g : Ghosts D} (s : Store D g) (added : Group) (kept : Kept) (others : List Kept) (h : StoreStands s added kept others) where
   by_parts : (images : Images) (own : List Group) (even odd : Option Checkpoint) → restored (log_image (side s) images) ≡ own → restored (log_image (not (side s)) images) ≡ beside s
@@ -70,7 +66,7 @@ module _ {D : Type 0} {g : Ghosts D} (s : Store D g) (added : Group) (kept : Kep
       let even_is = even_calm calm images.even_slot even in
       let own_is = own_still (h.turn.odd_next is) (log_image (side s) images) log in
       let beside_is = sure_still (g.cells s.other_log) h.other_log (log_image (not (side s)) images) other in
-      let others_are = after_none kept (kept_by (side s) h.own (beside s) h.even_other h.odd) others _ (closing s.slots.even.job) calm h.others_are in
+      let others_are = after_none (kept_by (side s) h.own (beside s) h.even_other h.odd) others _ (closing s.slots.even.job) calm h.others_are in
       ⊎_elim
       (λ (has : slot_of true images.odd_slot ≡ h.odd). inl (by_parts images h.own h.even h.odd own_is beside_is even_is has ∙ sym h.kept_is))
       (λ (has : slot_of true images.odd_slot ≡ h.odd_other).
@@ -93,18 +89,10 @@ module _ {D : Type 0} {g : Ghosts D} (s : Store D g) (added : Group) (kept : Kep
 
   -- where both slots are calm, what the log may have instead is the first of the others, or what is kept
   pub others_log : closing s.slots.even.job ≡ false → closing s.slots.odd.job ≡ false → others ≡ only (unsure s.log.job) (kept_by (side s) h.own_other (beside s) h.even h.odd)
-  others_log calm too =
-      after_none kept (kept_by (side s) h.own (beside s) h.even h.odd_other) others _ (closing s.slots.odd.job) too
-      (after_none kept (kept_by (side s) h.own (beside s) h.even_other h.odd) others _ (closing s.slots.even.job) calm h.others_are)
+  others_log calm too = state_others (state_of s) added kept others h calm too
 
   pub first_log : closing s.slots.even.job ≡ false → closing s.slots.odd.job ≡ false → first kept others ≡ kept_by (side s) h.own_other (beside s) h.even h.odd
-  first_log calm too =
-      ⊎_elim
-      (λ (is : first kept others ≡ kept_by (side s) h.own_other (beside s) h.even h.odd). is)
-      (λ (is : unsure s.log.job ≡ false).
-      let none : others ≡ [] = others_log calm too ∙ ap (λ (t : Bool). only t (kept_by (side s) h.own_other (beside s) h.even h.odd)) is in
-      ap (first kept) none ∙ h.kept_is ∙ ap (λ (o : List Group). kept_by (side s) o (beside s) h.even h.odd) (sym (log_calm (g.cells s.log.device) s.log.end s.log.job added h.own h.own_other is h.log)))
-      (at_last kept (kept_by (side s) h.own_other (beside s) h.even h.odd) others (unsure s.log.job) (others_log calm too))
+  first_log calm too = state_first (state_of s) added kept others h calm too
 
   -- a crash between two calls
   pub store_leaves : LeavesEither s kept (first kept others)

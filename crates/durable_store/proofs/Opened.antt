@@ -1,7 +1,6 @@
 -- A store that is opened again.
-use Rattle.std.proofs.Common.{◌≡◌, ℕ, ◌<◌, ◌^◌, Bool, true, false, cond, List, [], length, Option, refl, ap, ◌∙◌, arith}
+use Rattle.std.proofs.Common.{◌≡◌, ℕ, ◌<◌, ◌^◌, Bool, true, false, not, cond, List, [], length, Option, refl, ap, ◌∙◌, arith}
 use Rattle.disk_model.specs.Cells.{Cells, settled}
-use Rattle.disk_model.specs.declared.disk.Disk.{Ghosts}
 use Rattle.store_form.specs.Spelling.{Group}
 use Rattle.store_form.specs.declared.checkpoint.Checkpoint.{Checkpoint}
 use Rattle.batch_log.specs.Jobs.{Stands, IsIdle}
@@ -11,13 +10,14 @@ use Rattle.checkpoint_store.specs.Slots.{is_odd, slot_of, instead_of, newer, new
 use Rattle.checkpoint_store.specs.SlotJobs.{SlotStands, idle as slot_idle}
 use Rattle.checkpoint_store.specs.declared.job.SlotJob.{SlotJob}
 use Rattle.checkpoint_store.specs.declared.job.SlotJob.TheVariants.{Empty, Torn, Shut, Close, SyncClose, Fill, SyncFill, Full, Gate, SyncGate, Counts}
-use Rattle.durable_store.specs.Restored.{entries_of}
+use Rattle.durable_store.specs.Restored.{log_image, entries_of}
 use Rattle.durable_store.specs.Turns.{adds, OnlyCloses}
-use Rattle.durable_store.specs.Standing.{kept_by, side, beside, StoreStands}
-use Rattle.durable_store.specs.Disks.{AreSettled}
+use Rattle.durable_store.specs.Standing.{kept_by, StateStands}
+use Rattle.durable_store.specs.Disks.{contents, AreSettled}
 use Rattle.durable_store.specs.declared.disks.Disks.{Disks}
 use Rattle.durable_store.specs.declared.kept.Kept.{Kept}
-use Rattle.durable_store.specs.declared.store.Store.{Store}
+use Rattle.durable_store.specs.States.{StoreState}
+use Rattle.batch_log.specs.Log.{restored}
 
 abbrev nothing : Checkpoint
 nothing = record { generation = 0; snapshot = [] }
@@ -48,45 +48,44 @@ idle_adds (jobs.SyncBody next) is = absurd cc
 idle_adds (jobs.Gate next) is = absurd cc
 idle_adds (jobs.SyncGate next) is = absurd cc
 
-module _ {D : Type 0} {g : Ghosts D} where
-  pub opened : (s : Store D g) (e o : List ℕ) (kept : Kept) (own : List Group)
-      → ((next : Checkpoint) → SlotStands false (g.cells s.slots.even.device) s.slots.even.job next (slot_of false e) (instead_of false e))
-      → ((next : Checkpoint) → SlotStands true (g.cells s.slots.odd.device) s.slots.odd.job next (slot_of true o) (instead_of true o))
-      → (slot_idle s.slots.even.job ≡ true) × (slot_idle s.slots.odd.job ≡ true)
-      → ((other : List Group) × Stands (g.cells s.log.device) s.log.end s.log.job [] own other) → IsIdle s.log.job → g.cells s.other_log ≡ settled (g.cells s.other_log).now
-      → s.generation ≡ generation_of (newest e o) → kept ≡ kept_by (side s) own (beside s) (slot_of false e) (slot_of true o) → s.firm ≡ length kept.entries → s.firm < 2 ^ 63
-      → (others : List Kept) × StoreStands s [] kept others
-  opened s e o kept own even odd idle log log_idle sure generation kept_is firm small = (
-    _,
-    record {
-      next = nothing;
-      even = slot_of false e;
-      even_other = instead_of false e;
-      odd = slot_of true o;
-      odd_other = instead_of true o;
-      own = own;
-      own_other = log.0;
-      even_slot = even nothing;
-      odd_slot = odd nothing;
-      log = log.1;
-      other_log = sure;
-      turn = record {
-        even_closes = opened_slot false (g.cells s.slots.even.device) s.slots.even.job (slot_of false e) (instead_of false e) idle.0 even;
-        odd_closes = opened_slot true (g.cells s.slots.odd.device) s.slots.odd.job (slot_of true o) (instead_of true o) idle.1 odd;
-        even_first = λ unused. (idle.1, log_idle);
-        odd_next = λ unused. log_idle;
-      };
-      present = generation;
-      kept_is = kept_is;
-      others_are = refl;
-      firm = omega (arith, firm, small);
-      counted = λ is. absurd (never (adds s.log.job) is (idle_adds s.log.job log_idle));
-    },
-  )
-    where
-      never : (b : Bool) → b ≡ true → b ≡ false → ⊥
-      never true busy quiet = absurd cc
-      never false busy quiet = absurd cc
+pub opened : (s : StoreState) (e o : List ℕ) (kept : Kept) (own : List Group)
+    → ((next : Checkpoint) → SlotStands false s.even.cells s.even.job next (slot_of false e) (instead_of false e))
+    → ((next : Checkpoint) → SlotStands true s.odd.cells s.odd.job next (slot_of true o) (instead_of true o))
+    → (slot_idle s.even.job ≡ true) × (slot_idle s.odd.job ≡ true)
+    → ((other : List Group) × Stands s.log.cells s.log.end s.log.job [] own other) → IsIdle s.log.job → s.other_log ≡ settled s.other_log.now
+    → s.generation ≡ generation_of (newest e o) → kept ≡ kept_by (is_odd s.generation) own (restored s.other_log.now) (slot_of false e) (slot_of true o) → s.firm ≡ length kept.entries → s.firm < 2 ^ 63
+    → (others : List Kept) × StateStands s [] kept others
+opened s e o kept own even odd idle log log_idle sure generation kept_is firm small = (
+  _,
+  record {
+    next = nothing;
+    even = slot_of false e;
+    even_other = instead_of false e;
+    odd = slot_of true o;
+    odd_other = instead_of true o;
+    own = own;
+    own_other = log.0;
+    even_slot = even nothing;
+    odd_slot = odd nothing;
+    log = log.1;
+    other_log = sure;
+    turn = record {
+      even_closes = opened_slot false s.even.cells s.even.job (slot_of false e) (instead_of false e) idle.0 even;
+      odd_closes = opened_slot true s.odd.cells s.odd.job (slot_of true o) (instead_of true o) idle.1 odd;
+      even_first = λ unused. (idle.1, log_idle);
+      odd_next = λ unused. log_idle;
+    };
+    present = generation;
+    kept_is = kept_is;
+    others_are = refl;
+    firm = omega (arith, firm, small);
+    counted = λ is. absurd (never (adds s.log.job) is (idle_adds s.log.job log_idle));
+  },
+)
+  where
+    never : (b : Bool) → b ≡ true → b ≡ false → ⊥
+    never true busy quiet = absurd cc
+    never false busy quiet = absurd cc
 
 -- ---- which log is whose
 
@@ -95,6 +94,14 @@ module _ {D : Type 0} (cells : D → Cells) (d : Disks D) (odd : Bool) (logs : D
   both_settled sure = by odd are
     where
       by : (b : Bool) → logs ≡ cond b (d.odd_log, d.even_log) (d.even_log, d.odd_log) → (cells logs.0 ≡ settled (cells logs.0).now) × (cells logs.1 ≡ settled (cells logs.1).now)
+      by true is = (rw (ap (λ p. p.0) is) sure.odd_log, rw (ap (λ p. p.1) is) sure.even_log)
+      by false is = (rw (ap (λ p. p.0) is) sure.even_log, rw (ap (λ p. p.1) is) sure.odd_log)
+
+  -- what each log holds
+  pub both_are : AreSettled cells d → (side : Bool) → odd ≡ side → (cells logs.0 ≡ settled (log_image side (contents cells d))) × (cells logs.1 ≡ settled (log_image (not side) (contents cells d)))
+  both_are sure side same = by side (are ∙ ap (λ (b : Bool). cond b (d.odd_log, d.even_log) (d.even_log, d.odd_log)) same)
+    where
+      by : (b : Bool) → logs ≡ cond b (d.odd_log, d.even_log) (d.even_log, d.odd_log) → (cells logs.0 ≡ settled (log_image b (contents cells d))) × (cells logs.1 ≡ settled (log_image (not b) (contents cells d)))
       by true is = (rw (ap (λ p. p.0) is) sure.odd_log, rw (ap (λ p. p.1) is) sure.even_log)
       by false is = (rw (ap (λ p. p.0) is) sure.even_log, rw (ap (λ p. p.1) is) sure.odd_log)
 

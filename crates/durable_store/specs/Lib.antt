@@ -2,7 +2,10 @@ pub mod Fit
 pub mod Given
 pub mod Restored
 pub mod Turns
+pub mod States
 pub mod Standing
 pub mod Calls
 pub mod Disks
 pub mod Wholes
+pub mod Lives
+pub mod Exact

@@ -4,7 +4,7 @@ use Rattle.std.specs.List.{flat_map}
 use Rattle.store_form.specs.Spelling.{Group}
 use Rattle.store_form.specs.declared.checkpoint.Checkpoint.{Checkpoint}
 use Rattle.batch_log.specs.Log.{restored}
-use Rattle.checkpoint_store.specs.Slots.{is_odd, slot_of, newer, generation_of}
+use Rattle.checkpoint_store.specs.Slots.{is_odd, slot_of, newer, newest, generation_of}
 use Rattle.durable_store.specs.declared.kept.Kept.{Kept}
 
 -- the bytes of the logs and of the slots, of the even and of the odd generations
@@ -17,6 +17,10 @@ pub record Images : Type 0 where
 abbrev pub log_image : Bool → Images → List ℕ
 log_image false images = images.even_log
 log_image true images = images.odd_log
+
+-- whether the newest checkpoint is of an odd generation
+abbrev pub side_of : Images → Bool
+side_of images = is_odd (generation_of (newest images.even_slot images.odd_slot))
 
 abbrev pub entries_of : List Group → List (List ℕ)
 entries_of groups = flat_map (λ group. group) groups

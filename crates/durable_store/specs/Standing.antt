@@ -14,6 +14,7 @@ use Rattle.checkpoint_store.specs.declared.job.SlotJob.{SlotJob}
 use Rattle.checkpoint_store.specs.declared.job.SlotJob.TheVariants.{Empty, Torn as TornSlot, Shut, Close as CloseSlot, SyncClose as SyncCloseSlot, Fill, SyncFill, Full, Gate as GateSlot, SyncGate as SyncGateSlot, Counts}
 use Rattle.durable_store.specs.Restored.{Images, log_image, kept_of, restores}
 use Rattle.durable_store.specs.Turns.{closing, unsure, adds, rests, ends_group, InTurn}
+use Rattle.durable_store.specs.States.{StoreState, state_of}
 use Rattle.durable_store.specs.declared.kept.Kept.{Kept}
 use Rattle.durable_store.specs.declared.store.Store.{Store}
 
@@ -89,6 +90,60 @@ log_stake (Close waiting) added kept others = first kept others
 log_stake (Body bytes) added kept others = first kept others
 log_stake (SyncBody next) added kept others = first kept others
 
+pub record StateStands (s : StoreState) (added : Group) (kept : Kept) (others : List Kept) : Type 0 where
+  pub next : Checkpoint
+  pub even : Option Checkpoint
+  pub even_other : Option Checkpoint
+  pub odd : Option Checkpoint
+  pub odd_other : Option Checkpoint
+  pub own : List Group
+  pub own_other : List Group
+  pub even_slot : SlotStands false s.even.cells s.even.job next even even_other
+  pub odd_slot : SlotStands true s.odd.cells s.odd.job next odd odd_other
+  pub log : Stands s.log.cells s.log.end s.log.job added own own_other
+  pub other_log : s.other_log ≡ settled s.other_log.now
+  pub turn : InTurn s.even.job s.odd.job s.log.job
+  pub present : s.generation ≡ generation_of (newer even odd)
+  pub kept_is : kept ≡ kept_by (is_odd s.generation) own (restored s.other_log.now) even odd
+  pub others_are : others
+      ≡ only (closing s.even.job) (kept_by (is_odd s.generation) own (restored s.other_log.now) even_other odd)
+      ++ (only (closing s.odd.job) (kept_by (is_odd s.generation) own (restored s.other_log.now) even odd_other)
+      ++ only (unsure s.log.job) (kept_by (is_odd s.generation) own_other (restored s.other_log.now) even odd))
+  pub firm : s.firm ≡ min (length kept.entries) (2 ^ 64 - 1)
+  pub counted : adds s.log.job ≡ true → s.adding ≡ length added
+
+-- a crash now may leave these bytes
+pub record MayLeave (s : StoreState) (images : Images) : Type 0 where
+  pub even_slot : IsImage s.even.cells images.even_slot
+  pub odd_slot : IsImage s.odd.cells images.odd_slot
+  pub log : IsImage s.log.cells (log_image (is_odd s.generation) images)
+  pub other_log : IsImage s.other_log (log_image (not (is_odd s.generation)) images)
+
+-- ---- what the next call makes of them
+
+-- it is one of the log
+abbrev pub log_is_called : StoreState → Bool
+log_is_called s = not (closing s.even.job || closing s.odd.job)
+
+-- where no job runs on the log it begins the group of all entries that wait
+abbrev pub group_begins : StoreState → Bool
+group_begins s = rests s.log.job && some s.waiting
+
+abbrev pub added_in : StoreState → Group → Group
+added_in s added = cond (log_is_called s && group_begins s) s.waiting added
+
+abbrev pub kept_in : StoreState → Group → Kept → Kept
+kept_in s added kept = cond (log_is_called s) (log_kept s.log.job added kept) kept
+
+abbrev pub others_in : StoreState → Group → Kept → List Kept → List Kept
+others_in s added kept others = cond (closing s.even.job) (slot_others s.even.job others) (cond (closing s.odd.job) (slot_others s.odd.job others) (log_others s.log.job added kept others))
+
+-- what a crash during it may restore instead of `kept`
+abbrev pub stake_in : StoreState → Group → Kept → List Kept → Kept
+stake_in s added kept others = cond (log_is_called s) (log_stake s.log.job added kept others) (first kept others)
+
+-- ---- the same of a store
+
 module _ {D : Type 0} {g : Ghosts D} where
   abbrev pub side : Store D g → Bool
   side s = is_odd s.generation
@@ -97,27 +152,8 @@ module _ {D : Type 0} {g : Ghosts D} where
   abbrev pub beside : Store D g → List Group
   beside s = restored (g.cells s.other_log).now
 
-  pub record StoreStands (s : Store D g) (added : Group) (kept : Kept) (others : List Kept) : Type 0 where
-    pub next : Checkpoint
-    pub even : Option Checkpoint
-    pub even_other : Option Checkpoint
-    pub odd : Option Checkpoint
-    pub odd_other : Option Checkpoint
-    pub own : List Group
-    pub own_other : List Group
-    pub even_slot : SlotStands false (g.cells s.slots.even.device) s.slots.even.job next even even_other
-    pub odd_slot : SlotStands true (g.cells s.slots.odd.device) s.slots.odd.job next odd odd_other
-    pub log : Stands (g.cells s.log.device) s.log.end s.log.job added own own_other
-    pub other_log : g.cells s.other_log ≡ settled (g.cells s.other_log).now
-    pub turn : InTurn s.slots.even.job s.slots.odd.job s.log.job
-    pub present : s.generation ≡ generation_of (newer even odd)
-    pub kept_is : kept ≡ kept_by (side s) own (beside s) even odd
-    pub others_are : others
-        ≡ only (closing s.slots.even.job) (kept_by (side s) own (beside s) even_other odd)
-        ++ (only (closing s.slots.odd.job) (kept_by (side s) own (beside s) even odd_other)
-        ++ only (unsure s.log.job) (kept_by (side s) own_other (beside s) even odd))
-    pub firm : s.firm ≡ min (length kept.entries) (2 ^ 64 - 1)
-    pub counted : adds s.log.job ≡ true → s.adding ≡ length added
+  abbrev pub StoreStands : Store D g → Group → Kept → List Kept → Type 0
+  StoreStands s added kept others = StateStands (state_of s) added kept others
 
   pub record IsUnderWay (s : Store D g) : Type 0 where
     pub added : Group
@@ -126,11 +162,8 @@ module _ {D : Type 0} {g : Ghosts D} where
     pub stands : StoreStands s added kept others
 
   -- a crash now may leave these bytes
-  pub record AreImages (s : Store D g) (images : Images) : Type 0 where
-    pub even_slot : IsImage (g.cells s.slots.even.device) images.even_slot
-    pub odd_slot : IsImage (g.cells s.slots.odd.device) images.odd_slot
-    pub log : IsImage (g.cells s.log.device) (log_image (side s) images)
-    pub other_log : IsImage (g.cells s.other_log) (log_image (not (side s)) images)
+  abbrev pub AreImages : Store D g → Images → Type 0
+  AreImages s images = MayLeave (state_of s) images
 
   -- a crash now restores the one or the other
   abbrev pub LeavesEither : Store D g → Kept → Kept → Type 0
@@ -148,14 +181,14 @@ module _ {D : Type 0} {g : Ghosts D} where
 
   -- it is one of the log
   abbrev pub calls_log : Store D g → Bool
-  calls_log s = not (closing s.slots.even.job || closing s.slots.odd.job)
+  calls_log s = log_is_called (state_of s)
 
   -- it begins the group of all entries that wait
   abbrev pub begins_group : Store D g → Bool
-  begins_group s = calls_log s && (rests s.log.job && some s.waiting)
+  begins_group s = log_is_called (state_of s) && group_begins (state_of s)
 
   abbrev pub added_by : Store D g → Group → Group
-  added_by s added = cond (begins_group s) s.waiting added
+  added_by s added = added_in (state_of s) added
 
   abbrev pub waiting_after : Store D g → List (List ℕ)
   waiting_after s = cond (begins_group s) [] s.waiting
@@ -167,16 +200,14 @@ module _ {D : Type 0} {g : Ghosts D} where
   firm_after s = cond (calls_log s && ends_group s.log.job) (min (s.firm + s.adding) (2 ^ 64 - 1)) s.firm
 
   abbrev pub kept_after : Store D g → Group → Kept → Kept
-  kept_after s added kept = cond (calls_log s) (log_kept s.log.job added kept) kept
+  kept_after s added kept = kept_in (state_of s) added kept
 
   abbrev pub others_after : Store D g → Group → Kept → List Kept → List Kept
-  others_after s added kept others =
-      cond (closing s.slots.even.job) (slot_others s.slots.even.job others)
-      (cond (closing s.slots.odd.job) (slot_others s.slots.odd.job others) (log_others s.log.job added kept others))
+  others_after s added kept others = others_in (state_of s) added kept others
 
   -- what a crash during it may restore instead of `kept`
   abbrev pub at_stake : Store D g → Group → Kept → List Kept → Kept
-  at_stake s added kept others = cond (calls_log s) (log_stake s.log.job added kept others) (first kept others)
+  at_stake s added kept others = stake_in (state_of s) added kept others
 
   -- no job runs
   abbrev pub is_idle : Store D g → Bool

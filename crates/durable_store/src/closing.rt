@@ -6,6 +6,7 @@ ghost use Rattle.disk_model.specs.Calls.{Elapses};
 ghost use Rattle.store_form.specs.declared.checkpoint.Checkpoint.{Checkpoint};
 ghost use Rattle.batch_log.specs.Ends.{Closes};
 ghost use Rattle.checkpoint_store.specs.SlotJobs.{idle};
+ghost use Rattle.checkpoint_store.specs.Exact.{cells_called};
 ghost use Rattle.checkpoint_store.specs.Stores.{slot, beside, StandsAt, UnderWayAt, LeavesAt};
 ghost use Rattle.durable_store.specs.Turns.{closing, job_begun, job_closed, other_closed};
 
@@ -33,6 +34,7 @@ pub fn close_call<D: Disk>(
     ensures goes { OnOk result (D.told → (next : Checkpoint) (has other : Option Checkpoint) → StandsAt D.cells generation slots.old next has other
         → StandsAt D.cells generation slots.new next has (other_closed (slot generation slots.old).job has other)) }
     ensures next { OnOk result ((slot generation slots.new).job ≡ job_closed (slot generation slots.old).job) }
+    ensures cells { OnOk result (D.told → D.cells (slot generation slots.new).device ≡ cells_called (job_begun (slot generation slots.old).job) (D.cells (slot generation slots.old).device)) }
     ensures done { IfOk result (λ done. done ≡ idle (slot generation slots.new).job) }
     ensures crash { D.told → (next : Checkpoint) (has other : Option Checkpoint) → StandsAt D.cells generation slots.old next has other
         → LeavesAt D.cells generation slots.new has other }

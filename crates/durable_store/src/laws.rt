@@ -1,9 +1,12 @@
 //! What holds of a store between two calls.
-ghost use Rattle.std.specs.Prelude.{◌≡◌, ◌≤◌, List, [], length, take, false, true};
-ghost use Rattle.store_form.specs.Spelling.{Group};
-ghost use Rattle.durable_store.specs.Standing.{first, calls_log, at_stake, is_idle, is_due, StoreStands, AreImages, LeavesEither};
+ghost use Rattle.std.specs.Prelude.{◌≡◌, ◌≤◌, ℕ, List, [], length, take, false, true};
+ghost use Rattle.store_form.specs.Spelling.{Group, IsGroup};
+ghost use Rattle.durable_store.specs.Standing.{first, calls_log, at_stake, is_idle, is_due, StoreStands, AreImages, LeavesEither, MayLeave, StateStands, group_begins, added_in, kept_in, others_in};
 ghost use Rattle.durable_store.specs.Restored.{Images, restores};
 ghost use Rattle.durable_store.specs.Wholes.{IsFront};
+ghost use Rattle.durable_store.specs.States.{StoreState, state_of};
+ghost use Rattle.durable_store.specs.Exact.{store_called, started, store_opened, call_due};
+ghost use Rattle.durable_store.specs.Lives.{UnswitchedWire, IsUnswitched, LeavesUnswitched, OpensAs, no_bytes, nothing};
 ghost use Rattle.durable_store.specs.declared.kept.Kept.{Kept};
 
 use crate::store::Store;
@@ -15,6 +18,25 @@ pub fn a_crash_leaves_either<D: Disk>(store: &Store<D>)
 {
     let _ = store;
 }
+
+/// After a crash between two calls of a store that only crashes of its own lives have changed, and
+/// that has switched to no generation, it is such a store again. The next life keeps what this one
+/// kept, or what it might have restored instead, and may restore no third instead of that.
+pub fn a_crash_leaves_a_store<D: Disk>(store: &Store<D>)
+    ensures { (added : Group) (kept : Kept) (others : List Kept) → StoreStands store.now added kept others → IsUnswitched (state_of store.now) → LeavesUnswitched (state_of store.now) kept (first kept others) }
+{
+    let _ = store;
+}
+
+/// The bytes of such a store restore what they are said to.
+pub fn a_store_restores()
+    ensures { (images : Images) (kept other : Kept) → UnswitchedWire images kept other → restores images ≡ kept }
+{}
+
+/// Empty devices are such a store, which keeps nothing.
+pub fn an_empty_store()
+    ensures { UnswitchedWire no_bytes nothing nothing }
+{}
 
 /// Where no slot has to be closed, each crash restores all that is firm, and at the front. During the
 /// next call it does so too: `next_call` says that it restores what is kept, or what is at stake.
@@ -36,3 +58,29 @@ pub fn nothing_is_due<D: Disk>(store: &Store<D>)
 {
     let _ = store;
 }
+
+/// What a crash may leave, and whether a call is due, is by the state of the store alone.
+pub fn what_a_state_says<D: Disk>(store: &Store<D>)
+    ensures leaves { (images : Images) → AreImages store.now images → MayLeave (state_of store.now) images }
+    ensures left { (images : Images) → MayLeave (state_of store.now) images → AreImages store.now images }
+    ensures due { is_due store.now ≡ call_due (state_of store.now) }
+{
+    let _ = store;
+}
+
+/// What a state stands for after its next call, where the entries of a group that begins then have a
+/// spelling together. Entries that are given change nothing of it.
+pub fn a_state_goes_on()
+    ensures called { (s : StoreState) (added : Group) (kept : Kept) (others : List Kept) → StateStands s added kept others → (group_begins s ≡ true → IsGroup s.waiting)
+        → StateStands (store_called s) (added_in s added) (kept_in s added kept) (others_in s added kept others) }
+    ensures own { (s : StoreState) (added : Group) (kept : Kept) (others : List Kept) → StateStands s added kept others → (group_begins s ≡ true → IsGroup s.waiting)
+        → IsUnswitched s → IsUnswitched (store_called s) }
+    ensures started { (s : StoreState) (added : Group) (kept : Kept) (others : List Kept) (entries : List (List ℕ)) → StateStands s added kept others → StateStands (started s entries) added kept others }
+{}
+
+/// What a crash leaves of a state that only crashes of its own lives have changed: bytes that open as
+/// such a state again, which stands for the very pair that is said of them.
+pub fn a_state_lives_on()
+    ensures crash { (s : StoreState) (added : Group) (kept : Kept) (others : List Kept) → StateStands s added kept others → IsUnswitched s → LeavesUnswitched s kept (first kept others) }
+    ensures opened { (images : Images) (kept other : Kept) → UnswitchedWire images kept other → OpensAs (store_opened images) kept other }
+{}

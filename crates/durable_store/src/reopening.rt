@@ -6,9 +6,13 @@ ghost use Rattle.disk_model.specs.Calls.{Elapses};
 ghost use Rattle.store_form.specs.Spelling.{Group};
 ghost use Rattle.batch_log.specs.Log.{restored};
 ghost use Rattle.batch_log.specs.Jobs.{Stands, IsIdle};
+ghost use Rattle.batch_log.specs.Exact.{end_opened, job_opened};
 ghost use Rattle.checkpoint_store.specs.Slots.{generation_of};
 ghost use Rattle.durable_store.specs.Restored.{restores, entries_of};
 ghost use Rattle.durable_store.specs.Standing.{StoreStands, IsUnderWay};
+ghost use Rattle.durable_store.specs.States.{state_of};
+ghost use Rattle.durable_store.specs.Exact.{store_opened};
+ghost use Rattle.durable_store.specs.Lives.{UnswitchedWire, OpensAs};
 ghost use Rattle.durable_store.specs.Disks.{contents, devices, AreSettled, AreSame, DiskRose, NoneFell, TimeWent};
 ghost use Rattle.durable_store.specs.declared.kept.Kept.{Kept};
 
@@ -31,6 +35,10 @@ pub fn reopen<D: Disk>(
     requires { D.told → AreSettled D.cells disks }
     ensures kept { IfOk result (λ r. D.told → r.1 ≡ restores (contents D.cells disks)) }
     ensures stands { IfOk result (λ r. D.told → (others : List Kept) × StoreStands r.0 [] r.1 others) }
+    // Over what a life has left that only crashes of its own lives had changed before, it stands for this very pair.
+    ensures lives { IfOk result (λ r. D.told → (kept other : Kept) → UnswitchedWire (contents D.cells disks) kept other → (r.1 ≡ kept) × OpensAs (state_of r.0) r.1 other) }
+    // All that it makes of those bytes.
+    ensures opened { IfOk result (λ r. D.told → state_of r.0 ≡ store_opened (contents D.cells disks)) }
     ensures firm { IfOk result (λ r. r.0.firm ≡ length r.1.entries) }
     ensures waiting { IfOk result (λ r. r.0.waiting ≡ []) }
     ensures generation { IfOk result (λ r. r.0.generation ≡ generation_of r.1.present) }
@@ -106,6 +114,8 @@ fn open_log<D: Disk>(
     requires { D.told → D.cells log ≡ settled (D.cells log).now }
     ensures entries { IfOk result (λ r. D.told → r.1 ≡ entries_of (restored (D.cells log).now)) }
     ensures stands { IfOk result (λ r. D.told → (other : List Group) × Stands (D.cells r.0.device) r.0.end r.0.job [] (restored (D.cells log).now) other) }
+    ensures end { IfOk result (λ r. D.told → r.0.end ≡ end_opened (D.cells log).now) }
+    ensures job { IfOk result (λ r. D.told → r.0.job ≡ job_opened (D.cells log).now) }
     ensures idle { IfOk result (λ r. IsIdle r.0.job) }
     ensures open { IfOk result (λ r. r.0.state ≡ State.Open) }
     ensures same { IfOk result (λ r. D.told → D.cells r.0.device ≡ D.cells log) }

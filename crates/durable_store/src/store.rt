@@ -75,12 +75,18 @@ impl<D: Disk> Store<D> {
     ghost use Rattle.checkpoint_store.specs.Stores.{slot, beside, StandsAt, UnderWayAt, LeavesAt};
     ghost use Rattle.checkpoint_store.specs.SlotJobs.{idle as slot_idle};
     ghost use Rattle.durable_store.specs.Restored.{Images, restores};
-    ghost use Rattle.durable_store.specs.Turns.{closing, job_closed, other_closed, ends_group, job_started};
+    ghost use Rattle.durable_store.specs.Turns.{closing, job_begun, job_closed, other_closed, ends_group, job_started};
     ghost use Rattle.durable_store.specs.Standing.{StoreStands, IsUnderWay, LeavesEither, some, added_by, waiting_after, adding_after, firm_after, kept_after, others_after, at_stake, is_idle, is_due, calls_log, together, to_come, running, with, AreImages};
     ghost use Rattle.durable_store.specs.Calls.{LeftSince, NoneFalls, OneRose, NextJobs, CallsOne, TimeGoes};
     ghost use Rattle.durable_store.specs.declared.kept.Kept.{Kept};
     ghost use Rattle.durable_store.specs.Given.{given};
     ghost use Rattle.durable_store.specs.Wholes.{Grows, TimeLasts};
+    ghost use Rattle.durable_store.specs.States.{state_of};
+    ghost use Rattle.durable_store.specs.Exact.{store_called, started, log_begins};
+    ghost use Rattle.batch_log.specs.Exact.{log_called, job_called, end_called};
+    ghost use Rattle.checkpoint_store.specs.Exact.{cells_called};
+    ghost use Rattle.durable_store.specs.Lives.{UnswitchedNext, IsUnswitched, LeavesUnswitched, UnswitchedGrowth};
+    ghost use Rattle.batch_log.specs.Wires.{Wired, LeavesWire};
 
     /// Makes entries firm, in one group with all that wait, and makes every call that is due before.
     /// After `Ok` each crash restores what was kept with all of them. Where memory runs out and the
@@ -100,6 +106,11 @@ impl<D: Disk> Store<D> {
         // So it does at any moment of the call. Where slots are closed in it, `next_call` says so of each of its calls.
         ensures any_moment { self.old.state ≡ State.Open → D.told → D.remembers → calls_log self.old ≡ true → (added : Group) (kept : Kept) (others : List Kept) → StoreStands self.old added kept others
             → (images : Images) → LeftSince self.old self.new images → Grows kept others (running self.old added) (running self.old added ++ (self.old.waiting ++ entries)) (restores images) }
+        // A store that only crashes of its own lives have changed stays one, and each crash then leaves such a store, however
+        // the call ends: what it keeps, and what it may restore instead, are of those.
+        ensures own { OnOk result (D.told → IsUnswitched (state_of self.old) → IsUnswitched (state_of self.new)) }
+        ensures lives { self.old.state ≡ State.Open → D.told → (added : Group) (kept : Kept) (others : List Kept) → StoreStands self.old added kept others → IsUnswitched (state_of self.old)
+            → (images : Images) → AreImages self.new images → UnswitchedGrowth kept others (running self.old added) (running self.old added ++ (self.old.waiting ++ entries)) images }
         // However it ends, each crash restores as many entries as count as firm, or more.
         ensures counted { D.told → calls_log self.old ≡ true → (added : Group) (kept : Kept) (others : List Kept) → StoreStands self.old added kept others
             → (images : Images) → AreImages self.new images → self.new.firm ≤ length (restores images).entries }
@@ -131,6 +142,9 @@ impl<D: Disk> Store<D> {
         requires stands { self.old.state ≡ State.Open → D.told → IsUnderWay self.old }
         ensures goes { OnOk result (D.told → (added : Group) (kept : Kept) (others : List Kept) → StoreStands self.old added kept others
             → StoreStands self.new (added_by self.old added) (kept_after self.old added kept) (others_after self.old added kept others)) }
+        // All that it makes of the store and of its devices.
+        ensures called { OnOk result (D.told → state_of self.new ≡ store_called (state_of self.old)) }
+        ensures still { OnOk result (is_due self.old ≡ false → self.new ≡ self.old) }
         ensures underway { self.new.state ≡ State.Open → D.told → IsUnderWay self.new }
         ensures done { IfOk result (λ done. done ≡ is_idle self.new) }
         ensures jobs { OnOk result (NextJobs self.old self.new) }
@@ -141,6 +155,14 @@ impl<D: Disk> Store<D> {
         // So it does at any moment of the call.
         ensures any_moment { self.old.state ≡ State.Open → D.told → D.remembers → (added : Group) (kept : Kept) (others : List Kept) → StoreStands self.old added kept others
             → (images : Images) → LeftSince self.old self.new images → (restores images ≡ kept) ⊎ (restores images ≡ at_stake self.old added kept others) }
+        // A store that only crashes of its own lives have changed stays one. Whether the call goes well or not, a crash leaves
+        // such a store again, and the next life begins with what was kept, with or without what was at stake, or with that.
+        ensures own { OnOk result (D.told → IsUnswitched (state_of self.old) → IsUnswitched (state_of self.new)) }
+        ensures lives { self.old.state ≡ State.Open → D.told → (added : Group) (kept : Kept) (others : List Kept) → StoreStands self.old added kept others → IsUnswitched (state_of self.old)
+            → LeavesUnswitched (state_of self.new) kept (at_stake self.old added kept others) }
+        // So it does at any moment of the call.
+        ensures lives_any_moment { self.old.state ≡ State.Open → D.told → D.remembers → (added : Group) (kept : Kept) (others : List Kept) → StoreStands self.old added kept others → IsUnswitched (state_of self.old)
+            → (images : Images) → LeftSince self.old self.new images → UnswitchedNext images kept (at_stake self.old added kept others) }
         ensures waiting { OnOk result (self.new.waiting ≡ waiting_after self.old) }
         ensures adding { OnOk result (self.new.adding ≡ adding_after self.old) }
         ensures firm { OnOk result (self.new.firm ≡ firm_after self.old) }
@@ -171,6 +193,7 @@ impl<D: Disk> Store<D> {
     /// Gives entries to the store. They wait for the next group.
     pub fn start(&mut self, alloc: Global, job: Job) -> Result<(), StoreFault>
         requires { AreEntries (given job) }
+        ensures started { OnOk result (state_of self.new ≡ started (state_of self.old) (given job)) }
         ensures waiting { OnOk result (self.new.waiting ≡ self.old.waiting ++ given job) }
         ensures err { OnErr result (self.new ≡ self.old) }
         ensures slots { self.new.slots ≡ self.old.slots }
@@ -181,6 +204,7 @@ impl<D: Disk> Store<D> {
         ensures adding { self.new.adding ≡ self.old.adding }
         ensures state { self.new.state ≡ self.old.state }
         ensures stands { (added : Group) (kept : Kept) (others : List Kept) → StoreStands self.old added kept others → StoreStands self.new added kept others }
+        ensures own { IsUnswitched (state_of self.old) → IsUnswitched (state_of self.new) }
         ensures cause { IsErrOf result (LogFault.Disk false) → ⊥ }
         ensures closes { Closes result self.old.state self.new.state }
     {
@@ -276,6 +300,9 @@ impl<D: Disk> Store<D> {
             → (images : Images) → AreImages self.new images → Grows kept others (running self.old added) (running self.old added ++ self.old.waiting) (restores images) }
         ensures any_moment { D.told → D.remembers → calls_log self.old ≡ true → (added : Group) (kept : Kept) (others : List Kept) → StoreStands self.old added kept others
             → (images : Images) → LeftSince self.old self.new images → Grows kept others (running self.old added) (running self.old added ++ self.old.waiting) (restores images) }
+        ensures own { OnOk result (D.told → IsUnswitched (state_of self.old) → IsUnswitched (state_of self.new)) }
+        ensures lives { D.told → (added : Group) (kept : Kept) (others : List Kept) → StoreStands self.old added kept others → IsUnswitched (state_of self.old)
+            → (images : Images) → AreImages self.new images → UnswitchedGrowth kept others (running self.old added) (running self.old added ++ self.old.waiting) images }
         ensures counted { D.told → calls_log self.old ≡ true → (added : Group) (kept : Kept) (others : List Kept) → StoreStands self.old added kept others
             → (images : Images) → AreImages self.new images → self.new.firm ≤ length (restores images).entries }
         ensures underway { self.new.state ≡ State.Open → D.told → IsUnderWay self.new }
@@ -322,6 +349,7 @@ impl<D: Disk> Store<D> {
         ensures goes { OnOk result (D.told → (next : Checkpoint) (has other : Option Checkpoint) → StandsAt D.cells generation self.old.slots next has other
             → StandsAt D.cells generation self.new.slots next has (other_closed (slot generation self.old.slots).job has other)) }
         ensures next { OnOk result ((slot generation self.new.slots).job ≡ job_closed (slot generation self.old.slots).job) }
+        ensures cells { OnOk result (D.told → D.cells (slot generation self.new.slots).device ≡ cells_called (job_begun (slot generation self.old.slots).job) (D.cells (slot generation self.old.slots).device)) }
         ensures done { IfOk result (λ done. done ≡ is_idle self.new) }
         ensures crash { D.told → (next : Checkpoint) (has other : Option Checkpoint) → StandsAt D.cells generation self.old.slots next has other
             → LeavesAt D.cells generation self.new.slots has other }
@@ -354,6 +382,9 @@ impl<D: Disk> Store<D> {
         requires open { self.old.state ≡ State.Open }
         ensures stands { OnOk result (D.told → (added : Group) (gs other : List Group) → Stands (D.cells self.old.log.device) self.old.log.end self.old.log.job added gs other
             → Stands (D.cells self.new.log.device) self.new.log.end self.new.log.job (cond (rests self.old.log.job && some self.old.waiting) self.old.waiting added) gs other) }
+        ensures begins { OnOk result (self.new.log.job ≡ log_begins self.old.waiting self.old.log.job) }
+        ensures still { OnOk result (rests self.old.log.job ≡ true → some self.old.waiting ≡ false → self.new ≡ self.old) }
+        ensures end { self.new.log.end ≡ self.old.log.end }
         ensures job { OnOk result (code self.new.log.job ≡ job_started (some self.old.waiting) self.old.log.job) }
         ensures waiting { OnOk result (self.new.waiting ≡ cond (rests self.old.log.job && some self.old.waiting) [] self.old.waiting) }
         ensures adding { OnOk result (self.new.adding ≡ cond (rests self.old.log.job && some self.old.waiting) (length self.old.waiting) self.old.adding) }
@@ -382,6 +413,9 @@ impl<D: Disk> Store<D> {
         requires rests { self.old.log.job ≡ LogJob.Rest }
         ensures stands { OnOk result (D.told → (added : Group) (gs other : List Group) → Stands (D.cells self.old.log.device) self.old.log.end self.old.log.job added gs other
             → Stands (D.cells self.new.log.device) self.new.log.end self.new.log.job (cond (some self.old.waiting) self.old.waiting added) gs other) }
+        ensures begins { OnOk result (self.new.log.job ≡ log_begins self.old.waiting LogJob.Rest) }
+        ensures still { OnOk result (some self.old.waiting ≡ false → self.new ≡ self.old) }
+        ensures end { self.new.log.end ≡ self.old.log.end }
         ensures job { OnOk result (code self.new.log.job ≡ cond (some self.old.waiting) 4 0) }
         ensures waiting { OnOk result (self.new.waiting ≡ []) }
         ensures adding { OnOk result (self.new.adding ≡ cond (some self.old.waiting) (length self.old.waiting) self.old.adding) }
@@ -413,10 +447,18 @@ impl<D: Disk> Store<D> {
         requires stands { D.told → LogUnderWay (D.cells self.old.log.device) self.old.log.end self.old.log.job }
         ensures goes { OnOk result (D.told → (added : Group) (gs other : List Group) → Stands (D.cells self.old.log.device) self.old.log.end self.old.log.job added gs other
             → Stands (D.cells self.new.log.device) self.new.log.end self.new.log.job added (log_kept_after self.old.log.job added gs) (log_other_after self.old.log.job added gs other)) }
+        ensures cells { OnOk result (D.told → D.cells self.new.log.device ≡ log_called self.old.log.job self.old.log.end (D.cells self.old.log.device)) }
+        ensures job { OnOk result (self.new.log.job ≡ job_called self.old.log.job self.old.log.end) }
+        ensures end { OnOk result (self.new.log.end ≡ end_called self.old.log.job self.old.log.end) }
+        ensures still { OnOk result (rests self.old.log.job ≡ true → self.new ≡ self.old) }
         ensures next { OnOk result (code self.new.log.job ≡ code_after self.old.log.job) }
         ensures done { IfOk result (λ done. done ≡ is_idle self.new) }
         ensures crash { D.told → (added : Group) (gs other : List Group) → Stands (D.cells self.old.log.device) self.old.log.end self.old.log.job added gs other
             → LogLeaves (D.cells self.new.log.device) gs (log_at_stake self.old.log.job added gs other) }
+        ensures wires { D.told → (added : Group) (gs other : List Group) → Stands (D.cells self.old.log.device) self.old.log.end self.old.log.job added gs other
+            → Wired (D.cells self.old.log.device) gs → LeavesWire (D.cells self.new.log.device) gs (log_at_stake self.old.log.job added gs other) }
+        ensures wired { OnOk result (D.told → (added : Group) (gs other : List Group) → Stands (D.cells self.old.log.device) self.old.log.end self.old.log.job added gs other
+            → Wired (D.cells self.old.log.device) gs → Wired (D.cells self.new.log.device) (log_kept_after self.old.log.job added gs)) }
         ensures firm { OnOk result (self.new.firm ≡ cond (ends_group self.old.log.job) (min (self.old.firm + self.old.adding) (2 ^ 64 - 1)) self.old.firm) }
         ensures not_firm { OnErr result (self.new.firm ≡ self.old.firm) }
         ensures slots { self.new.slots ≡ self.old.slots }

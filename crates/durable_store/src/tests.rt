@@ -23,25 +23,52 @@ enum Crash {
     Old,
     /// It is as it reads.
     New,
+    /// It is as it reads, cut to a length between the one that it had at its last sync and the one that
+    /// it has. Where there is none between them it is as at its last sync.
+    Short,
     /// Each byte that is not sure is 7.
     Torn,
+    /// Each byte that is not sure is 1, as in an open gate.
+    Open,
 }
 
-fn image(alloc: Global, disk: &MemDisk, crash: Crash) -> Result<Bytes, AllocError> {
+/// What a disk holds after a crash.
+fn image(alloc: Global, disk: &MemDisk, crash: Crash) -> Result<Bytes, Fail> {
+    let bytes = bytes_left(alloc, disk, crash)?;
+    let copy = Bytes::from_slice(alloc, bytes.as_slice())?;
+    if disk.image(alloc, copy).is_err() {
+        return Err("it is an image".into());
+    }
+    Ok(bytes)
+}
+
+fn bytes_left(alloc: Global, disk: &MemDisk, crash: Crash) -> Result<Bytes, AllocError> {
     let old = disk.as_synced(alloc)?;
     let new = disk.as_read();
     match crash {
         Crash::Old => Ok(old),
         Crash::New => Bytes::from_slice(alloc, new),
-        Crash::Torn => {
-            let mut bytes = Vec::new(alloc);
-            for (i, &byte) in new.iter().enumerate() {
-                let is_sure = old.as_slice().get(i) == Some(&byte);
-                bytes.push(if is_sure { byte } else { 7 })?;
+        Crash::Short => {
+            let cut = old.len() / 2 + new.len() / 2;
+            if old.len() < cut && cut < new.len() {
+                let (front, _) = new.split_at(cut);
+                return Bytes::from_slice(alloc, front);
             }
-            Ok(Bytes::from_vec(bytes))
+            Ok(old)
         }
+        Crash::Torn => unsure(alloc, &old, new, 7),
+        Crash::Open => unsure(alloc, &old, new, 1),
     }
+}
+
+/// Each byte that differs from what was sure is this one.
+fn unsure(alloc: Global, old: &Bytes, new: &[u8], by: u8) -> Result<Bytes, AllocError> {
+    let mut bytes = Vec::new(alloc);
+    for (i, &byte) in new.iter().enumerate() {
+        let is_sure = old.as_slice().get(i) == Some(&byte);
+        bytes.push(if is_sure { byte } else { by })?;
+    }
+    Ok(Bytes::from_vec(bytes))
 }
 
 /// The changing call of this number, counted from 1, fails on the device of this number.
@@ -80,19 +107,19 @@ fn disks(
 }
 
 /// The disks after a crash. None of them fails.
-fn crashed(alloc: Global, left: &Disks<MemDisk>, crash: Crash) -> Result<Disks<MemDisk>, AllocError>
+fn crashed(alloc: Global, left: &Disks<MemDisk>, crash: Crash) -> Result<Disks<MemDisk>, Fail>
     ensures { IfOk result (λ d. AreSettled disk_cells d) }
 {
     let even_log = image(alloc, &left.even_log, crash)?;
     let odd_log = image(alloc, &left.odd_log, crash)?;
     let even_slot = image(alloc, &left.even_slot, crash)?;
     let odd_slot = image(alloc, &left.odd_slot, crash)?;
-    disks(
+    Ok(disks(
         alloc,
         (even_log.as_slice(), odd_log.as_slice()),
         (even_slot.as_slice(), odd_slot.as_slice()),
         Failing { device: 0, call: 0 },
-    )
+    )?)
 }
 
 /// One entry of one byte.
@@ -178,37 +205,69 @@ fn live(
     Ok((restored, firm, left))
 }
 
+/// What stands behind the groups.
+#[derive(Clone, Copy, Debug, PartialEq, Eq)]
+enum Gate {
+    Closed,
+    /// Torn, or not there, and nothing is behind it.
+    Bare,
+    /// Torn, and behind it a whole group.
+    Armed(u8),
+}
+
 /// What a store has, by the order of the calls alone: a repair makes two, a group four.
 #[derive(Drop)]
 struct Model {
     entries: Vec<u8>,
-    is_torn: bool,
+    gate: Gate,
     firm: u64,
 }
 
 impl Model {
+    /// A life that gives an entry of this byte, and one of byte 1 behind it.
     fn live(&mut self, calls: u64, crash: Crash, first: u8) -> Result<(), AllocError> {
-        let repair = if self.is_torn { 2 } else { 0 };
+        let repair = if self.gate == Gate::Closed { 0 } else { 2 };
         let done = calls.min(repair + 4) + calls.saturating_sub(6).min(4);
         let of_groups = done.saturating_sub(repair);
         self.firm = self.entries.len() as u64 + of_groups / 4;
-        let gates = if crash == Crash::New {
-            (of_groups + 1) / 4
-        } else {
-            of_groups / 4
-        };
-        if gates >= 1 {
+        if of_groups >= 4 {
             self.entries.push(first)?;
         }
-        if gates >= 2 {
+        if of_groups >= 8 {
             self.entries.push(1)?;
         }
-        let was_torn = self.is_torn;
-        self.is_torn = match crash {
-            Crash::Old => was_torn && done < 2,
-            Crash::New => was_torn && done < 1,
-            Crash::Torn => was_torn && done < 2 || of_groups % 4 == 3,
-        };
+        if done >= repair {
+            self.gate = Gate::Closed;
+        } else if done == 1 {
+            self.half_closed(crash)?;
+        }
+        if of_groups % 4 == 3 {
+            self.half_opened(crash, if of_groups < 4 { first } else { 1 })?;
+        }
+        Ok(())
+    }
+
+    /// The gate was closed, and not yet synced.
+    fn half_closed(&mut self, crash: Crash) -> Result<(), AllocError> {
+        if crash == Crash::New {
+            self.gate = Gate::Closed;
+        }
+        if crash == Crash::Open {
+            if let Gate::Armed(entry) = self.gate {
+                self.entries.push(entry)?;
+                self.gate = Gate::Closed;
+            }
+        }
+        Ok(())
+    }
+
+    /// The gate of a group was opened, and not yet synced.
+    fn half_opened(&mut self, crash: Crash, entry: u8) -> Result<(), AllocError> {
+        match crash {
+            Crash::Old | Crash::Short => {}
+            Crash::New | Crash::Open => self.entries.push(entry)?,
+            Crash::Torn => self.gate = Gate::Armed(entry),
+        }
         Ok(())
     }
 }
@@ -221,7 +280,7 @@ fn lives(
 ) -> Result<(Vec<u8>, Vec<u8>, bool), Fail> {
     let mut model = Model {
         entries: Vec::new(alloc),
-        is_torn: true,
+        gate: Gate::Bare,
         firm: 0,
     };
     let fresh = disks(
@@ -246,7 +305,13 @@ fn lives(
 #[test]
 fn what_is_restored_after_two_crashes(rt: HostRuntime) -> Result<(), Fail> {
     let alloc = rt.alloc();
-    let crashes = [Crash::Old, Crash::New, Crash::Torn];
+    let crashes = [
+        Crash::Old,
+        Crash::New,
+        Crash::Short,
+        Crash::Torn,
+        Crash::Open,
+    ];
     for one in 0..11 {
         for other in 0..11 {
             for first in crashes {

@@ -6,6 +6,7 @@ use Rattle.durable_store.specs.Calls.{LeftSince}
 use Rattle.durable_store.proofs.Called.{on_ok, on_err}
 use Rattle.durable_store.proofs.Fronts.{counted_now}
 use Rattle.durable_store.proofs.Lasting.{images_now}
+use Rattle.durable_store.proofs.Grows.{growth_still}
 use Rattle.durable_store.proofs.Appending.{same_images, still_known, all_same, calls_same, to_come_same, taken_back, firm_is, restores_all}
 use Rattle.durable_store.proofs.store.Store.append.Goals as goal
 
@@ -76,3 +77,13 @@ pub returns-else-is_err-clause-counted : goal.returns-else-is_err-clause-counted
 returns-else-is_err-clause-counted g c = λ told calls added kept others h images are.
     let e = c.in_ok-start.ensures in
     c.finish-answer.ensures.counted told (calls_same c.args.self.now c.start.new.self c.args.entries e.log e.waiting e.slots calls) added kept others (e.stands added kept others h) images are
+
+-- ---- what the next life begins with
+
+pub returns-in_err-start-clause-lives : goal.returns-in_err-start-clause-lives
+returns-in_err-start-clause-lives g c = λ is_open told added kept others h w images are.
+    growth_still c.args.self.now added kept others _ _ h w images (subst (λ x. AreImages x images) c.in_err-start.ensures.err are)
+
+pub returns-else-is_err-clause-own : goal.returns-else-is_err-clause-own
+returns-else-is_err-clause-own g c =
+    on_ok c.finish-answer.result _ _ (λ own told w. own told (c.start.ensures.own w)) c.finish-answer.ensures.own

@@ -8,3 +8,6 @@ pub returns-in_err-append_start-clause-unchanged : goal.returns-in_err-append_st
 returns-in_err-append_start-clause-unchanged g c =
     let e = c.in_err-append_start.ensures in
     on_none c.from_residual.result _ (same_store c.args.self.now _ refl e.err refl refl refl refl refl refl, ap idle c.requires.rests)
+
+pub returns-then-count-eq0-clause-still : goal.returns-then-count-eq0-clause-still
+returns-then-count-eq0-clause-still g c = λ none. same_store c.args.self.now _ refl refl refl refl refl refl refl refl

@@ -6,6 +6,7 @@ use Rattle.durable_store.proofs.Called.{on_none}
 use Rattle.durable_store.proofs.Lighter.{lighter, still_calm, begins_or_not, not_begun_yet}
 use Rattle.durable_store.proofs.Growing.{at_first, grows_on, crash_known, now_known, at_end, done_is}
 use Rattle.durable_store.proofs.Fronts.{counted_then, counted_now}
+use Rattle.durable_store.proofs.Grows.{growth_of, growth_now}
 use Rattle.durable_store.proofs.Lasting.{times_none, times_on, falls_none, falls_on, still_first, still_on, images_now, moment_on}
 use Rattle.durable_store.proofs.store.Store.finish.Goals as goal
 
@@ -16,6 +17,7 @@ loop-alloc-init g c =
       is_open = c.requires.open;
       underway = c.requires.stands;
       grown = λ told added kept others h. at_first s added kept others h;
+      own = λ told w. w;
       moments = λ told remembers calls added kept others h images left. now_known s added kept others s (at_first s added kept others h) images (images_now (g.met.D.Disk.only_now remembers) s images left);
       calm = λ is. (is, still_first s);
       begun = inr (record { waits = refl; first = λ calls rest. refl });
@@ -42,6 +44,7 @@ loop-alloc-preserved g c =
       is_open = e.closes.1;
       underway = e.underway e.closes.1;
       grown = λ told added kept others h. grows_on s0 added kept others s t e.jobs e.waiting (e.goes told) (i.grown told added kept others h);
+      own = λ told w. e.own told (i.own told w);
       moments = λ told remembers calls added kept others h.
           let so_far = i.grown told added kept others h in
           let calm = i.calm calls in
@@ -123,3 +126,16 @@ returns-clause-counted g c = λ told calls added kept others h images are.
     let i = c.loop-alloc.invariant in
     let so_far = i.grown told added kept others h in
     counted_now c.loop-alloc.self so_far.added _ so_far.others_now so_far.stands (i.calm calls).0 images are
+
+-- ---- what the next life begins with
+
+pub returns-in_err-next_call-clause-lives : goal.returns-in_err-next_call-clause-lives
+returns-in_err-next_call-clause-lives g c = λ told added kept others h w images are.
+    let i = c.loop-alloc.invariant in
+    let so_far = i.grown told added kept others h in
+    growth_of c.args.self.now added kept others c.loop-alloc.self so_far images (c.next_call.ensures.lives i.is_open told so_far.added _ so_far.others_now so_far.stands (i.own told w) images are)
+
+pub returns-clause-lives : goal.returns-clause-lives
+returns-clause-lives g c = λ told added kept others h w images are.
+    let i = c.loop-alloc.invariant in
+    growth_now c.args.self.now added kept others c.loop-alloc.self (i.grown told added kept others h) (i.own told w) images are

@@ -2,9 +2,11 @@ use Rattle.std.proofs.Common.{◌≡◌, ◌⊎◌, ◌+◌, ◌-◌, ◌^◌, �
 use Rattle.store_form.specs.Spelling.{Group}
 use Rattle.batch_log.specs.declared.log.State.TheVariants.{Open}
 use Rattle.durable_store.specs.Restored.{Images, restores}
+use Rattle.durable_store.specs.States.{state_of}
 use Rattle.durable_store.specs.Standing.{StoreStands, IsUnderWay, calls_log, running, to_come}
 use Rattle.durable_store.specs.Calls.{LeftSince, NoneFalls}
 use Rattle.durable_store.specs.Wholes.{Grows, TimeLasts}
+use Rattle.durable_store.specs.Lives.{IsUnswitched}
 use Rattle.durable_store.specs.declared.kept.Kept.{Kept}
 use Rattle.durable_store.proofs.Lighter.{weight, HasBegun, HasNotBegun}
 use Rattle.durable_store.proofs.Growing.{Grown}
@@ -16,6 +18,7 @@ invariant-loop-alloc g l = record {
   is_open : l.self.state ≡ Open;
   underway : g.D.Disk.told → IsUnderWay l.self;
   grown : g.D.Disk.told → (added : Group) (kept : Kept) (others : List Kept) → StoreStands l.fn.self added kept others → Grown l.fn.self added kept others l.self;
+  own : g.D.Disk.told → IsUnswitched (state_of l.fn.self) → IsUnswitched (state_of l.self);
   moments : g.D.Disk.told → g.D.Disk.remembers → calls_log l.fn.self ≡ true → (added : Group) (kept : Kept) (others : List Kept) → StoreStands l.fn.self added kept others
       → (images : Images) → LeftSince l.fn.self l.self images → Grows kept others (running l.fn.self added) (running l.fn.self added ++ l.fn.self.waiting) (restores images);
   calm : calls_log l.fn.self ≡ true → (calls_log l.self ≡ true) × AreStill l.fn.self l.self;

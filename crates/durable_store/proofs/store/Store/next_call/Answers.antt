@@ -1,6 +1,8 @@
-use Rattle.std.proofs.Common.{◌≡◌, ◌≤◌, ◌∙◌, inl, inr, subst, arith, true, false, cond, ◌&&◌, refl, sym, ap, ⊎_elim}
+use Rattle.std.proofs.Common.{◌≡◌, ◌≤◌, ◌∙◌, ◌⊎◌, inl, inr, subst, arith, true, false, cond, ◌&&◌, refl, sym, ap, ⊎_elim}
 use Rattle.faults.specs.Counts.{Rose}
 use Rattle.batch_log.specs.Ends.{Closes}
+use Rattle.durable_store.specs.Restored.{restores}
+use Rattle.durable_store.specs.Lives.{UnswitchedNext}
 use Rattle.durable_store.specs.Turns.{closing, rests}
 use Rattle.durable_store.specs.Standing.{some, at_stake, StoreStands}
 use Rattle.durable_store.specs.Calls.{Goes}
@@ -8,6 +10,9 @@ use Rattle.durable_store.proofs.Anytime.{even_moment, odd_moment, log_moment, st
 use Rattle.durable_store.proofs.Moves.{store_leaves}
 use Rattle.durable_store.proofs.Goes.{even_goes, odd_goes, begin_goes, call_goes}
 use Rattle.durable_store.proofs.Called.{ok_two, ok_three, ok_or_err, even_crash, odd_crash, same_crash, log_crash, even_after, odd_after, log_after, even_stake, odd_stake, log_staked, not_begun, same_stands, on_all, on_none, on_ok, on_err, even_counts, odd_counts, log_firm, log_waiting, even_falls, odd_falls, log_falls}
+use Rattle.durable_store.specs.States.{state_of}
+use Rattle.durable_store.proofs.States.{even_same, odd_same}
+use Rattle.durable_store.proofs.Lives.{before_call, not_unswitched, not_unswitched_odd, idle_lives, begun_own, own_wired, log_own, log_lives, staked_lives}
 use Rattle.durable_store.proofs.Given.{code_then, even_jobs, odd_jobs, log_jobs, even_together, odd_together, log_together, even_adding, odd_adding, log_adding, closed_counts, log_counts, none_calls, even_calls, odd_calls, log_calls, none_goes, even_times, odd_times, log_times}
 use Rattle.durable_store.proofs.store.Store.next_call.Goals as goal
 
@@ -247,7 +252,7 @@ returns-then-is_closing-clause-any_moment g c = λ is_open told remembers added 
     let t = c.close_slot.new.self in
     let e = c.close_slot.ensures in
     let is : closing c.args.self.now.slots.even.job ≡ true = sym c.is_closing.ensures ∙ c.if-is_closing.true in
-    even_moment g.D.Disk (g.met.D.Disk.only_now remembers) s t kept (at_stake s added kept others) e.generation e.other_log
+    even_moment g.D.Disk (g.met.D.Disk.only_now remembers) s t (λ i. (restores i ≡ kept) ⊎ (restores i ≡ at_stake s added kept others)) e.generation e.other_log
     (even_stake s s s added kept others is (store_leaves s added kept others h))
     (returns-then-is_closing-clause-crash g c is_open told added kept others h) images left e.time e.apart (ap (λ l. l.device) e.log)
 
@@ -258,7 +263,7 @@ returns-then-is_closing-2-clause-any_moment g c = λ is_open told remembers adde
     let e = c.close_slot-then-is_closing-2.ensures in
     let calm : closing c.args.self.now.slots.even.job ≡ false = sym c.is_closing.ensures ∙ c.if-is_closing.false in
     let is : closing c.args.self.now.slots.odd.job ≡ true = sym c.is_closing-2.ensures ∙ c.if-is_closing-2.true in
-    odd_moment g.D.Disk (g.met.D.Disk.only_now remembers) s t kept (at_stake s added kept others) e.generation e.other_log
+    odd_moment g.D.Disk (g.met.D.Disk.only_now remembers) s t (λ i. (restores i ≡ kept) ⊎ (restores i ≡ at_stake s added kept others)) e.generation e.other_log
     (odd_stake s s s added kept others calm is (store_leaves s added kept others h))
     (returns-then-is_closing-2-clause-crash g c is_open told added kept others h) images left e.time e.apart (ap (λ l. l.device) e.log)
 
@@ -269,7 +274,7 @@ returns-in_err-begin-clause-any_moment g c = λ is_open told remembers added kep
     let e = c.in_err-begin.ensures in
     let calm : closing c.args.self.now.slots.even.job ≡ false = sym c.is_closing.ensures ∙ c.if-is_closing.false in
     let too : closing c.args.self.now.slots.odd.job ≡ false = sym c.is_closing-2.ensures ∙ c.if-is_closing-2.false in
-    still_moment g.D.Disk (g.met.D.Disk.only_now remembers) s t kept (at_stake s added kept others) e.generation e.other_log
+    still_moment g.D.Disk (g.met.D.Disk.only_now remembers) s t (λ i. (restores i ≡ kept) ⊎ (restores i ≡ at_stake s added kept others)) e.generation e.other_log
     (not_begun s s s added kept others h calm too (store_leaves s added kept others h))
     (returns-in_err-begin-clause-crash g c is_open told added kept others h) images left e.slots e.device
 
@@ -281,7 +286,7 @@ returns-clause-any_moment g c = λ is_open told remembers added kept others h im
     let e = c.call_log.ensures in
     let calm : closing c.args.self.now.slots.even.job ≡ false = sym c.is_closing.ensures ∙ c.if-is_closing.false in
     let too : closing c.args.self.now.slots.odd.job ≡ false = sym c.is_closing-2.ensures ∙ c.if-is_closing-2.false in
-    log_moment g.D.Disk (g.met.D.Disk.only_now remembers) s t kept (at_stake s added kept others) (e.generation ∙ b.generation) (e.other_log ∙ b.other_log)
+    log_moment g.D.Disk (g.met.D.Disk.only_now remembers) s t (λ i. (restores i ≡ kept) ⊎ (restores i ≡ at_stake s added kept others)) (e.generation ∙ b.generation) (e.other_log ∙ b.other_log)
     (not_begun s s s added kept others h calm too (store_leaves s added kept others h))
     (returns-clause-crash g c is_open told added kept others h) images left
     (subst (λ (d : _). Goes g.D.Disk d t.log.device) b.device e.time) (e.slots ∙ b.slots)
@@ -423,3 +428,97 @@ returns-clause-time g c =
     let b = c.in_ok-begin.ensures in
     let e = c.call_log.ensures in
     log_times c.args.self.now c.call_log.new.self (e.other_log ∙ b.other_log) (subst (λ (d : _). Goes g.D.Disk d c.call_log.new.self.log.device) b.device e.time) (e.slots ∙ b.slots)
+
+-- ---- what the next life begins with
+
+pub returns-then-is_closing-clause-own : goal.returns-then-is_closing-clause-own
+returns-then-is_closing-clause-own g c =
+    let s = c.args.self.now in
+    let is : closing s.slots.even.job ≡ true = sym c.is_closing.ensures ∙ c.if-is_closing.true in
+    on_all c.close_slot.result _ (λ told w. absurd (not_unswitched (state_of s) is w))
+
+pub returns-then-is_closing-clause-lives : goal.returns-then-is_closing-clause-lives
+returns-then-is_closing-clause-lives g c = λ is_open told added kept others h w.
+    let s = c.args.self.now in
+    let is : closing s.slots.even.job ≡ true = sym c.is_closing.ensures ∙ c.if-is_closing.true in
+    absurd (not_unswitched (state_of s) is w)
+
+pub returns-then-is_closing-2-clause-own : goal.returns-then-is_closing-2-clause-own
+returns-then-is_closing-2-clause-own g c =
+    let s = c.args.self.now in
+    let is : closing s.slots.odd.job ≡ true = sym c.is_closing-2.ensures ∙ c.if-is_closing-2.true in
+    on_all c.close_slot-then-is_closing-2.result _ (λ told w. absurd (not_unswitched_odd (state_of s) is w))
+
+pub returns-then-is_closing-2-clause-lives : goal.returns-then-is_closing-2-clause-lives
+returns-then-is_closing-2-clause-lives g c = λ is_open told added kept others h w.
+    let s = c.args.self.now in
+    let is : closing s.slots.odd.job ≡ true = sym c.is_closing-2.ensures ∙ c.if-is_closing-2.true in
+    absurd (not_unswitched_odd (state_of s) is w)
+
+pub returns-in_err-begin-clause-lives : goal.returns-in_err-begin-clause-lives
+returns-in_err-begin-clause-lives g c = λ is_open told added kept others h w.
+    let same = c.in_err-begin.ensures.unchanged in
+    idle_lives (state_of c.args.self.now) (state_of c.begin.new.self) added kept others h w same.1 (ap state_of same.0)
+
+pub returns-clause-own : goal.returns-clause-own
+returns-clause-own g c =
+    let s = c.args.self.now in
+    let m = c.begin.new.self in
+    let t = c.call_log.new.self in
+    let b = c.in_ok-begin.ensures in
+    let e = c.call_log.ensures in
+    let calm : closing s.slots.even.job ≡ false = sym c.is_closing.ensures ∙ c.if-is_closing.false in
+    let too : closing s.slots.odd.job ≡ false = sym c.is_closing-2.ensures ∙ c.if-is_closing-2.false in
+    on_ok c.call_log.result _ _ (λ wired told w.
+    let u = c.requires.stands c.in_ok-check.ensures.closes.0 told in
+    let a = cond (rests s.log.job && some s.waiting) s.waiting u.added in
+    let begun : StoreStands m a u.kept u.others = begin_goes s m u.added u.kept u.others u.stands b.other_log b.generation b.slots calm too (some s.waiting) s.waiting (b.stands told) b.job b.firm b.adding in
+    let own = begun_own (state_of s) (state_of m) (even_same s m b.slots) (odd_same s m b.slots) (ap g.D.Disk.cells b.device) w in
+    log_own (state_of m) (state_of t) a u.kept u.others begun own (even_same m t e.slots) (odd_same m t e.slots) (wired told a begun.own begun.own_other begun.log (own_wired (state_of m) a u.kept u.others begun own)))
+    e.wired
+
+pub returns-clause-lives : goal.returns-clause-lives
+returns-clause-lives g c = λ is_open told added kept others h w.
+    let s = c.args.self.now in
+    let m = c.begin.new.self in
+    let t = c.call_log.new.self in
+    let b = c.in_ok-begin.ensures in
+    let e = c.call_log.ensures in
+    let calm : closing s.slots.even.job ≡ false = sym c.is_closing.ensures ∙ c.if-is_closing.false in
+    let too : closing s.slots.odd.job ≡ false = sym c.is_closing-2.ensures ∙ c.if-is_closing-2.false in
+    let a = cond (rests s.log.job && some s.waiting) s.waiting added in
+    let begun : StoreStands m a kept others = begin_goes s m added kept others h b.other_log b.generation b.slots calm too (some s.waiting) s.waiting (b.stands told) b.job b.firm b.adding in
+    staked_lives (state_of s) (state_of t) added kept others (state_of m) calm too b.job
+    (log_lives (state_of m) (state_of t) a kept others begun (begun_own (state_of s) (state_of m) (even_same s m b.slots) (odd_same s m b.slots) (ap g.D.Disk.cells b.device) w)
+    (even_same m t e.slots) (odd_same m t e.slots) (ap g.D.Disk.cells e.other_log) e.generation (e.wires told))
+
+pub returns-then-is_closing-clause-lives_any_moment : goal.returns-then-is_closing-clause-lives_any_moment
+returns-then-is_closing-clause-lives_any_moment g c = λ is_open told remembers added kept others h w.
+    let s = c.args.self.now in
+    let is : closing s.slots.even.job ≡ true = sym c.is_closing.ensures ∙ c.if-is_closing.true in
+    absurd (not_unswitched (state_of s) is w)
+
+pub returns-then-is_closing-2-clause-lives_any_moment : goal.returns-then-is_closing-2-clause-lives_any_moment
+returns-then-is_closing-2-clause-lives_any_moment g c = λ is_open told remembers added kept others h w.
+    let s = c.args.self.now in
+    let is : closing s.slots.odd.job ≡ true = sym c.is_closing-2.ensures ∙ c.if-is_closing-2.true in
+    absurd (not_unswitched_odd (state_of s) is w)
+
+pub returns-in_err-begin-clause-lives_any_moment : goal.returns-in_err-begin-clause-lives_any_moment
+returns-in_err-begin-clause-lives_any_moment g c = λ is_open told remembers added kept others h w images left.
+    let s = c.args.self.now in
+    let e = c.in_err-begin.ensures in
+    still_moment g.D.Disk (g.met.D.Disk.only_now remembers) s c.begin.new.self (λ i. UnswitchedNext i kept (at_stake s added kept others)) e.generation e.other_log
+    (before_call (state_of s) (state_of s) added kept others h w)
+    (returns-in_err-begin-clause-lives g c is_open told added kept others h w) images left e.slots e.device
+
+pub returns-clause-lives_any_moment : goal.returns-clause-lives_any_moment
+returns-clause-lives_any_moment g c = λ is_open told remembers added kept others h w images left.
+    let s = c.args.self.now in
+    let t = c.call_log.new.self in
+    let b = c.in_ok-begin.ensures in
+    let e = c.call_log.ensures in
+    log_moment g.D.Disk (g.met.D.Disk.only_now remembers) s t (λ i. UnswitchedNext i kept (at_stake s added kept others)) (e.generation ∙ b.generation) (e.other_log ∙ b.other_log)
+    (before_call (state_of s) (state_of s) added kept others h w)
+    (returns-clause-lives g c is_open told added kept others h w) images left
+    (subst (λ (d : _). Goes g.D.Disk d t.log.device) b.device e.time) (e.slots ∙ b.slots)
