@@ -7,6 +7,7 @@ ghost use Rattle.vote_book.specs.BookReports.{lock_of};
 ghost use Rattle.node_rules.specs.Nodes.{view_of, regency_of, decided_place, open_slot, is_free, is_open, synchronizer_of, holding};
 ghost use Rattle.node_rules.specs.Kept.{trimmed, core_step};
 ghost use Rattle.node_rules.specs.Steps.{step_of, outcome_from, reading_outcome, timed, first_leaving, after_first, leaving, released, opened};
+ghost use Rattle.node_core.specs.Broken.{IsPartly};
 
 mod arrivals;
 mod asks;
@@ -61,6 +62,8 @@ pub struct NodeState<S> {
     /// What was kept of wishes, reports and beginnings of regencies, and what the book says of them.
     synchronizer: Synchronizer,
     book: Book,
+    /// How many entries were restored when this life began.
+    restored: u64,
     firm: u64,
     held: Outbox,
     proposed: Vec<Slot>,
@@ -86,6 +89,7 @@ impl<S> Model for NodeState<S> {
       reports = c.synchronizer.reports;
       syncs = c.synchronizer.syncs;
       entries = c.book.entries;
+      restored = c.restored;
       firm = c.firm;
       held = c.held;
       proposed = c.proposed.items;
@@ -159,7 +163,14 @@ impl<S: Service> NodeCore<S> {
         self.node.regency()
     }
 
-    /// How many entries are firm.
+    /// How many entries were restored when this life began.
+    pub fn restored(&self) -> u64
+        ensures { result ≡ self.now.node.restored }
+    {
+        self.node.restored
+    }
+
+    /// How many entries are firm, those that were restored among them.
     pub fn firm(&self) -> u64
         ensures { result ≡ self.now.node.firm }
     {
@@ -217,6 +228,7 @@ impl<S: Service> NodeCore<S> {
         ensures fired { IfOk result (λ o. o.fired ≡ (core_step S.meaning self.old.node event.now).fired) }
         ensures dropped { IfOk result (λ o. o.dropped ≡ (core_step S.meaning self.old.node event.now).dropped) }
         ensures broken { self.new.broken ≡ is_err result }
+        ensures err { OnErr result (IsPartly self.old.node.entries self.new.node.entries (core_step S.meaning self.old.node event.now).node.entries) }
     {
         self.broken = true;
         let outcome = self.node.step(event)?;
@@ -275,6 +287,7 @@ impl<S: Service> NodeState<S> {
             instance,
             synchronizer: Synchronizer::begin(alloc, id),
             book,
+            restored: 0,
             firm: 0,
             held: Outbox::new(alloc),
             proposed: Vec::new(alloc),
@@ -329,6 +342,7 @@ impl<S: Service> NodeState<S> {
         ensures node { OnOk result (self.new ≡ (core_step S.meaning self.old event.now).node) }
         ensures fired { IfOk result (λ o. o.fired ≡ (core_step S.meaning self.old event.now).fired) }
         ensures dropped { IfOk result (λ o. o.dropped ≡ (core_step S.meaning self.old event.now).dropped) }
+        ensures err { OnErr result (IsPartly self.old.entries self.new.entries (core_step S.meaning self.old event.now).node.entries) }
     {
         let outcome = self.step_of(event)?;
         self.trim();
@@ -341,17 +355,20 @@ impl<S: Service> NodeState<S> {
         ensures node { OnOk result (self.new ≡ (step_of S.meaning self.old event.now).node) }
         ensures fired { IfOk result (λ o. o.fired ≡ (step_of S.meaning self.old event.now).fired) }
         ensures dropped { IfOk result (λ o. o.dropped ≡ (step_of S.meaning self.old event.now).dropped) }
+        ensures err { OnErr result (IsPartly self.old.entries self.new.entries (step_of S.meaning self.old event.now).node.entries) }
     {
         match event {
             NodeEvent::Arrive(bytes) => self.reading_outcome(bytes.as_slice()),
             NodeEvent::Tick => self.tick_outcome(),
             NodeEvent::Deliver => {
                 let fired = self.delivers()?;
-                self.outcome_from(fired)
+                let outcome = self.outcome_from(fired)?;
+                Ok(outcome)
             }
             NodeEvent::Firm(count) => {
-                self.firm = *count;
-                self.outcome_from(Sequence::new(self.alloc))
+                self.firm = self.restored.saturating_add(*count);
+                let outcome = self.outcome_from(Sequence::new(self.alloc))?;
+                Ok(outcome)
             }
         }
     }
@@ -375,6 +392,7 @@ impl<S: Service> NodeState<S> {
         ensures node { OnOk result (self.new ≡ (reading_outcome self.old (any_decoded bytes.now)).node) }
         ensures fired { IfOk result (λ o. o.fired ≡ (reading_outcome self.old (any_decoded bytes.now)).fired) }
         ensures dropped { IfOk result (λ o. o.dropped ≡ (reading_outcome self.old (any_decoded bytes.now)).dropped) }
+        ensures err { OnErr result (IsPartly self.old.entries self.new.entries (reading_outcome self.old (any_decoded bytes.now)).node.entries) }
     {
         match decode_any(self.alloc, bytes) {
             Ok(message) => self.arrival_outcome(message),
@@ -391,6 +409,7 @@ impl<S: Service> NodeState<S> {
         ensures node { OnOk result (self.new ≡ (outcome_from self.old fired).node) }
         ensures fired { IfOk result (λ o. o.fired ≡ (outcome_from self.old fired).fired) }
         ensures dropped { IfOk result (λ o. o.dropped ≡ (outcome_from self.old fired).dropped) }
+        ensures err { OnErr result (IsPartly self.old.entries self.new.entries (outcome_from self.old fired).node.entries) }
     {
         let mut fired = fired;
         self.passes(&mut fired)?;
@@ -405,6 +424,7 @@ impl<S: Service> NodeState<S> {
         ensures node { OnOk result (self.new ≡ (timed (outcome_from self.old [])).node) }
         ensures fired { IfOk result (λ o. o.fired ≡ (timed (outcome_from self.old [])).fired) }
         ensures dropped { IfOk result (λ o. o.dropped ≡ (timed (outcome_from self.old [])).dropped) }
+        ensures err { OnErr result (IsPartly self.old.entries self.new.entries (timed (outcome_from self.old [])).node.entries) }
     {
         let mut outcome = self.outcome_from(Sequence::new(self.alloc))?;
         self.times(&mut outcome.fired)?;
@@ -462,7 +482,8 @@ impl<S: Service> NodeState<S> {
 
     /// Holds a message until all entries made so far are firm.
     fn hold(&mut self, to: Target, message: AnyMessage) -> Result<(), AllocError>
-        ensures { OnOk result (self.new ≡ holding self.old to message) }
+        ensures node { OnOk result (self.new ≡ holding self.old to message) }
+        ensures err { OnErr result (self.new.entries ≡ self.old.entries) }
     {
         let needs = self.made();
         self.held.hold(to, message, needs)

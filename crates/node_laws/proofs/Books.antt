@@ -1,6 +1,6 @@
 -- What stays of a book's entries where one more is pushed.
 -- ---- regencies
-use Rattle.std.proofs.Common.{Bool, List, None, Option, Some, ap, arith, cond, false, inl, inr, length-append, max, nat_lt, refl, subst, sym, take, true, ℕ, ◌++◌, ◌∷◌, [], ◌≡◌, ◌≤◌, ◌<◌, ◌==◌, ◌∙◌, ◌&&◌, ◌⊎◌}
+use Rattle.std.proofs.Common.{Bool, List, None, Option, Some, ap, arith, cond, false, inl, inr, length-append, max, nat_lt, refl, subst, sym, take, true, ℕ, ⊎_elim, ◌+◌, ◌++◌, ◌∷◌, [], ◌≡◌, ◌≤◌, ◌<◌, ◌==◌, ◌∙◌, ◌&&◌, ◌⊎◌}
 use Rattle.std.proofs.lemmas.Bool.{eq-eqb, eqb-true, ltb-false, ltb-true}
 use Rattle.std.proofs.lemmas.List.{take-append-le}
 use Rattle.std.specs.Prelude.{IfSome, is_some}
@@ -14,14 +14,15 @@ use Rattle.smart_base.specs.Views.{View}
 use Rattle.smart_base.specs.declared.party.Party.TheVariants.{Member}
 use Rattle.smart_messages.specs.Messages.{Batch}
 use Rattle.smart_messages.specs.declared.statement.Answer.{Answer}
-use Rattle.vote_book.specs.Books.{Among, HasMade, latest_made, place_made}
+use Rattle.vote_book.proofs.Growth.{last_or_earlier}
+use Rattle.vote_book.specs.Books.{Among, HasMade, last_made, latest_made, place_made}
 use Rattle.vote_book.specs.Tidy.{promise_of}
 use Rattle.vote_book.specs.declared.entry.LogEntry.{LogEntry}
 use Rattle.vote_book.specs.declared.entry.LogEntry.TheVariants.{Accepted, Decided, Installed, Marked, Opened, Promised, Synced, Wrote}
 use Rattle.vote_book.specs.declared.entry.Promise.{Promise}
 use Rattle.vote_book.specs.declared.entry.Start.{Start}
 use Rattle.node_laws.proofs.Lists.{among_left, and_true, each_end, each_weaker, guard, some_equal}
-use Rattle.node_laws.specs.Sound.{HasDecided, IsHeld, IsWithin}
+use Rattle.node_laws.specs.Sound.{AreRanged, HasDecided, IsBegun, IsHeld, IsWithin}
 
 pub greatest_push : (view : ℕ) (es : List LogEntry) (e : LogEntry) → greatest_regency view (es ++ e ∷ []) ≡ max (greatest_regency view es) (regency_in view e)
 greatest_push view [] e = omega arith
@@ -51,6 +52,43 @@ within_push view number place es e all is =
     each_end (IsWithin view place r) es e
     (all_within_more view place (greatest_regency number es) place r es (omega arith) (omega (arith, grown)) all)
     (subst (λ (k : ℕ). IsWithin view place k e) (sym grown) is)
+
+-- ---- what each entry is within by those before it
+
+pub none_ranged : (view : View) → AreRanged view []
+none_ranged view before entry after split = absurd (none before split)
+  where
+    none : (xs : List LogEntry) → [] ≡ xs ++ entry ∷ after → ⊥
+    none [] same = cc
+    none (x ∷ xs) same = cc
+
+pub ranged_push : (view : View) (es : List LogEntry) (e : LogEntry) → AreRanged view es
+    → IsWithin view (last_made es + 1) (greatest_regency view.number (es ++ e ∷ [])) e → AreRanged view (es ++ e ∷ [])
+ranged_push view es e ranged within before entry after split =
+    ⊎_elim
+    (λ last. subst (λ (b : List LogEntry). IsWithin view (last_made b + 1) (greatest_regency view.number (b ++ entry ∷ [])) entry) last.0
+    (subst (λ (x : LogEntry). IsWithin view (last_made es + 1) (greatest_regency view.number (es ++ x ∷ [])) x) last.1 within))
+    (λ earlier. ranged before entry earlier.after earlier.split)
+    (last_or_earlier es e before entry after split)
+
+-- a node's place and regency are no more than what the book leaves open
+pub within_at : (view : View) (number place : ℕ) (es : List LogEntry) (e : LogEntry) → number ≡ view.number → place ≤ last_made es + 1
+    → IsWithin view place (max (greatest_regency number es) (regency_in number e)) e → IsWithin view (last_made es + 1) (greatest_regency view.number (es ++ e ∷ [])) e
+within_at view number place es e same least is =
+    let grown = greatest_push number es e in
+    let in_view : greatest_regency number (es ++ e ∷ []) ≡ greatest_regency view.number (es ++ e ∷ []) = ap (λ (k : ℕ). greatest_regency k (es ++ e ∷ [])) same in
+    within_more view place (max (greatest_regency number es) (regency_in number e)) (last_made es + 1) (greatest_regency view.number (es ++ e ∷ [])) e least
+    (omega (arith, grown, in_view)) is
+
+pub least_decided : {A : Type 0} (waiting : Option A) (place : ℕ) → place ≤ cond (is_some waiting) (place + 1) place
+least_decided None place = omega arith
+least_decided (Some x) place = omega arith
+
+-- ---- how books begin
+
+pub begun_push : (es : List LogEntry) (e : LogEntry) → IsBegun es → IsBegun (es ++ e ∷ [])
+begun_push [] e begun = absurd begun
+begun_push (x ∷ xs) e begun = begun
 
 -- the greatest regency that entries promise stands in a promise of theirs
 

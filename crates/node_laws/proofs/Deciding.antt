@@ -172,7 +172,7 @@ may_decide stated view n regency x viewed is free most named enough =
       batch = subst (λ (d : List ℕ). IsBatchAt n.secret stated (next_place n) d x.batch) (sym same) named;
     }
 
-decides_makes : {S : Type 0} (stated : List Statement) (view : View) (n : Node S) (d : Decision) → IsSound stated view n → is_none n.waiting ≡ true → d.slot.place ≡ next_place n
+pub decides_makes : {S : Type 0} (stated : List Statement) (view : View) (n : Node S) (d : Decision) → IsSound stated view n → is_none n.waiting ≡ true → d.slot.place ≡ next_place n
     → Makes n (Decided d) (Some d.batch)
 decides_makes stated view n d is free at =
     let before = made_last stated view n is free in

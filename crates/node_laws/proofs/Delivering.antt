@@ -45,7 +45,7 @@ pub record HasRequest (es : List LogEntry) (place index : ℕ) (q : SignedBy Req
   pub request_is : slice_get decision.batch index ≡ Some q
 
 -- requests do, from an index on
-abbrev AllRequests : List LogEntry → ℕ → ℕ → List (SignedBy Request) → Type 0
+abbrev pub AllRequests : List LogEntry → ℕ → ℕ → List (SignedBy Request) → Type 0
 AllRequests es place index [] = Unit {0}
 AllRequests es place index (q ∷ qs) = HasRequest es place index q × AllRequests es place (index + 1) qs
 
@@ -60,14 +60,14 @@ all_requests es place d index (q ∷ qs) there at same =
           (λ step. let next : index + suc step ≡ index + 1 + step = omega arith in same (suc step) ∙ ap (slice_get d.batch) next),
     )
 
-decided_requests : (es : List LogEntry) (place : ℕ) (batch : Batch) → HasDecided es place batch → AllRequests es place 0 batch
+pub decided_requests : (es : List LogEntry) (place : ℕ) (batch : Batch) → HasDecided es place batch → AllRequests es place 0 batch
 decided_requests es place batch has =
     subst (λ (qs : Batch). AllRequests es place 0 qs) has.batch_is
     (all_requests es place has.decision 0 has.decision.batch has.there has.place_is (λ step. let same : step ≡ 0 + step = omega arith in ap (slice_get has.decision.batch) same))
 
 -- ---- lines of requests that were decided
 
-abbrev Answered : List LogEntry → TableLine → Type 0
+abbrev pub Answered : List LogEntry → TableLine → Type 0
 Answered es line = HasAnswered es (answer_by line)
 
 line_answered : {S : Type 0} (m : Meaning S) (r : Replica S) (es : List LogEntry) (place index : ℕ) (q : SignedBy Request) → r.place ≡ place → HasRequest es place index q
@@ -104,11 +104,11 @@ views_execute : {S : Type 0} (m : Meaning S) (r : Replica S) (i : ℕ) (q : Requ
 unfolding execute
 views_execute m r i q = views_if_next (is_next r.table q) _ r refl
 
-place_all : {S : Type 0} (m : Meaning S) (r : Replica S) (i : ℕ) (qs : Batch) → (execute_all m r i qs).place ≡ r.place
+pub place_all : {S : Type 0} (m : Meaning S) (r : Replica S) (i : ℕ) (qs : Batch) → (execute_all m r i qs).place ≡ r.place
 place_all m r i [] = refl
 place_all m r i (q ∷ qs) = place_all m (execute m r i q.statement) (i + 1) qs ∙ place_execute m r i q.statement
 
-views_all : {S : Type 0} (m : Meaning S) (r : Replica S) (i : ℕ) (qs : Batch) → (execute_all m r i qs).views ≡ r.views
+pub views_all : {S : Type 0} (m : Meaning S) (r : Replica S) (i : ℕ) (qs : Batch) → (execute_all m r i qs).views ≡ r.views
 views_all m r i [] = refl
 views_all m r i (q ∷ qs) = views_all m (execute m r i q.statement) (i + 1) qs ∙ views_execute m r i q.statement
 
@@ -142,12 +142,12 @@ replica_is {S = S} r views place v p =
     let make : List View → ℕ → Replica S = λ vs k. record { service = r.service; table = r.table; views = vs; place = k } in
     ap (λ vs. make vs place) (sym v) ∙ ap (λ k. make r.views k) (sym p)
 
-delivered_is : {S : Type 0} (m : Meaning S) (r : Replica S) (batch : Batch)
+pub delivered_is : {S : Type 0} (m : Meaning S) (r : Replica S) (batch : Batch)
     → record { service = (delivered m r batch).service; table = (delivered m r batch).table; views = r.views; place = r.place + 1 } ≡ delivered m r batch
 unfolding delivered
 delivered_is m r batch = replica_is (execute_all m (at_next r) 0 batch) r.views (r.place + 1) (views_all m (at_next r) 0 batch) (place_all m (at_next r) 0 batch)
 
-delivered_table : {S : Type 0} (m : Meaning S) (r : Replica S) (es : List LogEntry) (batch : Batch) → AllRequests es (r.place + 1) 0 batch → Each (Answered es) r.table
+pub delivered_table : {S : Type 0} (m : Meaning S) (r : Replica S) (es : List LogEntry) (batch : Batch) → AllRequests es (r.place + 1) 0 batch → Each (Answered es) r.table
     → Each (Answered es) (delivered m r batch).table
 unfolding delivered
 delivered_table m r es batch all each = table_all m (at_next r) es (r.place + 1) 0 batch refl all each
@@ -161,22 +161,24 @@ decided_where None x place is = absurd (cc)
 decided_where (Some y) x place is = refl
 
 -- the node at the next place, with what its replica remembers there
-onward : {S : Type 0} → Node S → S → List TableLine → List (SignedBy Request) → Node S
+unfoldable pub onward : {S : Type 0} → Node S → S → List TableLine → List (SignedBy Request) → Node S
 onward n service table pool =
     record n { replica = record { service = service; table = table; views = n.replica.views; place = n.replica.place + 1 }; waiting = None; pool = pool; impatient = false }
 
-sound_onward : {S : Type 0} (stated : List Statement) (view : View) (n : Node S) (batch : Batch) (service : S) (table : List TableLine) (pool : List (SignedBy Request)) → IsSound stated view n
+pub sound_onward : {S : Type 0} (stated : List Statement) (view : View) (n : Node S) (batch : Batch) (service : S) (table : List TableLine) (pool : List (SignedBy Request)) → IsSound stated view n
     → n.waiting ≡ Some batch → Each (Answered n.entries) table → AreAsked n.secret stated pool → IsSound stated view (onward n service table pool)
 unfolding onward regency_of is_proven is_collect
 sound_onward stated view n batch service table pool is waits answered asked =
     let same : decided_place n ≡ n.replica.place + 1 = decided_where n.waiting batch n.replica.place waits in
     record {
       views = is.views;
+      begun = is.begun;
       lawful = is.lawful;
       tidy = is.tidy;
       last = is.last ∙ same;
       latest = is.latest ∙ ap place_if same;
       within = all_within_more view (next_place n) (regency_of n) (n.replica.place + 1 + 1) (regency_of n) n.entries (omega arith) (omega arith) is.within;
+      ranged = is.ranged;
       backed = is.backed;
       batches = is.batches;
       waiting = tt;

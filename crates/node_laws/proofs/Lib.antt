@@ -15,3 +15,6 @@ pub mod Delivering
 pub mod Arriving
 pub mod More
 pub mod Passes
+pub mod Restored
+pub mod Reopened
+pub mod Undamaged

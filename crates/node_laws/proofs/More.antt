@@ -46,7 +46,7 @@ module _ (stated more : List Statement) (grows_to : AreAmong stated more) where
     choice_is = is.choice_is;
   }
 
-  backed_more : (secret : List ℕ) (view : View) (e : LogEntry) → IsBacked secret digest_of view stated e → IsBacked secret digest_of view more e
+  pub backed_more : (secret : List ℕ) (view : View) (e : LogEntry) → IsBacked secret digest_of view stated e → IsBacked secret digest_of view more e
   backed_more secret view (Opened o) is = tt
   backed_more secret view (Wrote w) is = tt
   backed_more secret view (Accepted a) is = λ of. drawn_more secret view _ a.writes (is of)
@@ -64,7 +64,7 @@ module _ (stated more : List Statement) (grows_to : AreAmong stated more) where
   at_more : (secret : List ℕ) (place : ℕ) (digest : List ℕ) (batch : Batch) → IsBatchAt secret stated place digest batch → IsBatchAt secret more place digest batch
   at_more secret place digest batch is = record { may = is.may; asked = asked_more secret batch is.asked }
 
-  has_more : (secret : List ℕ) (e : LogEntry) → HasBatch secret stated e → HasBatch secret more e
+  pub has_more : (secret : List ℕ) (e : LogEntry) → HasBatch secret stated e → HasBatch secret more e
   has_more secret (Opened o) is = tt
   has_more secret (Wrote w) is = tt
   has_more secret (Accepted a) is = at_more secret a.slot.place a.digest a.batch is
@@ -84,11 +84,13 @@ module _ (stated more : List Statement) (grows_to : AreAmong stated more) where
   pub sound_more : {S : Type 0} (view : View) (n : Node S) → IsSound stated view n → IsSound more view n
   sound_more view n is = record {
     views = is.views;
+    begun = is.begun;
     lawful = is.lawful;
     tidy = is.tidy;
     last = is.last;
     latest = is.latest;
     within = is.within;
+    ranged = is.ranged;
     backed = each_weaker (IsBacked n.secret digest_of view stated) (IsBacked n.secret digest_of view more) (backed_more n.secret view) n.entries is.backed;
     batches = each_weaker (HasBatch n.secret stated) (HasBatch n.secret more) (has_more n.secret) n.entries is.batches;
     waiting = is.waiting;

@@ -11,7 +11,7 @@ use Rattle.node_rules.specs.Nodes.{Node, decided_place, holding, next_place, rec
 use Rattle.node_rules.specs.declared.node.Held.{Held}
 use Rattle.node_rules.specs.declared.node.Target.{Target}
 use Rattle.smart_base.specs.Lists.{Each, or_else}
-use Rattle.smart_base.specs.Views.{View}
+use Rattle.smart_base.specs.Views.{View, present}
 use Rattle.smart_base.specs.declared.party.Party.TheVariants.{Member}
 use Rattle.smart_messages.specs.Forms.{SignedBy}
 use Rattle.smart_messages.specs.Messages.{Batch}
@@ -31,7 +31,7 @@ use Rattle.vote_book.proofs.Tidy.{grows_tidy}
 use Rattle.vote_book.specs.Books.{Admits, Among, last_made, latest_made, number_or, place_made}
 use Rattle.vote_book.specs.Tidy.{IsTidyAfter}
 use Rattle.vote_book.specs.declared.entry.LogEntry.{LogEntry}
-use Rattle.node_laws.proofs.Books.{answered_push, decided_push, held_push, within_push}
+use Rattle.node_laws.proofs.Books.{answered_push, begun_push, decided_push, held_push, least_decided, ranged_push, within_at, within_push}
 use Rattle.node_laws.proofs.Lists.{each_end, each_weaker}
 use Rattle.node_laws.specs.Sound.{AreAsked, HasBatch, HasDecided, IsHeld, IsKept, IsMembers, IsSound, IsStated, IsWithin, answer_by, place_if}
 use Rattle.smart_messages.specs.declared.regency.RegencyMessage.TheVariants as changes
@@ -60,11 +60,13 @@ pub aside : {S : Type 0} (stated : List Statement) (view : View) (n : Node S) (f
 unfolding regency_of is_proven is_collect
 aside stated view n firm held proposed stop_made sync_made impatient behind is shown = record {
   views = is.views;
+  begun = is.begun;
   lawful = is.lawful;
   tidy = is.tidy;
   last = is.last;
   latest = is.latest;
   within = is.within;
+  ranged = is.ranged;
   backed = is.backed;
   batches = is.batches;
   waiting = is.waiting;
@@ -106,11 +108,13 @@ pub keeps : {S : Type 0} (stated : List Statement) (view : View) (n : Node S) (p
 unfolding regency_of is_proven is_collect
 keeps stated view n pool arrivals ss rs ys behind is asked kept_arrivals kept_stops kept_reports kept_syncs = record {
   views = is.views;
+  begun = is.begun;
   lawful = is.lawful;
   tidy = is.tidy;
   last = is.last;
   latest = is.latest;
   within = is.within;
+  ranged = is.ranged;
   backed = is.backed;
   batches = is.batches;
   waiting = is.waiting;
@@ -144,11 +148,15 @@ pub pushes : {S : Type 0} (stated : List Statement) (view : View) (n : Node S) (
 unfolding regency_of is_proven is_collect
 pushes stated view n e waiting is may made = record {
   views = is.views;
+  begun = begun_push n.entries e is.begun;
   lawful = grows 0 0 n.entries e is.lawful may.admits;
   tidy = grows_tidy n.entries e is.tidy may.tidy;
   last = made.last;
   latest = made.latest;
   within = within_push view (view_of n).number (next_place n) n.entries e is.within may.within;
+  ranged = ranged_push view n.entries e is.ranged
+      (within_at view (view_of n).number (next_place n) n.entries e (ap (λ (vs : List View). (present vs).number) is.views)
+      (let last = is.last in let least = least_decided n.waiting n.replica.place in omega (arith, last, least)) may.within);
   backed = each_end (IsBacked n.secret digest_of view stated) n.entries e is.backed may.backed;
   batches = each_end (HasBatch n.secret stated) n.entries e is.batches may.batch;
   waiting = made.waiting;

@@ -1,11 +1,12 @@
 -- A node stays sound, whatever comes to it.
-use Rattle.std.proofs.Common.{Err, List, None, Ok, Option, Result, Some, arith, nat_le, refl, true, ℕ, ◌≡◌, [], ◌∷◌}
+use Rattle.std.proofs.Common.{Err, List, None, Ok, Option, Result, Some, arith, false, nat_le, refl, true, ℕ, ◌≡◌, [], ◌∷◌}
 use Rattle.agreement_laws.specs.Statements.{Statement}
 use Rattle.node_rules.specs.Arrivals.{kept, noted, why_dropped}
 use Rattle.node_rules.specs.Changes.{adopts, joins, promises}
-use Rattle.node_rules.specs.Nodes.{Node}
+use Rattle.node_rules.specs.Nodes.{Node, recording}
+use Rattle.node_rules.specs.Reopening.{stopped}
 use Rattle.node_rules.specs.Rules.{delivers, proposes, writes}
-use Rattle.node_rules.specs.Steps.{arrival_outcome, opened, passes, reading_outcome, released, staying, step_of, turns, votes}
+use Rattle.node_rules.specs.Steps.{made_firm, arrival_outcome, opened, passes, reading_outcome, released, staying, step_of, turns, votes}
 use Rattle.node_rules.specs.declared.node.Held.{Held}
 use Rattle.node_rules.specs.declared.node.Why.{Why}
 use Rattle.smart_base.specs.Lists.{Each}
@@ -17,10 +18,11 @@ use Rattle.smart_messages.specs.declared.entry.NodeEvent.TheVariants.{Arrive, De
 use Rattle.smart_service.specs.Services.{Meaning}
 use Rattle.vote_book.proofs.Growth.{grows, none_lawful}
 use Rattle.vote_book.proofs.Tidy.{grows_tidy, none_tidy}
-use Rattle.vote_book.specs.declared.entry.LogEntry.{LogEntry}
+use Rattle.vote_book.specs.declared.entry.Opening.{Opening}
 use Rattle.vote_book.specs.declared.entry.LogEntry.TheVariants.{Opened}
 use Rattle.node_laws.proofs.Adopting.{sound_adopts}
 use Rattle.node_laws.proofs.Arriving.{sound_kept, sound_noted}
+use Rattle.node_laws.proofs.Books.{none_ranged, ranged_push}
 use Rattle.node_laws.proofs.Deciding.{sound_decides}
 use Rattle.node_laws.proofs.Delivering.{sound_answers_again, sound_delivers}
 use Rattle.node_laws.proofs.Leading.{sound_joins, sound_leads, sound_times}
@@ -63,8 +65,8 @@ sound_step m stated view n (Arrive bytes) viewed is was = sound_reading stated v
 sound_step m stated view n Tick viewed is was = sound_times stated view (passes n) (sound_passes stated view n viewed is)
 sound_step m stated view n Deliver viewed is was = sound_passes stated view (delivers m n) viewed (sound_delivers m stated view n is)
 sound_step {S = S} m stated view n (Firm count) viewed is was =
-    let firmer : Node S = record n { firm = count } in
-    sound_passes stated view firmer viewed (aside stated view n count n.held n.proposed n.stop_made n.sync_made n.impatient n.behind is is.held)
+    let firmer : Node S = made_firm n count in
+    sound_passes stated view firmer viewed (aside stated view n firmer.firm n.held n.proposed n.stop_made n.sync_made n.impatient n.behind is is.held)
 
 -- ---- messages that leave, and the beginning
 
@@ -77,24 +79,31 @@ sound_released stated view n is =
     aside stated view n n.firm (staying n.firm n.held) n.proposed n.stop_made n.sync_made n.impatient n.behind is
     (each_staying (IsHeld n.secret n.id stated n.entries) n.firm n.held is.held)
 
+-- the node whose book is its opening alone
+pub sound_begun : {S : Type 0} (m : Meaning S) (stated : List Statement) (secret : List ℕ) (id : ℕ) (view : View) (o : Opening)
+    → IsSound stated view (recording (stopped m secret id view) (Opened o))
+sound_begun m stated secret id view o = record {
+  views = refl;
+  begun = refl;
+  lawful = grows 0 0 [] (Opened o) (none_lawful 0 0) tt;
+  tidy = grows_tidy [] (Opened o) none_tidy tt;
+  last = omega arith;
+  latest = refl;
+  within = (tt, tt);
+  ranged = ranged_push view [] (Opened o) (none_ranged view) tt;
+  backed = (tt, tt);
+  batches = (tt, tt);
+  waiting = tt;
+  table = tt;
+  arrivals = tt;
+  stops = tt;
+  reports = tt;
+  syncs = tt;
+  pool = tt;
+  held = tt;
+}
+
 pub sound_opened : {S : Type 0} (m : Meaning S) (secret : List ℕ) (id : ℕ) (view : View) (period : ℕ) → IsSound [] view (opened m secret id view period)
 sound_opened m secret id view period =
-    let e : LogEntry = Opened (record { member = id; period = period; view = view }) in
-    record {
-      views = refl;
-      lawful = grows 0 0 [] e (none_lawful 0 0) tt;
-      tidy = grows_tidy [] e none_tidy tt;
-      last = omega arith;
-      latest = refl;
-      within = (tt, tt);
-      backed = (tt, tt);
-      batches = (tt, tt);
-      waiting = tt;
-      table = tt;
-      arrivals = tt;
-      stops = tt;
-      reports = tt;
-      syncs = tt;
-      pool = tt;
-      held = tt;
-    }
+    let o : Opening = record { member = id; period = period; view = view } in
+    aside [] view (recording (stopped m secret id view) (Opened o)) 0 [] [] false false false false (sound_begun m [] secret id view o) tt

@@ -1,5 +1,5 @@
 -- What holds of a node, whatever came to it, by what has been stated. So far the view that it began with is in force throughout.
-use Rattle.std.specs.Prelude.{◌≡◌, Bool, ℕ, zero, suc, ◌+◌, ◌<◌, ◌≤◌, ◌⊎◌, true, List, [], ◌∷◌, length, take, Option, Some, None, IfSome, Ok}
+use Rattle.std.specs.Prelude.{◌≡◌, Bool, ℕ, zero, suc, ◌+◌, ◌<◌, ◌≤◌, ◌⊎◌, true, List, [], ◌∷◌, ◌++◌, length, take, Option, Some, None, IfSome, Ok}
 use Rattle.smart_base.specs.Lists.{Each}
 use Rattle.smart_base.specs.Views.{View, is_member, leader}
 use Rattle.smart_base.specs.declared.party.Party.TheVariants.{Member}
@@ -32,8 +32,9 @@ use Rattle.replica_rules.specs.Seals.{is_verified, digest_of}
 use Rattle.agreement_laws.specs.Statements.{Statement, statements, signer_of}
 use Rattle.agreement_laws.specs.Diaries.{IsShown, HasAnswered}
 use Rattle.agreement_laws.specs.Certificates.{IsBacked}
-use Rattle.node_rules.specs.Nodes.{Node, regency_of, next_place, decided_place}
+use Rattle.node_rules.specs.Nodes.{Node, greatest_regency, regency_of, next_place, decided_place}
 use Rattle.node_rules.specs.Arrivals.{is_batch_for, is_proven, is_collect}
+use Rattle.node_rules.specs.Reopening.{is_opening}
 use Rattle.node_rules.specs.declared.node.Held.{Held}
 
 -- ---- what has been stated
@@ -116,6 +117,17 @@ IsWithin view place regency (Decided d) = IsUpTo view place (regency + 1) d.slot
 IsWithin view place regency (Installed i) = ⊥
 IsWithin view place regency (Marked m) = ⊥
 
+-- each entry is within the place behind the last of those before it, and the regency that is in force with it
+abbrev pub AreRanged : View → List LogEntry → Type 0
+AreRanged view entries =
+    (before : List LogEntry) (entry : LogEntry) (after : List LogEntry) → entries ≡ before ++ entry ∷ after
+    → IsWithin view (last_made before + 1) (greatest_regency view.number (before ++ entry ∷ [])) entry
+
+-- the first of entries opens the book
+abbrev pub IsBegun : List LogEntry → Type 0
+IsBegun [] = ⊥
+IsBegun (e ∷ es) = is_opening e ≡ true
+
 -- the place made last, if one is
 abbrev pub place_if : ℕ → Option ℕ
 place_if zero = None
@@ -141,12 +153,14 @@ pub record IsHeld (secret : List ℕ) (id : ℕ) (stated : List Statement) (entr
 
 pub record IsSound {S : Type 0} (stated : List Statement) (view : View) (n : Node S) : Type 0 where
   pub views : n.replica.views ≡ view ∷ []
-  -- the book is lawful and tidy, and reaches as far as the node
+  -- the book begins with its opening, is lawful and tidy, and reaches as far as the node
+  pub begun : IsBegun n.entries
   pub lawful : Lawful 0 0 n.entries
   pub tidy : IsTidy n.entries
   pub last : last_made n.entries ≡ decided_place n
   pub latest : latest_made n.entries ≡ place_if (decided_place n)
   pub within : Each (IsWithin view (next_place n) (regency_of n)) n.entries
+  pub ranged : AreRanged view n.entries
   -- it rests on what has been stated
   pub backed : Each (IsBacked n.secret digest_of view stated) n.entries
   pub batches : Each (HasBatch n.secret stated) n.entries

@@ -1,11 +1,24 @@
 //! The laws of one node.
-ghost use Rattle.std.specs.Prelude.{◌≡◌, [], ℕ, List, true};
+ghost use Rattle.std.specs.Prelude.{◌≡◌, ℕ, ◌+◌, List, [], ◌∷◌, ◌++◌, length, map, None, true, take};
+ghost use Rattle.smart_base.specs.Lists.{Each};
 ghost use Rattle.smart_base.specs.Views.{View, is_view};
 ghost use Rattle.smart_messages.specs.declared.entry.NodeEvent.{NodeEvent};
+ghost use Rattle.smart_service.specs.Services.{Meaning};
+ghost use Rattle.vote_book.specs.Books.{last_made, latest_made};
+ghost use Rattle.vote_book.specs.Entries.{entry_text, FitsEntry};
+ghost use Rattle.vote_book.specs.declared.entry.Decision.{Decision};
+ghost use Rattle.vote_book.specs.declared.entry.LogEntry.{LogEntry};
+ghost use Rattle.vote_book.specs.declared.entry.LogEntry.TheVariants.{Decided};
+ghost use Rattle.replica_rules.specs.Replicas.{state};
+ghost use Rattle.agreement_laws.specs.Fronts.{IsFront};
 ghost use Rattle.agreement_laws.specs.Statements.{Statement};
 ghost use Rattle.node_rules.specs.Nodes.{Node};
 ghost use Rattle.node_rules.specs.Steps.{step_of, released, opened};
-ghost use Rattle.node_laws.specs.Sound.{IsSound, IsStatedEvent, AreAmong};
+ghost use Rattle.node_rules.specs.Kept.{core_step};
+ghost use Rattle.node_rules.specs.Reopening.{reopened, stopped, decided_of, damaged, entries_in};
+ghost use Rattle.node_laws.specs.Sound.{IsSound, IsStatedEvent, AreAmong, place_if};
+ghost use Rattle.node_laws.specs.Restored.{IsSoundBook};
+ghost use Rattle.node_rules.specs.Entries.{AddsAtMost};
 
 use smart_service::service::Service;
 
@@ -19,4 +32,43 @@ pub fn a_node_stays_sound<S: Service>()
         IsSound stated view (step_of S.meaning n event).node }
     ensures released { (stated : List Statement) (view : View) (n : Node S) → IsSound stated view n → IsSound stated view (released n) }
     ensures more { (stated more : List Statement) (view : View) (n : Node S) → AreAmong stated more → IsSound stated view n → IsSound more view n }
+{}
+
+/// A member may go on after a crash from whatever front of its book is left. What a sound node's book
+/// shows by itself (`book`) each front of it shows too (`front`), and where more has been stated
+/// (`more`); what a front decides is a front of what the book decides (`decided`). The node that goes
+/// on from such entries is sound (`reopened`): it has the entries, all of them restored and firm, the
+/// replica that their decisions make, and nothing else of the life before (`node`). Its place is the
+/// last one that they make (`place`), which is the latest (`latest`), for they decide one place after
+/// the other (`turn`, `count`). The spellings of such entries are read as these again (`read`), and
+/// none of them is damaged (`undamaged`).
+pub fn a_restart_is_sound<S: Service>()
+    ensures book { (stated : List Statement) (view : View) (n : Node S) → IsSound stated view n → IsSoundBook n.secret stated view n.entries }
+    ensures front { (secret : List ℕ) (stated : List Statement) (view : View) (entries : List LogEntry) (k : ℕ) → IsSoundBook secret stated view entries →
+        IsSoundBook secret stated view (take k entries) }
+    ensures decided { (entries : List LogEntry) (k : ℕ) → IsFront (decided_of (take k entries)) (decided_of entries) }
+    ensures more { (secret : List ℕ) (stated more : List Statement) (view : View) (entries : List LogEntry) → AreAmong stated more → IsSoundBook secret stated view entries →
+        IsSoundBook secret more view entries }
+    ensures reopened { (secret : List ℕ) (id : ℕ) (stated : List Statement) (view : View) (period : ℕ) (entries : List LogEntry) → IsSoundBook secret stated view entries →
+        IsSound stated view (reopened S.meaning secret id view period entries) }
+    ensures node { (secret : List ℕ) (id : ℕ) (view : View) (period : ℕ) (e : LogEntry) (es : List LogEntry) → reopened S.meaning secret id view period (e ∷ es) ≡
+        record (stopped S.meaning secret id view) { entries = e ∷ es; replica = state S.meaning view (decided_of (e ∷ es)); restored = length (e ∷ es); firm = length (e ∷ es) } }
+    ensures place { (secret : List ℕ) (id : ℕ) (stated : List Statement) (view : View) (period : ℕ) (entries : List LogEntry) → IsSoundBook secret stated view entries →
+        (reopened S.meaning secret id view period entries).replica.place ≡ last_made entries }
+    ensures count { (secret : List ℕ) (stated : List Statement) (view : View) (entries : List LogEntry) → IsSoundBook secret stated view entries →
+        last_made entries ≡ length (decided_of entries) }
+    ensures latest { (secret : List ℕ) (stated : List Statement) (view : View) (entries : List LogEntry) → IsSoundBook secret stated view entries →
+        latest_made entries ≡ place_if (last_made entries) }
+    ensures turn { (secret : List ℕ) (stated : List Statement) (view : View) (before : List LogEntry) (d : Decision) (after : List LogEntry) →
+        IsSoundBook secret stated view (before ++ Decided d ∷ after) → d.slot.place ≡ length (decided_of before) + 1 }
+    ensures read { (entries : List LogEntry) → Each FitsEntry entries → entries_in (map entry_text entries) ≡ entries }
+    ensures undamaged { (secret : List ℕ) (stated : List Statement) (view : View) (entries : List LogEntry) → IsSoundBook secret stated view entries → Each FitsEntry entries →
+        damaged secret view (map entry_text entries) ≡ None }
+{}
+
+/// An event adds at most 8 entries to the book of a node, behind those that it has. It adds as few to
+/// the book of a node that keeps no more than it needs.
+pub fn an_event_makes_few_entries<S: Service>()
+    ensures node { (m : Meaning S) (n : Node S) (event : NodeEvent) → AddsAtMost 8 n.entries (step_of m n event).node.entries }
+    ensures core { (m : Meaning S) (core : Node S) (event : NodeEvent) → AddsAtMost 8 core.entries (core_step m core event).node.entries }
 {}

@@ -5,3 +5,5 @@ pub mod Rules
 pub mod Changes
 pub mod Steps
 pub mod Kept
+pub mod Reopening
+pub mod Entries

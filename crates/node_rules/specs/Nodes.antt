@@ -39,6 +39,8 @@ pub record Node (S : Type 0) : Type 0 where
   pub syncs : List (SignedBy Sync)
   -- the book
   pub entries : List LogEntry
+  -- how many of them were restored when this life began
+  pub restored : ℕ
   -- how many entries are firm
   pub firm : ℕ
   -- the messages that wait for their entries to be firm

@@ -1,5 +1,5 @@
 -- A step of a node: an event, and then one pass of the rules in their order. And the messages that leave.
-use Rattle.std.specs.Prelude.{ℕ, nat_le, List, [], ◌∷◌, ◌++◌, if◌then◌else◌, Option, Some, None, Result, Ok, Err, false}
+use Rattle.std.specs.Prelude.{ℕ, ◌+◌, ◌-◌, ◌^◌, min, nat_le, List, [], ◌∷◌, ◌++◌, if◌then◌else◌, Option, Some, None, Result, Ok, Err, false}
 use Rattle.smart_base.specs.Views.{View}
 use Rattle.smart_messages.specs.RegencyMessages.{any_decoded}
 use Rattle.smart_messages.specs.declared.any.AnyMessage.{AnyMessage}
@@ -75,11 +75,15 @@ abbrev pub reading_outcome : {S : Type 0} → Node S → Result AnyMessage ℕ �
 reading_outcome n (Ok message) = arrival_outcome n message (why_dropped n message)
 reading_outcome n (Err at) = record { node = n; fired = []; dropped = Some Unread }
 
+-- so many of the entries that this life made are firm, with all that were restored; at 2^64-1 the number stays
+abbrev pub made_firm : {S : Type 0} → Node S → ℕ → Node S
+made_firm n count = record n { firm = min (n.restored + count) (2 ^ 64 - 1) }
+
 unfoldable pub step_of : {S : Type 0} → Meaning S → Node S → NodeEvent → Outcome S
 step_of m n (Arrive bytes) = reading_outcome n (any_decoded bytes)
 step_of m n Tick = timed (outcome_from n [])
 step_of m n Deliver = outcome_from (delivers m n) (delivery m n n.waiting)
-step_of m n (Firm count) = outcome_from (record n { firm = count }) []
+step_of m n (Firm count) = outcome_from (made_firm n count) []
 
 -- release: the held messages whose entries are firm leave, in order
 
@@ -118,6 +122,7 @@ opened m secret id view period =
       reports = [];
       syncs = [];
       entries = Opened (record { member = id; period = period; view = view }) ∷ [];
+      restored = 0;
       firm = 0;
       held = [];
       proposed = [];

@@ -1,5 +1,5 @@
 //! Which of the messages that order requests a node drops, and what it keeps of the others.
-ghost use Rattle.std.specs.Prelude.{◌≡◌, ◌||◌, ◌&&◌, is_none, IfOk, OnOk};
+ghost use Rattle.std.specs.Prelude.{◌≡◌, ◌||◌, ◌&&◌, is_none, IfOk, OnOk, OnErr};
 ghost use Rattle.smart_messages.specs.Messages.{Fits};
 ghost use Rattle.smart_messages.specs.RegencyMessages.{FitsAny};
 ghost use Rattle.smart_messages.specs.declared.any.AnyMessage.TheVariants as messages;
@@ -9,6 +9,7 @@ ghost use Rattle.node_rules.specs.Nodes.{bound_at, start_of};
 ghost use Rattle.node_rules.specs.Arrivals.{view_why, place_why, regency_why, slot_why, signer_why, is_unbound, why_propose, why_vote, why_reply, why_dropped, is_newer, is_beyond, noted};
 ghost use Rattle.node_rules.specs.Steps.{arrival_outcome};
 ghost use Rattle.node_core.specs.Arriving.{kept_unless, passed};
+ghost use Rattle.node_core.specs.Broken.{IsPartly};
 
 use crate::node::{NodeState, Outcome};
 use crate::seal::{is_batch_for, is_verified};
@@ -30,6 +31,7 @@ impl<S: Service> NodeState<S> {
         ensures node { OnOk result (self.new ≡ (arrival_outcome self.old message (why_dropped self.old message)).node) }
         ensures fired { IfOk result (λ o. o.fired ≡ (arrival_outcome self.old message (why_dropped self.old message)).fired) }
         ensures dropped { IfOk result (λ o. o.dropped ≡ (arrival_outcome self.old message (why_dropped self.old message)).dropped) }
+        ensures err { OnErr result (IsPartly self.old.entries self.new.entries (arrival_outcome self.old message (why_dropped self.old message)).node.entries) }
     {
         match message {
             AnyMessage::Plain(message) => self.plain_outcome(message),
@@ -44,20 +46,24 @@ impl<S: Service> NodeState<S> {
         ensures node { OnOk result (self.new ≡ (arrival_outcome self.old (messages.Plain message) (why_dropped self.old (messages.Plain message))).node) }
         ensures fired { IfOk result (λ o. o.fired ≡ (arrival_outcome self.old (messages.Plain message) (why_dropped self.old (messages.Plain message))).fired) }
         ensures dropped { IfOk result (λ o. o.dropped ≡ (arrival_outcome self.old (messages.Plain message) (why_dropped self.old (messages.Plain message))).dropped) }
+        ensures err { OnErr result (IsPartly self.old.entries self.new.entries (arrival_outcome self.old (messages.Plain message) (why_dropped self.old (messages.Plain message))).node.entries) }
     {
         match message {
             Message::Ask(request) => self.ask_outcome(request),
             Message::Propose(proposed) => {
                 let dropped = self.take_proposal(proposed)?;
-                self.passed(dropped)
+                let outcome = self.passed(dropped)?;
+                Ok(outcome)
             }
             Message::Vote(ballot) => {
                 let dropped = self.take_vote(ballot)?;
-                self.passed(dropped)
+                let outcome = self.passed(dropped)?;
+                Ok(outcome)
             }
             Message::Reply(answer) => {
                 let dropped = self.why_reply(&answer);
-                self.passed(dropped)
+                let outcome = self.passed(dropped)?;
+                Ok(outcome)
             }
         }
     }
@@ -67,6 +73,7 @@ impl<S: Service> NodeState<S> {
         ensures node { OnOk result (self.new ≡ (passed self.old dropped).node) }
         ensures fired { IfOk result (λ o. o.fired ≡ (passed self.old dropped).fired) }
         ensures dropped { IfOk result (λ o. o.dropped ≡ (passed self.old dropped).dropped) }
+        ensures err { OnErr result (IsPartly self.old.entries self.new.entries (passed self.old dropped).node.entries) }
     {
         let fired = Sequence::new(self.alloc);
         if dropped.is_some() {
@@ -80,6 +87,7 @@ impl<S: Service> NodeState<S> {
     fn take_proposal(&mut self, proposed: Proposed) -> Result<Option<Why>, AllocError>
         ensures why { IfOk result (λ why. why ≡ why_propose self.old proposed) }
         ensures node { IfOk result (λ why. self.new ≡ kept_unless why (noted self.old (messages.Plain (plain.Propose proposed))) (messages.Plain (plain.Propose proposed))) }
+        ensures err { OnErr result (self.new.entries ≡ self.old.entries) }
     {
         let dropped = self.why_propose(&proposed)?;
         let Proposed { head, batch } = proposed;
@@ -95,6 +103,7 @@ impl<S: Service> NodeState<S> {
     fn take_vote(&mut self, ballot: Signed<Ballot>) -> Result<Option<Why>, AllocError>
         ensures why { IfOk result (λ why. why ≡ why_vote self.old ballot) }
         ensures node { IfOk result (λ why. self.new ≡ kept_unless why (noted self.old (messages.Plain (plain.Vote ballot))) (messages.Plain (plain.Vote ballot))) }
+        ensures err { OnErr result (self.new.entries ≡ self.old.entries) }
     {
         let dropped = self.why_vote(&ballot);
         self.note(&ballot, ballot.statement().slot);

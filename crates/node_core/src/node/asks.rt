@@ -1,5 +1,5 @@
 //! What becomes of a client's request that arrives.
-ghost use Rattle.std.specs.Prelude.{◌≡◌, ◌==◌, true, false, None, if◌then◌else◌, IfOk, OnOk};
+ghost use Rattle.std.specs.Prelude.{◌≡◌, ◌==◌, true, false, None, if◌then◌else◌, IfOk, OnOk, OnErr};
 ghost use Rattle.smart_base.specs.Views.{is_member};
 ghost use Rattle.smart_messages.specs.declared.any.AnyMessage.TheVariants as messages;
 ghost use Rattle.smart_messages.specs.declared.message.Message.TheVariants as plain;
@@ -8,6 +8,7 @@ ghost use Rattle.node_rules.specs.Nodes.{view_of};
 ghost use Rattle.node_rules.specs.Arrivals.{why_ask};
 ghost use Rattle.node_rules.specs.Steps.{arrival_outcome};
 ghost use Rattle.node_core.specs.Arriving.{why_offered, kept_unless};
+ghost use Rattle.node_core.specs.Broken.{IsPartly};
 
 use crate::node::{NodeState, Outcome};
 use crate::seal::is_verified;
@@ -44,6 +45,7 @@ impl<S: Service> NodeState<S> {
         ensures node { OnOk result (self.new ≡ (arrival_outcome self.old (messages.Plain (plain.Ask request)) (why_ask self.old request)).node) }
         ensures fired { IfOk result (λ o. o.fired ≡ (arrival_outcome self.old (messages.Plain (plain.Ask request)) (why_ask self.old request)).fired) }
         ensures dropped { IfOk result (λ o. o.dropped ≡ (arrival_outcome self.old (messages.Plain (plain.Ask request)) (why_ask self.old request)).dropped) }
+        ensures err { OnErr result (IsPartly self.old.entries self.new.entries (arrival_outcome self.old (messages.Plain (plain.Ask request)) (why_ask self.old request)).node.entries) }
     {
         let asked = request.statement();
         let (client, seq) = (asked.client, asked.seq);
@@ -63,6 +65,7 @@ impl<S: Service> NodeState<S> {
         requires { request.signer ≡ request.statement.client }
         ensures why { IfOk result (λ why. why ≡ why_ask self.old request) }
         ensures node { IfOk result (λ why. self.new ≡ kept_unless why self.old (messages.Plain (plain.Ask request))) }
+        ensures err { OnErr result (self.new.entries ≡ self.old.entries) }
     {
         if !self.view().is_member(self.id()) {
             return Ok(Some(Why::NotMember));
@@ -84,6 +87,7 @@ impl<S: Service> NodeState<S> {
         requires known { (request.signer == 0) ≡ false }
         ensures why { IfOk result (λ why. why ≡ why_ask self.old request) }
         ensures node { IfOk result (λ why. self.new ≡ kept_unless why self.old (messages.Plain (plain.Ask request))) }
+        ensures err { OnErr result (self.new.entries ≡ self.old.entries) }
     {
         let asked = request.statement();
         let last = self.replica.replica().table.last_seq(asked.client);

@@ -1,6 +1,6 @@
 //! The rules by which a node changes the regency with the others of its view (the synchronisation
 //! phase of Mod-SMaRt, EDCC 2012): what is due, what the rule does with it, and both.
-ghost use Rattle.std.specs.Prelude.{◌≡◌, ◌+◌, ◌<◌, ◌^◌, ◌++◌, true, false, IfOk, IfSome, OnOk, Some, option_map, slice_get};
+ghost use Rattle.std.specs.Prelude.{◌≡◌, ◌+◌, ◌<◌, ◌^◌, ◌++◌, true, false, IfOk, IfSome, OnOk, Some, option_map, slice_get, OnErr};
 ghost use Rattle.std.specs.Option.{option_copied};
 ghost use Rattle.smart_messages.specs.declared.any.AnyMessage.TheVariants as messages;
 ghost use Rattle.smart_messages.specs.declared.regency.RegencyMessage.TheVariants as changes;
@@ -13,6 +13,7 @@ ghost use Rattle.node_rules.specs.Rules.{fired_if};
 ghost use Rattle.node_rules.specs.Changes.{fired_when, start_by_sync, adopts_by, fired_adopt, adoption, adopts, stop_for, asks_next, joining, joins, report_of, reported_by, next_promise, promising, promise_next, promises, leading, lead_with, leads, is_pressed, timing, passes_on, presses, times};
 ghost use Rattle.node_rules.specs.Steps.{turns, fired_turns};
 ghost use Rattle.node_core.specs.Following.{is_unbegun, promised_by, reached, begun_at};
+ghost use Rattle.node_core.specs.Broken.{IsPartly};
 
 use crate::node::NodeState;
 use crate::seal::digest_of;
@@ -89,6 +90,7 @@ impl<S: Service> NodeState<S> {
     pub(super) fn turns(&mut self, fired: &mut Sequence<Fired>) -> Result<(), AllocError>
         ensures node { OnOk result (self.new ≡ turns self.old) }
         ensures fired { OnOk result (fired.new ≡ fired.old ++ fired_turns self.old) }
+        ensures err { OnErr result (IsPartly self.old.entries self.new.entries (turns self.old).entries) }
     {
         self.adopts(fired)?;
         self.joins(fired)?;
@@ -112,6 +114,7 @@ impl<S: Service> NodeState<S> {
     fn adopts(&mut self, fired: &mut Sequence<Fired>) -> Result<(), AllocError>
         ensures node { OnOk result (self.new ≡ adopts self.old) }
         ensures fired { OnOk result (fired.new ≡ fired.old ++ fired_adopt (adoption self.old)) }
+        ensures err { OnErr result (IsPartly self.old.entries self.new.entries (adopts self.old).entries) }
     {
         match self.adoption() {
             None => Ok(()),
@@ -128,7 +131,8 @@ impl<S: Service> NodeState<S> {
     fn adopt_start(&mut self, start: Start) -> Result<(), AllocError>
         requires view { start.view ≡ (view_of self.old).number }
         requires later { is_unbegun self.old start.regency ≡ true }
-        ensures { OnOk result (self.new ≡ begun_at (reached self.old (record { view = start.view; regency = start.regency })) start) }
+        ensures node { OnOk result (self.new ≡ begun_at (reached self.old (record { view = start.view; regency = start.regency })) start) }
+        ensures err { OnErr result (IsPartly self.old.entries self.new.entries (begun_at (reached self.old (record { view = start.view; regency = start.regency })) start).entries) }
     {
         let promise = Promise {
             view: start.view,
@@ -146,6 +150,7 @@ impl<S: Service> NodeState<S> {
         ensures node { OnOk result (self.new ≡ reached self.old promise) }
         ensures regency { OnOk result (regency_of self.new ≡ promise.regency) }
         ensures unbegun { OnOk result (is_synced self.new ≡ false) }
+        ensures err { OnErr result (self.new.entries ≡ self.old.entries) }
     {
         if self.regency() < promise.regency {
             self.promise_to(promise)?;
@@ -160,6 +165,7 @@ impl<S: Service> NodeState<S> {
         ensures node { OnOk result (self.new ≡ promised_by self.old promise) }
         ensures regency { OnOk result (regency_of self.new ≡ promise.regency) }
         ensures unbegun { OnOk result (is_synced self.new ≡ false) }
+        ensures err { OnErr result (self.new.entries ≡ self.old.entries) }
     {
         let regency = promise.regency;
         self.book.push(LogEntry::Promised(promise))?;
@@ -173,7 +179,8 @@ impl<S: Service> NodeState<S> {
         requires view { start.view ≡ (view_of self.old).number }
         requires regency { regency_of self.old ≡ start.regency }
         requires unbegun { is_synced self.old ≡ false }
-        ensures { OnOk result (self.new ≡ begun_at self.old start) }
+        ensures node { OnOk result (self.new ≡ begun_at self.old start) }
+        ensures err { OnErr result (self.new.entries ≡ self.old.entries) }
     {
         let regency = start.regency;
         let beginning = Beginning {
@@ -203,7 +210,8 @@ impl<S: Service> NodeState<S> {
     /// Asks for the regency behind the one in force.
     fn asks_next(&mut self) -> Result<(), AllocError>
         requires { regency_of self.old + 1 < 2 ^ 32 }
-        ensures { OnOk result (self.new ≡ asks_next self.old) }
+        ensures node { OnOk result (self.new ≡ asks_next self.old) }
+        ensures err { OnErr result (self.new.entries ≡ self.old.entries) }
     {
         let stop = self.stop_for()?;
         self.synchronizer.stop_made();
@@ -223,6 +231,7 @@ impl<S: Service> NodeState<S> {
     fn joins(&mut self, fired: &mut Sequence<Fired>) -> Result<(), AllocError>
         ensures node { OnOk result (self.new ≡ joins self.old) }
         ensures fired { OnOk result (fired.new ≡ fired.old ++ fired_when fires.Joined (joining self.old)) }
+        ensures err { OnErr result (self.new.entries ≡ self.old.entries) }
     {
         if self.joining() {
             fired.push(Fired::Joined)?;
@@ -308,7 +317,8 @@ impl<S: Service> NodeState<S> {
     #[tactic(auto, unfolding(node_rules::specs::Changes::promise_next))]
     fn promise_next(&mut self) -> Result<(), AllocError>
         requires { regency_of self.old + 1 < 2 ^ 32 }
-        ensures { OnOk result (self.new ≡ promise_next self.old) }
+        ensures node { OnOk result (self.new ≡ promise_next self.old) }
+        ensures err { OnErr result (IsPartly self.old.entries self.new.entries (promise_next self.old).entries) }
     {
         let promise = self.next_promise();
         let regency = promise.regency;
@@ -325,6 +335,7 @@ impl<S: Service> NodeState<S> {
     fn promises(&mut self, fired: &mut Sequence<Fired>) -> Result<(), AllocError>
         ensures node { OnOk result (self.new ≡ promises self.old) }
         ensures fired { OnOk result (fired.new ≡ fired.old ++ fired_when (fires.Promised (next_promise self.old)) (promising self.old)) }
+        ensures err { OnErr result (IsPartly self.old.entries self.new.entries (promises self.old).entries) }
     {
         if self.promising() {
             fired.push(Fired::Promised(self.next_promise()))?;
@@ -343,7 +354,8 @@ impl<S: Service> NodeState<S> {
 
     #[tactic(auto, unfolding(node_rules::specs::Changes::lead_with))]
     fn lead_with(&mut self, collect: SignedList<Report>) -> Result<(), AllocError>
-        ensures { OnOk result (self.new ≡ lead_with self.old (Some collect)) }
+        ensures node { OnOk result (self.new ≡ lead_with self.old (Some collect)) }
+        ensures err { OnErr result (self.new.entries ≡ self.old.entries) }
     {
         let sync = Sync {
             view: self.view().number(),
@@ -361,6 +373,7 @@ impl<S: Service> NodeState<S> {
     fn leads(&mut self, fired: &mut Sequence<Fired>) -> Result<(), AllocError>
         ensures node { OnOk result (self.new ≡ leads self.old) }
         ensures fired { OnOk result (fired.new ≡ fired.old ++ fired_if fires.Led (leading self.old)) }
+        ensures err { OnErr result (self.new.entries ≡ self.old.entries) }
     {
         match self.leading()? {
             None => Ok(()),
@@ -408,7 +421,8 @@ impl<S: Service> NodeState<S> {
 
     /// The leader is passed the request that has waited longest.
     fn passes_on(&mut self) -> Result<(), AllocError>
-        ensures { OnOk result (self.new ≡ passes_on self.old self.old.pool) }
+        ensures node { OnOk result (self.new ≡ passes_on self.old self.old.pool) }
+        ensures err { OnErr result (self.new.entries ≡ self.old.entries) }
     {
         let leader = self.view().leader(self.regency());
         match self.oldest()? {
@@ -426,7 +440,8 @@ impl<S: Service> NodeState<S> {
     #[tactic(auto, unfolding(node_rules::specs::Changes::presses))]
     fn presses(&mut self) -> Result<(), AllocError>
         requires { self.old.impatient ≡ true → regency_of self.old + 1 < 2 ^ 32 }
-        ensures { OnOk result (self.new ≡ presses self.old) }
+        ensures node { OnOk result (self.new ≡ presses self.old) }
+        ensures err { OnErr result (self.new.entries ≡ self.old.entries) }
     {
         if self.impatient {
             self.asks_next()?;
@@ -442,6 +457,7 @@ impl<S: Service> NodeState<S> {
     pub(super) fn times(&mut self, fired: &mut Sequence<Fired>) -> Result<(), AllocError>
         ensures node { OnOk result (self.new ≡ times self.old) }
         ensures fired { OnOk result (fired.new ≡ fired.old ++ fired_when fires.Timed (timing self.old)) }
+        ensures err { OnErr result (self.new.entries ≡ self.old.entries) }
     {
         if self.timing() {
             fired.push(Fired::Timed)?;

@@ -1,5 +1,5 @@
 //! Which of the messages that change the regency a node drops, and what it keeps of the others.
-ghost use Rattle.std.specs.Prelude.{◌≡◌, ◌+◌, ◌||◌, ◌&&◌, is_none, IfOk, OnOk};
+ghost use Rattle.std.specs.Prelude.{◌≡◌, ◌+◌, ◌||◌, ◌&&◌, is_none, IfOk, OnOk, OnErr};
 ghost use Rattle.std.specs.List.{list_any};
 ghost use Rattle.smart_messages.specs.declared.any.AnyMessage.TheVariants as messages;
 ghost use Rattle.smart_messages.specs.declared.regency.RegencyMessage.TheVariants as changes;
@@ -9,6 +9,7 @@ ghost use Rattle.replica_rules.specs.Seals.{is_verified};
 ghost use Rattle.node_rules.specs.Arrivals.{signer_why, wish_why, why_stop, is_marks, rests_on_marks, bears_lock, is_proven, why_report, is_collect, why_sync, why_dropped, is_newer, noted};
 ghost use Rattle.node_rules.specs.Steps.{arrival_outcome};
 ghost use Rattle.node_core.specs.Arriving.{kept_unless};
+ghost use Rattle.node_core.specs.Broken.{IsPartly};
 
 use crate::node::{NodeState, Outcome};
 use crate::seal::is_batch_for;
@@ -55,15 +56,18 @@ impl<S: Service> NodeState<S> {
         ensures node { OnOk result (self.new ≡ (arrival_outcome self.old (messages.Change message) (why_dropped self.old (messages.Change message))).node) }
         ensures fired { IfOk result (λ o. o.fired ≡ (arrival_outcome self.old (messages.Change message) (why_dropped self.old (messages.Change message))).fired) }
         ensures dropped { IfOk result (λ o. o.dropped ≡ (arrival_outcome self.old (messages.Change message) (why_dropped self.old (messages.Change message))).dropped) }
+        ensures err { OnErr result (IsPartly self.old.entries self.new.entries (arrival_outcome self.old (messages.Change message) (why_dropped self.old (messages.Change message))).node.entries) }
     {
         let dropped = self.take_change(message)?;
-        self.passed(dropped)
+        let outcome = self.passed(dropped)?;
+        Ok(outcome)
     }
 
     /// Keeps a message that changes the regency, or tells why it is dropped.
     fn take_change(&mut self, message: RegencyMessage) -> Result<Option<Why>, AllocError>
         ensures why { IfOk result (λ why. why ≡ why_dropped self.old (messages.Change message)) }
         ensures node { IfOk result (λ why. self.new ≡ kept_unless why (noted self.old (messages.Change message)) (messages.Change message)) }
+        ensures err { OnErr result (self.new.entries ≡ self.old.entries) }
     {
         match message {
             RegencyMessage::Stop(stop) => self.take_stop(stop),
@@ -84,6 +88,7 @@ impl<S: Service> NodeState<S> {
     fn take_stop(&mut self, stop: Signed<Stop>) -> Result<Option<Why>, AllocError>
         ensures why { IfOk result (λ why. why ≡ why_stop self.old stop) }
         ensures node { IfOk result (λ why. self.new ≡ kept_unless why (noted self.old (messages.Change (changes.Stop stop))) (messages.Change (changes.Stop stop))) }
+        ensures err { OnErr result (self.new.entries ≡ self.old.entries) }
     {
         let dropped = self.why_stop(&stop);
         self.note_view(&stop, stop.statement().view);
@@ -98,6 +103,7 @@ impl<S: Service> NodeState<S> {
     fn take_report(&mut self, reported: Reported) -> Result<Option<Why>, AllocError>
         ensures why { IfOk result (λ why. why ≡ why_report self.old reported) }
         ensures node { IfOk result (λ why. self.new ≡ kept_unless why (noted self.old (messages.Change (changes.StopData reported))) (messages.Change (changes.StopData reported))) }
+        ensures err { OnErr result (self.new.entries ≡ self.old.entries) }
     {
         let dropped = self.why_report(&reported)?;
         let Reported { head, batch } = reported;
@@ -113,6 +119,7 @@ impl<S: Service> NodeState<S> {
     fn take_sync(&mut self, sync: Signed<Sync>) -> Result<Option<Why>, AllocError>
         ensures why { IfOk result (λ why. why ≡ why_sync self.old sync) }
         ensures node { IfOk result (λ why. self.new ≡ kept_unless why (noted self.old (messages.Change (changes.Sync sync))) (messages.Change (changes.Sync sync))) }
+        ensures err { OnErr result (self.new.entries ≡ self.old.entries) }
     {
         let dropped = self.why_sync(&sync);
         self.note_view(&sync, sync.statement().view);

@@ -1,6 +1,6 @@
 //! The rules by which a node orders requests and answers them: what is due, what the rule does with
 //! it, and both.
-ghost use Rattle.std.specs.Prelude.{◌≡◌, None, ◌==◌, if◌then◌else◌, ◌+◌, ◌<◌, ◌^◌, ◌++◌, true, IfOk, IfSome, OnOk, IsSome, Some, option_map, filter_map};
+ghost use Rattle.std.specs.Prelude.{◌≡◌, None, ◌==◌, if◌then◌else◌, ◌+◌, ◌<◌, ◌^◌, ◌++◌, true, IfOk, IfSome, OnOk, IsSome, Some, option_map, filter_map, OnErr, ◌∷◌, []};
 ghost use Rattle.std.specs.Option.{option_copied};
 ghost use Rattle.smart_messages.specs.Kinds.{proposals};
 ghost use Rattle.smart_messages.specs.declared.message.Proposed.{Proposed};
@@ -20,6 +20,7 @@ ghost use Rattle.node_rules.specs.Rules.{replying, delivers, delivery, batch_und
 ghost use Rattle.node_rules.specs.Steps.{votes, fired_votes, passes, fired_pass};
 ghost use Rattle.consensus_instance.specs.Instances.{name_of};
 ghost use Rattle.consensus_instance.specs.Nodes.{due_at};
+ghost use Rattle.node_core.specs.Broken.{IsPartly};
 
 use crate::find::{accept_by_quorum, accept_under, has_proposed};
 use crate::node::NodeState;
@@ -47,6 +48,7 @@ impl<S: Service> NodeState<S> {
     pub(super) fn passes(&mut self, fired: &mut Sequence<Fired>) -> Result<(), AllocError>
         ensures node { OnOk result (self.new ≡ passes self.old) }
         ensures fired { OnOk result (fired.new ≡ fired.old ++ fired_pass self.old) }
+        ensures err { OnErr result (IsPartly self.old.entries self.new.entries (passes self.old).entries) }
     {
         self.turns(fired)?;
         self.votes(fired)?;
@@ -59,6 +61,7 @@ impl<S: Service> NodeState<S> {
     fn votes(&mut self, fired: &mut Sequence<Fired>) -> Result<(), AllocError>
         ensures node { OnOk result (self.new ≡ votes self.old) }
         ensures fired { OnOk result (fired.new ≡ fired.old ++ fired_votes self.old) }
+        ensures err { OnErr result (IsPartly self.old.entries self.new.entries (votes self.old).entries) }
     {
         self.proposes(fired)?;
         self.writes(fired)?;
@@ -83,7 +86,8 @@ impl<S: Service> NodeState<S> {
 
     /// Holds the replies to the requests that were executed.
     fn replying(&mut self, lines: Sequence<TableLine>) -> Result<(), AllocError>
-        ensures { OnOk result (self.new ≡ replying self.old lines) }
+        ensures node { OnOk result (self.new ≡ replying self.old lines) }
+        ensures err { OnErr result (self.new.entries ≡ self.old.entries) }
     {
         for line in lines.into_vec() {
             let client = line.client;
@@ -98,6 +102,7 @@ impl<S: Service> NodeState<S> {
     pub(super) fn delivers(&mut self) -> Result<Sequence<Fired>, AllocError>
         ensures node { OnOk result (self.new ≡ delivers S.meaning self.old) }
         ensures fired { IfOk result (λ fired. fired ≡ delivery S.meaning self.old self.old.waiting) }
+        ensures err { OnErr result (self.new.entries ≡ self.old.entries) }
     {
         if self.replica.spent() {
             return Err(AllocError);
@@ -202,7 +207,8 @@ impl<S: Service> NodeState<S> {
     #[tactic(auto, unfolding(node_rules::specs::Rules::propose_batch))]
     fn propose_batch(&mut self, batch: Batch) -> Result<(), AllocError>
         requires { is_free self.old ≡ true }
-        ensures { OnOk result (self.new ≡ propose_batch self.old (Some batch)) }
+        ensures node { OnOk result (self.new ≡ propose_batch self.old (Some batch)) }
+        ensures err { OnErr result (self.new.entries ≡ self.old.entries) }
     {
         let slot = self.open_slot();
         let digest = digest_of(self.alloc, &batch)?;
@@ -217,6 +223,7 @@ impl<S: Service> NodeState<S> {
     fn proposes(&mut self, fired: &mut Sequence<Fired>) -> Result<(), AllocError>
         ensures node { OnOk result (self.new ≡ proposes self.old) }
         ensures fired { OnOk result (fired.new ≡ fired.old ++ fired_if fires.Proposed (proposing self.old)) }
+        ensures err { OnErr result (self.new.entries ≡ self.old.entries) }
     {
         match self.proposing()? {
             None => Ok(()),
@@ -249,7 +256,8 @@ impl<S: Service> NodeState<S> {
     /// Writes for the batch of a digest.
     fn write_digest(&mut self, digest: Digest32) -> Result<(), AllocError>
         requires { is_free self.old ≡ true }
-        ensures { OnOk result (self.new ≡ holding (recording self.old (entries.Wrote (record { slot = open_slot self.old; digest = digest }))) targets.View (ballot self.old kinds.Write digest)) }
+        ensures node { OnOk result (self.new ≡ holding (recording self.old (entries.Wrote (record { slot = open_slot self.old; digest = digest }))) targets.View (ballot self.old kinds.Write digest)) }
+        ensures err { OnErr result (IsPartly self.old.entries self.new.entries (self.old.entries ++ entries.Wrote (record { slot = open_slot self.old; digest = digest }) ∷ [])) }
     {
         let slot = self.open_slot();
         let vote = self.ballot(VoteKind::Write, digest)?;
@@ -263,6 +271,7 @@ impl<S: Service> NodeState<S> {
     fn writes(&mut self, fired: &mut Sequence<Fired>) -> Result<(), AllocError>
         ensures node { OnOk result (self.new ≡ writes self.old) }
         ensures fired { OnOk result (fired.new ≡ fired.old ++ fired_if fires.Wrote (writing self.old)) }
+        ensures err { OnErr result (IsPartly self.old.entries self.new.entries (writes self.old).entries) }
     {
         match self.due(Rule::Write) {
             None => Ok(()),
@@ -278,7 +287,8 @@ impl<S: Service> NodeState<S> {
     /// Accepts a batch under a digest, with the writes that it rests on.
     fn accept_digest(&mut self, digest: Digest32, batch: Batch) -> Result<(), AllocError>
         requires { is_free self.old ≡ true }
-        ensures { OnOk result (self.new ≡ holding (recording self.old (entries.Accepted (record { slot = open_slot self.old; digest = digest; writes = certificate_votes self.old.arrivals (view_of self.old) kinds.Write (open_slot self.old) digest; batch = batch }))) targets.View (ballot self.old kinds.Accept digest)) }
+        ensures node { OnOk result (self.new ≡ holding (recording self.old (entries.Accepted (record { slot = open_slot self.old; digest = digest; writes = certificate_votes self.old.arrivals (view_of self.old) kinds.Write (open_slot self.old) digest; batch = batch }))) targets.View (ballot self.old kinds.Accept digest)) }
+        ensures err { OnErr result (IsPartly self.old.entries self.new.entries (self.old.entries ++ entries.Accepted (record { slot = open_slot self.old; digest = digest; writes = certificate_votes self.old.arrivals (view_of self.old) kinds.Write (open_slot self.old) digest; batch = batch }) ∷ [])) }
     {
         let slot = self.open_slot();
         let vote = self.ballot(VoteKind::Accept, digest)?;
@@ -301,6 +311,7 @@ impl<S: Service> NodeState<S> {
     fn accepts(&mut self, fired: &mut Sequence<Fired>) -> Result<(), AllocError>
         ensures node { OnOk result (self.new ≡ accepts self.old) }
         ensures fired { OnOk result (fired.new ≡ fired.old ++ fired_if fires.Accepted (accepting self.old)) }
+        ensures err { OnErr result (IsPartly self.old.entries self.new.entries (accepts self.old).entries) }
     {
         match self.due(Rule::Accept) {
             None => Ok(()),
@@ -451,7 +462,8 @@ impl<S: Service> NodeState<S> {
     fn decide_batch(&mut self, decision: Decision) -> Result<(), AllocError>
         requires free { is_free self.old ≡ true }
         requires place { decision.slot.place ≡ next_place self.old }
-        ensures { OnOk result (self.new ≡ decide_batch self.old (Some decision)) }
+        ensures node { OnOk result (self.new ≡ decide_batch self.old (Some decision)) }
+        ensures err { OnErr result (self.new.entries ≡ self.old.entries) }
     {
         let batch = decision.batch.duplicate(self.alloc)?;
         self.book.push(LogEntry::Decided(decision))?;
@@ -464,6 +476,7 @@ impl<S: Service> NodeState<S> {
     fn decides(&mut self, fired: &mut Sequence<Fired>) -> Result<(), AllocError>
         ensures node { OnOk result (self.new ≡ decides self.old) }
         ensures fired { OnOk result (fired.new ≡ fired.old ++ fired_if (fires.Decided (next_place self.old)) (deciding self.old)) }
+        ensures err { OnErr result (self.new.entries ≡ self.old.entries) }
     {
         match self.deciding()? {
             None => Ok(()),
@@ -484,6 +497,7 @@ impl<S: Service> NodeState<S> {
     ) -> Result<(), AllocError>
         ensures node { OnOk result (self.new ≡ answer_line self.old line) }
         ensures fired { OnOk result (fired.new ≡ fired.old ++ fired_if fires.Answered line) }
+        ensures err { OnErr result (self.new.entries ≡ self.old.entries) }
     {
         match line {
             None => Ok(()),

@@ -14,8 +14,8 @@ invariant_of-self-2 g c =
     (unstarted_after c.args.self.now _ c.self.inside.instance c.self.view_is c.self.invariant.instance c.requires.unbegun)
     c.in_ok-push.ensures.ok c.synced.ensures c.adopted.ensures
 
-pub returns : goal.returns
-returns g c =
+pub returns-clause-node : goal.returns-clause-node
+returns-clause-node g c =
     begun_where c.args.self.now _ c.self.inside.instance c.synced.new.self c.self.inside.synchronizer c.adopted.new.self c.self.inside.book c.push.new.self c.args.start c.self.view_is
     (sym (c.self.invariant.regency ∙ (regency_after c.args.self.now _ c.self.inside.instance c.self.view_is c.self.invariant.instance ∙ c.requires.regency)))
     refl refl refl refl refl refl refl c.in_ok-push.ensures.ok c.synced.ensures c.adopted.ensures

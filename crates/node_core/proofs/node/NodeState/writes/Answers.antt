@@ -1,8 +1,17 @@
-use Rattle.std.proofs.Common.{ap, ◌∙◌}
+use Rattle.std.proofs.Common.{refl, ap, ◌∙◌}
 use Rattle.smart_messages.specs.declared.statement.Proposal.{Proposal}
 use Rattle.node_core.proofs.Changes.{writes_where}
+use Rattle.node_core.proofs.Broken.{on_err, write_stops, wrote_stops}
 use Rattle.node_core.proofs.node.NodeState.writes.Goals as goal
 
 pub returns-in_ok-write_digest-in-Some-clause-node : goal.returns-in_ok-write_digest-in-Some-clause-node
 returns-in_ok-write_digest-in-Some-clause-node g c =
-    c.in_ok-write_digest-in-Some.ensures ∙ writes_where c.args.self.now c.in-Some.proposed.now c.statement.result.now.digest c.in-Some.ensures.proposal (ap (λ (p : Proposal). p.digest) c.statement.ensures)
+    c.in_ok-write_digest-in-Some.ensures.node ∙ writes_where c.args.self.now c.in-Some.proposed.now c.statement.result.now.digest c.in-Some.ensures.proposal (ap (λ (p : Proposal). p.digest) c.statement.ensures)
+
+pub returns-in_err-push-in-Some-clause-err : goal.returns-in_err-push-in-Some-clause-err
+returns-in_err-push-in-Some-clause-err g c =
+    on_err _ (write_stops c.args.self.now c.args.self.now refl)
+
+pub returns-in_err-write_digest-in-Some-clause-err : goal.returns-in_err-write_digest-in-Some-clause-err
+returns-in_err-write_digest-in-Some-clause-err g c =
+    on_err _ (wrote_stops c.args.self.now c.write_digest.new.self c.in-Some.proposed.now c.statement.result.now.digest c.in-Some.ensures.proposal (ap (λ (p : Proposal). p.digest) c.statement.ensures) c.in_err-write_digest-in-Some.ensures.err)

@@ -1,0 +1,295 @@
+-- A node that goes on from a sound book is sound, and what it is.
+use Rattle.std.proofs.Common.{append-nil, List, None, Option, Some, ap, arith, false, inl, inr, length, max, nat_le, nat_lt, not, refl, subst, suc, sym, true, zero, ℕ, ◌≡◌, ◌⊎◌, ◌<◌, ◌∙◌, ◌+◌, ◌++◌, ◌∷◌, [], ◌&&◌, ◌||◌, append_assoc}
+use Rattle.std.proofs.lemmas.Bool.{ltb-true}
+use Rattle.std.specs.List.{list_all, list_any}
+use Rattle.std.specs.Prelude.{is_none}
+use Rattle.replica_rules.specs.Replicas.{after_batches, delivered, empty, state}
+use Rattle.replica_rules.specs.Seals.{digest_of, fits, is_managers, is_verified, request_fits}
+use Rattle.agreement_laws.specs.Certificates.{IsBacked}
+use Rattle.agreement_laws.specs.Statements.{Statement}
+use Rattle.node_rules.specs.Arrivals.{is_batch_for, is_collect, is_proven}
+use Rattle.node_rules.specs.Nodes.{Node, greatest_regency, next_place, recording, regency_in, regency_of, view_of}
+use Rattle.node_rules.specs.Reopening.{decided_of, reopened, stopped, takes_all_back, takes_back}
+use Rattle.smart_base.specs.Lists.{Each, same_bytes}
+use Rattle.smart_base.specs.Views.{View}
+use Rattle.smart_messages.specs.Kinds.{requests}
+use Rattle.smart_messages.specs.Messages.{Batch, batch_text}
+use Rattle.smart_service.specs.Services.{Meaning}
+use Rattle.smart_service.specs.declared.replica.Replica.{Replica}
+use Rattle.vote_book.specs.Books.{Among, Follows, last_made, latest_made}
+use Rattle.vote_book.specs.declared.entry.Decision.{Decision}
+use Rattle.vote_book.specs.declared.entry.LogEntry.{LogEntry}
+use Rattle.vote_book.specs.declared.entry.LogEntry.TheVariants.{Accepted, Decided, Installed, Marked, Opened, Promised, Synced, Wrote}
+use Rattle.node_laws.proofs.Books.{greatest_push, within_more}
+use Rattle.node_laws.proofs.Deciding.{decides_makes}
+use Rattle.node_laws.proofs.Delivering.{Answered, decided_requests, delivered_is, delivered_table, onward, sound_onward}
+use Rattle.node_laws.proofs.Lists.{among_right, and_true, each_among}
+use Rattle.node_laws.proofs.Nodes.{MayPush, aside, pushes, records}
+use Rattle.node_laws.proofs.Passes.{sound_begun}
+use Rattle.node_laws.proofs.Promised.{number_in_force}
+use Rattle.node_laws.proofs.Votes.{made_last, made_latest}
+use Rattle.node_laws.proofs.Restored.{front_of}
+use Rattle.node_laws.specs.Restored.{IsSoundBook}
+use Rattle.node_laws.specs.Sound.{HasBatch, IsBegun, IsSound, place_if}
+
+-- ---- the place of a decision
+
+-- a batch stands at no place before the first
+some_batch : (secret : List ℕ) (place : ℕ) (batch : Batch) → nat_le 1 (length batch) ≡ true → list_all (request_fits secret place) batch ≡ true → 0 < place
+some_batch secret place [] one all = absurd (cc)
+some_batch secret place (q ∷ qs) one all =
+    let first = and_true (request_fits secret place q) (list_all (request_fits secret place) qs) all in
+    let limits = and_true (nat_le q.statement.client 1024 && nat_lt q.statement.after place) (is_verified requests secret q) first.0 in
+    let after = ltb-true q.statement.after place (and_true (nat_le q.statement.client 1024) (nat_lt q.statement.after place) limits.0).1 in
+    omega (arith, after)
+
+some_fits : (secret : List ℕ) (place : ℕ) (batch : Batch) → fits secret batch place ≡ true → 0 < place
+unfolding fits
+some_fits secret place batch is =
+    let front = and_true (nat_le 1 (length batch) && nat_le (length batch) 64 && nat_le (length (batch_text batch)) 262144 && list_all (request_fits secret place) batch)
+    (nat_le (length batch) 1 || not (list_any is_managers batch)) is in
+    let all = and_true (nat_le 1 (length batch) && nat_le (length batch) 64 && nat_le (length (batch_text batch)) 262144) (list_all (request_fits secret place) batch) front.0 in
+    let sizes = and_true (nat_le 1 (length batch) && nat_le (length batch) 64) (nat_le (length (batch_text batch)) 262144) all.0 in
+    some_batch secret place batch (and_true (nat_le 1 (length batch)) (nat_le (length batch) 64) sizes.0).0 all.1
+
+some_place : (secret : List ℕ) (place : ℕ) (digest : List ℕ) (batch : Batch) → is_batch_for secret place digest batch ≡ true → 0 < place
+unfolding is_batch_for
+some_place secret place digest batch is =
+    let outer = and_true (fits secret batch place && not (list_any is_managers batch)) (same_bytes (digest_of batch) digest) is in
+    some_fits secret place batch (and_true (fits secret batch place) (not (list_any is_managers batch)) outer.0).0
+
+next_of : (k place : ℕ) → Follows 0 (place_if k) place → 0 < place → place ≡ k + 1
+next_of zero place follows some = omega (arith, follows, some)
+next_of (suc k) place follows some = omega (arith, follows)
+
+-- ---- an entry that is taken back
+
+-- what a sound book says of an entry between others
+may_push : {S : Type 0} (stated : List Statement) (view : View) (n : Node S) (e : LogEntry) (es : List LogEntry) → IsSound stated view n → n.waiting ≡ None
+    → IsSoundBook n.secret stated view (n.entries ++ e ∷ es) → MayPush stated view n e
+unfolding regency_of
+may_push stated view n e es is none book =
+    let there : Among e (n.entries ++ e ∷ es) = among_right e n.entries (e ∷ es) (inl refl) in
+    let free : is_none n.waiting ≡ true = ap is_none none in
+    let last = made_last stated view n is free in
+    let grown = greatest_push (view_of n).number n.entries e in
+    let in_view : greatest_regency (view_of n).number (n.entries ++ e ∷ []) ≡ greatest_regency view.number (n.entries ++ e ∷ []) =
+    ap (λ (k : ℕ). greatest_regency k (n.entries ++ e ∷ [])) (number_in_force stated view n is) in
+    record {
+      admits = book.lawful n.entries e es refl;
+      tidy = book.tidy n.entries e es refl;
+      within = within_more view (last_made n.entries + 1) (greatest_regency view.number (n.entries ++ e ∷ [])) (next_place n)
+          (max (greatest_regency (view_of n).number n.entries) (regency_in (view_of n).number e)) e (omega (arith, last)) (omega (arith, grown, in_view))
+          (book.ranged n.entries e es refl);
+      backed = each_among (IsBacked n.secret digest_of view stated) (n.entries ++ e ∷ es) e book.backed there;
+      batch = each_among (HasBatch n.secret stated) (n.entries ++ e ∷ es) e book.batches there;
+    }
+
+-- a decision is taken back as it was made and delivered
+decision_back : {S : Type 0} (m : Meaning S) (stated : List Statement) (view : View) (n : Node S) (d : Decision) → IsSound stated view n → n.waiting ≡ None
+    → MayPush stated view n (Decided d) → IsSound stated view (record (recording n (Decided d)) { replica = delivered m n.replica d.batch })
+unfolding onward
+decision_back {S = S} m stated view n d is none may =
+    let free : is_none n.waiting ≡ true = ap is_none none in
+    let follows : Follows 0 (place_if n.replica.place) d.slot.place = subst (λ (o : Option ℕ). Follows 0 o d.slot.place) (made_latest stated view n is free) may.admits in
+    let at : d.slot.place ≡ next_place n = next_of n.replica.place d.slot.place follows (some_place n.secret d.slot.place (digest_of d.batch) d.batch may.batch.may) in
+    let es : List LogEntry = n.entries ++ Decided d ∷ [] in
+    let w : Node S = record n { entries = es; waiting = Some d.batch } in
+    let made = decides_makes stated view n d is free at in
+    let waits : IsSound stated view w = pushes stated view n (Decided d) (Some d.batch) is may made in
+    let r : Replica S = delivered m n.replica d.batch in
+    let table : Each (Answered es) r.table = delivered_table m n.replica es d.batch (decided_requests es (next_place n) d.batch made.waiting) waits.table in
+    let there : IsSound stated view (onward w r.service r.table n.pool) = sound_onward stated view w d.batch r.service r.table n.pool waits refl table is.pool in
+    let next : IsSound stated view (record w { replica = r; waiting = None; impatient = false }) =
+    subst (λ (x : Replica S). IsSound stated view (record w { replica = x; waiting = None; impatient = false })) (delivered_is m n.replica d.batch) there in
+    let back : IsSound stated view (record w { replica = r; waiting = None }) =
+    aside stated view (record w { replica = r; waiting = None; impatient = false }) n.firm n.held n.proposed n.stop_made n.sync_made n.impatient n.behind next next.held in
+    subst (λ (o : Option Batch). IsSound stated view (record w { replica = r; waiting = o })) (sym none) back
+
+sound_back : {S : Type 0} (m : Meaning S) (stated : List Statement) (view : View) (n : Node S) (e : LogEntry) → IsSound stated view n → n.waiting ≡ None
+    → MayPush stated view n e → IsSound stated view (takes_back m n e)
+sound_back m stated view n (Opened o) is none may = records stated view n (Opened o) is may refl
+sound_back m stated view n (Wrote w) is none may = records stated view n (Wrote w) is may refl
+sound_back m stated view n (Accepted a) is none may = records stated view n (Accepted a) is may refl
+sound_back m stated view n (Promised p) is none may = records stated view n (Promised p) is may refl
+sound_back m stated view n (Synced s) is none may = records stated view n (Synced s) is may refl
+sound_back m stated view n (Decided d) is none may = decision_back m stated view n d is none may
+sound_back m stated view n (Installed i) is none may = absurd may.within
+sound_back m stated view n (Marked k) is none may = absurd may.within
+
+-- ---- all of them
+
+-- what is taken back is the book, and the replica behind its decisions
+back_is : {S : Type 0} (m : Meaning S) (n : Node S) (e : LogEntry)
+    → takes_back m n e ≡ record n { entries = n.entries ++ e ∷ []; replica = after_batches m n.replica (decided_of (e ∷ [])) }
+back_is m n (Opened o) = refl
+back_is m n (Wrote w) = refl
+back_is m n (Accepted a) = refl
+back_is m n (Promised p) = refl
+back_is m n (Synced s) = refl
+back_is m n (Decided d) = refl
+back_is m n (Installed i) = refl
+back_is m n (Marked k) = refl
+
+after_one : {S : Type 0} (m : Meaning S) (r : Replica S) (e : LogEntry) (es : List LogEntry)
+    → after_batches m (after_batches m r (decided_of (e ∷ []))) (decided_of es) ≡ after_batches m r (decided_of (e ∷ es))
+after_one m r (Opened o) es = refl
+after_one m r (Wrote w) es = refl
+after_one m r (Accepted a) es = refl
+after_one m r (Promised p) es = refl
+after_one m r (Synced s) es = refl
+after_one m r (Decided d) es = refl
+after_one m r (Installed i) es = refl
+after_one m r (Marked k) es = refl
+
+with_book : {S : Type 0} → Node S → List LogEntry → Replica S → Node S
+with_book n entries replica = record n { entries = entries; replica = replica }
+
+all_back_is : {S : Type 0} (m : Meaning S) (n : Node S) (es : List LogEntry) → takes_all_back m n es ≡ with_book n (n.entries ++ es) (after_batches m n.replica (decided_of es))
+unfolding with_book
+all_back_is m n [] = ap (λ (xs : List LogEntry). record n { entries = xs }) (sym (append-nil n.entries))
+all_back_is {S = S} m n (e ∷ es) =
+    let n' : Node S = record n { entries = n.entries ++ e ∷ []; replica = after_batches m n.replica (decided_of (e ∷ [])) } in
+    ap (λ (x : Node S). takes_all_back m x es) (back_is m n e)
+    ∙ (all_back_is m n' es
+    ∙ (ap (λ (xs : List LogEntry). with_book n xs (after_batches m (after_batches m n.replica (decided_of (e ∷ []))) (decided_of es))) (append_assoc n.entries (e ∷ []) es)
+    ∙ ap (λ (r : Replica S). with_book n (n.entries ++ e ∷ es) r) (after_one m n.replica e es)))
+
+waits_same : {S : Type 0} (m : Meaning S) (n : Node S) (e : LogEntry) → (takes_back m n e).waiting ≡ n.waiting
+waits_same m n (Opened o) = refl
+waits_same m n (Wrote w) = refl
+waits_same m n (Accepted a) = refl
+waits_same m n (Promised p) = refl
+waits_same m n (Synced s) = refl
+waits_same m n (Decided d) = refl
+waits_same m n (Installed i) = refl
+waits_same m n (Marked k) = refl
+
+book_back : {S : Type 0} (m : Meaning S) (stated : List Statement) (view : View) (n : Node S) (e : LogEntry) (es : List LogEntry)
+    → IsSoundBook n.secret stated view (n.entries ++ e ∷ es) → IsSoundBook (takes_back m n e).secret stated view ((takes_back m n e).entries ++ es)
+book_back {S = S} m stated view n e es book =
+    subst (λ (x : Node S). IsSoundBook x.secret stated view (x.entries ++ es)) (sym (back_is m n e))
+    (subst (λ (xs : List LogEntry). IsSoundBook n.secret stated view xs) (sym (append_assoc n.entries (e ∷ []) es)) book)
+
+sound_all_back : {S : Type 0} (m : Meaning S) (stated : List Statement) (view : View) (n : Node S) (es : List LogEntry) → IsSound stated view n → n.waiting ≡ None
+    → IsSoundBook n.secret stated view (n.entries ++ es) → IsSound stated view (takes_all_back m n es)
+sound_all_back m stated view n [] is none book = is
+sound_all_back m stated view n (e ∷ es) is none book =
+    sound_all_back m stated view (takes_back m n e) es (sound_back m stated view n e is none (may_push stated view n e es is none book)) (waits_same m n e ∙ none)
+    (book_back m stated view n e es book)
+
+-- ---- the node that goes on
+
+goes_on : {S : Type 0} (m : Meaning S) (secret : List ℕ) (id : ℕ) (stated : List Statement) (view : View) (e : LogEntry) (es : List LogEntry) → IsBegun (e ∷ es)
+    → IsSoundBook secret stated view (e ∷ es) → IsSound stated view (takes_all_back m (stopped m secret id view) (e ∷ es))
+goes_on {S = S} m secret id stated view (Opened o) es begun book =
+    sound_all_back m stated view (recording (stopped m secret id view) (Opened o)) es (sound_begun m stated secret id view o) refl book
+goes_on m secret id stated view (Wrote w) es begun book = absurd (cc)
+goes_on m secret id stated view (Accepted a) es begun book = absurd (cc)
+goes_on m secret id stated view (Promised p) es begun book = absurd (cc)
+goes_on m secret id stated view (Synced s) es begun book = absurd (cc)
+goes_on m secret id stated view (Decided d) es begun book = absurd (cc)
+goes_on m secret id stated view (Installed i) es begun book = absurd (cc)
+goes_on m secret id stated view (Marked k) es begun book = absurd (cc)
+
+is_begun : (e : LogEntry) (es : List LogEntry) → (e ∷ es ≡ []) ⊎ IsBegun (e ∷ es) → IsBegun (e ∷ es)
+is_begun e es (inl none) = absurd (cc)
+is_begun e es (inr begun) = begun
+
+-- how many entries were restored, and are firm, is of no matter
+restored_aside : {S : Type 0} (stated : List Statement) (view : View) (n : Node S) (restored firm : ℕ) → IsSound stated view n
+    → IsSound stated view (record n { restored = restored; firm = firm })
+unfolding regency_of is_proven is_collect
+restored_aside stated view n restored firm is = record {
+  views = is.views;
+  begun = is.begun;
+  lawful = is.lawful;
+  tidy = is.tidy;
+  last = is.last;
+  latest = is.latest;
+  within = is.within;
+  ranged = is.ranged;
+  backed = is.backed;
+  batches = is.batches;
+  waiting = is.waiting;
+  table = is.table;
+  arrivals = is.arrivals;
+  stops = is.stops;
+  reports = is.reports;
+  syncs = is.syncs;
+  pool = is.pool;
+  held = is.held;
+}
+
+pub sound_reopened : {S : Type 0} (m : Meaning S) (secret : List ℕ) (id : ℕ) (stated : List Statement) (view : View) (period : ℕ) (entries : List LogEntry)
+    → IsSoundBook secret stated view entries → IsSound stated view (reopened m secret id view period entries)
+unfolding reopened
+sound_reopened {S = S} m secret id stated view period [] book =
+    sound_begun m stated secret id view (record { member = id; period = period; view = view })
+sound_reopened {S = S} m secret id stated view period (e ∷ es) book =
+    let n : Node S = takes_all_back m (stopped m secret id view) (e ∷ es) in
+    let is : IsSound stated view n = goes_on m secret id stated view e es (is_begun e es book.begun) book in
+    restored_aside stated view n (length (e ∷ es)) (length (e ∷ es)) is
+
+-- the node that goes on from some entries, in full
+pub reopened_is : {S : Type 0} (m : Meaning S) (secret : List ℕ) (id : ℕ) (view : View) (period : ℕ) (e : LogEntry) (es : List LogEntry)
+    → reopened m secret id view period (e ∷ es)
+    ≡ record (stopped m secret id view) { entries = e ∷ es; replica = state m view (decided_of (e ∷ es)); restored = length (e ∷ es); firm = length (e ∷ es) }
+unfolding reopened with_book
+reopened_is {S = S} m secret id view period e es =
+    ap (λ (n : Node S). record n { restored = length (e ∷ es); firm = length (e ∷ es) }) (all_back_is m (stopped m secret id view) (e ∷ es))
+
+-- ---- the places of what was decided
+
+after_place : {S : Type 0} (m : Meaning S) (r : Replica S) (batches : List Batch) → (after_batches m r batches).place ≡ r.place + length batches
+after_place {S = S} m r [] = omega arith
+after_place {S = S} m r (batch ∷ batches) =
+    let rest = after_place m (delivered m r batch) batches in
+    let next : r.place + 1 ≡ (delivered m r batch).place = ap (λ (x : Replica S). x.place) (delivered_is m r batch) in
+    omega (arith, rest, next)
+
+pub state_place : {S : Type 0} (m : Meaning S) (view : View) (batches : List Batch) → (state m view batches).place ≡ length batches
+state_place m view batches = let at : (state m view batches).place ≡ 0 + length batches = after_place m (empty m view) batches in omega (arith, at)
+
+pub reopened_place : {S : Type 0} (m : Meaning S) (secret : List ℕ) (id : ℕ) (view : View) (period : ℕ) (entries : List LogEntry)
+    → (reopened m secret id view period entries).replica.place ≡ length (decided_of entries)
+unfolding reopened
+reopened_place m secret id view period [] = refl
+reopened_place {S = S} m secret id view period (e ∷ es) =
+    ap (λ (n : Node S). n.replica.place) (reopened_is m secret id view period e es) ∙ state_place m view (decided_of (e ∷ es))
+
+reopened_last : {S : Type 0} (m : Meaning S) (secret : List ℕ) (id : ℕ) (stated : List Statement) (view : View) (period : ℕ) (entries : List LogEntry)
+    → IsSoundBook secret stated view entries → (last_made entries ≡ length (decided_of entries)) × (latest_made entries ≡ place_if (length (decided_of entries)))
+reopened_last m secret id stated view period [] book = (refl, refl)
+reopened_last {S = S} m secret id stated view period (e ∷ es) book =
+    let n : Node S = record (stopped m secret id view) { entries = e ∷ es; replica = state m view (decided_of (e ∷ es)); restored = length (e ∷ es); firm = length (e ∷ es) } in
+    let is : IsSound stated view n = subst (λ (x : Node S). IsSound stated view x) (reopened_is m secret id view period e es) (sound_reopened m secret id stated view period (e ∷ es) book) in
+    let at : n.replica.place ≡ length (decided_of (e ∷ es)) = state_place m view (decided_of (e ∷ es)) in
+    (is.last ∙ at, is.latest ∙ ap place_if at)
+
+-- as many places are made as decisions stand there, and the latest is the last
+pub count_is : {S : Type 0} (m : Meaning S) (secret : List ℕ) (stated : List Statement) (view : View) (entries : List LogEntry) → IsSoundBook secret stated view entries
+    → last_made entries ≡ length (decided_of entries)
+count_is m secret stated view entries book = (reopened_last m secret 0 stated view 0 entries book).0
+
+pub latest_is : {S : Type 0} (m : Meaning S) (secret : List ℕ) (stated : List Statement) (view : View) (entries : List LogEntry) → IsSoundBook secret stated view entries
+    → latest_made entries ≡ place_if (last_made entries)
+latest_is m secret stated view entries book =
+    let both = reopened_last m secret 0 stated view 0 entries book in both.1 ∙ ap place_if (sym both.0)
+
+-- the place of the node that goes on is the last that its entries make
+pub place_reopened : {S : Type 0} (m : Meaning S) (secret : List ℕ) (id : ℕ) (stated : List Statement) (view : View) (period : ℕ) (entries : List LogEntry)
+    → IsSoundBook secret stated view entries → (reopened m secret id view period entries).replica.place ≡ last_made entries
+place_reopened m secret id stated view period entries book =
+    reopened_place m secret id view period entries ∙ sym (reopened_last m secret id stated view period entries book).0
+
+-- places are decided one after the other, from the first on
+pub in_turn : {S : Type 0} (m : Meaning S) (secret : List ℕ) (stated : List Statement) (view : View) (before : List LogEntry) (d : Decision) (after : List LogEntry)
+    → IsSoundBook secret stated view (before ++ Decided d ∷ after) → d.slot.place ≡ length (decided_of before) + 1
+in_turn m secret stated view before d after book =
+    let front : IsSoundBook secret stated view before = front_of secret stated view before (Decided d ∷ after) book in
+    let latest = (reopened_last m secret 0 stated view 0 before front).1 in
+    let admits : Follows 0 (latest_made before) d.slot.place = book.lawful before (Decided d) after refl in
+    let has : HasBatch secret stated (Decided d) =
+    each_among (HasBatch secret stated) (before ++ Decided d ∷ after) (Decided d) book.batches (among_right (Decided d) before (Decided d ∷ after) (inl refl)) in
+    next_of (length (decided_of before)) d.slot.place (subst (λ (o : Option ℕ). Follows 0 o d.slot.place) latest admits) (some_place secret d.slot.place (digest_of d.batch) d.batch has.may)

@@ -1,0 +1,40 @@
+use Rattle.node_laws.proofs.Restored.{book_sound, front_sound, front_decided, book_more}
+use Rattle.node_laws.proofs.Reopened.{sound_reopened, reopened_is, place_reopened, count_is, latest_is, in_turn}
+use Rattle.node_laws.proofs.Undamaged.{undamaged, read_again}
+use Rattle.node_laws.proofs.laws.a_restart_is_sound.Goals as goal
+
+pub returns-clause-book : goal.returns-clause-book
+returns-clause-book g c = λ stated view n is. book_sound stated view n is
+
+pub returns-clause-front : goal.returns-clause-front
+returns-clause-front g c = λ secret stated view entries k is. front_sound secret stated view entries k is
+
+pub returns-clause-decided : goal.returns-clause-decided
+returns-clause-decided g c = λ entries k. front_decided entries k
+
+pub returns-clause-more : goal.returns-clause-more
+returns-clause-more g c = λ secret stated more view entries grows is. book_more stated more grows secret view entries is
+
+pub returns-clause-reopened : goal.returns-clause-reopened
+returns-clause-reopened g c = λ secret id stated view period entries book. sound_reopened g.S.Service.meaning secret id stated view period entries book
+
+pub returns-clause-node : goal.returns-clause-node
+returns-clause-node g c = λ secret id view period e es. reopened_is g.S.Service.meaning secret id view period e es
+
+pub returns-clause-place : goal.returns-clause-place
+returns-clause-place g c = λ secret id stated view period entries book. place_reopened g.S.Service.meaning secret id stated view period entries book
+
+pub returns-clause-turn : goal.returns-clause-turn
+returns-clause-turn g c = λ secret stated view before d after book. in_turn g.S.Service.meaning secret stated view before d after book
+
+pub returns-clause-read : goal.returns-clause-read
+returns-clause-read g c = λ entries fit. read_again entries fit
+
+pub returns-clause-undamaged : goal.returns-clause-undamaged
+returns-clause-undamaged g c = λ secret stated view entries book fit. undamaged secret stated view entries book fit
+
+pub returns-clause-count : goal.returns-clause-count
+returns-clause-count g c = λ secret stated view entries book. count_is g.S.Service.meaning secret stated view entries book
+
+pub returns-clause-latest : goal.returns-clause-latest
+returns-clause-latest g c = λ secret stated view entries book. latest_is g.S.Service.meaning secret stated view entries book

@@ -1,0 +1,135 @@
+-- A node that goes on after a crash: from the entries that its disks restored.
+use Rattle.std.specs.Prelude.{ℕ, ◌+◌, ◌==◌, Bool, true, false, ◌&&◌, List, [], ◌∷◌, ◌++◌, length, filter_map, if◌then◌else◌, Option, Some, None, is_none, Result, Ok, Err}
+use Rattle.smart_base.specs.Views.{View}
+use Rattle.smart_messages.specs.Messages.{Batch}
+use Rattle.smart_service.specs.Services.{Meaning}
+use Rattle.certificates.specs.Certificates.{votes_fault, write_of, accept_of}
+use Rattle.vote_book.specs.Admission.{admits}
+use Rattle.vote_book.specs.Entries.{entry_decoded}
+use Rattle.vote_book.specs.declared.entry.LogEntry.{LogEntry}
+use Rattle.vote_book.specs.declared.entry.LogEntry.TheVariants.{Opened, Wrote, Accepted, Promised, Synced, Decided, Installed, Marked}
+use Rattle.replica_rules.specs.Replicas.{empty, delivered}
+use Rattle.replica_rules.specs.Seals.{digest_of}
+use Rattle.node_rules.specs.Nodes.{Node, recording}
+use Rattle.node_rules.specs.Arrivals.{is_batch_for}
+use Rattle.node_rules.specs.Steps.{opened}
+
+-- ---- which entries are lawful
+
+-- an entry opens a book
+abbrev pub is_opening : LogEntry → Bool
+is_opening (Opened o) = true
+is_opening (Wrote w) = false
+is_opening (Accepted a) = false
+is_opening (Promised p) = false
+is_opening (Synced s) = false
+is_opening (Decided d) = false
+is_opening (Installed i) = false
+is_opening (Marked m) = false
+
+-- What an entry rests on holds: an accept has its certificate of writes, a decision its proof, each by members of the view, and a batch that may stand at
+-- its place. So far there is one view, and an installation is admitted by no book that is restored.
+abbrev pub rests : List ℕ → View → LogEntry → Bool
+rests secret view (Opened o) = true
+rests secret view (Wrote w) = true
+rests secret view (Accepted a) =
+    (a.slot.view == view.number)
+    && is_none (votes_fault secret view (write_of a.slot a.digest) a.writes)
+    && is_batch_for secret a.slot.place a.digest a.batch
+rests secret view (Promised p) = true
+rests secret view (Synced s) = true
+rests secret view (Decided d) =
+    (d.slot.view == view.number)
+    && is_none (votes_fault secret view (accept_of d.slot (digest_of d.batch)) d.accepts)
+    && is_batch_for secret d.slot.place (digest_of d.batch) d.batch
+rests secret view (Installed i) = true
+rests secret view (Marked m) = true
+
+-- the first entry opens the book
+abbrev pub opens_first : List LogEntry → LogEntry → Bool
+opens_first [] entry = is_opening entry
+opens_first (e ∷ es) entry = true
+
+-- an entry may be restored behind others
+abbrev pub may_restore : List ℕ → View → List LogEntry → LogEntry → Bool
+may_restore secret view before entry = opens_first before entry && admits 0 (length before + 1) before entry && rests secret view entry
+
+-- the number of an entry behind others, from 1, if it is damaged: it is none, or may not be restored behind them. Else what comes of those behind it
+abbrev pub damage_at : List ℕ → View → List LogEntry → (LogEntry → Option ℕ) → Result LogEntry ℕ → Option ℕ
+damage_at secret view before behind (Err at) = Some (length before + 1)
+damage_at secret view before behind (Ok entry) = if may_restore secret view before entry then behind entry else Some (length before + 1)
+
+-- the number of the first entry that is damaged
+abbrev pub damaged_from : List ℕ → View → List LogEntry → List (List ℕ) → Option ℕ
+damaged_from secret view before [] = None
+damaged_from secret view before (bytes ∷ rest) =
+    damage_at secret view before (λ entry. damaged_from secret view (before ++ entry ∷ []) rest) (entry_decoded bytes)
+
+abbrev pub damaged : List ℕ → View → List (List ℕ) → Option ℕ
+damaged secret view restored = damaged_from secret view [] restored
+
+-- the entries of what was restored, where none is damaged
+abbrev pub entry_of : Result LogEntry ℕ → Option LogEntry
+entry_of (Ok entry) = Some entry
+entry_of (Err at) = None
+
+abbrev pub entries_in : List (List ℕ) → List LogEntry
+entries_in restored = filter_map (λ bytes. entry_of (entry_decoded bytes)) restored
+
+-- ---- what they make of a node
+
+-- the batches that entries decide, in order
+abbrev pub decided_of : List LogEntry → List Batch
+decided_of [] = []
+decided_of (Opened o ∷ es) = decided_of es
+decided_of (Wrote w ∷ es) = decided_of es
+decided_of (Accepted a ∷ es) = decided_of es
+decided_of (Promised p ∷ es) = decided_of es
+decided_of (Synced s ∷ es) = decided_of es
+decided_of (Decided d ∷ es) = d.batch ∷ decided_of es
+decided_of (Installed i ∷ es) = decided_of es
+decided_of (Marked m ∷ es) = decided_of es
+
+-- a node takes back an entry: what was decided is delivered, and answered to nobody
+abbrev pub takes_back : {S : Type 0} → Meaning S → Node S → LogEntry → Node S
+takes_back m n (Opened o) = recording n (Opened o)
+takes_back m n (Wrote w) = recording n (Wrote w)
+takes_back m n (Accepted a) = recording n (Accepted a)
+takes_back m n (Promised p) = recording n (Promised p)
+takes_back m n (Synced s) = recording n (Synced s)
+takes_back m n (Decided d) = record (recording n (Decided d)) { replica = delivered m n.replica d.batch }
+takes_back m n (Installed i) = recording n (Installed i)
+takes_back m n (Marked k) = recording n (Marked k)
+
+abbrev pub takes_all_back : {S : Type 0} → Meaning S → Node S → List LogEntry → Node S
+takes_all_back m n [] = n
+takes_all_back m n (e ∷ es) = takes_all_back m (takes_back m n e) es
+
+-- a node of no entry, which knows that it may be behind
+abbrev pub stopped : {S : Type 0} → Meaning S → List ℕ → ℕ → View → Node S
+stopped m secret id view =
+    record {
+      id = id;
+      secret = secret;
+      replica = empty m view;
+      waiting = None;
+      pool = [];
+      arrivals = [];
+      stops = [];
+      reports = [];
+      syncs = [];
+      entries = [];
+      restored = 0;
+      firm = 0;
+      held = [];
+      proposed = [];
+      stop_made = false;
+      sync_made = false;
+      impatient = false;
+      behind = true;
+    }
+
+-- The node that goes on from entries: all of them are firm, and nothing else of the life before is left. Without an entry it opens its book anew.
+unfoldable pub reopened : {S : Type 0} → Meaning S → List ℕ → ℕ → View → ℕ → List LogEntry → Node S
+reopened m secret id view period [] = record (opened m secret id view period) { behind = true }
+reopened m secret id view period (e ∷ es) = record (takes_all_back m (stopped m secret id view) (e ∷ es)) { restored = length (e ∷ es); firm = length (e ∷ es) }
