@@ -267,8 +267,16 @@ fn plainly(bytes: &[u8], any: bool) -> usize {
     plain.message(any).err().unwrap_or(FINE)
 }
 
+fn read(alloc: Global, bytes: &[u8]) -> Result<Message, ReadError> {
+    decode(alloc, bytes)
+}
+
+fn read_any(alloc: Global, bytes: &[u8]) -> Result<AnyMessage, ReadError> {
+    decode_any(alloc, bytes)
+}
+
 fn fault(rt: &HostRuntime, bytes: &[u8]) -> usize {
-    match decode(rt.alloc(), bytes) {
+    match read(rt.alloc(), bytes) {
         Ok(_) => FINE,
         Err(ReadError::NoMemory) => WANTING,
         Err(ReadError::Unread { at }) => at,
@@ -276,11 +284,17 @@ fn fault(rt: &HostRuntime, bytes: &[u8]) -> usize {
 }
 
 fn fault_of_any(rt: &HostRuntime, bytes: &[u8]) -> usize {
-    match decode_any(rt.alloc(), bytes) {
+    match read_any(rt.alloc(), bytes) {
         Ok(_) => FINE,
         Err(ReadError::NoMemory) => WANTING,
         Err(ReadError::Unread { at }) => at,
     }
+}
+
+/// What the message of these bytes is spelled as.
+fn spelled(alloc: Global, bytes: &[u8]) -> Result<Vec<u8>, Fail> {
+    let message = read(alloc, bytes).ok().ok_or("the bytes are a message")?;
+    Ok(encode(alloc, &message)?)
 }
 
 #[test]
@@ -291,10 +305,7 @@ fn messages_are_read_and_written(rt: HostRuntime) -> Result<(), Fail> {
         VOTE.as_slice(),
         REPLY.as_slice(),
     ] {
-        let message = decode(rt.alloc(), bytes)
-            .ok()
-            .ok_or("the bytes are a message")?;
-        let again = encode(rt.alloc(), &message)?;
+        let again = spelled(rt.alloc(), bytes)?;
         assert_eq!(rt; again.as_slice(), bytes);
     }
     Ok(())
@@ -426,21 +437,43 @@ impl Verifier for Anyone {
     }
 }
 
-#[test]
-fn a_sealed_request_is_an_ask(rt: HostRuntime) -> Result<(), Fail> {
+/// A statement that a signer seals.
+fn seal<S: Statement>(alloc: Global, signer: u16, statement: S) -> Result<Signed<S>, Fail> {
+    Ok(
+        Signed::seal(alloc, &mut Seven, signer, statement)
+            .ok()
+            .ok_or("there is memory")?,
+    )
+}
+
+/// Client 7's request 5, which knew place 3.
+fn sealed_request(alloc: Global) -> Result<Signed<Request>, Fail> {
     let request = Request {
         client: ClientId::new(7),
         seq: 5,
         after: 3,
-        op: Payload::from_slice(rt.alloc(), b"hi")?,
+        op: Payload::from_slice(alloc, b"hi")?,
     };
-    let ask = Signed::seal(rt.alloc(), &mut Seven, 7, request)
-        .ok()
-        .ok_or("there is memory")?;
-    assert!(rt; ask.verifies(&Anyone));
-    let batch = Batch::single(rt.alloc(), ask.duplicate(rt.alloc())?)?;
-    let text = batch.duplicate(rt.alloc())?.text(rt.alloc())?;
-    let bytes = encode(rt.alloc(), &Message::Ask(ask))?;
+    seal(alloc, 7, request)
+}
+
+/// The bytes of an ask.
+fn ask_text(alloc: Global, request: Signed<Request>) -> Result<Vec<u8>, AllocError> {
+    encode(alloc, &Message::Ask(request))
+}
+
+/// The bytes of a copy of a batch of one request.
+fn batch_text(alloc: Global, request: Signed<Request>) -> Result<Vec<u8>, AllocError> {
+    let batch = Batch::single(alloc, request)?;
+    batch.duplicate(alloc)?.text(alloc)
+}
+
+#[test]
+fn a_sealed_request_is_an_ask(rt: HostRuntime) -> Result<(), Fail> {
+    let request = sealed_request(rt.alloc())?;
+    assert!(rt; request.verifies(&Anyone));
+    let text = batch_text(rt.alloc(), request.duplicate(rt.alloc())?)?;
+    let bytes = ask_text(rt.alloc(), request)?;
     assert_eq!(rt; bytes.as_slice(), ASK.as_slice());
     // A batch is its count and its requests, and an ask its kind and its request.
     assert_eq!(rt; text.len(), bytes.len() + 1);
@@ -604,21 +637,32 @@ fn changes(alloc: Global) -> Result<Vec<Vec<u8>>, AllocError> {
     Ok(out)
 }
 
+fn copied(alloc: Global, message: &AnyMessage) -> Result<AnyMessage, AllocError> {
+    message.duplicate(alloc)
+}
+
+/// What a copy of a message is spelled as.
+fn text_of_message(alloc: Global, message: &AnyMessage) -> Result<Vec<u8>, AllocError> {
+    let copy = copied(alloc, message)?;
+    encode_any(alloc, &copy)
+}
+
 /// What a copy of the message of these bytes is spelled as.
 fn spelled_again(alloc: Global, bytes: &[u8]) -> Result<Vec<u8>, AllocError> {
-    match decode_any(alloc, bytes) {
-        Ok(message) => {
-            let copy = message.duplicate(alloc)?;
-            encode_any(alloc, &copy)
-        }
+    match read_any(alloc, bytes) {
+        Ok(message) => text_of_message(alloc, &message),
         Err(_) => Ok(Vec::new(alloc)),
     }
 }
 
+fn is_change(message: &AnyMessage) -> bool {
+    matches!(message, AnyMessage::Change(_))
+}
+
 fn changes_the_regency(alloc: Global, bytes: &[u8]) -> bool {
-    match decode_any(alloc, bytes) {
-        Ok(AnyMessage::Change(_)) => true,
-        Ok(AnyMessage::Plain(_)) | Err(_) => false,
+    match read_any(alloc, bytes) {
+        Ok(message) => is_change(&message),
+        Err(_) => false,
     }
 }
 
@@ -769,101 +813,160 @@ fn bytes_left_over_and_other_kinds(rt: HostRuntime) -> Result<(), Fail> {
 }
 
 /// The bytes of a statement that member 3 seals.
-fn sealed<S: Statement>(alloc: Global, statement: S) -> Result<Vec<u8>, AllocError> {
+fn sealed<S: Statement>(alloc: Global, statement: S) -> Result<Vec<u8>, Fail> {
     let mut out = Vec::new(alloc);
-    match Signed::seal(alloc, &mut Seven, 3, statement) {
-        Ok(signed) => signed.put(&mut out)?,
-        Err(_) => return Err(AllocError),
-    }
+    seal(alloc, 3, statement)?.put(&mut out)?;
     Ok(out)
 }
+
+fn sealed_stop(alloc: Global) -> Result<Vec<u8>, Fail> {
+    sealed(
+        alloc,
+        Stop {
+            view: ViewNo::new(2),
+            regency: Regency::new(4),
+        },
+    )
+}
+
+/// A report without evidence and lock.
+fn sealed_report(alloc: Global) -> Result<Vec<u8>, Fail> {
+    sealed(
+        alloc,
+        Report {
+            view: ViewNo::new(2),
+            regency: Regency::new(4),
+            last: Place::zero(),
+            evidence: Evidence::Nothing,
+            lock: None,
+        },
+    )
+}
+
+/// A sync without reports.
+fn sealed_sync(alloc: Global) -> Result<Vec<u8>, Fail> {
+    sealed(
+        alloc,
+        Sync {
+            view: ViewNo::new(2),
+            regency: Regency::new(4),
+            collect: SignedList::new(alloc),
+        },
+    )
+}
+
+/// View 5 of member 1, from place 9 on.
+fn sealed_view(alloc: Global) -> Result<Vec<u8>, Fail> {
+    let members = Vec::from_slice(alloc, &[MemberId::new(1)])?;
+    let view = View::checked(5, 9, 0, members).ok_or("one member makes a view")?;
+    sealed(alloc, ViewInfo { view })
+}
+
+/// The place from which on the view of these bytes is in force.
+fn start_of_view(alloc: Global, bytes: &[u8]) -> Result<u64, Fail> {
+    let read = Signed::<ViewInfo>::read(alloc, &mut Cursor::new(bytes))
+        .ok()
+        .ok_or("the bytes are a view")?;
+    Ok(read.statement().view.start())
+}
+
+/// What each of these is spelled as.
+const SEALED_REPORT: [u8; 30] = [
+    1, 0, 3, 0, 0, 0, 19, 5, 0, 0, 0, 2, 0, 0, 0, 4, 0, 0, 0, 0, 0, 0, 0, 0, 0, 0, 0, 2, 7, 8,
+];
+
+const SEALED_SYNC: [u8; 22] = [
+    1, 0, 3, 0, 0, 0, 11, 6, 0, 0, 0, 2, 0, 0, 0, 4, 0, 0, 0, 2, 7, 8,
+];
+
+const SEALED_VIEW: [u8; 29] = [
+    1, 0, 3, 0, 0, 0, 18, 10, 0, 0, 0, 5, 0, 0, 0, 0, 0, 0, 0, 9, 0, 0, 1, 0, 1, 0, 2, 7, 8,
+];
 
 #[test]
 fn sealed_statements_are_spelled(rt: HostRuntime) -> Result<(), Fail> {
     let alloc = rt.alloc();
-    let stop = Stop {
-        view: ViewNo::new(2),
-        regency: Regency::new(4),
-    };
-    assert_eq!(rt; sealed(alloc, stop)?.as_slice(), &STOP[1..]);
-
-    let report = Report {
-        view: ViewNo::new(2),
-        regency: Regency::new(4),
-        last: Place::zero(),
-        evidence: Evidence::Nothing,
-        lock: None,
-    };
-    let spelled = [
-        1, 0, 3, 0, 0, 0, 19, 5, 0, 0, 0, 2, 0, 0, 0, 4, 0, 0, 0, 0, 0, 0, 0, 0, 0, 0, 0, 2, 7, 8,
-    ];
-    assert_eq!(rt; sealed(alloc, report)?.as_slice(), spelled.as_slice());
-
-    let sync = Sync {
-        view: ViewNo::new(2),
-        regency: Regency::new(4),
-        collect: SignedList::new(alloc),
-    };
-    let spelled = [
-        1, 0, 3, 0, 0, 0, 11, 6, 0, 0, 0, 2, 0, 0, 0, 4, 0, 0, 0, 2, 7, 8,
-    ];
-    assert_eq!(rt; sealed(alloc, sync)?.as_slice(), spelled.as_slice());
-
-    let members = Vec::from_slice(alloc, &[MemberId::new(1)])?;
-    let view = View::checked(5, 9, 0, members).ok_or("one member makes a view")?;
-    let spelled = [
-        1, 0, 3, 0, 0, 0, 18, 10, 0, 0, 0, 5, 0, 0, 0, 0, 0, 0, 0, 9, 0, 0, 1, 0, 1, 0, 2, 7, 8,
-    ];
-    let told = sealed(alloc, ViewInfo { view })?;
-    assert_eq!(rt; told.as_slice(), spelled.as_slice());
-    let read = Signed::<ViewInfo>::read(alloc, &mut Cursor::new(told.as_slice()))
-        .ok()
-        .ok_or("the bytes are a view")?;
-    assert_eq!(rt; read.statement().view.start(), 9);
+    assert_eq!(rt; sealed_stop(alloc)?.as_slice(), &STOP[1..]);
+    assert_eq!(rt; sealed_report(alloc)?.as_slice(), SEALED_REPORT.as_slice());
+    assert_eq!(rt; sealed_sync(alloc)?.as_slice(), SEALED_SYNC.as_slice());
+    let told = sealed_view(alloc)?;
+    assert_eq!(rt; told.as_slice(), SEALED_VIEW.as_slice());
+    assert_eq!(rt; start_of_view(alloc, told.as_slice())?, 9);
     Ok(())
 }
 
-#[test]
-fn lists_of_marks_and_votes(rt: HostRuntime) -> Result<(), Fail> {
-    let alloc = rt.alloc();
+/// A list of one mark, of place 4.
+fn one_mark(alloc: Global) -> Result<SignedList<Mark>, Fail> {
     let mut marks = SignedList::<Mark>::new(alloc);
     let mark = Mark {
         place: Place::new(4),
         digest: Digest32::new(DIGEST),
     };
-    marks.push(
-        Signed::seal(alloc, &mut Seven, 3, mark)
-            .ok()
-            .ok_or("there is memory")?,
-    )?;
-    let mut spelled = Vec::new(alloc);
-    spelled.extend_from_slice(&[0, 1, 1, 0, 3, 0, 0, 0, 41])?;
-    spelled.extend_from_slice(mark_text(alloc)?.as_slice())?;
-    spelled.extend_from_slice(&[0, 2, 7, 8])?;
+    marks.push(seal(alloc, 3, mark)?)?;
+    Ok(marks)
+}
+
+/// What that list is spelled as.
+fn one_mark_text(alloc: Global) -> Result<Vec<u8>, AllocError> {
     let mut out = Vec::new(alloc);
-    marks.duplicate(alloc)?.put(&mut out)?;
-    assert_eq!(rt; out.as_slice(), spelled.as_slice());
-    let again = SignedList::<Mark>::read(alloc, &mut Cursor::new(out.as_slice()))
-        .ok()
-        .ok_or("the bytes are a list")?;
+    out.extend_from_slice(&[0, 1, 1, 0, 3, 0, 0, 0, 41])?;
+    out.extend_from_slice(mark_text(alloc)?.as_slice())?;
+    out.extend_from_slice(&[0, 2, 7, 8])?;
+    Ok(out)
+}
+
+/// The bytes of a copy of a list.
+fn text_of_copy<S: Statement>(alloc: Global, list: &SignedList<S>) -> Result<Vec<u8>, AllocError> {
+    let mut out = Vec::new(alloc);
+    list.duplicate(alloc)?.put(&mut out)?;
+    Ok(out)
+}
+
+fn read_marks(alloc: Global, bytes: &[u8]) -> Result<SignedList<Mark>, Fail> {
+    Ok(
+        SignedList::<Mark>::read(alloc, &mut Cursor::new(bytes))
+            .ok()
+            .ok_or("the bytes are a list")?,
+    )
+}
+
+#[test]
+fn lists_of_marks_are_spelled_and_read(rt: HostRuntime) -> Result<(), Fail> {
+    let alloc = rt.alloc();
+    let marks = one_mark(alloc)?;
+    let text = text_of_copy(alloc, &marks)?;
+    assert_eq!(rt; text.as_slice(), one_mark_text(alloc)?.as_slice());
+    let again = read_marks(alloc, text.as_slice())?;
     assert_eq!(rt; again.len(), 1);
     assert!(rt; !again.is_empty());
     let whole = SignedList::from_list(marks.into_list());
     assert_eq!(rt; whole.as_slice().len(), 1);
+    Ok(())
+}
 
-    // Votes of one kind alone are read.
+/// The WRITE of member 1 and the ACCEPT of member 2.
+fn two_votes(alloc: Global) -> Result<Vec<u8>, AllocError> {
     let mut votes = Vec::new(alloc);
     votes.extend_from_slice(&[0, 2])?;
     put_stated(&mut votes, 1, vote_text(alloc, 2)?.as_slice())?;
     put_stated(&mut votes, 2, vote_text(alloc, 3)?.as_slice())?;
+    Ok(votes)
+}
+
+/// Where a list of votes of one kind is faulty.
+fn fault_of_votes(alloc: Global, kind: VoteKind, bytes: &[u8]) -> usize {
+    match SignedList::read_votes(alloc, kind, &mut Cursor::new(bytes)) {
+        Ok(_) => FINE,
+        Err(ReadError::NoMemory) => WANTING,
+        Err(ReadError::Unread { at }) => at,
+    }
+}
+
+#[test]
+fn votes_of_one_kind_alone_are_read(rt: HostRuntime) -> Result<(), Fail> {
+    let votes = two_votes(rt.alloc())?;
     for (kind, found) in [(VoteKind::Write, 69), (VoteKind::Accept, 9)] {
-        let mut cut = Cursor::new(votes.as_slice());
-        let at = match SignedList::read_votes(alloc, kind, &mut cut) {
-            Ok(_) => FINE,
-            Err(ReadError::NoMemory) => WANTING,
-            Err(ReadError::Unread { at }) => at,
-        };
-        assert_eq!(rt; at, found);
+        assert_eq!(rt; fault_of_votes(rt.alloc(), kind, votes.as_slice()), found);
     }
     Ok(())
 }
