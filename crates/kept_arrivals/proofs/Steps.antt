@@ -14,7 +14,7 @@ use Rattle.node_rules.specs.Nodes.{Node, regency_of, next_place}
 use Rattle.node_rules.specs.Arrivals.{why_dropped, noted, kept}
 use Rattle.node_rules.specs.Rules.{fired_if, delivers, delivery, proposing, proposes, writing, writes, accepting, accepts, deciding, decides, answering, answers_again}
 use Rattle.node_rules.specs.Changes.{fired_when, fired_adopt, adoption, adopts, joining, joins, next_promise, promising, promises, leading, leads, timing, times}
-use Rattle.node_rules.specs.Steps.{Outcome, turns, fired_turns, votes, fired_votes, passes, fired_pass, outcome_from, answered, timed, arrival_outcome, reading_outcome, step_of, released, opened}
+use Rattle.node_rules.specs.Steps.{made_firm, Outcome, turns, fired_turns, votes, fired_votes, passes, fired_pass, outcome_from, answered, timed, arrival_outcome, reading_outcome, step_of, released, opened}
 use Rattle.node_rules.specs.declared.node.Why.{Why}
 use Rattle.node_rules.specs.declared.node.Held.{Held}
 use Rattle.node_rules.specs.declared.node.Fired.{Fired}
@@ -156,7 +156,7 @@ alike_reading : {S : Type 0} (n : Node S) (read : Result AnyMessage ℕ) → Ali
 alike_reading n (Ok message) = rw (why_same n message) (alike_arrival n message (why_dropped n message) refl)
 alike_reading n (Err at) = record { node = trimmed_twice n; fired = refl; dropped = refl }
 
-firm_same : {S : Type 0} (n : Node S) (count : ℕ) → record (trimmed n) { firm = count } ≡ trimmed (record n { firm = count })
+firm_same : {S : Type 0} (n : Node S) (count : ℕ) → made_firm (trimmed n) count ≡ trimmed (made_firm n count)
 unfolding trimmed regency_of
 firm_same n count = refl
 
@@ -167,8 +167,8 @@ steps_alike m n (Arrive bytes) = alike_reading n (any_decoded bytes)
 steps_alike m n Tick = alike_timed (outcome_from (trimmed n) []) (outcome_from n []) (alike_from (trimmed n) n [] [] (trimmed_twice n) refl)
 steps_alike m n Deliver = alike_from (delivers m (trimmed n)) (delivers m n) (delivery m (trimmed n) (trimmed n).waiting) (delivery m n n.waiting) (delivers_same m n) (delivery_same m n)
 steps_alike m n (Firm count) =
-    alike_from (record (trimmed n) { firm = count }) (record n { firm = count }) [] []
-    (agree_with (record (trimmed n) { firm = count }) (record n { firm = count }) (firm_same n count)) refl
+    alike_from (made_firm (trimmed n) count) (made_firm n count) [] []
+    (agree_with (made_firm (trimmed n) count) (made_firm n count) (firm_same n count)) refl
 
 -- ---- the core's step
 

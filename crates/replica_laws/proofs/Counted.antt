@@ -16,7 +16,7 @@ use Rattle.node_rules.specs.Nodes.{Node, next_place}
 use Rattle.node_rules.specs.Arrivals.{why_dropped, kept, noted}
 use Rattle.node_rules.specs.Rules.{fired_if, deliver_batch, delivers, delivery, answering}
 use Rattle.node_rules.specs.Changes.{fired_when, timing}
-use Rattle.node_rules.specs.Steps.{Outcome, fired_pass, outcome_from, arrival_outcome, reading_outcome, step_of, answered, timed}
+use Rattle.node_rules.specs.Steps.{made_firm, Outcome, fired_pass, outcome_from, arrival_outcome, reading_outcome, step_of, answered, timed}
 use Rattle.node_rules.specs.declared.node.Why.{Why}
 use Rattle.node_rules.specs.declared.node.Fired.{Fired}
 use Rattle.node_rules.specs.declared.node.Fired.TheVariants as fires
@@ -132,4 +132,4 @@ unfolding step_of delivers
 advances-step m n (Arrive bytes) = advances-reading n (any_decoded bytes)
 advances-step m n Tick = advances-timed n (outcome_from n []) (advances-pass n n refl)
 advances-step m n Deliver = advances-deliver m n (deliver_batch m n n.waiting) (delivery m n n.waiting) (place-delivery m n n.waiting) (places-delivery m n n.waiting)
-advances-step m n (Firm count) = advances-pass n (record n { firm = count }) refl
+advances-step m n (Firm count) = advances-pass n (made_firm n count) refl

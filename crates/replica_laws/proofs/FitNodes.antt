@@ -17,7 +17,7 @@ use Rattle.smart_messages.specs.Spelling as spells
 use Rattle.smart_messages.specs.Spelling.{FitsSlot, FitsBallot, FitsRequest, IsSigner, FitsSigned}
 use Rattle.smart_messages.specs.SignedLists.{optional, FitsOptional}
 use Rattle.smart_messages.specs.Reports.{reports, votes_of, FitsVote, FitsReport}
-use Rattle.smart_messages.specs.Regencies.{stops, syncs}
+use Rattle.smart_messages.specs.Regencies.{stops, syncs, FitsSync}
 use Rattle.smart_messages.specs.RegencyMessages.{change_spelling, FitsAny, any_decoded}
 use Rattle.smart_messages.proofs.AnyMessages.{decoded_any_is}
 use Rattle.smart_base.specs.Cuts.{IsBytes}
@@ -122,7 +122,7 @@ pub record FitsAccept (secret : List ℕ) (a : accept.Accept) : Type 0 where
 -- a decision that a report can state as its evidence
 pub record FitsDecision (d : Decision) : Type 0 where
   pub view_fits : d.slot.view < 2 ^ 32
-  pub place_fits : d.slot.place < 2 ^ 63
+  pub place_fits : IsCount d.slot.place
   pub regency_fits : d.slot.regency < 2 ^ 32
   pub accepts_fit : FitVotes Accept d.accepts
   pub batch_fits : FitsBatch d.batch
@@ -149,7 +149,7 @@ pub record FitsReported (secret : List ℕ) (r : Reported) : Type 0 where
 
 -- a beginning of a regency that was kept
 abbrev pub FitsBegun : SignedBy Sync → Type 0
-FitsBegun s = s.statement.regency < 2 ^ 32
+FitsBegun s = FitsSync s.statement
 
 -- all that a node holds has a spelling, and what it sends
 pub record FitNode {S : Type 0} (secret : List ℕ) (n : Node S) : Type 0 where
@@ -183,7 +183,7 @@ view-low v is =
 -- ---- messages that wait to leave, and entries
 
 -- a node that differs in what has no spelling
-fit-as : {S : Type 0} (secret : List ℕ) (n : Node S) (firm : ℕ) (slots : List Slot) (stopped led pressed told : Bool) → FitNode secret n
+pub fit-as : {S : Type 0} (secret : List ℕ) (n : Node S) (firm : ℕ) (slots : List Slot) (stopped led pressed told : Bool) → FitNode secret n
     → FitNode secret (record n { firm = firm; proposed = slots; stop_made = stopped; sync_made = led; impatient = pressed; behind = told })
 unfolding regency_of
 fit-as secret n firm slots stopped led pressed told is =
@@ -318,7 +318,7 @@ head-short r short =
     omega (arith, short, long)
 
 -- an arrival that is not dropped is kept
-fit-kept : {S : Type 0} (secret : List ℕ) (n : Node S) (message : AnyMessage) → why_dropped n message ≡ None → FitsAny message → FitNode secret n → FitNode secret (kept n message)
+pub fit-kept : {S : Type 0} (secret : List ℕ) (n : Node S) (message : AnyMessage) → why_dropped n message ≡ None → FitsAny message → FitNode secret n → FitNode secret (kept n message)
 unfolding kept_plain kept_change regency_of
 fit-kept {S = S} secret n (Plain (Ask q)) fine fit is =
     either (λ (x : Node S). FitNode secret x) (is_next n.replica.table q.statement) (record n { pool = offered n.pool q }) n
@@ -430,14 +430,14 @@ fit-kept secret n (Change (changes.Sync s)) fine fit is =
       pool = is.pool;
       arrivals = is.arrivals;
       told = is.told;
-      begun = each_end FitsBegun n.syncs s is.begun fit.content_fits.statement_fits.regency_fits;
+      begun = each_end FitsBegun n.syncs s is.begun fit.content_fits.statement_fits;
       book = is.book;
       waiting = is.waiting;
       held = is.held;
     }
 
 -- a node is told that it is behind
-fit-noted : {S : Type 0} (secret : List ℕ) (n : Node S) (message : AnyMessage) → FitNode secret n → FitNode secret (noted n message)
+pub fit-noted : {S : Type 0} (secret : List ℕ) (n : Node S) (message : AnyMessage) → FitNode secret n → FitNode secret (noted n message)
 unfolding noted
 fit-noted secret n message is = fit-as secret n n.firm n.proposed n.stop_made n.sync_made n.impatient _ is
 
@@ -448,7 +448,7 @@ fit-answer_line secret n None fit is = is
 fit-answer_line secret n (Some line) fit is =
     fit-holding secret n (targets.Client line.client) (Plain (reply_of n.secret n.id line)) (line-good secret n.secret n.id line is.shared is.named fit) is
 
-fit-answers_again : {S : Type 0} (secret : List ℕ) (n : Node S) (message : AnyMessage) → FitNode secret n → FitNode secret (answers_again n message)
+pub fit-answers_again : {S : Type 0} (secret : List ℕ) (n : Node S) (message : AnyMessage) → FitNode secret n → FitNode secret (answers_again n message)
 unfolding answers_again
 fit-answers_again secret n message is = fit-answer_line secret n (answering n message) (answering-each FitsLine n message is.lines) is
 
@@ -475,7 +475,7 @@ line_made-fits m brief r index q view place low fit =
     ) tt
 
 -- the lines of the requests that are
-lines_of-fit : {S : Type 0} (m : Meaning S) → IsBrief m → (r : Replica S) (index : ℕ) (qs : Batch) → (present r.views).number < 2 ^ 32 → IsCount r.place → index + length qs ≤ 64
+pub lines_of-fit : {S : Type 0} (m : Meaning S) → IsBrief m → (r : Replica S) (index : ℕ) (qs : Batch) → (present r.views).number < 2 ^ 32 → IsCount r.place → index + length qs ≤ 64
     → AllByRecursion (FitsSigned requests FitsRequest) qs → Each FitsLine (lines_of m r index qs)
 lines_of-fit m brief r index [] view place few all = tt
 lines_of-fit m brief r index (q ∷ qs) view place few all =
@@ -527,7 +527,7 @@ fit-deliver_batch secret m brief n (Some batch) fit is =
       held = is.held;
     })
 
-fit-delivers : {S : Type 0} (secret : List ℕ) (m : Meaning S) → IsBrief m → (n : Node S) → FitNode secret n → FitNode secret (delivers m n)
+pub fit-delivers : {S : Type 0} (secret : List ℕ) (m : Meaning S) → IsBrief m → (n : Node S) → FitNode secret n → FitNode secret (delivers m n)
 unfolding delivers
 fit-delivers secret m brief n is = fit-deliver_batch secret m brief n n.waiting is.waiting is
 
@@ -596,7 +596,7 @@ first_vote-fits secret (m ∷ ms) kind slot digest member each =
     if_or (FitsSigned (votes_of kind) (λ signer. FitsVote kind)) (vote_in kind slot digest member m) (first_vote ms kind slot digest member)
     (vote_in-fits secret kind slot digest member m each.0) (first_vote-fits secret ms kind slot digest member each.1)
 
-certificate-fits : (secret : List ℕ) (arrivals : List Message) (view : View) (kind : VoteKind) (slot : Slot) (digest : List ℕ) → is_view view ≡ true → Each (FitsArrival secret) arrivals
+pub certificate-fits : (secret : List ℕ) (arrivals : List Message) (view : View) (kind : VoteKind) (slot : Slot) (digest : List ℕ) → is_view view ≡ true → Each (FitsArrival secret) arrivals
     → FitVotes kind (certificate_votes arrivals view kind slot digest)
 certificate-fits secret arrivals view kind slot digest is each =
     let members = members-few view is in
@@ -630,7 +630,7 @@ joining-low : {S : Type 0} (n : Node S) → joining n ≡ true → regency_of n 
 unfolding joining is_joining
 joining-low n is = ltb-true (regency_of n + 1) (2 ^ 32) (and_true (has_next (synchronizer_of n)) (not n.stop_made) (and_true _ _ is).0).0
 
-fit-joins : {S : Type 0} (secret : List ℕ) (n : Node S) → FitNode secret n → FitNode secret (joins n)
+pub fit-joins : {S : Type 0} (secret : List ℕ) (n : Node S) → FitNode secret n → FitNode secret (joins n)
 unfolding joins
 fit-joins {S = S} secret n is = either_by (λ (x : Node S). FitNode secret x) (joining n) (asks_next n) n (λ due. asks-fit secret n (joining-low n due) is) (λ not_due. is)
 
@@ -661,7 +661,7 @@ fit-adopts_by secret n (Some sync) begun is =
       shared = is.shared;
       view = is.view;
       views = is.views;
-      regency = adopted-low n sync.statement is.regency begun;
+      regency = adopted-low n sync.statement is.regency begun.regency_fits;
       lines = is.lines;
       pool = is.pool;
       arrivals = is.arrivals;
@@ -673,13 +673,13 @@ fit-adopts_by secret n (Some sync) begun is =
       held = is.held;
     }
 
-fit-adopts : {S : Type 0} (secret : List ℕ) (n : Node S) → FitNode secret n → FitNode secret (adopts n)
+pub fit-adopts : {S : Type 0} (secret : List ℕ) (n : Node S) → FitNode secret n → FitNode secret (adopts n)
 unfolding adopts adoption adopting
 fit-adopts secret n is =
     fit-adopts_by secret n (find (is_adoptable (view_of n) (synchronizer_of n)) n.syncs) (if_find FitsBegun (is_adoptable (view_of n) (synchronizer_of n)) n.syncs is.begun) is
 
 -- the last place that a book makes
-last-low : (secret : List ℕ) (es : List LogEntry) → Each (FitsEntry secret) es → last_made es < 2 ^ 63
+pub last-low : (secret : List ℕ) (es : List LogEntry) → Each (FitsEntry secret) es → last_made es < 2 ^ 63
 last-low secret [] each = omega arith
 last-low secret (e ∷ es) each = let rest = last-low secret es each.1 in let one = entry-low secret e each.0 in omega (arith, rest, one)
   where
@@ -689,7 +689,7 @@ last-low secret (e ∷ es) each = let rest = last-low secret es each.1 in let on
     entry-low secret (entries.Accepted a) fit = omega arith
     entry-low secret (entries.Promised p) fit = omega arith
     entry-low secret (entries.Synced s) fit = omega arith
-    entry-low secret (entries.Decided d) fit = fit.place_fits
+    entry-low secret (entries.Decided d) fit = fit.place_fits.1
     entry-low secret (entries.Installed i) fit = absurd fit
     entry-low secret (entries.Marked m) fit = absurd fit
 
@@ -780,7 +780,7 @@ reported_by-good secret n regency low is =
     (report-good secret n.id (report_of n regency) (option_map (λ (a : accept.Accept). a.batch) (lock_of (view_of n).number n.entries)) is.named (report_of-fits secret n regency low is)
     (lock-batch secret (lock_of (view_of n).number n.entries) (lock-fits secret (view_of n).number (last_made n.entries + 1) n.entries is.book)))
 
-promising-low : {S : Type 0} (n : Node S) → promising n ≡ true → regency_of n + 1 < 2 ^ 32
+pub promising-low : {S : Type 0} (n : Node S) → promising n ≡ true → regency_of n + 1 < 2 ^ 32
 unfolding promising is_promising
 promising-low n is = ltb-true (regency_of n + 1) (2 ^ 32) (and_true (has_next (synchronizer_of n)) _ is).0
 
@@ -802,7 +802,7 @@ fit-promise_next {S = S} secret n low is =
     fit-holding secret y (targets.Node (leader (view_of n) (regency_of n + 1))) (Change (changes.StopData (reported_by n (regency_of n + 1)))) (reported_by-good secret n (regency_of n + 1) low is)
     (fit-as secret x x.firm x.proposed false false true x.behind (fit-promised secret n low is))
 
-fit-promises : {S : Type 0} (secret : List ℕ) (n : Node S) → FitNode secret n → FitNode secret (promises n)
+pub fit-promises : {S : Type 0} (secret : List ℕ) (n : Node S) → FitNode secret n → FitNode secret (promises n)
 unfolding promises
 fit-promises {S = S} secret n is = either_by (λ (x : Node S). FitNode secret x) (promising n) (promise_next n) n (λ due. fit-promise_next secret n (promising-low n due) is) (λ not_due. is)
 
@@ -844,7 +844,7 @@ fit-lead_with {S = S} secret n (Some collected) fit is =
     (sync-good secret n.id (record { view = (view_of n).number; regency = regency_of n; collect = collected }) is.named (view-low (view_of n) is.view) is.regency fit.few fit.each))
     (fit-as secret n n.firm n.proposed n.stop_made true n.impatient n.behind is)
 
-fit-leads : {S : Type 0} (secret : List ℕ) (n : Node S) → FitNode secret n → FitNode secret (leads n)
+pub fit-leads : {S : Type 0} (secret : List ℕ) (n : Node S) → FitNode secret n → FitNode secret (leads n)
 unfolding leads
 fit-leads secret n is = fit-lead_with secret n (leading n) (leading-fits secret n is) is
 
@@ -866,7 +866,7 @@ fit-presses {S = S} secret n due is =
     (λ impatient. asks-fit secret n (timing-low n n.impatient due impatient) is)
     (λ patient. fit-passes_on secret x n.pool is.pool (fit-as secret n n.firm n.proposed n.stop_made n.sync_made true n.behind is))
 
-fit-times : {S : Type 0} (secret : List ℕ) (n : Node S) → FitNode secret n → FitNode secret (times n)
+pub fit-times : {S : Type 0} (secret : List ℕ) (n : Node S) → FitNode secret n → FitNode secret (times n)
 unfolding times
 fit-times {S = S} secret n is = either_by (λ (x : Node S). FitNode secret x) (timing n) (presses n) n (λ due. fit-presses secret n due is) (λ not_due. is)
 
@@ -885,7 +885,7 @@ open-low : {S : Type 0} (n : Node S) → is_open n ≡ true → next_place n < 2
 open-low n is = free-low n (and_true (is_member (view_of n) n.id) (is_free n) (and_true _ _ is).0).1
 
 -- the slot that is open has a spelling
-open-fits : {S : Type 0} (secret : List ℕ) (n : Node S) → FitNode secret n → next_place n < 2 ^ 63 → FitsSlot (open_slot n)
+pub open-fits : {S : Type 0} (secret : List ℕ) (n : Node S) → FitNode secret n → next_place n < 2 ^ 63 → FitsSlot (open_slot n)
 open-fits secret n is low = record { view_fits = view-low (view_of n) is.view; place_fits = (omega arith, low); regency_fits = is.regency }
 
 -- what fits is filled with what the limits leave room for
@@ -971,7 +971,7 @@ fit-propose_batch {S = S} secret n (Some batch) fit is =
     (record { slot_fits = open-fits secret n is fit.0.1; digest_fits = digest_of-length batch }) fit.0.0 fit.1))
     (fit-as secret n n.firm x.proposed n.stop_made n.sync_made n.impatient n.behind is)
 
-fit-proposes : {S : Type 0} (secret : List ℕ) (n : Node S) → FitNode secret n → FitNode secret (proposes n)
+pub fit-proposes : {S : Type 0} (secret : List ℕ) (n : Node S) → FitNode secret n → FitNode secret (proposes n)
 unfolding proposes
 fit-proposes secret n is = fit-propose_batch secret n (proposing n) (proposing-fits secret n is) is
 
@@ -1007,7 +1007,7 @@ voted-fits secret n low is =
     (if_weaker (λ (p : Proposed). FitsSending secret p.batch × (length p.head.statement.digest ≡ 32)) (FitsVoted secret (next_place n))
     (λ p fit. record { low = low; batch_fits = fit.0; digest_fits = fit.1 }) (proposed_for n.arrivals (open_slot n)) (proposed_for-fits secret (open_slot n) n.arrivals is.arrivals))
 
-writing-fits : {S : Type 0} (secret : List ℕ) (n : Node S) → FitNode secret n → IfSome (writing n) (FitsVoted secret (next_place n))
+pub writing-fits : {S : Type 0} (secret : List ℕ) (n : Node S) → FitNode secret n → IfSome (writing n) (FitsVoted secret (next_place n))
 unfolding writing
 writing-fits secret n is =
     if_cond (FitsVoted secret (next_place n)) _ (votable n (proposed_for n.arrivals (open_slot n))) (λ may. voted-fits secret n (open-low n (and_true (is_open n) _ may).0) is)
@@ -1020,11 +1020,11 @@ fit-write_batch secret n (Some p) fit is =
     fit-holding secret (recording n entry) targets.View (ballot n Write p.head.statement.digest) (ballot-good secret n Write p.head.statement.digest fit.low fit.digest_fits is)
     (fit-recording secret n entry (quiet-wrote _) tt is)
 
-fit-writes : {S : Type 0} (secret : List ℕ) (n : Node S) → FitNode secret n → FitNode secret (writes n)
+pub fit-writes : {S : Type 0} (secret : List ℕ) (n : Node S) → FitNode secret n → FitNode secret (writes n)
 unfolding writes
 fit-writes secret n is = fit-write_batch secret n (writing n) (writing-fits secret n is) is
 
-accepting-fits : {S : Type 0} (secret : List ℕ) (n : Node S) → FitNode secret n → IfSome (accepting n) (FitsVoted secret (next_place n))
+pub accepting-fits : {S : Type 0} (secret : List ℕ) (n : Node S) → FitNode secret n → IfSome (accepting n) (FitsVoted secret (next_place n))
 unfolding accepting
 accepting-fits secret n is =
     if_cond (FitsVoted secret (next_place n)) _ (written n (votable n (proposed_for n.arrivals (open_slot n))))
@@ -1048,7 +1048,7 @@ fit-accept_batch secret n (Some p) fit is =
       batch_fits = fit.batch_fits;
     }) is)
 
-fit-accepts : {S : Type 0} (secret : List ℕ) (n : Node S) → FitNode secret n → FitNode secret (accepts n)
+pub fit-accepts : {S : Type 0} (secret : List ℕ) (n : Node S) → FitNode secret n → FitNode secret (accepts n)
 unfolding accepts
 fit-accepts secret n is = fit-accept_batch secret n (accepting n) (accepting-fits secret n is) is
 
@@ -1075,7 +1075,7 @@ decision_by-fits : {S : Type 0} (secret : List ℕ) (n : Node S) (regency : ℕ)
 decision_by-fits secret n regency None low small is fit = tt
 decision_by-fits secret n regency (Some x) low small is fit = record {
   view_fits = view-low (view_of n) is.view;
-  place_fits = low;
+  place_fits = (omega arith, low);
   regency_fits = small;
   accepts_fit = certificate-fits secret n.arrivals (view_of n) Accept (slot_in n regency) x.digest is.view is.arrivals;
   batch_fits = fit.0;
@@ -1088,7 +1088,7 @@ decision_in-fits secret n regency low small is =
     (if_find (λ (x : Named). FitsSending secret x.batch) _ (known (view_of n).number (next_place n) (regency_of n) n.arrivals n.entries)
     (known-fits secret (view_of n).number (next_place n) (regency_of n) n.arrivals n.entries is.arrivals is.book))
 
-deciding-fits : {S : Type 0} (secret : List ℕ) (n : Node S) → FitNode secret n → IfSome (deciding n) (λ d. FitsDecision d × (next_place n < 2 ^ 63))
+pub deciding-fits : {S : Type 0} (secret : List ℕ) (n : Node S) → FitNode secret n → IfSome (deciding n) (λ d. FitsDecision d × (next_place n < 2 ^ 63))
 unfolding deciding
 deciding-fits secret n is =
     if_cond (λ d. FitsDecision d × (next_place n < 2 ^ 63)) (is_free n) (or_else (decision_in n (regency_of n)) (decision_ahead n))
@@ -1124,7 +1124,7 @@ fit-decide_batch secret n None fit is = is
 fit-decide_batch {S = S} secret n (Some d) fit is =
     waits secret (recording n (entries.Decided d)) d.batch (fit.0.batch_fits, fit.1) (fit-recording secret n (entries.Decided d) (quiet-decided d) fit.0 is)
 
-fit-decides : {S : Type 0} (secret : List ℕ) (n : Node S) → FitNode secret n → FitNode secret (decides n)
+pub fit-decides : {S : Type 0} (secret : List ℕ) (n : Node S) → FitNode secret n → FitNode secret (decides n)
 unfolding decides
 fit-decides secret n is = fit-decide_batch secret n (deciding n) (deciding-fits secret n is) is
 
@@ -1208,7 +1208,7 @@ bytes-fit : (bytes : List ℕ) (read : Result AnyMessage ℕ) → IsBytes bytes 
 bytes-fit bytes (Ok m) are is = (decoded_any_is bytes m are is).0
 bytes-fit bytes (Err at) are is = tt
 
-event-fits : (event : NodeEvent) → IsByteEvent event → FitsEvent event
+pub event-fits : (event : NodeEvent) → IsByteEvent event → FitsEvent event
 event-fits (Arrive bytes) are = bytes-fit bytes (any_decoded bytes) are refl
 event-fits Tick are = tt
 event-fits Deliver are = tt

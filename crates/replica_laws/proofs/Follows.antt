@@ -22,14 +22,14 @@ use Rattle.node_rules.specs.declared.node.Delivery.{Delivery}
 use Rattle.node_rules.specs.Nodes.{Node, next_place, holding}
 use Rattle.node_rules.specs.Arrivals.{why_dropped, kept, noted}
 use Rattle.node_rules.specs.Changes.{fired_when, fired_adopt, adoption, adopts, joining, joins, next_promise, promising, promises, leading, timing, times}
-use Rattle.node_rules.specs.Steps.{turns, fired_turns, votes, fired_votes, passes, fired_pass, arrival_outcome, reading_outcome, step_of}
+use Rattle.node_rules.specs.Steps.{made_firm, turns, fired_turns, votes, fired_votes, passes, fired_pass, arrival_outcome, reading_outcome, step_of}
 use Rattle.node_rules.specs.Kept.{node_after}
 use Rattle.node_rules.specs.declared.node.Why.{Why}
 use Rattle.node_rules.specs.declared.node.Target.TheVariants as targets
 use Rattle.node_rules.specs.declared.node.Fired.{Fired}
 use Rattle.node_rules.specs.declared.node.Fired.TheVariants as fires
 use Rattle.world_rules.specs.Worlds.{delivery_in}
-use Rattle.replica_laws.specs.Books.{decided_of}
+use Rattle.node_rules.specs.Reopening.{decided_of}
 use Rattle.replica_laws.proofs.Lists.{each_append}
 use Rattle.replica_laws.proofs.Again.{entries-noted, entries-answers_again}
 use Rattle.replica_laws.proofs.Once.{entries-arrives, entries-delivers, entries-joins, entries-leads, entries-proposes, entries-times}
@@ -176,7 +176,7 @@ unfolding step_of
 next-step m n (Arrive bytes) = next-reading n (any_decoded bytes)
 next-step m n Tick = next-before n (passes n) (times (passes n)) (entries-times (passes n)) (leaves-times (passes n)).waits (next-passes n)
 next-step m n Deliver = next-after n (delivers m n) (passes (delivers m n)) (ap decided_of (entries-delivers m n)) (next-passes (delivers m n))
-next-step m n (Firm count) = next-after n (record n { firm = count }) (passes (record n { firm = count })) refl (next-passes (record n { firm = count }))
+next-step m n (Firm count) = next-after n (made_firm n count) (passes (made_firm n count)) refl (next-passes (made_firm n count))
 
 -- what a step delivers is the batch that waited, at the next place
 
@@ -254,4 +254,4 @@ unfolding step_of
 due-step m n (Arrive bytes) = due-reading n (any_decoded bytes)
 due-step m n Tick = due-append n (fired_pass n) (fired_when fires.Timed (timing (passes n))) (due-pass n n) (due-when n fires.Timed (timing (passes n)) refl)
 due-step m n Deliver = due-append n (delivery m n n.waiting) (fired_pass (delivers m n)) (due-delivery m n n.waiting refl) (due-pass n (delivers m n))
-due-step m n (Firm count) = due-pass n (record n { firm = count })
+due-step m n (Firm count) = due-pass n (made_firm n count)

@@ -24,7 +24,8 @@ use Rattle.node_rules.specs.Arrivals.{kept, noted}
 use Rattle.node_rules.specs.Changes.{adoption, adopts, joins, next_promise, promising, promise_next, promises, leads, times}
 use Rattle.node_rules.specs.Kept.{node_after}
 use Rattle.node_rules.specs.Steps.{votes, step_of, opened, released}
-use Rattle.replica_laws.specs.Books.{decided_of, DeliversInOrder}
+use Rattle.node_rules.specs.Reopening.{decided_of}
+use Rattle.replica_laws.specs.Books.{DeliversInOrder}
 use Rattle.replica_laws.proofs.Lists.{and_true, either}
 use Rattle.replica_laws.proofs.Again.{entries-noted, entries-answers_again}
 use Rattle.replica_laws.proofs.Once.{guard_passed, entries-kept, entries-joins, entries-leads, entries-proposes, entries-times, entries_adopted}

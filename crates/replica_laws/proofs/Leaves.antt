@@ -1,4 +1,4 @@
--- What the rules leave as it is: a node's name and secret, what is firm, its replica and the batch that waits.
+-- What the rules leave as it is: a node's name and secret, what was restored and is firm, its replica and the batch that waits.
 use Rattle.std.proofs.Common.{◌≡◌, true, List, [], ◌∷◌, refl, Option, Some, None}
 use Rattle.smart_messages.specs.Forms.{SignedBy}
 use Rattle.smart_messages.specs.Messages.{Batch}
@@ -19,28 +19,29 @@ use Rattle.node_rules.specs.Rules.{proposing, propose_batch, proposes, writing, 
 use Rattle.node_rules.specs.Changes.{adopts_by, adoption, adopts, asks_next, joining, joins, promising, promise_next, promises, leading, lead_with, leads, timing, passes_on, presses, times}
 use Rattle.replica_laws.proofs.Lists.{either}
 
--- a node with the same name and secret, of which as much is firm, and with the same replica and the same batch that waits
+-- a node with the same name and secret, of which as much was restored and is firm, and with the same replica and the same batch that waits
 pub record Leaves {S : Type 0} (n n' : Node S) : Type 0 where
   pub named : n'.id ≡ n.id
   pub shared : n'.secret ≡ n.secret
+  pub restored_is : n'.restored ≡ n.restored
   pub firm_is : n'.firm ≡ n.firm
   pub replica_is : n'.replica ≡ n.replica
   pub waits : n'.waiting ≡ n.waiting
 
 pub leaves-same : {S : Type 0} (n : Node S) → Leaves n n
-leaves-same n = record { named = refl; shared = refl; firm_is = refl; replica_is = refl; waits = refl }
+leaves-same n = record { named = refl; shared = refl; restored_is = refl; firm_is = refl; replica_is = refl; waits = refl }
 
 pub leaves-adopts_by : {S : Type 0} (n : Node S) (sync : Option (SignedBy Sync)) → Leaves n (adopts_by n sync)
 unfolding adopts_by
 leaves-adopts_by n None = leaves-same n
-leaves-adopts_by n (Some sync) = record { named = refl; shared = refl; firm_is = refl; replica_is = refl; waits = refl }
+leaves-adopts_by n (Some sync) = record { named = refl; shared = refl; restored_is = refl; firm_is = refl; replica_is = refl; waits = refl }
 
 pub leaves-adopts : {S : Type 0} (n : Node S) → Leaves n (adopts n)
 unfolding adopts
 leaves-adopts n = leaves-adopts_by n (adoption n)
 
 pub leaves-asks_next : {S : Type 0} (n : Node S) → Leaves n (asks_next n)
-leaves-asks_next n = record { named = refl; shared = refl; firm_is = refl; replica_is = refl; waits = refl }
+leaves-asks_next n = record { named = refl; shared = refl; restored_is = refl; firm_is = refl; replica_is = refl; waits = refl }
 
 pub leaves-joins : {S : Type 0} (n : Node S) → Leaves n (joins n)
 unfolding joins
@@ -49,12 +50,12 @@ leaves-joins {S = S} n = either (λ (x : Node S). Leaves n x) (joining n) (asks_
 pub leaves-promises : {S : Type 0} (n : Node S) → Leaves n (promises n)
 unfolding promises promise_next
 leaves-promises {S = S} n =
-    either (λ (x : Node S). Leaves n x) (promising n) (promise_next n) n (record { named = refl; shared = refl; firm_is = refl; replica_is = refl; waits = refl }) (leaves-same n)
+    either (λ (x : Node S). Leaves n x) (promising n) (promise_next n) n (record { named = refl; shared = refl; restored_is = refl; firm_is = refl; replica_is = refl; waits = refl }) (leaves-same n)
 
 pub leaves-lead_with : {S : Type 0} (n : Node S) (collect : Option (List (SignedBy Report))) → Leaves n (lead_with n collect)
 unfolding lead_with
 leaves-lead_with n None = leaves-same n
-leaves-lead_with n (Some collect) = record { named = refl; shared = refl; firm_is = refl; replica_is = refl; waits = refl }
+leaves-lead_with n (Some collect) = record { named = refl; shared = refl; restored_is = refl; firm_is = refl; replica_is = refl; waits = refl }
 
 pub leaves-leads : {S : Type 0} (n : Node S) → Leaves n (leads n)
 unfolding leads
@@ -63,7 +64,7 @@ leaves-leads n = leaves-lead_with n (leading n)
 pub leaves-propose_batch : {S : Type 0} (n : Node S) (batch : Option Batch) → Leaves n (propose_batch n batch)
 unfolding propose_batch
 leaves-propose_batch n None = leaves-same n
-leaves-propose_batch n (Some batch) = record { named = refl; shared = refl; firm_is = refl; replica_is = refl; waits = refl }
+leaves-propose_batch n (Some batch) = record { named = refl; shared = refl; restored_is = refl; firm_is = refl; replica_is = refl; waits = refl }
 
 pub leaves-proposes : {S : Type 0} (n : Node S) → Leaves n (proposes n)
 unfolding proposes
@@ -72,7 +73,7 @@ leaves-proposes n = leaves-propose_batch n (proposing n)
 pub leaves-write_batch : {S : Type 0} (n : Node S) (p : Option Proposed) → Leaves n (write_batch n p)
 unfolding write_batch
 leaves-write_batch n None = leaves-same n
-leaves-write_batch n (Some p) = record { named = refl; shared = refl; firm_is = refl; replica_is = refl; waits = refl }
+leaves-write_batch n (Some p) = record { named = refl; shared = refl; restored_is = refl; firm_is = refl; replica_is = refl; waits = refl }
 
 pub leaves-writes : {S : Type 0} (n : Node S) → Leaves n (writes n)
 unfolding writes
@@ -81,7 +82,7 @@ leaves-writes n = leaves-write_batch n (writing n)
 pub leaves-accept_batch : {S : Type 0} (n : Node S) (p : Option Proposed) → Leaves n (accept_batch n p)
 unfolding accept_batch
 leaves-accept_batch n None = leaves-same n
-leaves-accept_batch n (Some p) = record { named = refl; shared = refl; firm_is = refl; replica_is = refl; waits = refl }
+leaves-accept_batch n (Some p) = record { named = refl; shared = refl; restored_is = refl; firm_is = refl; replica_is = refl; waits = refl }
 
 pub leaves-accepts : {S : Type 0} (n : Node S) → Leaves n (accepts n)
 unfolding accepts
@@ -89,20 +90,20 @@ leaves-accepts n = leaves-accept_batch n (accepting n)
 
 leaves-passes_on : {S : Type 0} (n x : Node S) (pool : List (SignedBy Request)) → Leaves n x → Leaves n (passes_on x pool)
 leaves-passes_on n x [] is = is
-leaves-passes_on n x (q ∷ qs) is = record { named = is.named; shared = is.shared; firm_is = is.firm_is; replica_is = is.replica_is; waits = is.waits }
+leaves-passes_on n x (q ∷ qs) is = record { named = is.named; shared = is.shared; restored_is = is.restored_is; firm_is = is.firm_is; replica_is = is.replica_is; waits = is.waits }
 
 pub leaves-times : {S : Type 0} (n : Node S) → Leaves n (times n)
 unfolding times presses
 leaves-times {S = S} n =
     either (λ (x : Node S). Leaves n x) (timing n) _ n
     (either (λ (x : Node S). Leaves n x) n.impatient (asks_next n) (passes_on (record n { impatient = true }) n.pool) (leaves-asks_next n)
-    (leaves-passes_on n (record n { impatient = true }) n.pool (record { named = refl; shared = refl; firm_is = refl; replica_is = refl; waits = refl })))
+    (leaves-passes_on n (record n { impatient = true }) n.pool (record { named = refl; shared = refl; restored_is = refl; firm_is = refl; replica_is = refl; waits = refl })))
     (leaves-same n)
 
 pub leaves-answer_line : {S : Type 0} (n : Node S) (line : Option TableLine) → Leaves n (answer_line n line)
 unfolding answer_line
 leaves-answer_line n None = leaves-same n
-leaves-answer_line n (Some line) = record { named = refl; shared = refl; firm_is = refl; replica_is = refl; waits = refl }
+leaves-answer_line n (Some line) = record { named = refl; shared = refl; restored_is = refl; firm_is = refl; replica_is = refl; waits = refl }
 
 pub leaves-answers_again : {S : Type 0} (n : Node S) (message : AnyMessage) → Leaves n (answers_again n message)
 unfolding answers_again
@@ -110,16 +111,16 @@ leaves-answers_again n message = leaves-answer_line n (answering n message)
 
 pub leaves-noted : {S : Type 0} (n : Node S) (message : AnyMessage) → Leaves n (noted n message)
 unfolding noted
-leaves-noted n message = record { named = refl; shared = refl; firm_is = refl; replica_is = refl; waits = refl }
+leaves-noted n message = record { named = refl; shared = refl; restored_is = refl; firm_is = refl; replica_is = refl; waits = refl }
 
 pub leaves-kept : {S : Type 0} (n : Node S) (message : AnyMessage) → Leaves n (kept n message)
 unfolding kept_plain kept_change
 leaves-kept {S = S} n (Plain (Ask q)) =
     either (λ (x : Node S). Leaves n x) (is_next n.replica.table q.statement) (record n { pool = offered n.pool q }) n
-    (record { named = refl; shared = refl; firm_is = refl; replica_is = refl; waits = refl }) (leaves-same n)
-leaves-kept n (Plain (Propose p)) = record { named = refl; shared = refl; firm_is = refl; replica_is = refl; waits = refl }
-leaves-kept n (Plain (Vote b)) = record { named = refl; shared = refl; firm_is = refl; replica_is = refl; waits = refl }
+    (record { named = refl; shared = refl; restored_is = refl; firm_is = refl; replica_is = refl; waits = refl }) (leaves-same n)
+leaves-kept n (Plain (Propose p)) = record { named = refl; shared = refl; restored_is = refl; firm_is = refl; replica_is = refl; waits = refl }
+leaves-kept n (Plain (Vote b)) = record { named = refl; shared = refl; restored_is = refl; firm_is = refl; replica_is = refl; waits = refl }
 leaves-kept n (Plain (Reply a)) = leaves-same n
-leaves-kept n (Change (changes.Stop s)) = record { named = refl; shared = refl; firm_is = refl; replica_is = refl; waits = refl }
-leaves-kept n (Change (changes.StopData r)) = record { named = refl; shared = refl; firm_is = refl; replica_is = refl; waits = refl }
-leaves-kept n (Change (changes.Sync s)) = record { named = refl; shared = refl; firm_is = refl; replica_is = refl; waits = refl }
+leaves-kept n (Change (changes.Stop s)) = record { named = refl; shared = refl; restored_is = refl; firm_is = refl; replica_is = refl; waits = refl }
+leaves-kept n (Change (changes.StopData r)) = record { named = refl; shared = refl; restored_is = refl; firm_is = refl; replica_is = refl; waits = refl }
+leaves-kept n (Change (changes.Sync s)) = record { named = refl; shared = refl; restored_is = refl; firm_is = refl; replica_is = refl; waits = refl }

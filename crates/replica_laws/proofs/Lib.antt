@@ -19,4 +19,5 @@ pub mod Authentic
 pub mod Genuine
 pub mod Collected
 pub mod FitNodes
+pub mod FitBooks
 pub mod Voters

@@ -39,7 +39,7 @@ use Rattle.node_rules.specs.Nodes.{Node, view_of, regency_of, next_place, open_s
 use Rattle.node_rules.specs.Votes.{Named, certificate_votes, decision_by}
 use Rattle.node_rules.specs.Arrivals.{kept_plain, kept_change, kept, noted}
 use Rattle.node_rules.specs.Changes.{start_by_sync, promised_for, adopts_by, adoption, adopts, stop_for, asks_next, joining, joins, report_of, reported_by, next_promise, promising, promise_next, promises, leading, lead_with, leads, timing, passes_on, presses, times}
-use Rattle.node_rules.specs.Steps.{passes, step_of, released, opened}
+use Rattle.node_rules.specs.Steps.{made_firm, passes, step_of, released, opened}
 use Rattle.node_rules.specs.declared.node.Held.{Held}
 use Rattle.node_rules.specs.declared.node.Target.{Target}
 use Rattle.node_rules.specs.declared.node.Target.TheVariants as targets
@@ -511,7 +511,7 @@ abbrev pub told_firm : {S : Type 0} → Node S → NodeEvent → Node S
 told_firm n (Arrive bytes) = n
 told_firm n Tick = n
 told_firm n Deliver = n
-told_firm n (Firm count) = record n { firm = count }
+told_firm n (Firm count) = made_firm n count
 
 -- a step
 pub onward-step : {S : Type 0} (m : Meaning S) (n : Node S) (event : NodeEvent) → NodeRests n → Onward (told_firm n event) (step_of m n event).node
@@ -522,7 +522,7 @@ onward-step m n Tick is =
     onward-then n (passes n) (times (passes n)) f (onward-times (passes n) f.rests)
 onward-step m n Deliver is = onward-passes n (delivers m n) (onward-delivers m n is)
 onward-step {S = S} m n (Firm count) is =
-    let x : Node S = record n { firm = count } in
+    let x : Node S = made_firm n count in
     onward-passes x x (onward-same x (record { held = is.held; waits = is.waits; lines = is.lines }))
 
 -- what is firm has left

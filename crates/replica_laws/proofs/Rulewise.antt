@@ -9,7 +9,7 @@ use Rattle.node_rules.specs.Nodes.{Node}
 use Rattle.node_rules.specs.Arrivals.{why_dropped, kept, noted}
 use Rattle.node_rules.specs.Rules.{delivers, proposes, writes, accepts, decides, answers_again}
 use Rattle.node_rules.specs.Changes.{adopts, joins, promises, leads, times}
-use Rattle.node_rules.specs.Steps.{turns, votes, passes, arrival_outcome, reading_outcome, step_of}
+use Rattle.node_rules.specs.Steps.{made_firm, turns, votes, passes, arrival_outcome, reading_outcome, step_of}
 use Rattle.node_rules.specs.declared.node.Why.{Why}
 use Rattle.kept_arrivals.proofs.Arrivals.{why_noted}
 use Rattle.replica_laws.specs.Sending.{ForRead, ForEvent}
@@ -81,4 +81,4 @@ unfolding step_of
 keeps_step m P A n (Arrive bytes) by firm may is = keeps_reading m P A n (any_decoded bytes) by may is
 keeps_step m P A n Tick by firm may is = by.by_times (passes n) (keeps_passes P n by.by_rules is)
 keeps_step m P A n Deliver by firm may is = keeps_passes P (delivers m n) by.by_rules (by.by_delivers n is)
-keeps_step m P A n (Firm count) by firm may is = keeps_passes P (record n { firm = count }) by.by_rules (firm n count is)
+keeps_step m P A n (Firm count) by firm may is = keeps_passes P (made_firm n count) by.by_rules (firm n (made_firm n count).firm is)

@@ -1,5 +1,5 @@
 -- A node whose rules have passed: one more pass writes nothing down.
-use Rattle.std.proofs.Common.{◌≡◌, ◌*◌, ◌⊎◌, inl, inr, ⊎_elim, ℕ, ◌+◌, ◌^◌, ◌<◌, ◌≤◌, ◌++◌, ◌==◌, Bool, true, false, not, ◌&&◌, ◌||◌, List, [], ◌∷◌, length, refl, ap, ◌∙◌, sym, arith, cond, Option, Some, None, is_some, is_none, nat_lt, nat_le, filter, subst, append-nil, Result, Ok, Err}
+use Rattle.std.proofs.Common.{◌≡◌, ◌*◌, ◌⊎◌, inl, inr, ⊎_elim, ℕ, ◌+◌, ◌^◌, ◌<◌, ◌≤◌, ◌++◌, ◌==◌, Bool, true, false, not, ◌&&◌, ◌||◌, List, [], ◌∷◌, refl, ap, ◌∙◌, sym, arith, cond, Option, Some, None, is_some, is_none, nat_lt, nat_le, filter, subst, append-nil, Result, Ok, Err}
 use Rattle.std.proofs.lemmas.Bool.{ltb-true, ltb-false, leb-true, eqb-true, eq-eqb}
 use Rattle.std.specs.Prelude.{find}
 use Rattle.std.specs.List.{list_any}
@@ -38,7 +38,7 @@ use Rattle.node_rules.specs.Rules.{reply_of, replying, lines_to_answer, deliver_
 use Rattle.node_rules.specs.Nodes.{Node, view_of, regency_of, regency_in, greatest_regency, start_by, start_in, start_of, next_place, decided_place, open_slot, is_free, is_open, has_begun, bound_at, is_within, synchronizer_of, holding, recording}
 use Rattle.node_rules.specs.Arrivals.{signer_why, view_why, wish_why, why_stop, why_dropped, kept_plain, kept_change, kept, noted}
 use Rattle.node_rules.specs.Changes.{start_by_sync, promised_for, adopts_by, adoption, adopts, joins, next_promise, promising, promise_next, promises, leads, times}
-use Rattle.node_rules.specs.Steps.{turns, votes, passes, arrival_outcome, reading_outcome, step_of, released, opened}
+use Rattle.node_rules.specs.Steps.{made_firm, turns, votes, passes, arrival_outcome, reading_outcome, step_of, released, opened}
 use Rattle.node_rules.specs.declared.node.Why.{Why}
 use Rattle.node_rules.specs.declared.node.Why.TheVariants.{OldRegency, NewRegency}
 use Rattle.node_rules.specs.declared.node.Target.TheVariants as targets
@@ -866,8 +866,8 @@ steady-step {S = S} m n Deliver is =
     let x : Node S = deliver_batch m n n.waiting in
     steady-passes x (turned-ready x (turned-deliver_batch m n n.waiting (steady-turned n is))) (omega (arith, decided_place-deliver_batch m n n.waiting refl, is.below))
 steady-step {S = S} m n (Firm count) is =
-    let x : Node S = record n { firm = count } in
-    steady-passes x (turned-ready x (turned-firm n count (steady-turned n is))) is.below
+    let x : Node S = made_firm n count in
+    steady-passes x (turned-ready x (turned-firm n x.firm (steady-turned n is))) is.below
 
 -- messages that leave change nothing of it
 pub steady-released : {S : Type 0} (n : Node S) → Steady n → Steady (released n)
@@ -948,27 +948,40 @@ pub entries-done : {S : Type 0} (n : Node S) → Done n → (passes n).entries �
 entries-done {S = S} n is =
     ap (λ (x : Node S). x.entries) (passes-done n is) ∙ (entries-proposes (leads (joins n)) ∙ (entries-leads (joins n) ∙ entries-joins n))
 
--- a pass leaves what is firm
-pub firm-passes : {S : Type 0} (n : Node S) → Done n → (passes n).firm ≡ n.firm
-firm-passes {S = S} n is =
-    ap (λ (x : Node S). x.firm) (passes-done n is) ∙ ((leaves-proposes (leads (joins n))).firm_is ∙ ((leaves-leads (joins n)).firm_is ∙ (leaves-joins n).firm_is))
-
 done-firm : {S : Type 0} (n : Node S) (count : ℕ) → Done n → Done (record n { firm = count })
 unfolding adoption adopting promising is_promising writing accepting deciding decision_in start_of regency_of
 done-firm n count is = record { adopted = is.adopted; promised = is.promised; wrote = is.wrote; accepted = is.accepted; decided = is.decided }
 
--- firmness of all entries leaves a steady node that has no other
-pub firm-step : {S : Type 0} (m : Meaning S) (n : Node S) → Steady n → nat_lt (step_of m n (Firm (length n.entries))).node.firm (length (step_of m n (Firm (length n.entries))).node.entries) ≡ false
+-- what becomes firm makes no entry at a steady node
+pub entries-firm : {S : Type 0} (m : Meaning S) (n : Node S) (count : ℕ) → Steady n → (step_of m n (Firm count)).node.entries ≡ n.entries
 unfolding step_of
-firm-step {S = S} m n is =
-    let n0 : Node S = record n { firm = length n.entries } in
-    let done : Done n0 = done-firm n (length n.entries) is.done in
-    let firm : (passes n0).firm ≡ length n.entries = firm-passes n0 done in
-    let entries : (passes n0).entries ≡ n.entries = entries-done n0 done in
-    rw (firm, entries) (not_less (length n.entries))
-  where
-    not_less : (k : ℕ) → nat_lt k k ≡ false
-    not_less k = grind arith
+entries-firm {S = S} m n count is =
+    let n0 : Node S = made_firm n count in
+    entries-done n0 (done-firm n n0.firm is.done)
+
+-- nothing else than what is firm changes of what a step leaves
+leaves-done : {S : Type 0} (n : Node S) → Done n → Leaves n (passes n)
+leaves-done {S = S} n is =
+    let j : Node S = joins n in
+    let l : Node S = leads j in
+    let lj = leaves-joins n in
+    let ll = leaves-leads j in
+    let lp = leaves-proposes l in
+    subst (λ (x : Node S). Leaves n x) (sym (passes-done n is))
+    (record {
+      named = lp.named ∙ (ll.named ∙ lj.named);
+      shared = lp.shared ∙ (ll.shared ∙ lj.shared);
+      restored_is = lp.restored_is ∙ (ll.restored_is ∙ lj.restored_is);
+      firm_is = lp.firm_is ∙ (ll.firm_is ∙ lj.firm_is);
+      replica_is = lp.replica_is ∙ (ll.replica_is ∙ lj.replica_is);
+      waits = lp.waits ∙ (ll.waits ∙ lj.waits);
+    })
+
+pub leaves-firm : {S : Type 0} (m : Meaning S) (n : Node S) (count : ℕ) → Steady n → Leaves (made_firm n count) (step_of m n (Firm count)).node
+unfolding step_of
+leaves-firm {S = S} m n count is =
+    let n0 : Node S = made_firm n count in
+    leaves-done n0 (done-firm n n0.firm is.done)
 
 -- ---- the place of a replica
 
@@ -998,11 +1011,6 @@ replica-rules r = record {
 pub replica-passes : {S : Type 0} (n : Node S) → (passes n).replica ≡ n.replica
 replica-passes {S = S} n = keeps_passes (λ (x : Node S). x.replica ≡ n.replica) n (replica-rules n.replica) refl
 
--- firmness leaves the place
-pub place-firm : {S : Type 0} (m : Meaning S) (n : Node S) (count : ℕ) → (step_of m n (Firm count)).node.replica.place ≡ n.replica.place
-unfolding step_of
-place-firm {S = S} m n count = ap (λ (r : Replica S). r.place) (replica-passes (record n { firm = count }))
-
 -- a batch that waits takes the next place where it is delivered
 pub place-deliver_batch : {S : Type 0} (m : Meaning S) (n : Node S) (waiting : Option Batch) → is_some waiting ≡ true → (deliver_batch m n waiting).replica.place ≡ n.replica.place + 1
 unfolding deliver_batch
@@ -1011,8 +1019,3 @@ place-deliver_batch {S = S} m n (Some batch) waits =
     let r : Replica S = delivered m n.replica batch in
     ap (λ (x : Replica S). x.place) (replica-replying (record n { replica = r; waiting = None; pool = settled r.table n.pool; impatient = false }) (lines_to_answer m n batch))
     ∙ place-delivered m n.replica batch
-
--- delivery takes the next place
-pub place-deliver : {S : Type 0} (m : Meaning S) (n : Node S) → is_some n.waiting ≡ true → (step_of m n Deliver).node.replica.place ≡ n.replica.place + 1
-unfolding step_of delivers
-place-deliver {S = S} m n waits = ap (λ (r : Replica S). r.place) (replica-passes (deliver_batch m n n.waiting)) ∙ place-deliver_batch m n n.waiting waits

@@ -1,14 +1,13 @@
 -- What is promised of a node and its book, whatever comes to it.
 use Rattle.std.specs.Prelude.{ℕ, ◌+◌, ◌≡◌, ◌≤◌, Bool, List, [], ◌∷◌, length, if◌then◌else◌, take, slice_get}
 use Rattle.smart_base.specs.Views.{View}
-use Rattle.smart_messages.specs.Messages.{Batch}
 use Rattle.smart_messages.specs.declared.statement.Slot.{Slot}
 use Rattle.smart_service.specs.Services.{Meaning}
 use Rattle.vote_book.specs.Admission.{writes_in, accepts_in}
 use Rattle.vote_book.specs.declared.entry.LogEntry.{LogEntry}
-use Rattle.vote_book.specs.declared.entry.LogEntry.TheVariants.{Opened, Wrote, Accepted, Promised, Synced, Decided, Installed, Marked}
 use Rattle.replica_rules.specs.Replicas.{state}
 use Rattle.node_rules.specs.Nodes.{Node, decided_place}
+use Rattle.node_rules.specs.Reopening.{decided_of}
 
 -- how many values pass a test
 abbrev pub passing : {A : Type 0} → (A → Bool) → List A → ℕ
@@ -22,18 +21,6 @@ AcceptsOnce entries = (slot : Slot) → passing (accepts_in slot) entries ≤ 1
 -- at most one batch is written for a slot
 abbrev pub WritesOnce : List LogEntry → Type 0
 WritesOnce entries = (slot : Slot) → passing (writes_in slot) entries ≤ 1
-
--- the batches that a book has decided, in order
-abbrev pub decided_of : List LogEntry → List Batch
-decided_of [] = []
-decided_of (Opened o ∷ es) = decided_of es
-decided_of (Wrote w ∷ es) = decided_of es
-decided_of (Accepted a ∷ es) = decided_of es
-decided_of (Promised p ∷ es) = decided_of es
-decided_of (Synced s ∷ es) = decided_of es
-decided_of (Decided d ∷ es) = d.batch ∷ decided_of es
-decided_of (Installed i ∷ es) = decided_of es
-decided_of (Marked m ∷ es) = decided_of es
 
 -- a node's replica is the state after its decided batches in order, but for the last where it waits
 pub record DeliversInOrder {S : Type 0} (m : Meaning S) (view : View) (n : Node S) : Type 0 where

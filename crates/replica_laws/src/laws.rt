@@ -1,5 +1,5 @@
 //! The laws of one node.
-ghost use Rattle.std.specs.Prelude.{◌≡◌, ℕ, Bool, true, List};
+ghost use Rattle.std.specs.Prelude.{◌≡◌, ◌<◌, ◌^◌, ℕ, Bool, true, List};
 ghost use Rattle.smart_base.specs.Lists.{Each};
 ghost use Rattle.smart_base.specs.Views.{View, is_view};
 ghost use Rattle.smart_messages.specs.Forms.{SignedBy};
@@ -8,6 +8,7 @@ ghost use Rattle.smart_messages.specs.declared.statement.Request.{Request};
 ghost use Rattle.smart_messages.specs.Messages.{Batch};
 ghost use Rattle.smart_messages.specs.declared.entry.NodeEvent.{NodeEvent};
 ghost use Rattle.smart_service.specs.declared.table.TableLine.{TableLine};
+ghost use Rattle.vote_book.specs.Entries.{FitsEntry};
 ghost use Rattle.replica_rules.specs.Replicas.{executions};
 ghost use Rattle.node_rules.specs.Steps.{opened};
 ghost use Rattle.node_rules.specs.Kept.{node_after};
@@ -79,4 +80,10 @@ pub fn holds_what_was_asked<S: Service>()
 pub fn what_is_held_is_read<S: Service>()
     ensures { (secret : List ℕ) (id : ℕ) (view : View) (period : ℕ) (events : List NodeEvent) → IsSigner 1 id → is_view view ≡ true → Each IsByteEvent events →
         HoldsGenuine (node_after S.meaning (opened S.meaning secret id view period) events) }
+{}
+
+/// Whatever bytes come to a node, each entry of its book has a spelling, so that a disk can hold it.
+pub fn what_is_recorded_has_a_spelling<S: Service>()
+    ensures { (secret : List ℕ) (id : ℕ) (view : View) (period : ℕ) (events : List NodeEvent) → IsSigner 1 id → is_view view ≡ true → period < 2 ^ 32 → Each IsByteEvent events →
+        Each FitsEntry (node_after S.meaning (opened S.meaning secret id view period) events).entries }
 {}

@@ -1,5 +1,6 @@
 //! Runs over inputs and outputs in memory.
 mod apps;
+mod disks;
 mod faulty;
 
 use crate::status::{Status, report};

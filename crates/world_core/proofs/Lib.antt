@@ -5,3 +5,4 @@ pub mod Hearing
 pub mod Asking
 pub mod Idling
 pub mod Giving
+pub mod Calling

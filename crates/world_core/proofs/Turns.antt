@@ -48,3 +48,10 @@ each_none f i x = refl
 -- no number is left
 pub each_done : {A : Type 0} (f : ℕ → A → A) (k i j : ℕ) (x : A) → k ≤ i → each_from f (k - i) j x ≡ x
 each_done f k i j x le = let e : k - i ≡ 0 = omega arith in rw e (each_none f j x)
+
+-- one more of some turns
+pub times_more : {A : Type 0} (f : A → A) (k i : ℕ) (x : A) → i < k → repeated f (k - i) x ≡ repeated f (k - (i + 1)) (f x)
+times_more f k i x lt = more f k i x lt
+
+pub times_done : {A : Type 0} (f : A → A) (k i : ℕ) (x : A) → k ≤ i → repeated f (k - i) x ≡ x
+times_done f k i x le = let e : k - i ≡ 0 = omega arith in rw e (none f x)

@@ -4,7 +4,7 @@ use Rattle.smart_messages.specs.declared.entry.NodeEvent.{NodeEvent}
 use Rattle.node_rules.specs.Nodes.{Node}
 use Rattle.node_rules.specs.Steps.{Outcome}
 use Rattle.node_rules.specs.declared.node.Fired.{Fired}
-use Rattle.world_rules.specs.Worlds.{Host, World, stepped}
+use Rattle.world_rules.specs.Worlds.{Host, World, stepped, telling_all, told_idle}
 use Rattle.world_rules.specs.declared.line.OutLine.{OutLine}
 use Rattle.world_rules.specs.declared.line.OutLine.TheVariants as outs
 
@@ -12,6 +12,11 @@ use Rattle.world_rules.specs.declared.line.OutLine.TheVariants as outs
 abbrev pub steps : {S : Type 0} → (Node S → NodeEvent → Outcome S) → ℕ → NodeEvent → World S → Option (Host S) → World S
 steps step i event w None = w
 steps step i event w (Some h) = stepped w i h (step h.node event)
+
+-- the step of a node that is not gone, and that it is idle where no rule fires
+abbrev pub tries : {S : Type 0} → (Node S → NodeEvent → Outcome S) → ℕ → NodeEvent → World S → Option (Host S) → World S
+tries step i event w None = w
+tries step i event w (Some h) = telling_all (stepped w i h (step h.node event)) (told_idle h.node.id (step h.node event).fired)
 
 -- no rule fired
 abbrev pub is_idle : List Fired → Bool

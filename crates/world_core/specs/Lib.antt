@@ -2,3 +2,4 @@ pub mod Replies
 pub mod Idling
 pub mod Asking
 pub mod Standing
+pub mod Calling

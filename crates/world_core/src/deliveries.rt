@@ -1,9 +1,10 @@
 //! Deliveries one by one, and time that passes.
-ghost use Rattle.std.specs.Prelude.{◌≡◌, OnOk};
+ghost use Rattle.std.specs.Prelude.{◌≡◌, ◌<◌, OnOk, length, slice_get};
 ghost use Rattle.smart_messages.specs.declared.entry.NodeEvent.TheVariants.{Arrive};
 ghost use Rattle.node_rules.specs.Kept.{core_step};
-ghost use Rattle.world_rules.specs.Worlds.{node_takes, settle, at_member, arrives, arrives_at, give_number, telling_all, tries_at, tries_each, deliver_each, tick_each};
-ghost use Rattle.world_core.specs.Idling.{idle_lines};
+ghost use Rattle.world_rules.specs.Worlds.{node_takes, calls_disk, settle, at_member, arrives, arrives_at, give_number, telling_all, tries_at, tries_each, deliver_each, tick_each};
+ghost use Rattle.world_rules.specs.Repeats.{repeated};
+ghost use Rattle.world_core.specs.Idling.{idle_lines, tries};
 
 use crate::host::host_index;
 use crate::state::WorldState;
@@ -25,6 +26,18 @@ impl<S: Service> WorldState<S> {
             self.tell(OutLine::Absent { member })?;
         } else if let Some(i) = host_index(self.hosts.as_slice(), member) {
             self.settle(i)?;
+        }
+        Ok(())
+    }
+
+    /// A member's store makes so many device calls, or fewer where no more are due.
+    pub(crate) fn call_member(&mut self, member: MemberId, count: u64) -> Result<(), AllocError>
+        ensures { OnOk result (self.new ≡ at_member (λ i w. repeated (calls_disk (core_step S.meaning) i) count w) member self.old) }
+    {
+        if self.is_gone(member) {
+            self.tell(OutLine::Absent { member })?;
+        } else if let Some(i) = host_index(self.hosts.as_slice(), member) {
+            self.call_often(i, count)?;
         }
         Ok(())
     }
@@ -96,9 +109,22 @@ impl<S: Service> WorldState<S> {
         Ok(())
     }
 
+    /// The node at an index, which is not gone, is to deliver the batch that waits, or time passes
+    /// there.
+    #[tactic(auto, using(crate::proofs::Idling::told_idle_is))]
+    fn try_up(&mut self, i: usize, event: &NodeEvent) -> Result<(), AllocError>
+        requires { i < length self.old.hosts }
+        ensures { OnOk result (self.new ≡ tries (core_step S.meaning) i event.now self.old (slice_get self.old.hosts i)) }
+    {
+        let id = self.hosts[i].id();
+        let idle = self.step_at(i, event)?;
+        self.tell_idle(id, idle)?;
+        Ok(())
+    }
+
     /// The node at an index is to deliver the batch that waits, or time passes there, unless it is
     /// gone.
-    #[tactic(auto, using(crate::proofs::Idling::told_idle_is), unfolding(world_rules::specs::Worlds::tries_at))]
+    #[tactic(auto, unfolding(world_rules::specs::Worlds::tries_at))]
     fn try_at(&mut self, i: usize, event: &NodeEvent) -> Result<(), AllocError>
         ensures { OnOk result (self.new ≡ tries_at (core_step S.meaning) event.now i self.old) }
     {
@@ -106,11 +132,9 @@ impl<S: Service> WorldState<S> {
             return Ok(());
         }
         let id = self.hosts[i].id();
-        if self.is_gone(id) {
-            return Ok(());
+        if !self.is_gone(id) {
+            self.try_up(i, event)?;
         }
-        let idle = self.step_at(i, event)?;
-        self.tell_idle(id, idle)?;
         Ok(())
     }
 

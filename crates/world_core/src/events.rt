@@ -1,10 +1,12 @@
 //! Events of nodes: what is due at them, and what is given to those that a line lists.
 ghost use Rattle.std.specs.Prelude.{◌≡◌, ◌<◌, IfOk, OnOk, length, slice_get, false};
 ghost use Rattle.node_rules.specs.Kept.{core_step};
-ghost use Rattle.world_rules.specs.Worlds.{told_absent, settle_present, node_takes, settle_once, settle, settle_all, give_all, give_one, is_listed, at_listed, at_index, host_index, telling_all};
+ghost use Rattle.world_rules.specs.Worlds.{told_absent, settle_present, node_takes, calls_disk, settle_once, settle, settle_all, give_all, give_one, is_listed, at_listed, at_index, host_index, telling_all};
+ghost use Rattle.world_rules.specs.Repeats.{repeated};
+ghost use Rattle.world_core.specs.Calling.{steps_if, calls};
 ghost use Rattle.world_core.specs.Idling.{steps, is_idle_at};
 
-use crate::host::{host_index, is_among, step_host};
+use crate::host::{call_disk, host_index, is_among, step_host};
 use crate::state::WorldState;
 use smart_base::name::MemberId;
 use smart_base::sequence::Bytes;
@@ -55,8 +57,59 @@ impl<S: Service> WorldState<S> {
         Ok(())
     }
 
-    /// The node at an index takes what is due, if anything is. Nothing is at a node that is gone.
-    #[tactic(auto, unfolding(world_rules::specs::Worlds::settle_once, world_rules::specs::Worlds::node_takes))]
+    /// The node at an index, which is not gone, takes an event, if there is one.
+    fn step_if(&mut self, i: usize, event: &Option<NodeEvent>) -> Result<(), AllocError>
+        requires { i < length self.old.hosts }
+        ensures { OnOk result (self.new ≡ steps_if (core_step S.meaning) i self.old (slice_get self.old.hosts i) event.now) }
+    {
+        if let Some(event) = event {
+            let _ = self.step_at(i, event)?;
+        }
+        Ok(())
+    }
+
+    /// The store at an index makes its next device call, and its node, which is not gone, hears what is
+    /// firm then.
+    #[tactic(auto, using(crate::proofs::Calling::called_then))]
+    fn call_at(&mut self, i: usize) -> Result<(), AllocError>
+        requires { i < length self.old.hosts }
+        ensures { OnOk result (self.new ≡ calls (core_step S.meaning) i self.old (slice_get self.old.hosts i)) }
+    {
+        let event = call_disk(&mut self.hosts[i])?;
+        self.step_if(i, &event)?;
+        Ok(())
+    }
+
+    /// The store at an index makes its next device call, if there is one, and its node hears what is
+    /// firm then. Nothing happens at a node that is gone.
+    #[tactic(auto, unfolding(world_rules::specs::Worlds::calls_disk))]
+    fn calls_disk(&mut self, i: usize) -> Result<(), AllocError>
+        ensures { OnOk result (self.new ≡ calls_disk (core_step S.meaning) i self.old) }
+    {
+        if self.ending.is_some() || i >= self.hosts.len() {
+            return Ok(());
+        }
+        let id = self.hosts[i].id();
+        if !self.is_gone(id) && self.hosts[i].has_call() {
+            self.call_at(i)?;
+        }
+        Ok(())
+    }
+
+    /// The store at an index makes so many device calls, or fewer where no more are due.
+    #[tactic(auto, using(crate::proofs::Turns::times_more, crate::proofs::Turns::times_done))]
+    pub(crate) fn call_often(&mut self, i: usize, count: u64) -> Result<(), AllocError>
+        ensures { OnOk result (self.new ≡ repeated (calls_disk (core_step S.meaning) i) count self.old) }
+    {
+        for turn in 0..count {
+            self.calls_disk(i)?;
+        }
+        Ok(())
+    }
+
+    /// What is due at an index happens, if anything is: a device call, or else a delivery. Nothing is
+    /// at a node that is gone.
+    #[tactic(auto, unfolding(world_rules::specs::Worlds::settle_once, world_rules::specs::Worlds::calls_disk, world_rules::specs::Worlds::node_takes))]
     fn settle_once(&mut self, i: usize) -> Result<bool, AllocError>
         ensures world { OnOk result (self.new ≡ settle_once (core_step S.meaning) i self.old) }
         ensures idle { IfOk result (λ more. more ≡ false → self.new ≡ self.old) }
@@ -67,13 +120,15 @@ impl<S: Service> WorldState<S> {
         if self.is_gone(self.hosts[i].id()) {
             return Ok(false);
         }
-        match self.hosts[i].due() {
-            None => Ok(false),
-            Some(event) => {
-                self.node_takes(i, &event)?;
-                Ok(true)
-            }
+        if self.hosts[i].has_call() {
+            self.calls_disk(i)?;
+            return Ok(true);
         }
+        if self.hosts[i].waits() {
+            self.node_takes(i, &NodeEvent::Deliver)?;
+            return Ok(true);
+        }
+        Ok(false)
     }
 
     /// The node at an index takes what is due until nothing is.

@@ -1,15 +1,18 @@
 //! A member's host, and what it tells of its node's steps.
-ghost use Rattle.std.specs.Prelude.{◌≡◌, ◌+◌, ◌++◌, ◌==◌, [], IfOk, OnOk, length, map};
+ghost use Rattle.std.specs.Prelude.{◌≡◌, ◌+◌, ◌++◌, ◌==◌, [], IfOk, OnOk, length, map, drop, is_some};
 ghost use Rattle.std.specs.List.{flat_map};
 ghost use Rattle.std.specs.Option.{option_copied};
 ghost use Rattle.node_rules.specs.Nodes.{next_place};
 ghost use Rattle.node_rules.specs.Kept.{core_step};
 ghost use Rattle.node_rules.specs.Steps.{leaving, released, opened};
-ghost use Rattle.world_rules.specs.Worlds.{due, told_drop, told_fired, delivery_in, chosen_with, host_after, host_index, shown_host};
+ghost use Rattle.durable_store.specs.Exact.{call_due};
+ghost use Rattle.world_rules.specs.Worlds.{host_of_node, disk_called, told_drop, told_fired, delivery_in, chosen_with, host_after, host_index, shown_host};
 ghost use Rattle.world_rules.specs.Premises.{is_among};
+ghost use Rattle.world_core.specs.Calling.{firmness};
 ghost use Rattle.world_core.specs.Idling.{is_idle};
 ghost use Rattle.world_core.specs.Standing.{stands};
 
+use member_store::store::MemberStore;
 use node_core::node::NodeCore;
 use node_rules::node::{Delivery, Fired, Held, Why};
 use smart_base::duplicate::Duplicate;
@@ -29,10 +32,12 @@ use world_rules::line::OutLine;
 /// How often a place is marked.
 const PERIOD: u32 = 1024;
 
-/// A member's host: its node, and the batches that it ever delivered.
+/// A member's host: its node, the store of what its node writes down, and the batches that the node
+/// ever delivered.
 #[derive(Drop)]
 pub struct Host<S> {
     node: NodeCore<S>,
+    store: MemberStore,
     delivered: Vec<Delivery>,
 }
 
@@ -41,7 +46,7 @@ impl<S> Model for Host<S> {
 
     ghost Value = { Host S };
 
-    ghost view = { λ h. record { node = h.node.node; delivered = h.delivered.items } };
+    ghost view = { λ h. record { node = h.node.node; store = h.store; delivered = h.delivered.items } };
 }
 
 /// What a node's step tells: why an arrival was dropped, or the rules that a transcript names.
@@ -151,12 +156,16 @@ fn is_idle(fired: &[Fired]) -> bool
 }
 
 impl<S: Service> Host<S> {
-    /// A host whose node has an empty book.
+    /// A host whose node has opened its book, over devices that hold nothing.
     pub fn begin(alloc: Global, id: MemberId, view: View, ring: Ring) -> Result<Self, AllocError>
-        ensures { IfOk result (λ h. h ≡ record { node = opened S.meaning ring id view 1024; delivered = [] }) }
+        ensures { IfOk result (λ h. h ≡ host_of_node (opened S.meaning ring id view 1024)) }
     {
+        let node: NodeCore<S> = NodeCore::begin(alloc, id, view, PERIOD, ring)?;
+        let mut store = MemberStore::empty(alloc)?;
+        store.write_down(node.book())?;
         Ok(Host {
-            node: NodeCore::begin(alloc, id, view, PERIOD, ring)?,
+            node,
+            store,
             delivered: Vec::new(alloc),
         })
     }
@@ -182,18 +191,29 @@ impl<S: Service> Host<S> {
         self.delivered.as_slice()
     }
 
-    /// What is due without another message: firmness of what was made, or delivery of what waits.
-    pub fn due(&self) -> Option<NodeEvent>
-        ensures { result ≡ due self.now }
+    /// Whether its store has a device call to make.
+    pub fn has_call(&self) -> bool
+        ensures { result ≡ call_due self.now.store }
     {
-        let made = self.node.made();
-        if self.node.firm() < made {
-            Some(NodeEvent::Firm(made))
-        } else if self.node.waits() {
-            Some(NodeEvent::Deliver)
-        } else {
-            None
+        self.store.is_due()
+    }
+
+    /// Whether a batch is decided and not yet delivered.
+    pub fn waits(&self) -> bool
+        ensures { result ≡ is_some self.now.node.waiting }
+    {
+        self.node.waits()
+    }
+
+    /// What its node has to hear: how many entries of its life are firm, where more are than it knows.
+    fn firmness(&self) -> Option<NodeEvent>
+        ensures { result ≡ firmness self.now }
+    {
+        let firm = self.store.firm();
+        if self.node.firm() < firm {
+            return Some(NodeEvent::Firm(firm.saturating_sub(self.node.restored())));
         }
+        None
     }
 
     /// Where the node stands.
@@ -207,6 +227,29 @@ impl<S: Service> Host<S> {
             regency: self.node.regency(),
         }
     }
+}
+
+/// The store of a host makes its next device call, if there is one. What its node has to hear then is
+/// given.
+#[tactic(auto, unfolding(world_rules::specs::Worlds::disk_called))]
+pub fn call_disk<S: Service>(host: &mut Host<S>) -> Result<Option<NodeEvent>, AllocError>
+    ensures host { OnOk result (host.new ≡ disk_called host.old) }
+    ensures event { IfOk result (λ event. event ≡ firmness (disk_called host.old)) }
+{
+    host.store.call()?;
+    Ok(host.firmness())
+}
+
+/// The entries behind some others.
+fn behind(entries: &[LogEntry], count: u64) -> &[LogEntry]
+    ensures { result.now ≡ drop count entries.now }
+{
+    let count = count as usize;
+    if count >= entries.len() {
+        return &[];
+    }
+    let (_, rest) = entries.split_at(count);
+    rest
 }
 
 /// The index at which a member's host stands.
@@ -280,7 +323,9 @@ pub fn step_host<S: Service>(
         return Err(AllocError);
     }
     let id = host.node.id();
+    let made = host.node.made();
     let outcome = host.node.step(event)?;
+    host.store.write_down(behind(host.node.book(), made))?;
     tell_step(told, id, outcome.dropped, outcome.fired.as_slice())?;
     choose(
         alloc,

@@ -64,7 +64,9 @@ impl<S: Service> WorldState<S> {
                     && *number <= self.sent.as_slice().len() as u64
                     && self.has_parties(to.as_slice())
             }
-            Line::Settle { member } | Line::Faulty { member } => self.has_member(*member),
+            Line::Disk { member, .. } | Line::Settle { member } | Line::Faulty { member } => {
+                self.has_member(*member)
+            }
             Line::Inject(form) => is_injectable(self.sent.as_slice(), form),
         }
     }
@@ -115,6 +117,10 @@ impl<S: Service> WorldState<S> {
             }
             Line::Tick { members } => {
                 self.tick(members.as_slice())?;
+                Ok(())
+            }
+            Line::Disk { member, count } => {
+                self.call_member(*member, *count)?;
                 Ok(())
             }
             Line::Settle { member } => {

@@ -4,7 +4,7 @@ ghost use Rattle.smart_base.specs.Lists.{or_else};
 ghost use Rattle.node_rules.specs.Steps.{opened};
 ghost use Rattle.world_rules.specs.Secrets.{group_secret};
 ghost use Rattle.world_rules.specs.Premises.{is_among};
-ghost use Rattle.world_rules.specs.Worlds.{telling, posts, is_gone, is_rogue, sends, sends_all, hosts_from, clients_from, begun};
+ghost use Rattle.world_rules.specs.Worlds.{telling, posts, is_gone, is_rogue, sends, sends_all, host_of_node, hosts_from, clients_from, begun};
 ghost use Rattle.world_rules.specs.Plays.{rested};
 
 use crate::host::{Host, is_among};
@@ -99,7 +99,7 @@ fn first_host<S: Service>(
     id: MemberId,
 ) -> Result<Host<S>, AllocError>
     requires { ring.now ≡ group_secret }
-    ensures { IfOk result (λ h. h ≡ record { node = opened S.meaning group_secret id view.now 1024; delivered = [] }) }
+    ensures { IfOk result (λ h. h ≡ host_of_node (opened S.meaning group_secret id view.now 1024)) }
 {
     let view = view.duplicate(alloc)?;
     let ring = ring.duplicate(alloc)?;

@@ -163,6 +163,7 @@ pub keeps-told : {S : Type 0} (m : Meaning S) (P : World S → Type 0) → ((w :
 keeps-told m P telling k =
     record {
       event = λ w i h event there at may p. (k.event w i h event there at may p.0, told-stepped m w i h (step_of m h.node event) p.1);
+      disk = λ w i h at p. (k.disk w i h at p.0, record { all = p.1.all });
       hear = λ w i c x a at has read p. (
         k.hear w i c x a at has read p.0,
         (let known = telling w p.0 in told-hearing m w i c a at known (heard_has w x (Reply a) known.reads has read) p.1),

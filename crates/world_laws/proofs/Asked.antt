@@ -277,6 +277,7 @@ keeps-asked {S = S} m brief =
             k.event w i h event there at may p.0,
             asked-stepped m w i h event at read (secret-step m h.node event ∙ hr.shared) p.0 p.1,
           );
+      disk = λ w i h at p. (k.disk w i h at p.0, record { each = p.1.each; chosen = p.1.chosen; clients = p.1.clients });
       hear = λ w i c x a at has read p. (k.hear w i c x a at has read p.0, record { each = p.1.each; chosen = p.1.chosen; clients = p.1.clients });
       ask = λ w i c op at free low brief p. (
         k.ask w i c op at free low brief p.0,

@@ -322,6 +322,7 @@ unfolding hearing
 keeps-right step =
     record {
       event = λ w i h event on there at may is. right-stepped w i h (step h.node event) is;
+      disk = λ w i h on there at is. record { all = is.all };
       hear = λ w i c x a on at has read is. record { all = right-heard w.sent w.ending w.clients w.accepted w.view i c a (heard w.view c a) at on refl is.all };
       ask = λ w i c op on at free few brief is. right-asks w i c op at is;
       again = λ w i c q on at waits is. right-again w i c q on at waits is;

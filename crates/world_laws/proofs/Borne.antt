@@ -9,7 +9,7 @@ use Rattle.smart_messages.specs.declared.entry.NodeEvent.TheVariants.{Arrive, Ti
 use Rattle.smart_service.specs.Services.{Meaning}
 use Rattle.vote_book.specs.declared.entry.LogEntry.{LogEntry}
 use Rattle.node_rules.specs.Nodes.{Node}
-use Rattle.node_rules.specs.Steps.{Outcome, step_of, leaving}
+use Rattle.node_rules.specs.Steps.{Outcome, made_firm, step_of, leaving}
 use Rattle.node_rules.specs.declared.node.Held.{Held}
 use Rattle.world_rules.specs.Repeats.{repeated}
 use Rattle.world_rules.specs.Secrets.{group_secret}
@@ -27,13 +27,15 @@ use Rattle.replica_laws.proofs.Onward.{longer-take, longer-front, rests-more, No
 use Rattle.world_laws.specs.Sending.{IsRested, Bears, IsBorneAt, IsBorne, SentFirm, IsOwnSent}
 use Rattle.world_laws.specs.Settling.{flow_begins, flow_goes, message_goes, node_goes, settles_present}
 use Rattle.world_laws.proofs.Lists.{either, some-equal, each_end, each_weaker, each_set, each_get, repeated_keeps, each_from_keeps}
-use Rattle.world_laws.proofs.Keeps.{MayCome, ask_of, asked_by, by-posts, Keeps, KeepsLive, live, keeps-world_after, live-settle_once, live-settle, live-settle_all, live-flow_once, at_listed-keeps, signed_by, from_node, from_client, from_script, live-settles_present}
+use Rattle.world_laws.proofs.Stores.{Fits, IsTold, may-told, firm-grows, fits-called, fits-stepped, fits-opened}
+use Rattle.world_laws.proofs.Keeps.{after_call, called, ask_of, asked_by, by-posts, Keeps, KeepsLive, live, keeps-world_after, live-settle_once, live-settle, live-settle_all, live-flow_once, at_listed-keeps, signed_by, from_node, from_client, from_script, live-settles_present}
 
 -- worlds
 
--- a node's held messages are right, and no more is firm than is written
+-- a node's held messages are right, no more is firm than is written, and its store fits its book
 pub record HostRests {S : Type 0} (h : Host S) : Type 0 where
   pub rests : NodeRests h.node
+  pub stored : Fits h.node h.store
   pub low : h.node.firm ≤ length h.node.entries
 
 -- so are all nodes, and what was sent rests on entries that are firm
@@ -109,13 +111,6 @@ borne-set hs i h h' at same more (origins.Node id) x borne =
     borne_set id x hs i h h' at
     (λ is. record { member = same ∙ is.member; rested = rested-more (take h.node.firm h.node.entries) (take h'.node.firm h'.node.entries) more x is.rested }) borne
 
--- what may come of firmness: that all entries are firm
-abbrev FirmAll : {S : Type 0} → Node S → NodeEvent → Type 0
-FirmAll n (Arrive bytes) = Unit {0}
-FirmAll n Tick = Unit {0}
-FirmAll n Deliver = Unit {0}
-FirmAll n (Firm count) = count ≡ length n.entries
-
 -- a node with a longer book
 later-onward : {S : Type 0} (n a n' : Node S) → a.id ≡ n.id → a.entries ≡ n.entries → n.firm ≤ a.firm → a.firm ≤ length n.entries → Onward a n' → Later n n'
 later-onward {S = S} n a n' id entries firm low f =
@@ -131,17 +126,18 @@ later-onward {S = S} n a n' id entries firm low f =
     }
 
 -- a step makes a node later
-later-step : {S : Type 0} (m : Meaning S) (h : Host S) (event : NodeEvent) → FirmAll h.node event → HostRests h → Later h.node (step_of m h.node event).node
-later-step m h (Arrive bytes) all is = later-onward h.node h.node _ refl refl (omega arith) is.low (onward-step m h.node (Arrive bytes) is.rests)
-later-step m h Tick all is = later-onward h.node h.node _ refl refl (omega arith) is.low (onward-step m h.node Tick is.rests)
-later-step m h Deliver all is = later-onward h.node h.node _ refl refl (omega arith) is.low (onward-step m h.node Deliver is.rests)
-later-step m h (Firm count) all is =
-    later-onward h.node (record h.node { firm = count }) _ refl refl (omega (arith, all, is.low)) (omega (arith, all)) (onward-step m h.node (Firm count) is.rests)
+later-step : {S : Type 0} (m : Meaning S) (h : Host S) (event : NodeEvent) → IsTold h event → HostRests h → Later h.node (step_of m h.node event).node
+later-step m h (Arrive bytes) told is = later-onward h.node h.node _ refl refl (omega arith) is.low (onward-step m h.node (Arrive bytes) is.rests)
+later-step m h Tick told is = later-onward h.node h.node _ refl refl (omega arith) is.low (onward-step m h.node Tick is.rests)
+later-step m h Deliver told is = later-onward h.node h.node _ refl refl (omega arith) is.low (onward-step m h.node Deliver is.rests)
+later-step m h (Firm count) told is =
+    let grows = firm-grows h count told is.stored in
+    later-onward h.node (made_firm h.node count) _ refl refl grows.0 grows.1 (onward-step m h.node (Firm count) is.rests)
 
 -- a node's step
-borne-stepped : {S : Type 0} (w : World S) (i : ℕ) (h : Host S) (o : Outcome S) → slice_get w.hosts i ≡ Some h → Later h.node o.node → Borne w → Borne (stepped w i h o)
+borne-stepped : {S : Type 0} (w : World S) (i : ℕ) (h : Host S) (o : Outcome S) → slice_get w.hosts i ≡ Some h → Later h.node o.node → Fits (host_after h o).node (host_after h o).store → Borne w → Borne (stepped w i h o)
 unfolding stepped
-borne-stepped {S = S} w i h o at later is =
+borne-stepped {S = S} w i h o at later stored is =
     let h' : Host S = host_after h o in
     borne-sends_all h.node.id _ (leaving o.node.firm o.node.held)
     (each_weaker (λ (x : Held). IsOwn o.node.id x.to x.message × RestsOn (take o.node.firm o.node.entries) x.message)
@@ -152,7 +148,7 @@ borne-stepped {S = S} w i h o at later is =
     ))
     (leaving o.node.firm o.node.held) (leaving_rest o.node.id o.node.firm o.node.entries o.node.held later.rests.held))
     (record {
-      hosts = each_set HostRests w.hosts i h' is.hosts (record { rests = rests-released o.node later.rests; low = later.low });
+      hosts = each_set HostRests w.hosts i h' is.hosts (record { rests = rests-released o.node later.rests; stored = stored; low = later.low });
       sent = record {
         own = is.sent.own;
         borne = each_weaker (λ (s : Sent). IsBorne w.hosts s.origin s.content) (λ (s : Sent). IsBorne (slice_set w.hosts i h') s.origin s.content)
@@ -161,22 +157,31 @@ borne-stepped {S = S} w i h o at later is =
     })
 
 -- a host takes an event
-borne-event : {S : Type 0} (m : Meaning S) (w : World S) (i : ℕ) (h : Host S) (event : NodeEvent) → slice_get w.hosts i ≡ Some h → FirmAll h.node event → Borne w → Borne (stepped w i h (step_of m h.node event))
-borne-event m w i h event at all is = borne-stepped w i h (step_of m h.node event) at (later-step m h event all (each_get HostRests w.hosts i h is.hosts at)) is
+borne-event : {S : Type 0} (m : Meaning S) (w : World S) (i : ℕ) (h : Host S) (event : NodeEvent) → slice_get w.hosts i ≡ Some h → IsTold h event → Borne w → Borne (stepped w i h (step_of m h.node event))
+borne-event m w i h event at told is =
+    let rests = each_get HostRests w.hosts i h is.hosts at in
+    borne-stepped w i h (step_of m h.node event) at (later-step m h event told rests) (fits-stepped m h event rests.stored) is
 
--- what may come says so
-may-firm : {S : Type 0} (w : World S) (h : Host S) (event : NodeEvent) → MayCome w h event → FirmAll h.node event
-may-firm w h (Arrive bytes) may = tt
-may-firm w h Tick may = tt
-may-firm w h Deliver may = tt
-may-firm w h (Firm count) may = may
+-- the store of a host makes a call
+borne-called : {S : Type 0} (w : World S) (i : ℕ) (h : Host S) → slice_get w.hosts i ≡ Some h → Borne w → Borne (called w i h)
+borne-called {S = S} w i h at is =
+    let rests = each_get HostRests w.hosts i h is.hosts at in
+    record {
+      hosts = each_set HostRests w.hosts i (after_call h) is.hosts (record { rests = rests.rests; stored = fits-called h.node h.store rests.stored; low = rests.low });
+      sent = record {
+        own = is.sent.own;
+        borne = each_weaker (λ (s : Sent). IsBorne w.hosts s.origin s.content) (λ (s : Sent). IsBorne (slice_set w.hosts i (after_call h)) s.origin s.content)
+            (λ s borne. borne-set w.hosts i h (after_call h) at refl (λ x rested. rested) s.origin s.content borne) w.sent is.sent.borne;
+      };
+    }
 
 -- each event keeps that
 pub keeps-borne : {S : Type 0} (m : Meaning S) → Keeps (step_of m) Borne
 unfolding hearing
 keeps-borne m =
     record {
-      event = λ w i h event there at may is. borne-event m w i h event at (may-firm w h event may) is;
+      event = λ w i h event there at may is. borne-event m w i h event at (may-told w h event may) is;
+      disk = λ w i h at is. borne-called w i h at is;
       hear = λ w i c x a at has read is. record { hosts = is.hosts; sent = record { own = is.sent.own; borne = is.sent.borne } };
       ask = λ w i c op at free few brief is.
           borne-posts (asked_by w i c op) (from_client c (ask_of c op)) (refl, refl) tt
@@ -196,7 +201,7 @@ borne-live m = live (step_of m) Borne (keeps-borne m)
 -- hosts that have just opened rest
 hosts_rest : {S : Type 0} (m : Meaning S) (view : View) (ids : List ℕ) → Each HostRests (hosts_from m view ids)
 hosts_rest m view [] = tt
-hosts_rest m view (id ∷ ids) = (record { rests = rests-opened m group_secret id view 1024; low = omega arith }, hosts_rest m view ids)
+hosts_rest m view (id ∷ ids) = (record { rests = rests-opened m group_secret id view 1024; stored = fits-opened m group_secret id view 1024; low = omega arith }, hosts_rest m view ids)
 
 -- at the beginning
 pub borne-begun : {S : Type 0} (m : Meaning S) (view : View) → Borne (begun m view)

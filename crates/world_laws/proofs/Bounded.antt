@@ -51,6 +51,7 @@ unfolding hearing
 keeps-passed step low =
     record {
       event = λ w i h event on there at may is. passed-stepped low w i h (step h.node event) is;
+      disk = λ w i h on there at is. record { past = is.past; mark = is.mark; sent = is.sent };
       hear = λ w i c x a on at has read is. record { past = is.past; mark = is.mark; sent = is.sent };
       ask = λ w i c op on at free few brief is.
           passed-posts low (asked_by w i c op) (from_client c (ask_of c op))
@@ -69,6 +70,7 @@ keeps-bounded step =
     let k = keeps-passed step 0 in
     record {
       event = λ w i h event on there at may is. bounded (k.event w i h event on there at may (passed is));
+      disk = λ w i h on there at is. bounded (k.disk w i h on there at (passed is));
       hear = λ w i c x a on at has read is. bounded (k.hear w i c x a on at has read (passed is));
       ask = λ w i c op on at free few brief is. bounded (k.ask w i c op on at free few brief (passed is));
       again = λ w i c q on at waits is. bounded (k.again w i c q on at waits (passed is));

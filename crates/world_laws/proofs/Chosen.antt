@@ -25,10 +25,12 @@ use Rattle.world_rules.specs.Premises.{is_among, too_many}
 use Rattle.world_rules.specs.Worlds.{Host, World, chosen_with}
 use Rattle.world_rules.specs.Promises.{AtPlaces}
 use Rattle.world_rules.specs.declared.message.Sent.{Sent}
-use Rattle.replica_laws.specs.Books.{decided_of, DeliversInOrder}
+use Rattle.node_rules.specs.Reopening.{decided_of}
+use Rattle.replica_laws.specs.Books.{DeliversInOrder}
 use Rattle.replica_laws.proofs.InOrder.{get-end}
 use Rattle.replica_laws.proofs.Follows.{DecidesNext, WasDue}
 use Rattle.world_laws.specs.Stated.{stated_in, stated, diary, Certified, AllCertified}
+use Rattle.world_laws.proofs.Stores.{Fits}
 use Rattle.world_laws.proofs.Lists.{each_weaker, either, either_by, some-equal}
 use Rattle.world_laws.proofs.Fronts.{front-same, front-append, front-length, front-get, front-batch_at, batch_at-next}
 use Rattle.world_laws.proofs.Certified.{DecidesOnce, Exact, certified-front, all_certified_more, certified-end, certified-get}
@@ -41,11 +43,12 @@ abbrev pub DeliveredIs : List Batch → Delivery → Type 0
 DeliveredIs chosen d = batch_at chosen d.place ≡ Some d.batch
 
 -- a host of the group whose node is sound and delivers in order, which decided what is certified, and no more than the list has, and delivered a batch for
--- each place, the list's
+-- each place, the list's; its store fits its book
 pub record HostRight {S : Type 0} (sent : List Sent) (m : Meaning S) (view : View) (chosen : List Batch) (h : Host S) : Type 0 where
   pub sound : IsSound (stated sent) view h.node
   pub shared : h.node.secret ≡ group_secret
   pub low : h.node.firm ≤ length h.node.entries
+  pub stored : Fits h.node h.store
   pub decided : AllCertified (stated sent) view 1 (decided_of h.node.entries)
   pub order : DeliversInOrder m view h.node
   pub within : length (decided_of h.node.entries) ≤ length chosen
@@ -230,6 +233,7 @@ host_longer sent m view chosen more front h r =
       sound = r.sound;
       shared = r.shared;
       low = r.low;
+      stored = r.stored;
       decided = r.decided;
       order = r.order;
       within = omega (arith, r.within, front-length chosen more front);
@@ -252,6 +256,7 @@ host_sent sent s m view chosen h r =
       sound = sound_more (stated sent) (stated (sent ++ s ∷ [])) (among-all (stated sent) (stated (sent ++ s ∷ [])) (stated-grows sent s)) view h.node r.sound;
       shared = r.shared;
       low = r.low;
+      stored = r.stored;
       decided = certified_sent sent s view 1 (decided_of h.node.entries) r.decided;
       order = r.order;
       within = r.within;

@@ -21,7 +21,7 @@ use Rattle.vote_book.specs.Books.{Among}
 use Rattle.replica_rules.specs.Replicas.{state, batch_at}
 use Rattle.replica_rules.specs.Seals.{signed}
 use Rattle.node_rules.specs.Nodes.{Node, next_place}
-use Rattle.node_rules.specs.Steps.{Outcome, step_of, leaving}
+use Rattle.node_rules.specs.Steps.{Outcome, made_firm, step_of, leaving}
 use Rattle.node_rules.specs.declared.node.Held.{Held}
 use Rattle.agreement_laws.specs.Fronts.{IsFront}
 use Rattle.agreement_laws.specs.Statements.{Statement, Asked, signer_of, within}
@@ -44,13 +44,14 @@ use Rattle.client_quorum.specs.declared.client.Heard.{Heard}
 use Rattle.world_rules.specs.declared.message.Content.{Content}
 use Rattle.world_rules.specs.declared.message.Content.TheVariants as contents
 use Rattle.world_rules.specs.declared.message.Sent.{Sent}
-use Rattle.replica_laws.specs.Books.{decided_of, DeliversInOrder}
+use Rattle.node_rules.specs.Reopening.{decided_of}
+use Rattle.replica_laws.specs.Books.{DeliversInOrder}
 use Rattle.replica_laws.proofs.InOrder.{in_order-step, in_order-released, in_order-opened}
 use Rattle.replica_laws.proofs.Follows.{next-step, WasDue, due-step}
 use Rattle.replica_laws.proofs.Counted.{places-append, advances-step}
 use Rattle.world_laws.specs.Stated.{stated_in, stated, AllCertified, IsWitnessed}
 use Rattle.world_laws.proofs.Lists.{each_append, each_weaker, each_both, each_set, each_get, some-equal}
-use Rattle.world_laws.proofs.Keeps.{IsRead, MayCome, ask_of, asked_by, by-posts, Keeps, keeps-world_after, ReadsSent, MayRead, may_read, signed_by, from_node, from_client, from_script}
+use Rattle.world_laws.proofs.Keeps.{after_call, IsRead, called, ask_of, asked_by, by-posts, Keeps, keeps-world_after, ReadsSent, MayRead, may_read, signed_by, from_node, from_client, from_script}
 use Rattle.replica_laws.proofs.FitNodes.{IsBrief}
 use Rattle.world_laws.proofs.NoClash.{IsMet}
 use Rattle.world_laws.proofs.Grounded.{NodeMet, Grounded, grounded-exact, grounded-reads, keeps-grounded, grounded-begun}
@@ -59,7 +60,8 @@ use Rattle.world_laws.proofs.Aligned.{Aligned, AllAligned}
 use Rattle.world_laws.proofs.Fronts.{front-take, front-batch_at}
 use Rattle.world_laws.proofs.Certified.{Exact, DecidesOnce}
 use Rattle.world_laws.proofs.Stating.{IsSaid, message_says}
-use Rattle.world_laws.proofs.Longer.{Longer, longer-step}
+use Rattle.world_laws.proofs.Longer.{front_same, Longer, longer-step}
+use Rattle.world_laws.proofs.Stores.{Fits, IsTold, may-told, firm-grows, fits-called, fits-stepped, fits-opened}
 use Rattle.world_laws.proofs.Witnessing.{stated_event, stated-grows, StatesShown, ShowsOwn, Firmer, firm_of, shown-faulty, shown-sent, shown-set, leave_shown}
 use Rattle.world_laws.proofs.Chosen.{DeliveredIs, HostRight, WorldRight, Based, ChosenRight, chosen-front, within-step, certified-step, decided-step, right-witnessed, right-once, host-front, waiting-at, due-agrees, host_longer, certified_sent, host_sent}
 
@@ -154,19 +156,6 @@ ids-set (x ∷ hs) (suc i) h h' at same = ap (λ ys. x.node.id ∷ ys) (ids-set 
 
 -- a host's node takes an event
 
--- of firmness a host is told that all its entries are firm
-abbrev pub FirmAll : {S : Type 0} → Node S → NodeEvent → Type 0
-FirmAll n (Arrive bytes) = Unit {0}
-FirmAll n Tick = Unit {0}
-FirmAll n Deliver = Unit {0}
-FirmAll n (Firm count) = count ≡ length n.entries
-
-may-firm : {S : Type 0} (w : World S) (h : Host S) (event : NodeEvent) → MayCome w h event → FirmAll h.node event
-may-firm w h (Arrive bytes) may = tt
-may-firm w h Tick may = tt
-may-firm w h Deliver may = tt
-may-firm w h (Firm count) may = may
-
 -- a longer book, of which more is firm
 record Later {S : Type 0} (n n' : Node S) : Type 0 where
   named : n'.id ≡ n.id
@@ -181,11 +170,13 @@ later {S = S} n a n' id secret entries firm low f =
     let longer : length n'.entries ≡ length n.entries + length book.rest = ap (λ (es : List LogEntry). length es) book.is ∙ length-append n.entries book.rest in
     record { named = f.named ∙ id; shared = f.shared ∙ secret; book = book; firm = omega (arith, firm, f.firm_is); low = omega (arith, low, f.firm_is, longer) }
 
-later-step : {S : Type 0} (m : Meaning S) (n : Node S) (event : NodeEvent) → FirmAll n event → n.firm ≤ length n.entries → Later n (step_of m n event).node
-later-step m n (Arrive bytes) all low = later n n _ refl refl refl (omega arith) low (longer-step m n (Arrive bytes))
-later-step m n Tick all low = later n n _ refl refl refl (omega arith) low (longer-step m n Tick)
-later-step m n Deliver all low = later n n _ refl refl refl (omega arith) low (longer-step m n Deliver)
-later-step m n (Firm count) all low = later n (record n { firm = count }) _ refl refl refl (omega (arith, all, low)) (omega (arith, all)) (longer-step m n (Firm count))
+later-step : {S : Type 0} (m : Meaning S) (h : Host S) (event : NodeEvent) → IsTold h event → Fits h.node h.store → h.node.firm ≤ length h.node.entries → Later h.node (step_of m h.node event).node
+later-step m h (Arrive bytes) told stored low = later h.node h.node _ refl refl refl (omega arith) low (longer-step m h.node (Arrive bytes))
+later-step m h Tick told stored low = later h.node h.node _ refl refl refl (omega arith) low (longer-step m h.node Tick)
+later-step m h Deliver told stored low = later h.node h.node _ refl refl refl (omega arith) low (longer-step m h.node Deliver)
+later-step m h (Firm count) told stored low =
+    let grows = firm-grows h count told stored in
+    later h.node (made_firm h.node count) _ refl refl refl grows.0 grows.1 (longer-step m h.node (Firm count))
 
 -- so the host behind it shows what the host showed
 firmer : {S : Type 0} (h : Host S) (o : Outcome S) → Later h.node o.node → Firmer h (host_after h o)
@@ -195,7 +186,7 @@ firmer {S = S} h o l = record {
 }
 
 -- the host behind it
-host-stepped : {S : Type 0} (m : Meaning S) (w : World S) (i : ℕ) (h : Host S) (event : NodeEvent) → slice_get w.hosts i ≡ Some h → MayRead w h event → FirmAll h.node event → ChosenRight m w
+host-stepped : {S : Type 0} (m : Meaning S) (w : World S) (i : ℕ) (h : Host S) (event : NodeEvent) → slice_get w.hosts i ≡ Some h → MayRead w h event → IsTold h event → ChosenRight m w
     → HostRight w.sent m w.view (chosen_with w.chosen (next_place (step_of m h.node event).node) (step_of m h.node event).node.waiting) (host_after h (step_of m h.node event))
 host-stepped {S = S} m w i h event at may firm r =
     let g : Grounded w = r.0.0 in
@@ -207,11 +198,12 @@ host-stepped {S = S} m w i h event at may firm r =
     host-front m (IsMet w.sent) w.view w.sent w.chosen h (grounded-exact w g) g.chosen (host-met w i h at g) (right-once m w r.1) r.1.certified hr in
     let s : IsSound (stated w.sent) w.view n' = sound_step m (stated w.sent) w.view h.node event r.1.viewed hr.sound (stated_event w h h.node.secret event hr.shared may) in
     let d : DeliversInOrder m w.view n' = in_order-step m w.view h.node event hr.order in
-    let l : Later h.node n' = later-step m h.node event firm hr.low in
+    let l : Later h.node n' = later-step m h event firm hr.stored hr.low in
     record {
       sound = sound_released (stated w.sent) w.view n' s;
       shared = l.shared ∙ hr.shared;
       low = l.low;
+      stored = fits-stepped m h event hr.stored;
       decided = decided-step (stated w.sent) m w.view h.node n' (l.shared ∙ hr.shared) s l.book (next-step m h.node event) d hr.decided;
       order = in_order-released m w.view n' d;
       within = within-step m w.view w.chosen h.node n' n'.waiting refl (next-step m h.node event) d hr.within;
@@ -238,7 +230,7 @@ set_get (x ∷ hs) zero h h' at = refl
 set_get (x ∷ hs) (suc i) h h' at = set_get hs i h h' at
 
 -- the world behind it
-right-event : {S : Type 0} (m : Meaning S) (w : World S) (i : ℕ) (h : Host S) (event : NodeEvent) → slice_get w.hosts i ≡ Some h → MayRead w h event → FirmAll h.node event → ChosenRight m w
+right-event : {S : Type 0} (m : Meaning S) (w : World S) (i : ℕ) (h : Host S) (event : NodeEvent) → slice_get w.hosts i ≡ Some h → MayRead w h event → IsTold h event → ChosenRight m w
     → WorldRight m (stepped w i h (step_of m h.node event))
 unfolding stepped
 right-event {S = S} m w i h event at may firm r =
@@ -248,7 +240,7 @@ right-event {S = S} m w i h event at may firm r =
     let front : take (length w.chosen) more ≡ w.chosen = chosen-front w.chosen (next_place n') n'.waiting in
     let hr : HostRight w.sent m w.view w.chosen h = each_get (HostRight w.sent m w.view w.chosen) w.hosts i h r.1.right at in
     let here : HostRight w.sent m w.view more h' = host-stepped m w i h event at may firm r in
-    let l : Later h.node n' = later-step m h.node event firm hr.low in
+    let l : Later h.node n' = later-step m h event firm hr.stored hr.low in
     let s : IsSound (stated w.sent) w.view n' = sound_step m (stated w.sent) w.view h.node event r.1.viewed hr.sound (stated_event w h h.node.secret event hr.shared may) in
     let ids : map (λ g. g.node.id) (slice_set w.hosts i h') ≡ w.view.members = ids-set w.hosts i h h' at l.named ∙ r.1.ids in
     right-sends_all m h.node.id _ (leaving n'.firm n'.held)
@@ -264,6 +256,33 @@ right-event {S = S} m w i h event at may firm r =
       shown = shown-set w.faulty (stated w.sent) w.hosts i h h' at (firmer h (step_of m h.node event) l) r.1.shown;
     })
 
+-- the store of a host makes a call
+host-called : {S : Type 0} (sent : List Sent) (m : Meaning S) (view : View) (chosen : List Batch) (h : Host S) → HostRight sent m view chosen h → HostRight sent m view chosen (after_call h)
+host-called sent m view chosen h r = record {
+  sound = r.sound;
+  shared = r.shared;
+  low = r.low;
+  stored = fits-called h.node h.store r.stored;
+  decided = r.decided;
+  order = r.order;
+  within = r.within;
+  count = r.count;
+  places = r.places;
+  agrees = r.agrees;
+}
+
+right-called : {S : Type 0} (m : Meaning S) (w : World S) (i : ℕ) (h : Host S) → slice_get w.hosts i ≡ Some h → WorldRight m w → WorldRight m (called w i h)
+right-called {S = S} m w i h at r =
+    let h' : Host S = after_call h in
+    record {
+      right = each_set (HostRight w.sent m w.view w.chosen) w.hosts i h' r.right (host-called w.sent m w.view w.chosen h (each_get (HostRight w.sent m w.view w.chosen) w.hosts i h r.right at));
+      ids = ids-set w.hosts i h h' at refl ∙ r.ids;
+      viewed = r.viewed;
+      certified = r.certified;
+      few = r.few;
+      shown = shown-set w.faulty (stated w.sent) w.hosts i h h' at (record { named = refl; book = front_same (firm_of h) }) r.shown;
+    }
+
 -- clients
 
 -- a client that hears changes none of it
@@ -276,6 +295,7 @@ pub keeps-both : {S : Type 0} (step : Node S → NodeEvent → Outcome S) (P Q :
 keeps-both step P Q k l =
     record {
       event = λ w i h event there at may is. (k.event w i h event there at may is.0, l.event w i h event there at may is.1);
+      disk = λ w i h at is. (k.disk w i h at is.0, l.disk w i h at is.1);
       hear = λ w i c x a at has read is. (k.hear w i c x a at has read is.0, l.hear w i c x a at has read is.1);
       ask = λ w i c op at free low brief is. (k.ask w i c op at free low brief is.0, l.ask w i c op at free low brief is.1);
       again = λ w i c q at waits is. (k.again w i c q at waits is.0, l.again w i c q at waits is.1);
@@ -296,8 +316,9 @@ chosen-kept m brief =
     record {
       event = λ w i h event there at may r. (
         k.event w i h event there at may r.0,
-        right-event m w i h event at (may_read w h event (grounded-reads w r.0.0) may) (may-firm w h event may) r,
+        right-event m w i h event at (may_read w h event (grounded-reads w r.0.0) may) (may-told w h event may) r,
       );
+      disk = λ w i h at r. (k.disk w i h at r.0, right-called m w i h at r.1);
       hear = λ w i c x a at has read r. (k.hear w i c x a at has read r.0, right-hear m w i c a (heard w.view c a) r.1);
       ask = λ w i c op at free few short r. (
         k.ask w i c op at free few short r.0,
@@ -342,6 +363,7 @@ hosts_right m view (id ∷ ids) = (
     sound = sound_opened m group_secret id view 1024;
     shared = refl;
     low = omega arith;
+    stored = fits-opened m group_secret id view 1024;
     decided = tt;
     order = in_order-opened m group_secret id view 1024;
     within = omega arith;

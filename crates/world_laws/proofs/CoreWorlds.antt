@@ -2,14 +2,13 @@
 use Rattle.std.proofs.Common.{◌≡◌, ℕ, zero, suc, ◌+◌, ◌^◌, ◌++◌, Bool, true, false, List, [], ◌∷◌, length, map, refl, ap, sym, ◌∙◌, cond, Option, Some, None, is_some, nat_lt, nat_le, ◌&&◌, Result, Ok, Err, ◌==◌, ◌-◌, not}
 use Rattle.std.specs.Prelude.{slice_get, slice_set, option_map}
 use Rattle.std.specs.List.{flat_map, list_all, position_or_len}
-use Rattle.std.specs.Option.{option_and_then}
 use Rattle.smart_base.specs.Views.{View}
 use Rattle.smart_messages.specs.Messages.{decoded}
 use Rattle.smart_messages.specs.declared.statement.Request.{Request}
 use Rattle.smart_messages.specs.declared.message.Message.{Message}
 use Rattle.smart_messages.specs.declared.message.Message.TheVariants.{Ask, Propose, Vote, Reply}
 use Rattle.smart_messages.specs.declared.entry.NodeEvent.{NodeEvent}
-use Rattle.smart_messages.specs.declared.entry.NodeEvent.TheVariants.{Arrive, Tick, Deliver}
+use Rattle.smart_messages.specs.declared.entry.NodeEvent.TheVariants.{Arrive, Tick, Deliver, Firm}
 use Rattle.smart_service.specs.Services.{Meaning}
 use Rattle.node_rules.specs.Nodes.{Node, next_place}
 use Rattle.node_rules.specs.Steps.{Outcome, step_of, leaving, opened}
@@ -19,10 +18,11 @@ use Rattle.node_rules.specs.declared.node.Target.TheVariants as targets
 use Rattle.node_rules.specs.Kept.{trimmed, core_step}
 use Rattle.node_rules.specs.Nodes as nodes
 use Rattle.kept_arrivals.proofs.Steps.{core_step_trimmed, opened_stands}
+use Rattle.durable_store.specs.Exact.{call_due}
 use Rattle.world_rules.specs.Repeats.{repeated, turns, until_rest, each_from}
 use Rattle.world_rules.specs.Secrets.{group_secret}
 use Rattle.world_rules.specs.Premises.{collides, too_many, is_forged, bytes_of}
-use Rattle.world_rules.specs.Worlds.{Host, World, sends_all, told_drop, told_fired, chosen_with, host_after, stepped, host_takes, node_takes, due, takes_due, settle_once, settle, settle_all, gives, give_all, hearing, client_hears, hears_bytes, client_takes, client_asks, ask_found, asks, client_repeats, repeat_found, repeats, learns, learns_from, tells, goes, flow_sent, flow_once, flows, hosts_from, begun, is_listed, where_listed, at_listed, each_listed, host_index, at_index, at_member, arrives, arrives_at, sent_arrives, give_number, told_idle, telling_all, host_tries, tries_at, tries_each, give_one, shown_host, shown_client, shows, posts, is_gone, is_rogue, settle_present, declares_faulty, declares_rogue, injects_content, injects}
+use Rattle.world_rules.specs.Worlds.{Host, World, sends_all, told_drop, told_fired, chosen_with, host_after, stepped, host_takes, node_takes, disk_called, hears_firm, host_calls, calls_disk, takes_due, host_of_node, settle_once, settle, settle_all, gives, give_all, hearing, client_hears, hears_bytes, client_takes, client_asks, ask_found, asks, client_repeats, repeat_found, repeats, learns, learns_from, tells, goes, flow_sent, flow_once, flows, hosts_from, begun, is_listed, where_listed, at_listed, each_listed, host_index, at_index, at_member, arrives, arrives_at, sent_arrives, give_number, told_idle, telling_all, host_tries, tries_at, tries_each, give_one, shown_host, shown_client, shows, posts, is_gone, is_rogue, settle_present, declares_faulty, declares_rogue, injects_content, injects}
 use Rattle.world_rules.specs.Plays.{has_member, has_party, is_there, line_played, rested, world_after, lines_told}
 use Rattle.client_quorum.specs.declared.client.Client.{Client}
 use Rattle.world_rules.specs.declared.message.Sent.{Sent}
@@ -32,6 +32,7 @@ use Rattle.world_laws.specs.Cores.{trimmed_host, trimmed_world}
 use Rattle.smart_base.specs.declared.party.Party.{Party}
 use Rattle.smart_base.specs.declared.party.Party.TheVariants as parties
 use Rattle.world_rules.specs.declared.line.OutLine.{OutLine}
+use Rattle.world_laws.proofs.Lists.{map_length}
 use Rattle.world_laws.proofs.Keeps.{from_node, from_client, from_script, signed_by, ask_of, asked_by}
 use Rattle.world_rules.specs.Injections.{injected}
 use Rattle.world_rules.specs.declared.line.Injection.{Injection}
@@ -50,11 +51,6 @@ map_set : {A B : Type 0} (t : A → B) (xs : List A) (i : ℕ) (x : A) → slice
 map_set t [] i x = refl
 map_set t (y ∷ xs) zero x = refl
 map_set t (y ∷ xs) (suc i) x = ap (λ ys. t y ∷ ys) (map_set t xs i x)
-
--- the mapped list is as long
-map_length : {A B : Type 0} (t : A → B) (xs : List A) → length (map t xs) ≡ length xs
-map_length t [] = refl
-map_length t (x ∷ xs) = ap (λ k. suc k) (map_length t xs)
 
 -- a choice
 choice_same : {A B : Type 0} (t : A → B) (b : Bool) (x y : A) (v w : B) → v ≡ t x → w ≡ t y → cond b v w ≡ t (cond b x y)
@@ -134,27 +130,43 @@ node_takes_same m i event w =
     choice_same trimmed_world (is_some w.ending) _ _ _ _ refl
     (ap (λ found. host_takes (core_step m) i event (trimmed_world w) found) (map_get trimmed_host w.hosts i) ∙ host_takes_same m i event w (slice_get w.hosts i))
 
--- what is due at a host
-due_same : {S : Type 0} (h : Host S) → due (trimmed_host h) ≡ due h
+-- a node hears what is firm behind a call of its store
+hears_firm_same : {S : Type 0} (m : Meaning S) (i : ℕ) (w : World S) (h : Host S) → hears_firm (core_step m) i (trimmed_world w) (trimmed_host h) ≡ trimmed_world (hears_firm (step_of m) i w h)
+unfolding trimmed_host trimmed_world trimmed nodes.regency_of
+hears_firm_same {S} m i w h =
+    let event : NodeEvent = Firm (h.store.firm - h.node.restored) in
+    choice_same trimmed_world (nat_lt h.node.firm h.store.firm) _ _ _ _
+    (ap (λ o. stepped (trimmed_world w) i (trimmed_host h) o) (core_step_same m h.node event) ∙ stepped_same w i h (step_of m h.node event))
+    (ap (λ (hosts : List (Host S)). record w { hosts = hosts }) (map_set trimmed_host w.hosts i h))
+
+-- the store of a host that is found makes a call, if there is one
+host_calls_same : {S : Type 0} (m : Meaning S) (i : ℕ) (w : World S) (found : Option (Host S))
+    → host_calls (core_step m) i (trimmed_world w) (option_map trimmed_host found) ≡ trimmed_world (host_calls (step_of m) i w found)
+unfolding disk_called trimmed_host trimmed_world trimmed nodes.regency_of
+host_calls_same m i w None = refl
+host_calls_same m i w (Some h) =
+    choice_same trimmed_world (is_gone w h.node.id) _ _ _ _ refl (choice_same trimmed_world (call_due h.store) _ _ _ _ (hears_firm_same m i w (disk_called h)) refl)
+
+-- the store at an index does
+calls_disk_same : {S : Type 0} (m : Meaning S) (i : ℕ) (w : World S) → calls_disk (core_step m) i (trimmed_world w) ≡ trimmed_world (calls_disk (step_of m) i w)
+unfolding calls_disk trimmed_world
+calls_disk_same m i w =
+    choice_same trimmed_world (is_some w.ending) _ _ _ _ refl
+    (ap (λ found. host_calls (core_step m) i (trimmed_world w) found) (map_get trimmed_host w.hosts i) ∙ host_calls_same m i w (slice_get w.hosts i))
+
+-- a host that is found takes what is due
+takes_due_same : {S : Type 0} (m : Meaning S) (i : ℕ) (w : World S) (found : Option (Host S))
+    → takes_due (core_step m) i (trimmed_world w) (option_map trimmed_host found) ≡ trimmed_world (takes_due (step_of m) i w found)
 unfolding trimmed_host trimmed nodes.regency_of
-due_same h = refl
-
--- what is due at a host, if there is one
-due_found : {S : Type 0} (found : Option (Host S)) → option_and_then due (option_map trimmed_host found) ≡ option_and_then due found
-due_found None = refl
-due_found (Some h) = due_same h
-
--- a node takes what is due
-takes_due_same : {S : Type 0} (m : Meaning S) (i : ℕ) (w : World S) (event : Option NodeEvent) → takes_due (core_step m) i (trimmed_world w) event ≡ trimmed_world (takes_due (step_of m) i w event)
 takes_due_same m i w None = refl
-takes_due_same m i w (Some event) = node_takes_same m i event w
+takes_due_same m i w (Some h) =
+    choice_same trimmed_world (call_due h.store) _ _ _ _ (calls_disk_same m i w) (choice_same trimmed_world (is_some h.node.waiting) _ _ _ _ (node_takes_same m i Deliver w) refl)
 
 -- a node settles once
 settle_once_same : {S : Type 0} (m : Meaning S) (i : ℕ) (w : World S) → settle_once (core_step m) i (trimmed_world w) ≡ trimmed_world (settle_once (step_of m) i w)
 unfolding settle_once trimmed_world
 settle_once_same m i w =
-    ap (λ event. takes_due (core_step m) i (trimmed_world w) event) (ap (option_and_then due) (map_get trimmed_host w.hosts i) ∙ due_found (slice_get w.hosts i))
-    ∙ takes_due_same m i w (option_and_then due (slice_get w.hosts i))
+    ap (λ found. takes_due (core_step m) i (trimmed_world w) found) (map_get trimmed_host w.hosts i) ∙ takes_due_same m i w (slice_get w.hosts i)
 
 -- a node settles
 settle_same : {S : Type 0} (m : Meaning S) (i : ℕ) (w : World S) → settle (core_step m) i (trimmed_world w) ≡ trimmed_world (settle (step_of m) i w)
@@ -444,6 +456,9 @@ core_line m w (lines.Give number to) = give_number_same m number to w
 core_line m w (lines.Deliver members) = tries_each_same m Deliver members w
 core_line m w (lines.Tick members) = tries_each_same m Tick members w
 core_line m w (lines.Settle member) = at_member_same (settle (core_step m)) (settle (step_of m)) (settle_same m) member w
+core_line m w (lines.Disk member count) =
+    at_member_same (λ i v. repeated (calls_disk (core_step m) i) count v) (λ i v. repeated (calls_disk (step_of m) i) count v)
+    (λ i v. repeated_same trimmed_world (calls_disk (core_step m) i) (calls_disk (step_of m) i) (calls_disk_same m i) count v) member w
 core_line m w lines.SettleAll = settle_all_same m [] w
 core_line m w lines.Show = shows_same w
 core_line m w (lines.Faulty member) = declares_faulty_same member w
@@ -476,6 +491,7 @@ there_same w (lines.Give number to) =
 there_same w (lines.Deliver members) = has_each_same (has_member (trimmed_world w)) (has_member w) (has_member_same w) members
 there_same w (lines.Tick members) = has_each_same (has_member (trimmed_world w)) (has_member w) (has_member_same w) members
 there_same w (lines.Settle member) = has_member_same w member
+there_same w (lines.Disk member count) = has_member_same w member
 there_same w lines.SettleAll = refl
 there_same w lines.Show = refl
 there_same w (lines.Faulty member) = has_member_same w member
@@ -530,8 +546,8 @@ hosts_from_same : {S : Type 0} (m : Meaning S) (view : View) (ids : List ℕ) �
 unfolding trimmed_host
 hosts_from_same m view [] = refl
 hosts_from_same m view (id ∷ ids) =
-    ap (λ n. record { node = n; delivered = [] } ∷ map trimmed_host (hosts_from m view ids)) (sym (opened_stands m group_secret id view 1024).same)
-    ∙ ap (λ hosts. record { node = opened m group_secret id view 1024; delivered = [] } ∷ hosts) (hosts_from_same m view ids)
+    ap (λ n. record (host_of_node (opened m group_secret id view 1024)) { node = n } ∷ map trimmed_host (hosts_from m view ids)) (sym (opened_stands m group_secret id view 1024).same)
+    ∙ ap (λ hosts. host_of_node (opened m group_secret id view 1024) ∷ hosts) (hosts_from_same m view ids)
 
 -- the first world is its own world of cores
 pub begun_same : {S : Type 0} (m : Meaning S) (view : View) → trimmed_world (begun m view) ≡ begun m view

@@ -2,7 +2,6 @@
 use Rattle.std.proofs.Common.{◌≡◌, ℕ, ◌+◌, ◌++◌, ◌≤◌, Bool, true, false, not, ◌&&◌, ◌||◌, nat_le, List, [], ◌∷◌, length, refl, ap, ◌∙◌, sym, arith, cond, Option, Some, None, is_some, Ok, append-nil}
 use Rattle.std.proofs.lemmas.Bool.{le-leb}
 use Rattle.std.specs.Prelude.{⊤, slice_get}
-use Rattle.std.specs.Option.{option_and_then}
 use Rattle.smart_base.specs.Lists.{or_else, same_bytes}
 use Rattle.smart_base.specs.Views.{is_view}
 use Rattle.smart_messages.specs.Forms.{SignedBy}
@@ -23,7 +22,7 @@ use Rattle.smart_messages.specs.declared.statement.VoteKind.{VoteKind}
 use Rattle.smart_messages.specs.declared.statement.VoteKind.TheVariants.{Write, Accept}
 use Rattle.smart_messages.specs.declared.statement.Slot.{Slot}
 use Rattle.smart_messages.specs.declared.entry.NodeEvent.{NodeEvent}
-use Rattle.smart_messages.specs.declared.entry.NodeEvent.TheVariants.{Arrive}
+use Rattle.smart_messages.specs.declared.entry.NodeEvent.TheVariants.{Arrive, Deliver}
 use Rattle.smart_service.specs.Services.{Meaning}
 use Rattle.smart_service.specs.declared.table.TableLine.{TableLine}
 use Rattle.vote_book.specs.declared.entry.Decision.{Decision}
@@ -53,7 +52,7 @@ use Rattle.client_quorum.specs.declared.client.Heard.TheVariants as hears
 use Rattle.world_rules.specs.Clients.{heard}
 use Rattle.world_rules.specs.Repeats as repeats
 use Rattle.world_rules.specs.Repeats.{repeated, until_rest, each_from}
-use Rattle.world_rules.specs.Worlds.{Host, World, begun, clients_from, asks, stepped, host_takes, node_takes, due, takes_due, settle_once, settle, settle_all, gives, hearing, client_hears, hears_bytes, client_takes, flow_sent, flow_once, where_listed, at_listed, posts, is_gone}
+use Rattle.world_rules.specs.Worlds.{Host, World, begun, clients_from, asks, stepped, host_takes, node_takes, disk_called, calls_disk, host_of_node, takes_due, settle_once, settle, settle_all, gives, hearing, client_hears, hears_bytes, client_takes, flow_sent, flow_once, where_listed, at_listed, posts, is_gone}
 use Rattle.world_rules.specs.Plays.{line_played, rested}
 use Rattle.world_rules.specs.Promises.{world_at}
 use Rattle.world_rules.specs.declared.message.Origin.{Origin}
@@ -64,7 +63,9 @@ use Rattle.replica_laws.proofs.Genuine.{IsGood, good-genuine, signed-verified, d
 use Rattle.world_laws.specs.Examples.{lone, ask_and_flow, first_request, first_signed, first_acceptance}
 use Rattle.world_laws.proofs.Equal.{bytes-itself}
 use Rattle.world_laws.proofs.Fitting.{client-good}
+use Rattle.world_laws.proofs.Lists.{or_false}
 use Rattle.world_laws.proofs.Rests.{rest_is_reached}
+use Rattle.durable_store.specs.Exact.{call_due}
 
 -- the messages of the play
 
@@ -230,7 +231,7 @@ step_is {S = S} m n x accepted decided is =
 
 -- the host
 unfoldable pub host_in : {S : Type 0} → Meaning S → List (Host S) → Host S
-host_in m [] = record { node = opened m group_secret 1 lone 1024; delivered = [] }
+host_in m [] = host_of_node (opened m group_secret 1 lone 1024)
 host_in m (h ∷ hs) = h
 
 -- it is found
@@ -250,16 +251,28 @@ pub few : (k : ℕ) → k ≤ 20 → k ≤ repeats.turns
 unfolding repeats.turns
 few k le = omega (arith, le)
 
+-- something is due at a host
+abbrev pub is_due : {S : Type 0} → Option (Host S) → Bool
+is_due None = false
+is_due (Some h) = call_due h.store || is_some h.node.waiting
+
+none_due : {S : Type 0} (step : Node S → NodeEvent → Outcome S) (w : World S) (found : Option (Host S)) → is_due found ≡ false → takes_due step 0 w found ≡ w
+none_due step w None none = refl
+none_due step w (Some h) none =
+    let parts = or_false (call_due h.store) (is_some h.node.waiting) none in
+    ap (λ due. cond due (calls_disk step 0 w) (cond (is_some h.node.waiting) (node_takes step 0 Deliver w) w)) parts.0 ∙ ap (λ waits. cond waits (node_takes step 0 Deliver w) w) parts.1
+
 -- where nothing is due, a node has settled
-pub settled : {S : Type 0} (step : Node S → NodeEvent → Outcome S) (k : ℕ) (w : World S) → k ≤ 9 → option_and_then due (slice_get (repeated (settle_once step 0) k w).hosts 0) ≡ None
+pub settled : {S : Type 0} (step : Node S → NodeEvent → Outcome S) (k : ℕ) (w : World S) → k ≤ 9 → is_due (slice_get (repeated (settle_once step 0) k w).hosts 0) ≡ false
     → settle step 0 w ≡ repeated (settle_once step 0) k w
 unfolding settle_once
-settled step k w le none = rest_is_reached (settle_once step 0) k w (few k (omega (arith, le))) (ap (takes_due step 0 (repeated (settle_once step 0) k w)) none)
+settled step k w le none =
+    rest_is_reached (settle_once step 0) k w (few k (omega (arith, le))) (none_due step (repeated (settle_once step 0) k w) (slice_get (repeated (settle_once step 0) k w).hosts 0) none)
 
 -- a message that is for the view is given to the one node
 pub given : {S : Type 0} (m : Meaning S) (k : ℕ) (x : AnyMessage) (accepted : Option Proposed) (decided : Option Decision) (origin : Origin) (w : World S) → k ≤ 9 → is_some w.ending ≡ false
     → slice_get w.sent w.mark ≡ Some (record { origin = origin; to = Some targets.View; content = contents.Message x }) → length w.hosts ≡ 1
-    → is_gone w (host_in m w.hosts).node.id ≡ false → Takes (host_in m w.hosts).node x accepted decided → option_and_then due (slice_get (turn m k x accepted decided w).hosts 0) ≡ None → flow_once (step_of m) [] w ≡ turn m k x accepted decided w
+    → is_gone w (host_in m w.hosts).node.id ≡ false → Takes (host_in m w.hosts).node x accepted decided → is_due (slice_get (turn m k x accepted decided w).hosts 0) ≡ false → flow_once (step_of m) [] w ≡ turn m k x accepted decided w
 unfolding flow_once turn gives each_from node_takes
 given {S = S} m k x accepted decided origin w le on at one there takes none =
     let next : World S = record w { mark = w.mark + 1 } in
@@ -300,7 +313,7 @@ asked m = rested (asks 1 (7 ∷ []) (begun m lone))
 
 -- the node has settled, and no message was given
 unfoldable begins : {S : Type 0} → Meaning S → World S
-begins m = repeated (settle_once (step_of m) 0) 1 (asked m)
+begins m = repeated (settle_once (step_of m) 0) 6 (asked m)
 
 -- the node has proposed the batch
 unfoldable proposed : {S : Type 0} → Meaning S → World S
@@ -308,15 +321,15 @@ proposed m = turn m 0 first_ask None None (begins m)
 
 -- the node has written its digest
 unfoldable wrote : {S : Type 0} → Meaning S → World S
-wrote m = turn m 1 first_proposal None None (proposed m)
+wrote m = turn m 4 first_proposal None None (proposed m)
 
 -- the node has accepted it
 unfoldable accepted : {S : Type 0} → Meaning S → World S
-accepted m = turn m 1 (first_vote Write) (Some first_proposed) None (wrote m)
+accepted m = turn m 4 (first_vote Write) (Some first_proposed) None (wrote m)
 
 -- the node has decided and delivered it
 unfoldable replied : {S : Type 0} → Meaning S → World S
-replied m = turn m 2 (first_vote Accept) None (Some first_decision) (accepted m)
+replied m = turn m 5 (first_vote Accept) None (Some first_decision) (accepted m)
 
 -- the client that waits
 abbrev pub waiting_client : Client
@@ -328,7 +341,7 @@ answered m = hearing (record (replied m) { mark = (replied m).mark + 1 }) 1 wait
 
 -- what the facts on these worlds unfold to compute them
 unfoldable computed : ⊤
-unfolding asks posts collides clients_from gathered repeated settle_once node_takes stepped step_of turns fired_turns votes fired_votes passes fired_pass passed host_in slot_why signer_why is_batch_for why_ask why_propose why_vote noted kept_plain answering regency_of start_of adopts_by adoption adopts joining joins promising promises leading lead_with leads synchronizers.adopting synchronizers.is_joining synchronizers.is_promising synchronizers.collecting batch_under decision_in execute delivered executed_lines deliver_batch delivery delivers proposing propose_batch proposes writing write_batch writes accepting accept_batch accepts deciding decide_batch decides turn asked begins proposed wrote accepted replied hearing answered
+unfolding asks posts collides clients_from gathered repeated settle_once calls_disk disk_called node_takes stepped step_of turns fired_turns votes fired_votes passes fired_pass passed host_in slot_why signer_why is_batch_for why_ask why_propose why_vote noted kept_plain answering regency_of start_of adopts_by adoption adopts joining joins promising promises leading lead_with leads synchronizers.adopting synchronizers.is_joining synchronizers.is_promising synchronizers.collecting batch_under decision_in execute delivered executed_lines deliver_batch delivery delivers proposing propose_batch proposes writing write_batch writes accepting accept_batch accepts deciding decide_batch decides turn asked begins proposed wrote accepted replied hearing answered
 computed = tt
 
 -- the turns of the play
@@ -336,7 +349,7 @@ computed = tt
 -- the node settles before any message is given
 turn_begins : {S : Type 0} (m : Meaning S) → settle_all (step_of m) [] (asked m) ≡ begins m
 unfolding computed each_from
-turn_begins m = settled (step_of m) 1 (asked m) (omega arith) refl
+turn_begins m = settled (step_of m) 6 (asked m) (omega arith) refl
 
 -- the request is given
 turn_proposed : {S : Type 0} (m : Meaning S) → flow_once (step_of m) [] (begins m) ≡ proposed m
@@ -355,7 +368,7 @@ turn_proposed m =
 turn_wrote : {S : Type 0} (m : Meaning S) → flow_once (step_of m) [] (proposed m) ≡ wrote m
 unfolding computed
 turn_wrote m =
-    given m 1 first_proposal None None (origins.Node 1) (proposed m) (omega arith) refl refl refl refl
+    given m 4 first_proposal None None (origins.Node 1) (proposed m) (omega arith) refl refl refl refl
     (record {
       read = (good-genuine group_secret first_proposal good_proposal).read;
       fine = right_proposal (is_verified proposals group_secret (signed proposals group_secret 1 first_head)) (fits group_secret first_batch 1)
@@ -369,7 +382,7 @@ turn_wrote m =
 turn_accepted : {S : Type 0} (m : Meaning S) → flow_once (step_of m) [] (wrote m) ≡ accepted m
 unfolding computed
 turn_accepted m =
-    given m 1 (first_vote Write) (Some first_proposed) None (origins.Node 1) (wrote m) (omega arith) refl refl refl refl
+    given m 4 (first_vote Write) (Some first_proposed) None (origins.Node 1) (wrote m) (omega arith) refl refl refl refl
     (record {
       read = (good-genuine group_secret (first_vote Write) (good_vote Write)).read;
       fine = right_vote (is_verified ballots group_secret (signed ballots group_secret 1 (first_ballot Write))) (good_vote Write).tagged;
@@ -382,7 +395,7 @@ turn_accepted m =
 turn_replied : {S : Type 0} (m : Meaning S) → flow_once (step_of m) [] (accepted m) ≡ replied m
 unfolding computed
 turn_replied m =
-    given m 2 (first_vote Accept) None (Some first_decision) (origins.Node 1) (accepted m) (omega arith) refl refl refl refl
+    given m 5 (first_vote Accept) None (Some first_decision) (origins.Node 1) (accepted m) (omega arith) refl refl refl refl
     (record {
       read = (good-genuine group_secret (first_vote Accept) (good_vote Accept)).read;
       fine = right_vote (is_verified ballots group_secret (signed ballots group_secret 1 (first_ballot Accept))) (good_vote Accept).tagged;

@@ -31,7 +31,7 @@ use Rattle.world_rules.specs.declared.message.Origin.TheVariants as origins
 use Rattle.world_rules.specs.declared.message.Sent.{Sent}
 use Rattle.world_laws.specs.Sending.{AllGenuine, IsReadIfShort, IsHeardAs, IsReadAs, IsGenuineContent, IsGenuineFrom}
 use Rattle.world_laws.proofs.Lists.{and_true, either, some-equal, each_end, each_weaker, each_set, each_get, each_both}
-use Rattle.world_laws.proofs.Keeps.{change-unheard, MayCome, read_whole, FitsParts, parts_fit, long_unread, ask_of, asked_by, Keeps, by-posts, ReadsSent, keeps-world_after, signed_by, OwnWaits, from_node, from_client, HasContent, IsRead, heard_has, from_script}
+use Rattle.world_laws.proofs.Keeps.{after_call, change-unheard, MayCome, read_whole, FitsParts, parts_fit, long_unread, ask_of, asked_by, Keeps, by-posts, ReadsSent, keeps-world_after, signed_by, OwnWaits, from_node, from_client, HasContent, IsRead, heard_has, from_script}
 use Rattle.smart_messages.specs.Kinds.{requests}
 use Rattle.smart_messages.specs.Statements.{request_small}
 use Rattle.smart_messages.specs.declared.regency.RegencyMessage.TheVariants as changes
@@ -161,6 +161,12 @@ keeps-fit {S = S} m brief =
       event = λ w i h event there at may is.
           fit-stepped w i h (step_of m h.node event)
           (fit-step group_secret m brief h.node event (may-fit w h event is may) (each_get (λ (g : Host S). FitNode group_secret g.node) w.hosts i h is.hosts at)) is;
+      disk = λ w i h at is. record {
+        hosts = each_set (λ (g : Host S). FitNode group_secret g.node) w.hosts i (after_call h) is.hosts (each_get (λ (g : Host S). FitNode group_secret g.node) w.hosts i h is.hosts at);
+        clients = is.clients;
+        sent = is.sent;
+        tagged = is.tagged;
+      };
       hear = λ w i c x a at has read is.
           record {
             hosts = is.hosts;

@@ -47,7 +47,7 @@ use Rattle.replica_laws.specs.Sending.{ForRead, ForEvent}
 use Rattle.replica_laws.proofs.Rulewise.{KeptByRules, keeps_step}
 use Rattle.world_laws.proofs.Lists.{either, each_end, each_weaker, each_set, each_get}
 use Rattle.world_laws.proofs.Certified.{Exact}
-use Rattle.world_laws.proofs.Keeps.{HasMessage, ask_of, asked_by, Keeps, by-posts, ReadsSent, MayRead, may_read, signed_by, from_node, from_client, comes-as, keeps-sends_all, from_script}
+use Rattle.world_laws.proofs.Keeps.{after_call, HasMessage, ask_of, asked_by, Keeps, by-posts, ReadsSent, MayRead, may_read, signed_by, from_node, from_client, comes-as, keeps-sends_all, from_script}
 use Rattle.replica_laws.proofs.FitNodes.{IsBrief}
 use Rattle.world_laws.proofs.Fitting.{AllFit, keeps-fit, fit-reads, fit-begun}
 use Rattle.world_laws.proofs.NoClash.{HasBatch, IsMet, has-left, has-right, met-grows, TextsExact, texts-end, met-exact}
@@ -409,6 +409,12 @@ keeps-grounded {S = S} m brief =
           (met-stepped w i h (step_of m h.node event)
           (met-step (IsMet w.sent) m h.node event (event-met w h event (may_read w h event (grounded-reads w is) may))
           (each_get (λ (g : Host S). NodeMet (IsMet w.sent) g.node) w.hosts i h is.hosts at)) (part w is));
+      disk = λ w i h at is. record {
+        fit = k.disk w i h at is.fit;
+        texts = is.texts;
+        hosts = each_set (λ (g : Host S). NodeMet (IsMet w.sent) g.node) w.hosts i (after_call h) is.hosts (each_get (λ (g : Host S). NodeMet (IsMet w.sent) g.node) w.hosts i h is.hosts at);
+        chosen = is.chosen;
+      };
       hear = λ w i c x a at has read is. record { fit = k.hear w i c x a at has read is.fit; texts = is.texts; hosts = is.hosts; chosen = is.chosen };
       ask = λ w i c op at free few short is.
           whole (posts (asked_by w i c op) (from_client c (ask_of c op))) (k.ask w i c op at free few short is.fit)

@@ -65,6 +65,7 @@ pub front-kept : {S : Type 0} (step : Node S → NodeEvent → Outcome S) (front
 front-kept step front =
     record {
       event = λ w i h event there at may is. rw chosen-stepped (front-chosen_with front w.chosen (next_place (step h.node event).node) (step h.node event).node.waiting is);
+      disk = λ w i h at is. is;
       hear = λ w i c x a at has read is. rw chosen-hearing is;
       ask = λ w i c op at free few brief is. rw chosen-posts is;
       again = λ w i c q at waits is. rw chosen-posts is;
@@ -79,6 +80,7 @@ pub view-kept : {S : Type 0} (step : Node S → NodeEvent → Outcome S) (view :
 view-kept step view =
     record {
       event = λ w i h event there at may is. view-stepped w i h (step h.node event) ∙ is;
+      disk = λ w i h at is. is;
       hear = λ w i c x a at has read is. view-hearing w i c a (heard w.view c a) ∙ is;
       ask = λ w i c op at free few brief is. view-posts (asked_by w i c op) (from_client c (ask_of c op)) ∙ is;
       again = λ w i c q at waits is. view-posts w (from_client c (signed_by c q)) ∙ is;

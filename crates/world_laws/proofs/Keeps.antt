@@ -27,7 +27,7 @@ use Rattle.smart_messages.specs.declared.message.Message.TheVariants.{Ask, Propo
 use Rattle.smart_messages.specs.declared.entry.NodeEvent.{NodeEvent}
 use Rattle.smart_messages.specs.declared.entry.NodeEvent.TheVariants.{Arrive, Tick, Deliver, Firm}
 use Rattle.replica_rules.specs.Seals.{signed}
-use Rattle.node_rules.specs.Nodes.{Node}
+use Rattle.node_rules.specs.Nodes.{Node, next_place}
 use Rattle.node_rules.specs.Steps.{Outcome, leaving}
 use Rattle.node_rules.specs.declared.node.Held.{Held}
 use Rattle.node_rules.specs.declared.node.Target.{Target}
@@ -37,7 +37,9 @@ use Rattle.world_rules.specs.Premises.{is_among, too_many, is_forged, collides, 
 use Rattle.world_rules.specs.Injections.{content_by, content_of, are_bytes, content_from, injected_bytes, injected}
 use Rattle.client_quorum.specs.Clients.{request_of, asking, learning}
 use Rattle.world_rules.specs.Clients.{heard}
-use Rattle.world_rules.specs.Worlds.{Host, World, summary, telling, posts, sends_all, told_drop, told_fired, stepped, is_gone, is_rogue, host_takes, node_takes, due, takes_due, settle_once, settle, told_absent, settle_present, settle_all, gives, give_all, hearing, client_hears, hears_bytes, client_takes, client_asks, ask_found, asks, client_repeats, repeat_found, repeats, learns, learns_from, tells, goes, flow_sent, flow_once, is_listed, where_listed, at_listed, each_listed, host_index, at_index, at_member, arrives, arrives_at, sent_arrives, give_number, told_idle, telling_all, host_tries, tries_at, tries_each, give_one, shown_host, shown_client, shows, declares_faulty, declares_rogue, injects_content, injects}
+use Rattle.world_rules.specs.Worlds.{Host, World, summary, telling, posts, sends_all, told_drop, told_fired, host_after, chosen_with, stepped, is_gone, is_rogue, host_takes, node_takes, disk_called, hears_firm, host_calls, calls_disk, takes_due, settle_once, settle, told_absent, settle_present, settle_all, gives, give_all, hearing, client_hears, hears_bytes, client_takes, client_asks, ask_found, asks, client_repeats, repeat_found, repeats, learns, learns_from, tells, goes, flow_sent, flow_once, is_listed, where_listed, at_listed, each_listed, host_index, at_index, at_member, arrives, arrives_at, sent_arrives, give_number, told_idle, telling_all, host_tries, tries_at, tries_each, give_one, shown_host, shown_client, shows, declares_faulty, declares_rogue, injects_content, injects}
+use Rattle.world_rules.specs.Repeats.{repeated}
+use Rattle.durable_store.specs.Exact.{call_due, store_called}
 use Rattle.world_rules.specs.Plays.{line_played, rested, world_after}
 use Rattle.client_quorum.specs.declared.client.Client.{Client}
 use Rattle.client_quorum.specs.declared.client.Heard.{Heard}
@@ -54,7 +56,7 @@ use Rattle.world_rules.specs.declared.message.Ending.TheVariants.{Limit, Premise
 use Rattle.world_rules.specs.declared.message.Premise.TheVariants.{TooManyFaulty, Forged, Collision}
 use Rattle.world_rules.specs.declared.line.Injection.{Injection}
 use Rattle.world_laws.specs.Sending.{IsUnread}
-use Rattle.world_laws.proofs.Lists.{and_true, either_by, until_rest_keeps, each_from_keeps, some-equal, either, each_append}
+use Rattle.world_laws.proofs.Lists.{and_true, either_by, repeated_keeps, until_rest_keeps, each_from_keeps, some-equal, either, each_append}
 use Rattle.std.specs.List.{flat_map}
 use Rattle.smart_base.specs.declared.party.Party.{Party}
 use Rattle.smart_base.specs.declared.party.Party.TheVariants as parties
@@ -91,12 +93,17 @@ pub record IsSent (sent : List Sent) (bytes : List ℕ) : Type 0 where
   pub spelled : bytes ≡ bytes_of content
   pub has : HasContent sent content
 
--- what may come to a node: the bytes of a content that was sent, and firmness of all its entries
+-- a node hears how many entries of its life are firm in its host's store, where more are than it knows
+pub record Hears {S : Type 0} (h : Host S) (count : ℕ) : Type 0 where
+  pub more : h.node.firm < h.store.firm
+  pub life : count ≡ h.store.firm - h.node.restored
+
+-- what may come to a node: the bytes of a content that was sent, and what is firm in its host's store
 abbrev pub MayCome : {S : Type 0} → World S → Host S → NodeEvent → Type 0
 MayCome w h (Arrive bytes) = IsSent w.sent bytes
 MayCome w h Tick = Unit {0}
 MayCome w h Deliver = Unit {0}
-MayCome w h (Firm count) = count ≡ length h.node.entries
+MayCome w h (Firm count) = Hears h count
 
 -- bytes are read as no message, neither by a node nor by a client
 pub record IsNone (bytes : List ℕ) : Type 0 where
@@ -128,6 +135,14 @@ asked_by w i c op = record w { clients = slice_set w.clients i (asking c (reques
 -- the world in which a client has learned of a place
 abbrev pub learned_by : {S : Type 0} → World S → ℕ → Client → ℕ → World S
 learned_by w i c place = record w { clients = slice_set w.clients i (learning c place) }
+
+-- the host whose store has made its next device call, and whose node has heard nothing of it
+abbrev pub after_call : {S : Type 0} → Host S → Host S
+after_call h = record h { store = store_called h.store }
+
+-- the world with that host
+abbrev pub called : {S : Type 0} → World S → ℕ → Host S → World S
+called w i h = record w { hosts = slice_set w.hosts i (after_call h) }
 
 -- what a client tells that has
 abbrev pub learned_line : Client → ℕ → OutLine
@@ -165,6 +180,8 @@ pub record Declares {S : Type 0} (w : World S) (faulty rogue : List ℕ) (ending
 pub record Keeps {S : Type 0} (step : Node S → NodeEvent → Outcome S) (P : World S → Type 0) : Type 0 where
   -- the node of a host takes an event. It is not gone
   pub event : (w : World S) (i : ℕ) (h : Host S) (event : NodeEvent) → is_among w.faulty h.node.id ≡ false → slice_get w.hosts i ≡ Some h → MayCome w h event → P w → P (stepped w i h (step h.node event))
+  -- the store of a host makes a device call
+  pub disk : (w : World S) (i : ℕ) (h : Host S) → slice_get w.hosts i ≡ Some h → P w → P (called w i h)
   -- a client hears the bytes of a content that are read as a reply
   pub hear : (w : World S) (i : ℕ) (c : Client) (x : Content) (a : SignedBy Answer) → slice_get w.clients i ≡ Some c → HasContent w.sent x → decoded (bytes_of x) ≡ Ok (Reply a)
       → P w → P (hearing w i c a (heard w.view c a))
@@ -187,6 +204,8 @@ pub record KeepsLive {S : Type 0} (step : Node S → NodeEvent → Outcome S) (P
   -- the node of a host takes an event. It is not gone
   pub event : (w : World S) (i : ℕ) (h : Host S) (event : NodeEvent) → w.ending ≡ None → is_among w.faulty h.node.id ≡ false → slice_get w.hosts i ≡ Some h → MayCome w h event → P w
       → P (stepped w i h (step h.node event))
+  -- the store of a host makes a device call. Its node is not gone
+  pub disk : (w : World S) (i : ℕ) (h : Host S) → w.ending ≡ None → is_among w.faulty h.node.id ≡ false → slice_get w.hosts i ≡ Some h → P w → P (called w i h)
   -- a client hears the bytes of a content that are read as a reply
   pub hear : (w : World S) (i : ℕ) (c : Client) (x : Content) (a : SignedBy Answer) → w.ending ≡ None → slice_get w.clients i ≡ Some c → HasContent w.sent x → decoded (bytes_of x) ≡ Ok (Reply a)
       → P w → P (hearing w i c a (heard w.view c a))
@@ -213,6 +232,7 @@ pub live : {S : Type 0} (step : Node S → NodeEvent → Outcome S) (P : World S
 live step P k =
     record {
       event = λ w i h event on there at may p. k.event w i h event there at may p;
+      disk = λ w i h on there at p. k.disk w i h at p;
       hear = λ w i c x a on at has read p. k.hear w i c x a at has read p;
       ask = λ w i c op on at free low brief p. k.ask w i c op at free low brief p;
       again = λ w i c q on at is p. k.again w i c q at is p;
@@ -281,6 +301,7 @@ pub live-carries : {S : Type 0} (step : Node S → NodeEvent → Outcome S) (P :
 live-carries step P x k =
     record {
       event = λ w i h event on there at may p. (k.event w i h event on there at may p.0, has-stepped w i h (step h.node event) x p.1);
+      disk = λ w i h on there at p. (k.disk w i h on there at p.0, p.1);
       hear = λ w i c y a on at has read p. (k.hear w i c y a on at has read p.0, has-hearing w i c a (heard w.view c a) x p.1);
       ask = λ w i c op on at free low brief p. (k.ask w i c op on at free low brief p.0, has-posts x (asked_by w i c op) (from_client c (ask_of c op)) p.1);
       again = λ w i c q on at waits p. (k.again w i c q on at waits p.0, has-posts x w (from_client c (signed_by c q)) p.1);
@@ -310,39 +331,67 @@ live-node_takes : {S : Type 0} (step : Node S → NodeEvent → Outcome S) (P : 
 unfolding node_takes
 live-node_takes step P k i event w may p = either_by P (is_some w.ending) w _ (λ over. p) (λ on. live-host_takes step P k i event w (slice_get w.hosts i) (none_is w.ending on) refl may p)
 
--- events that may come
+-- device calls
 
--- an event, if there is one, may come to the host that is found, if one is
-abbrev MayBe : {S : Type 0} → World S → Option (Host S) → Option NodeEvent → Type 0
-MayBe w found None = Unit {0}
-MayBe {S} w found (Some event) = (h : Host S) → found ≡ Some h → MayCome w h event
+-- what is set at an index is there
+pub set_there : {A : Type 0} (xs : List A) (i : ℕ) (x y : A) → slice_get xs i ≡ Some x → slice_get (slice_set xs i y) i ≡ Some y
+set_there [] i x y at = absurd (cc)
+set_there (z ∷ xs) zero x y at = refl
+set_there (z ∷ xs) (suc i) x y at = set_there xs i x y at
 
--- either branch of a choice may come
-may_be-if : {S : Type 0} (w : World S) (found : Option (Host S)) (b : Bool) (x y : Option NodeEvent) → MayBe w found x → MayBe w found y → MayBe w found (cond b x y)
-may_be-if w found true x y mx my = mx
-may_be-if w found false x y mx my = my
+-- the last that is set at an index stays
+pub set_again : {A : Type 0} (xs : List A) (i : ℕ) (x y : A) → slice_set (slice_set xs i x) i y ≡ slice_set xs i y
+set_again [] i x y = refl
+set_again (z ∷ xs) zero x y = refl
+set_again {A = A} (z ∷ xs) (suc i) x y = ap (λ (ys : List A). z ∷ ys) (set_again xs i x y)
 
--- what is due may come
-due_may_be : {S : Type 0} (w : World S) (found : Option (Host S)) → MayBe w found (option_and_then due found)
-due_may_be w None = tt
-due_may_be {S} w (Some h) =
-    may_be-if w (Some h) (nat_lt h.node.firm (length h.node.entries)) (Some (Firm (length h.node.entries))) _
-    (λ other is. same_length h other (some-equal h other is))
-    (may_be-if w (Some h) (is_some h.node.waiting) (Some Deliver) None (λ other is. tt) tt)
-  where
-    same_length : {S : Type 0} (a b : Host S) → a ≡ b → length a.node.entries ≡ length b.node.entries
-    same_length a b same = cc
+-- the host that steps takes the place of any other
+pub stepped-set : {S : Type 0} (w : World S) (i : ℕ) (g h : Host S) (o : Outcome S) → stepped (record w { hosts = slice_set w.hosts i g }) i h o ≡ stepped w i h o
+unfolding stepped
+stepped-set {S = S} w i g h o =
+    ap (λ (hosts : List (Host S)). sends_all h.node.id
+    (record w {
+      hosts = hosts;
+      chosen = chosen_with w.chosen (next_place o.node) o.node.waiting;
+      told = w.told ++ (told_drop h.node.id o.dropped ++ flat_map (told_fired h.node.id) o.fired);
+    })
+    (leaving o.node.firm o.node.held)) (set_again w.hosts i g (host_after h o))
 
--- a node takes what is due
-live-takes_due : {S : Type 0} (step : Node S → NodeEvent → Outcome S) (P : World S → Type 0) → KeepsLive step P → (i : ℕ) (w : World S) (event : Option NodeEvent)
-    → MayBe w (slice_get w.hosts i) event → P w → P (takes_due step i w event)
-live-takes_due step P k i w None may p = p
-live-takes_due step P k i w (Some event) may p = live-node_takes step P k i event w may p
+-- a node hears what is firm behind a call
+live-hears_firm : {S : Type 0} (step : Node S → NodeEvent → Outcome S) (P : World S → Type 0) → KeepsLive step P → (i : ℕ) (w : World S) (h : Host S) → w.ending ≡ None → is_among w.faulty h.node.id ≡ false
+    → slice_get w.hosts i ≡ Some h → P w → P (hears_firm step i w (disk_called h))
+unfolding disk_called
+live-hears_firm step P k i w h on there at p =
+    let g = after_call h in
+    either_by P (nat_lt h.node.firm g.store.firm) _ _
+    (λ more. subst P (stepped-set w i g g (step h.node (Firm (g.store.firm - h.node.restored))))
+    (k.event (called w i h) i g (Firm (g.store.firm - h.node.restored)) on there (set_there w.hosts i h g at) (record { more = ltb-true h.node.firm g.store.firm more; life = refl }) (k.disk w i h on there at p)))
+    (λ known. k.disk w i h on there at p)
+
+-- the store of a host that is found makes a call, if there is one
+live-host_calls : {S : Type 0} (step : Node S → NodeEvent → Outcome S) (P : World S → Type 0) → KeepsLive step P → (i : ℕ) (w : World S) (found : Option (Host S)) → w.ending ≡ None → slice_get w.hosts i ≡ found
+    → P w → P (host_calls step i w found)
+live-host_calls step P k i w None on at p = p
+live-host_calls step P k i w (Some h) on at p =
+    either_by P (is_gone w h.node.id) w _ (λ gone. p) (λ there. either P (call_due h.store) _ w (live-hears_firm step P k i w h on there at p) p)
+
+-- the store at an index does
+pub live-calls_disk : {S : Type 0} (step : Node S → NodeEvent → Outcome S) (P : World S → Type 0) → KeepsLive step P → (i : ℕ) (w : World S) → P w → P (calls_disk step i w)
+unfolding calls_disk
+live-calls_disk step P k i w p = either_by P (is_some w.ending) w _ (λ over. p) (λ on. live-host_calls step P k i w (slice_get w.hosts i) (none_is w.ending on) refl p)
+
+-- what is due
+
+-- a host that is found takes what is due
+live-takes_due : {S : Type 0} (step : Node S → NodeEvent → Outcome S) (P : World S → Type 0) → KeepsLive step P → (i : ℕ) (w : World S) (found : Option (Host S)) → P w → P (takes_due step i w found)
+live-takes_due step P k i w None p = p
+live-takes_due step P k i w (Some h) p =
+    either P (call_due h.store) _ _ (live-calls_disk step P k i w p) (either P (is_some h.node.waiting) _ w (live-node_takes step P k i Deliver w (λ g at. tt) p) p)
 
 -- a node settles once
 pub live-settle_once : {S : Type 0} (step : Node S → NodeEvent → Outcome S) (P : World S → Type 0) → KeepsLive step P → (i : ℕ) (w : World S) → P w → P (settle_once step i w)
 unfolding settle_once
-live-settle_once step P k i w p = live-takes_due step P k i w (option_and_then due (slice_get w.hosts i)) (due_may_be w (slice_get w.hosts i)) p
+live-settle_once step P k i w p = live-takes_due step P k i w (slice_get w.hosts i) p
 
 -- a node settles
 pub live-settle : {S : Type 0} (step : Node S → NodeEvent → Outcome S) (P : World S → Type 0) → KeepsLive step P → (i : ℕ) (w : World S) → P w → P (settle step i w)
@@ -741,6 +790,8 @@ live-line_played step P k w (lines.Give number to) p = live-give_number step P k
 live-line_played step P k w (lines.Deliver members) p = live-tries_each step P k Deliver tt members w p
 live-line_played step P k w (lines.Tick members) p = live-tries_each step P k Tick tt members w p
 live-line_played step P k w (lines.Settle member) p = at_member-keeps P (settle step) (live-settle step P k) k.tell member w p
+live-line_played step P k w (lines.Disk member count) p =
+    at_member-keeps P (λ i v. repeated (calls_disk step i) count v) (λ i v q. repeated_keeps P (calls_disk step i) (live-calls_disk step P k i) count v q) k.tell member w p
 live-line_played step P k w lines.SettleAll p = live-settle_all step P k [] w p
 live-line_played step P k w lines.Show p = live-shows step P k w p
 live-line_played step P k w (lines.Faulty member) p = live-declares_faulty step P k member w p
@@ -773,12 +824,12 @@ OwnWaits w = (i : ℕ) (c : Client) (q : Request) → slice_get w.clients i ≡ 
 abbrev pub Comes : List Sent → List ℕ → Type 0
 Comes sent bytes = (x : AnyMessage) → any_decoded bytes ≡ Ok x → HasMessage sent x
 
--- what may come to a node: bytes that are read as a message that was sent, or as none, and firmness of all its entries
+-- what may come to a node: bytes that are read as a message that was sent, or as none, and what is firm in its host's store
 abbrev pub MayRead : {S : Type 0} → World S → Host S → NodeEvent → Type 0
 MayRead w h (Arrive bytes) = Comes w.sent bytes
 MayRead w h Tick = Unit {0}
 MayRead w h Deliver = Unit {0}
-MayRead w h (Firm count) = count ≡ length h.node.entries
+MayRead w h (Firm count) = Hears h count
 
 -- what holds of each message that was sent, holds of what bytes that come are read as
 pub comes-as : (sent : List Sent) (bytes : List ℕ) (R : Result AnyMessage ℕ → Type 0) → ((x : AnyMessage) → HasMessage sent x → R (Ok x)) → ((at : ℕ) → R (Err at)) → Comes sent bytes → R (any_decoded bytes)

@@ -1,7 +1,6 @@
 -- In a group of one member a regency changes, and a request is chosen in the next one.
-use Rattle.std.proofs.Common.{◌≡◌, ℕ, ◌+◌, ◌++◌, ◌≤◌, Bool, true, false, not, ◌&&◌, ◌||◌, List, [], ◌∷◌, length, refl, ap, ◌∙◌, sym, arith, cond, Option, Some, None, is_some, Ok}
+use Rattle.std.proofs.Common.{◌≡◌, ℕ, ◌+◌, ◌-◌, ◌++◌, ◌≤◌, Bool, true, false, not, ◌&&◌, ◌||◌, List, [], ◌∷◌, length, refl, ap, ◌∙◌, sym, arith, cond, Option, Some, None, is_some, nat_lt, Ok}
 use Rattle.std.specs.Prelude.{⊤, slice_get, slice_set, is_none, map}
-use Rattle.std.specs.Option.{option_and_then}
 use Rattle.smart_base.specs.Lists.{or_else, same_bytes}
 use Rattle.smart_base.specs.declared.party.Party.TheVariants as parties
 use Rattle.smart_messages.specs.Kinds.{requests, proposals, ballots}
@@ -27,7 +26,7 @@ use Rattle.smart_messages.specs.declared.message.Message.{Message}
 use Rattle.smart_messages.specs.declared.message.Message.TheVariants.{Propose, Vote, Reply}
 use Rattle.smart_messages.specs.declared.any.AnyMessage.{AnyMessage}
 use Rattle.smart_messages.specs.declared.any.AnyMessage.TheVariants.{Plain, Change}
-use Rattle.smart_messages.specs.declared.entry.NodeEvent.TheVariants.{Arrive, Firm}
+use Rattle.smart_messages.specs.declared.entry.NodeEvent.TheVariants.{Arrive, Deliver, Firm}
 use Rattle.smart_service.specs.Services.{Meaning}
 use Rattle.vote_book.specs.declared.entry.Decision.{Decision}
 use Rattle.regency_sync.specs.Choices as choices
@@ -56,8 +55,8 @@ use Rattle.std.specs.List.{flat_map}
 use Rattle.world_rules.specs.declared.message.Sent.{Sent}
 use Rattle.world_rules.specs.declared.message.Ending.TheVariants.{Premise}
 use Rattle.world_rules.specs.declared.message.Premise.TheVariants.{Collision}
-use Rattle.world_laws.proofs.Keeps.{numbered, from_node}
-use Rattle.world_rules.specs.Worlds.{Host, World, host_after, chosen_with, told_drop, told_fired, sends_all, begun, clients_from, asks, stepped, host_takes, node_takes, due, takes_due, settle_once, settle, settle_all, gives, hearing, flow_sent, flow_once, where_listed, at_listed, at_index, host_index, tries_at, tick_each, posts, is_gone}
+use Rattle.world_laws.proofs.Keeps.{after_call, numbered, from_node}
+use Rattle.world_rules.specs.Worlds.{Host, World, host_after, chosen_with, told_drop, told_fired, sends_all, begun, clients_from, asks, stepped, host_takes, node_takes, disk_called, hears_firm, host_calls, calls_disk, takes_due, settle_once, settle, settle_all, gives, hearing, flow_sent, flow_once, where_listed, at_listed, at_index, host_index, tries_at, tick_each, posts, is_gone}
 use Rattle.world_rules.specs.Plays.{line_played, rested}
 use Rattle.world_rules.specs.Promises.{world_at}
 use Rattle.world_rules.specs.declared.line.Line.TheVariants as lines
@@ -69,7 +68,8 @@ use Rattle.replica_laws.proofs.Genuine.{IsGood, FitReport, FitsCollected, good-g
 use Rattle.world_laws.specs.Examples.{lone, ask_and_wait, first_signed, first_acceptance, regencies_decided}
 use Rattle.world_laws.proofs.Equal.{bytes-itself}
 use Rattle.world_laws.proofs.Rests.{rest_is_reached}
-use Rattle.world_laws.proofs.Example.{first_batch, first_ask, first_reply, waiting_client, right_tag, right_vote, right_proposal, one_is_enough, decides_one, passed, Takes, step_is, host_in, host_is, turn, few, settled, given, given_back, idle, batch_fits, good_ask, good_reply, first_fits, accepts_first}
+use Rattle.durable_store.specs.Exact.{call_due}
+use Rattle.world_laws.proofs.Example.{first_batch, first_ask, first_reply, waiting_client, right_tag, right_vote, right_proposal, one_is_enough, decides_one, passed, Takes, step_is, host_in, host_is, turn, few, is_due, settled, given, given_back, idle, batch_fits, good_ask, good_reply, first_fits, accepts_first}
 
 -- the messages of the play
 
@@ -190,7 +190,7 @@ dropped_step m n x why read drops = ap (reading_outcome n) read ∙ ap (arrival_
 given_dropped : {S : Type 0} (m : Meaning S) (x : AnyMessage) (why : Why) (origin : Origin) (w : World S) → is_some w.ending ≡ false
     → slice_get w.sent w.mark ≡ Some (record { origin = origin; to = Some targets.View; content = contents.Message x }) → length w.hosts ≡ 1
     → is_gone w (host_in m w.hosts).node.id ≡ false → any_decoded (any_spelling x) ≡ Ok x → why_dropped (host_in m w.hosts).node x ≡ Some why
-    → option_and_then due (slice_get (turn_dropped m x why w).hosts 0) ≡ None → flow_once (step_of m) [] w ≡ turn_dropped m x why w
+    → is_due (slice_get (turn_dropped m x why w).hosts 0) ≡ false → flow_once (step_of m) [] w ≡ turn_dropped m x why w
 unfolding flow_once turn_dropped gives each_from node_takes repeated
 given_dropped {S = S} m x why origin w on at one there read drops none =
     let next : World S = record w { mark = w.mark + 1 } in
@@ -207,7 +207,7 @@ given_dropped {S = S} m x why origin w on at one there read drops none =
 -- a message that is for the one node is given to it
 given_one : {S : Type 0} (m : Meaning S) (k : ℕ) (x : AnyMessage) (accepted : Option Proposed) (decided : Option Decision) (origin : Origin) (member : ℕ) (w : World S) → k ≤ 9 → is_some w.ending ≡ false
     → slice_get w.sent w.mark ≡ Some (record { origin = origin; to = Some (targets.Node member); content = contents.Message x }) → host_index w.hosts member ≡ Some 0 → length w.hosts ≡ 1
-    → is_gone w (host_in m w.hosts).node.id ≡ false → Takes (host_in m w.hosts).node x accepted decided → option_and_then due (slice_get (turn m k x accepted decided w).hosts 0) ≡ None
+    → is_gone w (host_in m w.hosts).node.id ≡ false → Takes (host_in m w.hosts).node x accepted decided → is_due (slice_get (turn m k x accepted decided w).hosts 0) ≡ false
     → flow_once (step_of m) [] w ≡ turn m k x accepted decided w
 unfolding flow_once turn gives node_takes
 given_one {S = S} m k x accepted decided origin member w le on at found one there takes none =
@@ -238,7 +238,7 @@ waited m = rested (tick_each (step_of m) (1 ∷ []) (rested (tick_each (step_of 
 
 -- the node has settled, and no message was given
 unfoldable begins : {S : Type 0} → Meaning S → World S
-begins m = repeated (settle_once (step_of m) 0) 1 (waited m)
+begins m = repeated (settle_once (step_of m) 0) 6 (waited m)
 
 -- the request is there again
 unfoldable world1 : {S : Type 0} → Meaning S → World S
@@ -246,7 +246,7 @@ world1 m = turn m 0 first_ask None None (begins m)
 
 -- the node has written for the proposal
 unfoldable world2 : {S : Type 0} → Meaning S → World S
-world2 m = turn m 1 (proposal_in 0) None None (world1 m)
+world2 m = turn m 4 (proposal_in 0) None None (world1 m)
 
 -- the request that it passed on is there
 unfoldable world3 : {S : Type 0} → Meaning S → World S
@@ -254,7 +254,7 @@ world3 m = turn m 0 first_ask None None (world2 m)
 
 -- the next regency is promised
 unfoldable world4 : {S : Type 0} → Meaning S → World S
-world4 m = turn m 1 first_stop None None (world3 m)
+world4 m = turn m 4 first_stop None None (world3 m)
 
 -- the old vote is dropped
 unfoldable world5 : {S : Type 0} → Meaning S → World S
@@ -268,16 +268,24 @@ world6 m = turn m 0 first_report None None (world5 m)
 unfoldable adopted : {S : Type 0} → Meaning S → World S
 adopted m = stepped (record (world6 m) { mark = (world6 m).mark + 1 }) 0 (host_in m (world6 m).hosts) (passed (kept (noted (host_in m (world6 m).hosts).node first_sync) first_sync) None None)
 
+-- all calls but the last of its group have been made
+unfoldable written : {S : Type 0} → Meaning S → World S
+written m = repeated (settle_once (step_of m) 0) 3 (adopted m)
+
+-- and the last
+unfoldable firm_host : {S : Type 0} → Meaning S → Host S
+firm_host m = after_call (host_in m (written m).hosts)
+
 -- it is firm
 unfoldable firm_outcome : {S : Type 0} → Meaning S → Outcome S
-firm_outcome m = step_of m (host_in m (adopted m).hosts).node (Firm 4)
+firm_outcome m = step_of m (firm_host m).node (Firm 4)
 
 -- and the proposal of the regency is to leave
 unfoldable leaves_next : {S : Type 0} → Meaning S → World S
-leaves_next m = record (adopted m) {
-  hosts = slice_set (adopted m).hosts 0 (host_after (host_in m (adopted m).hosts) (firm_outcome m));
-  chosen = chosen_with (adopted m).chosen (next_place (firm_outcome m).node) (firm_outcome m).node.waiting;
-  told = (adopted m).told ++ (told_drop 1 (firm_outcome m).dropped ++ flat_map (told_fired 1) (firm_outcome m).fired);
+leaves_next m = record (written m) {
+  hosts = slice_set (written m).hosts 0 (host_after (firm_host m) (firm_outcome m));
+  chosen = chosen_with (written m).chosen (next_place (firm_outcome m).node) (firm_outcome m).node.waiting;
+  told = (written m).told ++ (told_drop 1 (firm_outcome m).dropped ++ flat_map (told_fired 1) (firm_outcome m).fired);
 }
 
 abbrev next_sent : Sent
@@ -289,15 +297,15 @@ world7 m = numbered (leaves_next m) next_sent
 
 -- the node has written for the proposal of it
 unfoldable world8 : {S : Type 0} → Meaning S → World S
-world8 m = turn m 1 (proposal_in 1) None None (world7 m)
+world8 m = turn m 4 (proposal_in 1) None None (world7 m)
 
 -- it has accepted
 unfoldable world9 : {S : Type 0} → Meaning S → World S
-world9 m = turn m 1 (vote_in 1 Write) (Some (proposed_in 1)) None (world8 m)
+world9 m = turn m 4 (vote_in 1 Write) (Some (proposed_in 1)) None (world8 m)
 
 -- it has decided, delivered and answered
 unfoldable world10 : {S : Type 0} → Meaning S → World S
-world10 m = turn m 2 (vote_in 1 Accept) None (Some later_decision) (world9 m)
+world10 m = turn m 5 (vote_in 1 Accept) None (Some later_decision) (world9 m)
 
 -- the client has accepted the reply
 unfoldable world11 : {S : Type 0} → Meaning S → World S
@@ -305,7 +313,7 @@ world11 m = hearing (record (world10 m) { mark = (world10 m).mark + 1 }) 1 waiti
 
 -- what the facts on these worlds unfold to compute them
 unfoldable computed : ⊤
-unfolding asks posts collides clients_from gathered repeated settle_once node_takes tries_at stepped step_of turns fired_turns votes fired_votes passes fired_pass passed host_in slot_why signer_why is_batch_for why_ask why_propose why_vote why_stop why_report is_proven is_collect why_sync noted kept_plain kept_change answering regency_of start_of adopts_by adoption adopts joining joins report_of reported_by promising promise_next promises leading lead_with leads timing presses times synchronizers.adopting synchronizers.is_joining synchronizers.is_promising synchronizers.collecting choices.choice collects.evidence_holds collects.is_report_of certificates.first_fault batch_under decision_in execute delivered executed_lines deliver_batch delivery delivers proposing propose_batch proposes writing write_batch writes accepting accept_batch accepts deciding decide_batch decides turn turn_dropped asked gave waited begins world1 world2 world3 world4 world5 world6 adopted firm_outcome leaves_next world7 world8 world9 world10 world11 hearing
+unfolding asks posts collides clients_from gathered repeated settle_once calls_disk disk_called node_takes tries_at stepped step_of turns fired_turns votes fired_votes passes fired_pass passed host_in slot_why signer_why is_batch_for why_ask why_propose why_vote why_stop why_report is_proven is_collect why_sync noted kept_plain kept_change answering regency_of start_of adopts_by adoption adopts joining joins report_of reported_by promising promise_next promises leading lead_with leads timing presses times synchronizers.adopting synchronizers.is_joining synchronizers.is_promising synchronizers.collecting choices.choice collects.evidence_holds collects.is_report_of certificates.first_fault batch_under decision_in execute delivered executed_lines deliver_batch delivery delivers proposing propose_batch proposes writing write_batch writes accepting accept_batch accepts deciding decide_batch decides turn turn_dropped asked gave waited begins world1 world2 world3 world4 world5 world6 adopted written firm_host firm_outcome leaves_next world7 world8 world9 world10 world11 hearing
 computed = tt
 
 -- the turns of the play
@@ -327,7 +335,7 @@ turn_gave {S = S} m =
 -- the node settles before any message is given
 turn_begins : {S : Type 0} (m : Meaning S) → settle_all (step_of m) [] (waited m) ≡ begins m
 unfolding computed each_from
-turn_begins m = settled (step_of m) 1 (waited m) (omega arith) refl
+turn_begins m = settled (step_of m) 6 (waited m) (omega arith) refl
 
 -- the request is given
 turn1 : {S : Type 0} (m : Meaning S) → flow_once (step_of m) [] (begins m) ≡ world1 m
@@ -346,7 +354,7 @@ turn1 m =
 turn2 : {S : Type 0} (m : Meaning S) → flow_once (step_of m) [] (world1 m) ≡ world2 m
 unfolding computed
 turn2 m =
-    given m 1 (proposal_in 0) None None (origins.Node 1) (world1 m) (omega arith) refl refl refl refl
+    given m 4 (proposal_in 0) None None (origins.Node 1) (world1 m) (omega arith) refl refl refl refl
     (record {
       read = (good-genuine group_secret (proposal_in 0) (good_proposal 0 (omega arith))).read;
       fine = right_proposal (is_verified proposals group_secret (signed proposals group_secret 1 (head_in 0))) (fits group_secret first_batch 1)
@@ -373,7 +381,7 @@ turn3 m =
 turn4 : {S : Type 0} (m : Meaning S) → flow_once (step_of m) [] (world3 m) ≡ world4 m
 unfolding computed
 turn4 m =
-    given m 1 first_stop None None (origins.Node 1) (world3 m) (omega arith) refl refl refl refl
+    given m 4 first_stop None None (origins.Node 1) (world3 m) (omega arith) refl refl refl refl
     (record {
       read = (good-genuine group_secret first_stop good_stop).read;
       fine = right_vote (is_verified stops group_secret (signed stops group_secret 1 next_stop)) (signed-verified stops group_secret 1 next_stop);
@@ -416,32 +424,46 @@ posted7 {S = S} m =
     ap (λ clashes. cond clashes (record (leaves_next m) { ending = Some (Premise Collision) }) (numbered (leaves_next m) next_sent))
     (own_clash (same_bytes (digest_of first_batch) (digest_of first_batch)) (same_bytes (batch_text first_batch) (batch_text first_batch)) (bytes-itself (digest_of first_batch)) (bytes-itself (batch_text first_batch)))
 
-on7 : {S : Type 0} (m : Meaning S) → is_some (adopted m).ending ≡ false
+on7 : {S : Type 0} (m : Meaning S) → is_some (written m).ending ≡ false
 unfolding computed
 on7 m = refl
 
-one7 : {S : Type 0} (m : Meaning S) → length (adopted m).hosts ≡ 1
+one7 : {S : Type 0} (m : Meaning S) → length (written m).hosts ≡ 1
 unfolding computed
 one7 m = refl
 
-there7 : {S : Type 0} (m : Meaning S) → is_gone (adopted m) (host_in m (adopted m).hosts).node.id ≡ false
+there7 : {S : Type 0} (m : Meaning S) → is_gone (written m) (host_in m (written m).hosts).node.id ≡ false
 unfolding computed
 there7 m = refl
 
-due7 : {S : Type 0} (m : Meaning S) → due (host_in m (adopted m).hosts) ≡ Some (Firm 4)
+due7 : {S : Type 0} (m : Meaning S) → call_due (host_in m (written m).hosts).store ≡ true
 unfolding computed
 due7 m = refl
 
--- what has left a host that makes all its entries firm
-firm_once : {S : Type 0} (m : Meaning S) (w : World S) (count : ℕ) → is_some w.ending ≡ false → length w.hosts ≡ 1 → is_gone w (host_in m w.hosts).node.id ≡ false → due (host_in m w.hosts) ≡ Some (Firm count)
-    → settle_once (step_of m) 0 w ≡ stepped w 0 (host_in m w.hosts) (step_of m (host_in m w.hosts).node (Firm count))
-unfolding settle_once node_takes
-firm_once {S = S} m w count on one there is_due =
-    let h : Host S = host_in m w.hosts in
-    ap (λ found. takes_due (step_of m) 0 w (option_and_then due found)) (host_is m w.hosts one)
-    ∙ (ap (takes_due (step_of m) 0 w) is_due
-    ∙ (ap (λ over. cond over w (host_takes (step_of m) 0 (Firm count) w (slice_get w.hosts 0))) on
-    ∙ (ap (host_takes (step_of m) 0 (Firm count) w) (host_is m w.hosts one) ∙ ap (λ gone. cond gone w (stepped w 0 h (step_of m h.node (Firm count)))) there)))
+hears7 : {S : Type 0} (m : Meaning S) → nat_lt (host_in m (written m).hosts).node.firm (after_call (host_in m (written m).hosts)).store.firm ≡ true
+unfolding computed
+hears7 m = refl
+
+firm7 : {S : Type 0} (m : Meaning S) → (after_call (host_in m (written m).hosts)).store.firm - (host_in m (written m).hosts).node.restored ≡ 4
+unfolding computed
+firm7 m = refl
+
+-- what has left a host whose store makes a call behind which more is firm
+firm_once : {S : Type 0} (m : Meaning S) (w : World S) (h : Host S) (count : ℕ) → is_some w.ending ≡ false → slice_get w.hosts 0 ≡ Some h → is_gone w h.node.id ≡ false → call_due h.store ≡ true
+    → nat_lt h.node.firm (after_call h).store.firm ≡ true → (after_call h).store.firm - h.node.restored ≡ count
+    → settle_once (step_of m) 0 w ≡ stepped w 0 (after_call h) (step_of m h.node (Firm count))
+unfolding settle_once calls_disk disk_called
+firm_once {S = S} m w h count on at there due hears firm =
+    let g : Host S = after_call h in
+    let called : World S = record w { hosts = slice_set w.hosts 0 g } in
+    ap (λ (found : Option (Host S)). takes_due (step_of m) 0 w found) at
+    ∙ (ap (λ (b : Bool). cond b (calls_disk (step_of m) 0 w) (cond (is_some h.node.waiting) (node_takes (step_of m) 0 Deliver w) w)) due
+    ∙ (ap (λ over. cond over w (host_calls (step_of m) 0 w (slice_get w.hosts 0))) on
+    ∙ (ap (λ (found : Option (Host S)). host_calls (step_of m) 0 w found) at
+    ∙ (ap (λ gone. cond gone w (cond (call_due h.store) (hears_firm (step_of m) 0 w g) w)) there
+    ∙ (ap (λ (b : Bool). cond b (hears_firm (step_of m) 0 w g) w) due
+    ∙ (ap (λ more. cond more (stepped w 0 g (step_of m h.node (Firm (g.store.firm - h.node.restored)))) called) hears
+    ∙ ap (λ (k : ℕ). stepped w 0 g (step_of m h.node (Firm k))) firm))))))
 
 -- and what leaves it
 abbrev quiet : {S : Type 0} → World S → Host S → Outcome S → World S
@@ -459,28 +481,28 @@ next_leaves : {S : Type 0} (m : Meaning S) → leaving (firm_outcome m).node.fir
 unfolding computed
 next_leaves m = refl
 
-named7 : {S : Type 0} (m : Meaning S) → (host_in m (adopted m).hosts).node.id ≡ 1
+named7 : {S : Type 0} (m : Meaning S) → (firm_host m).node.id ≡ 1
 unfolding computed
 named7 m = refl
 
-firm_leaves : {S : Type 0} (m : Meaning S) → stepped (adopted m) 0 (host_in m (adopted m).hosts) (step_of m (host_in m (adopted m).hosts).node (Firm 4)) ≡ posts (leaves_next m) next_sent
-unfolding firm_outcome leaves_next
+firm_leaves : {S : Type 0} (m : Meaning S) → stepped (written m) 0 (firm_host m) (firm_outcome m) ≡ posts (leaves_next m) next_sent
+unfolding leaves_next
 firm_leaves {S = S} m =
-    let h : Host S = host_in m (adopted m).hosts in
-    let o : Outcome S = step_of m h.node (Firm 4) in
-    let made : ℕ → World S = λ id. posts (record (adopted m) {
-      hosts = slice_set (adopted m).hosts 0 (host_after h o);
-      chosen = chosen_with (adopted m).chosen (next_place o.node) o.node.waiting;
-      told = (adopted m).told ++ (told_drop id o.dropped ++ flat_map (told_fired id) o.fired);
+    let h : Host S = firm_host m in
+    let o : Outcome S = firm_outcome m in
+    let made : ℕ → World S = λ id. posts (record (written m) {
+      hosts = slice_set (written m).hosts 0 (host_after h o);
+      chosen = chosen_with (written m).chosen (next_place o.node) o.node.waiting;
+      told = (written m).told ++ (told_drop id o.dropped ++ flat_map (told_fired id) o.fired);
     }) (record { origin = origins.Node id; to = Some targets.View; content = contents.Message (proposal_in 1) }) in
-    one_leaves (adopted m) h o (record { to = targets.View; message = proposal_in 1; needs = 4 }) (next_leaves m) ∙ ap made (named7 m)
+    one_leaves (written m) h o (record { to = targets.View; message = proposal_in 1; needs = 4 }) (next_leaves m) ∙ ap made (named7 m)
 
-turned7 : {S : Type 0} (m : Meaning S) → turn m 1 first_sync None None (world6 m) ≡ posts (leaves_next m) next_sent
-unfolding turn repeated adopted
+turned7 : {S : Type 0} (m : Meaning S) → turn m 4 first_sync None None (world6 m) ≡ posts (leaves_next m) next_sent
+unfolding turn repeated adopted written firm_host firm_outcome
 turned7 {S = S} m =
-    firm_once m (adopted m) 4 (on7 m) (one7 m) (there7 m) (due7 m) ∙ firm_leaves m
+    firm_once m (written m) (host_in m (written m).hosts) 4 (on7 m) (host_is m (written m).hosts (one7 m)) (there7 m) (due7 m) (hears7 m) (firm7 m) ∙ firm_leaves m
 
-settled7 : {S : Type 0} (m : Meaning S) → option_and_then due (slice_get (world7 m).hosts 0) ≡ None
+settled7 : {S : Type 0} (m : Meaning S) → is_due (slice_get (world7 m).hosts 0) ≡ false
 unfolding computed
 settled7 m = refl
 
@@ -488,7 +510,7 @@ settled7 m = refl
 turn7 : {S : Type 0} (m : Meaning S) → flow_once (step_of m) [] (world6 m) ≡ world7 m
 unfolding computed
 turn7 {S = S} m =
-    given m 1 first_sync None None (origins.Node 1) (world6 m) (omega arith) refl refl refl refl
+    given m 4 first_sync None None (origins.Node 1) (world6 m) (omega arith) refl refl refl refl
     (record {
       read = (good-genuine group_secret first_sync good_sync).read ((λ none. refl), tt);
       fine = right_sync (is_verified syncs group_secret (signed syncs group_secret 1 next_sync)) (is_verified reports group_secret (signed reports group_secret 1 next_report))
@@ -497,14 +519,14 @@ turn7 {S = S} m =
       decides = refl;
       quiet = refl;
     })
-    (ap (λ (w : World S). option_and_then due (slice_get w.hosts 0)) (turned7 m ∙ posted7 m) ∙ settled7 m)
+    (ap (λ (w : World S). is_due (slice_get w.hosts 0)) (turned7 m ∙ posted7 m) ∙ settled7 m)
     ∙ (turned7 m ∙ posted7 m)
 
 -- the proposal of the regency is given
 turn8 : {S : Type 0} (m : Meaning S) → flow_once (step_of m) [] (world7 m) ≡ world8 m
 unfolding computed
 turn8 m =
-    given m 1 (proposal_in 1) None None (origins.Node 1) (world7 m) (omega arith) refl refl refl refl
+    given m 4 (proposal_in 1) None None (origins.Node 1) (world7 m) (omega arith) refl refl refl refl
     (record {
       read = (good-genuine group_secret (proposal_in 1) (good_proposal 1 (omega arith))).read;
       fine = right_proposal (is_verified proposals group_secret (signed proposals group_secret 1 (head_in 1))) (fits group_secret first_batch 1)
@@ -518,7 +540,7 @@ turn8 m =
 turn9 : {S : Type 0} (m : Meaning S) → flow_once (step_of m) [] (world8 m) ≡ world9 m
 unfolding computed
 turn9 m =
-    given m 1 (vote_in 1 Write) (Some (proposed_in 1)) None (origins.Node 1) (world8 m) (omega arith) refl refl refl refl
+    given m 4 (vote_in 1 Write) (Some (proposed_in 1)) None (origins.Node 1) (world8 m) (omega arith) refl refl refl refl
     (record {
       read = (good-genuine group_secret (vote_in 1 Write) (good_vote 1 Write (omega arith))).read;
       fine = right_vote (is_verified ballots group_secret (signed ballots group_secret 1 (ballot_in 1 Write))) (good_vote 1 Write (omega arith)).tagged;
@@ -531,7 +553,7 @@ turn9 m =
 turn10 : {S : Type 0} (m : Meaning S) → flow_once (step_of m) [] (world9 m) ≡ world10 m
 unfolding computed
 turn10 m =
-    given m 2 (vote_in 1 Accept) None (Some later_decision) (origins.Node 1) (world9 m) (omega arith) refl refl refl refl
+    given m 5 (vote_in 1 Accept) None (Some later_decision) (origins.Node 1) (world9 m) (omega arith) refl refl refl refl
     (record {
       read = (good-genuine group_secret (vote_in 1 Accept) (good_vote 1 Accept (omega arith))).read;
       fine = right_vote (is_verified ballots group_secret (signed ballots group_secret 1 (ballot_in 1 Accept))) (good_vote 1 Accept (omega arith)).tagged;

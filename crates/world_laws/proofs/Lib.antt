@@ -18,6 +18,7 @@ pub mod NoClash
 pub mod Stating
 pub mod Unforged
 pub mod Longer
+pub mod Stores
 pub mod Witnessing
 pub mod Fitting
 pub mod Grounded
@@ -31,6 +32,9 @@ pub mod Replies
 pub mod Accepted
 pub mod Told
 pub mod OneListLaw
+pub mod Calls
+pub mod Supplied
 pub mod Settles
 pub mod Example
 pub mod Later
+pub mod Reopens

@@ -1,5 +1,5 @@
 -- Facts on lists, tests and repeated steps.
-use Rattle.std.proofs.Common.{◌≡◌, ℕ, zero, suc, ◌+◌, ◌++◌, Bool, true, false, ◌&&◌, ◌||◌, List, [], ◌∷◌, refl, cond, Some, subst, inl, inr, ◌⊎◌}
+use Rattle.std.proofs.Common.{◌≡◌, ℕ, zero, suc, ◌+◌, ◌++◌, Bool, true, false, ◌&&◌, ◌||◌, List, [], ◌∷◌, length, map, refl, ap, cond, Some, subst, inl, inr, ◌⊎◌}
 use Rattle.std.specs.Prelude.{slice_get, slice_set}
 use Rattle.smart_base.specs.Lists.{Each}
 use Rattle.world_rules.specs.Repeats.{repeated, turns, until_rest, each_from}
@@ -38,6 +38,11 @@ either P false x y px py = py
 pub either_by : {A : Type 0} (P : A → Type 0) (b : Bool) (x y : A) → (b ≡ true → P x) → (b ≡ false → P y) → P (cond b x y)
 either_by P true x y px py = px refl
 either_by P false x y px py = py refl
+
+-- the mapped list is as long
+pub map_length : {A B : Type 0} (t : A → B) (xs : List A) → length (map t xs) ≡ length xs
+map_length t [] = refl
+map_length t (x ∷ xs) = ap (λ k. suc k) (map_length t xs)
 
 -- what holds of each value of a list
 

@@ -17,7 +17,7 @@ use Rattle.node_rules.specs.Rules.{reply_of, replying, lines_to_answer, deliver_
 use Rattle.node_rules.specs.Nodes.{Node, holding}
 use Rattle.node_rules.specs.Arrivals.{why_dropped, noted, kept}
 use Rattle.node_rules.specs.Changes.{adoption, adopts, joins, promising, promise_next, promises, leads, times}
-use Rattle.node_rules.specs.Steps.{passes, arrival_outcome, reading_outcome, step_of}
+use Rattle.node_rules.specs.Steps.{made_firm, passes, arrival_outcome, reading_outcome, step_of}
 use Rattle.node_rules.specs.declared.node.Why.{Why}
 use Rattle.node_rules.specs.declared.node.Target.TheVariants as targets
 use Rattle.agreement_laws.specs.Fronts.{IsFront}
@@ -29,7 +29,7 @@ use Rattle.replica_laws.proofs.Rulewise.{KeptByRules, keeps_passes}
 
 -- fronts
 
-front_same : {A : Type 0} (xs : List A) → IsFront xs xs
+pub front_same : {A : Type 0} (xs : List A) → IsFront xs xs
 front_same xs = record { rest = []; is = sym (append-nil xs) }
 
 front_end : {A : Type 0} (front xs : List A) (x : A) → IsFront front xs → IsFront front (xs ++ x ∷ [])
@@ -38,19 +38,20 @@ front_end {A} front xs x f = record { rest = f.rest ++ x ∷ []; is = ap (λ (ys
 front_as : {A : Type 0} (front xs ys : List A) → ys ≡ xs → IsFront front xs → IsFront front ys
 front_as {A} front xs ys same f = record { rest = f.rest; is = same ∙ f.is }
 
--- a node of the same name and secret, of which as much is firm, with a longer book
+-- a node of the same name and secret, of which as much was restored and is firm, with a longer book
 pub record Longer {S : Type 0} (n n' : Node S) : Type 0 where
   pub named : n'.id ≡ n.id
   pub shared : n'.secret ≡ n.secret
+  pub restored_is : n'.restored ≡ n.restored
   pub firm_is : n'.firm ≡ n.firm
   pub book : IsFront n.entries n'.entries
 
 longer-same : {S : Type 0} (n : Node S) → Longer n n
-longer-same n = record { named = refl; shared = refl; firm_is = refl; book = front_same n.entries }
+longer-same n = record { named = refl; shared = refl; restored_is = refl; firm_is = refl; book = front_same n.entries }
 
 -- a rule that leaves all but the book
 longer-leaves : {S : Type 0} (a n n' : Node S) → Leaves n n' → IsFront a.entries n'.entries → Longer a n → Longer a n'
-longer-leaves a n n' l book is = record { named = l.named ∙ is.named; shared = l.shared ∙ is.shared; firm_is = l.firm_is ∙ is.firm_is; book = book }
+longer-leaves a n n' l book is = record { named = l.named ∙ is.named; shared = l.shared ∙ is.shared; restored_is = l.restored_is ∙ is.restored_is; firm_is = l.firm_is ∙ is.firm_is; book = book }
 
 longer-as : {S : Type 0} (a n n' : Node S) → Leaves n n' → n'.entries ≡ n.entries → Longer a n → Longer a n'
 longer-as a n n' l same is = longer-leaves a n n' l (front_as a.entries n.entries n'.entries same is.book) is
@@ -88,7 +89,7 @@ front-accepts front n f = front-accept_batch front n (accepting n) f
 longer-decide_batch : {S : Type 0} (a n : Node S) (d : Option Decision) → Longer a n → Longer a (decide_batch n d)
 unfolding decide_batch
 longer-decide_batch a n None is = is
-longer-decide_batch a n (Some d) is = record { named = is.named; shared = is.shared; firm_is = is.firm_is; book = front_end a.entries n.entries _ is.book }
+longer-decide_batch a n (Some d) is = record { named = is.named; shared = is.shared; restored_is = is.restored_is; firm_is = is.firm_is; book = front_end a.entries n.entries _ is.book }
 
 longer-decides : {S : Type 0} (a n : Node S) → Longer a n → Longer a (decides n)
 unfolding decides
@@ -99,14 +100,14 @@ longer-replying : {S : Type 0} (a n : Node S) (lines : List TableLine) → Longe
 longer-replying a n [] is = is
 longer-replying a n (l ∷ ls) is =
     longer-replying a (holding n (targets.Client l.client) (Plain (reply_of n.secret n.id l))) ls
-    (record { named = is.named; shared = is.shared; firm_is = is.firm_is; book = is.book })
+    (record { named = is.named; shared = is.shared; restored_is = is.restored_is; firm_is = is.firm_is; book = is.book })
 
 longer-deliver_batch : {S : Type 0} (m : Meaning S) (a n : Node S) (batch : Option Batch) → Longer a n → Longer a (deliver_batch m n batch)
 unfolding deliver_batch
 longer-deliver_batch m a n None is = is
 longer-deliver_batch m a n (Some batch) is =
     longer-replying a (record n { replica = delivered m n.replica batch; waiting = None; pool = settled (delivered m n.replica batch).table n.pool; impatient = false }) (lines_to_answer m n batch)
-    (record { named = is.named; shared = is.shared; firm_is = is.firm_is; book = is.book })
+    (record { named = is.named; shared = is.shared; restored_is = is.restored_is; firm_is = is.firm_is; book = is.book })
 
 longer-delivers : {S : Type 0} (m : Meaning S) (a n : Node S) → Longer a n → Longer a (delivers m n)
 unfolding delivers
@@ -130,7 +131,7 @@ abbrev pub told_firm : {S : Type 0} → Node S → NodeEvent → Node S
 told_firm n (Arrive bytes) = n
 told_firm n Tick = n
 told_firm n Deliver = n
-told_firm n (Firm count) = record n { firm = count }
+told_firm n (Firm count) = made_firm n count
 
 -- a pass of the rules
 longer-passes : {S : Type 0} (a n : Node S) → Longer a n → Longer a (passes n)
@@ -156,7 +157,7 @@ unfolding step_of
 longer-step m n (Arrive bytes) = longer-reading m n (any_decoded bytes)
 longer-step m n Tick = longer-as n (passes n) (times (passes n)) (leaves-times (passes n)) (entries-times (passes n)) (longer-passes n n (longer-same n))
 longer-step m n Deliver = longer-passes n (delivers m n) (longer-delivers m n n (longer-same n))
-longer-step {S = S} m n (Firm count) = let firmer : Node S = record n { firm = count } in longer-passes firmer firmer (longer-same firmer)
+longer-step {S = S} m n (Firm count) = let firmer : Node S = made_firm n count in longer-passes firmer firmer (longer-same firmer)
 
 -- so each step keeps the secret
 pub secret-step : {S : Type 0} (m : Meaning S) (n : Node S) (event : NodeEvent) → (step_of m n event).node.secret ≡ n.secret

@@ -51,6 +51,7 @@ keeps-sent : {S : Type 0} (step : Node S → NodeEvent → Outcome S) (q : Reque
 keeps-sent step q =
     record {
       event = λ w i h event there at may asked. asked-stepped w i h (step h.node event) q asked;
+      disk = λ w i h at asked. asked;
       hear = λ w i c x a at has read asked. asked-hearing w i c a (heard w.view c a) q asked;
       ask = λ w i c op at free few brief asked. asked_grows (asked_by w i c op) (from_client c (ask_of c op)) q asked;
       again = λ w i c r at waits asked. asked_grows w (from_client c (signed_by c r)) q asked;
@@ -160,6 +161,7 @@ keeps-stating step before known =
     let k = keeps-right step in
     record {
       event = λ w i h event on there at may is. (k.event w i h event on there at may is.0, past-stepped before known w i h (step h.node event) is.1);
+      disk = λ w i h on there at is. (k.disk w i h on there at is.0, record { each = is.1.each; accepted = is.1.accepted });
       hear = λ w i c x a on at has read is. (k.hear w i c x a on at has read is.0, past-hearing before known w i c a on at is.1);
       ask = λ w i c op on at free few brief is. (
         k.ask w i c op on at free few brief is.0,

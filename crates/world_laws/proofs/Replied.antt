@@ -207,6 +207,7 @@ pub keeps-replied : {S : Type 0} (m : Meaning S) (P : World S → Type 0) → ((
 keeps-replied m P right k =
     record {
       event = λ w i h event there at may p. (k.event w i h event there at may p.0, replied-stepped w i h (step_of m h.node event) p.1);
+      disk = λ w i h at p. (k.disk w i h at p.0, record { clients = p.1.clients; accepted = p.1.accepted });
       hear = λ w i c x a at has read p. (
         k.hear w i c x a at has read p.0,
         replied-hearing m w i c a at (heard_has w x (Reply a) (right-reads m w (right w p.0).0) has read) (right w p.0) p.1,

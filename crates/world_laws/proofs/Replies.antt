@@ -27,7 +27,7 @@ use Rattle.node_rules.specs.Rules.{reply_of, replying, lines_to_answer, deliver_
 use Rattle.node_rules.specs.Nodes.{Node, view_of, next_place, holding}
 use Rattle.node_rules.specs.Arrivals.{why_dropped, noted, kept_plain, kept_change, kept}
 use Rattle.node_rules.specs.Changes.{adopts_by, adoption, adopts, asks_next, joining, joins, promising, promise_next, promises, leading, lead_with, leads, timing, passes_on, presses, times}
-use Rattle.node_rules.specs.Steps.{Outcome, passes, arrival_outcome, reading_outcome, step_of, leaving}
+use Rattle.node_rules.specs.Steps.{Outcome, made_firm, passes, arrival_outcome, reading_outcome, step_of, leaving}
 use Rattle.node_rules.specs.declared.node.Why.{Why}
 use Rattle.node_rules.specs.declared.node.Held.{Held}
 use Rattle.node_rules.specs.declared.node.Target.TheVariants as targets
@@ -49,7 +49,7 @@ use Rattle.replica_laws.proofs.Leaves.{leaves-adopts, leaves-joins, leaves-promi
 use Rattle.replica_laws.proofs.Waiting.{each-leaving, each-staying}
 use Rattle.replica_laws.proofs.Rulewise.{KeptByRules, keeps_passes}
 use Rattle.world_laws.proofs.Lists.{either, each_end, each_weaker, each_set, each_get}
-use Rattle.world_laws.proofs.Keeps.{ask_of, asked_by, by-posts, Keeps, signed_by, from_node, from_client, from_script}
+use Rattle.world_laws.proofs.Keeps.{after_call, ask_of, asked_by, by-posts, Keeps, signed_by, from_node, from_client, from_script}
 use Rattle.world_laws.proofs.Unforged.{NodeStates, reply_content}
 use Rattle.world_laws.proofs.Aligned.{Aligned, AllAligned, line_told, IsExecuted}
 
@@ -305,7 +305,7 @@ unfolding step_of delivers
 held-step m v chosen h (Arrive bytes) aligned held = held-reading m v chosen h.node (any_decoded bytes) held (table_lines m v chosen h aligned)
 held-step m v chosen h Tick aligned held = held-times m v chosen (passes h.node) (held-passes m v chosen h.node held).0
 held-step m v chosen h Deliver aligned held = (held-passes m v chosen (deliver_batch m h.node h.node.waiting) (held-deliver_batch m v chosen h h.node.waiting aligned refl held)).0
-held-step m v chosen h (Firm count) aligned held = (held-passes m v chosen (record h.node { firm = count }) held).0
+held-step m v chosen h (Firm count) aligned held = (held-passes m v chosen (made_firm h.node count) held).0
 
 -- messages that leave
 
@@ -363,6 +363,13 @@ keeps-replies {S = S} m P k aligned =
         right-stepped m w i h (step_of m h.node event)
             (held-step m w.view w.chosen h event (each_get (Aligned m w.view w.chosen) w.hosts i h (aligned w p.0).hosts at)
             (each_get (λ (g : Host S). HeldRight m w.view w.chosen g.node) w.hosts i h p.1.held at)) p.1,
+      );
+      disk = λ w i h at p. (
+        k.disk w i h at p.0,
+        record {
+          sent = p.1.sent;
+          held = each_set (λ (g : Host S). HeldRight m w.view w.chosen g.node) w.hosts i (after_call h) p.1.held (each_get (λ (g : Host S). HeldRight m w.view w.chosen g.node) w.hosts i h p.1.held at);
+        },
       );
       hear = λ w i c x a at has read p. (k.hear w i c x a at has read p.0, right-hearing m w i c a (heard w.view c a) p.1);
       ask = λ w i c op at free few brief p. (

@@ -166,6 +166,7 @@ keeps-knowing step before count =
     let k = keeps-right step in
     record {
       event = λ w i h event on there at may is. (k.event w i h event on there at may is.0, know-stepped before count w i h (step h.node event) is.1);
+      disk = λ w i h on there at is. (k.disk w i h on there at is.0, record { each = is.1.each; there = is.1.there });
       hear = λ w i c x a on at has read is. (k.hear w i c x a on at has read is.0, know-hearing before count w i c a at (id_at w i c at is.0) is.1);
       ask = λ w i c op on at free few brief is. (
         k.ask w i c op on at free few brief is.0,

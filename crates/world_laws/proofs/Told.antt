@@ -130,6 +130,7 @@ keeps-stemming step =
     let k = keeps-right step in
     record {
       event = λ w i h event on there at may is. (k.event w i h event on there at may is.0, stems-stepped w i h (step h.node event) is.1);
+      disk = λ w i h on there at is. (k.disk w i h on there at is.0, record { all = is.1.all });
       hear = λ w i c x a on at has read is. (k.hear w i c x a on at has read is.0, stems-hearing w i c a (waits_own w i c at is.0) is.1);
       ask = λ w i c op on at free few brief is. (
         k.ask w i c op on at free few brief is.0,
@@ -172,6 +173,7 @@ keeps-stems : {S : Type 0} (step : Node S → NodeEvent → Outcome S) (line : O
 keeps-stems step line =
     record {
       event = λ w i h event there at may stems. rw accepted-stepped stems;
+      disk = λ w i h at stems. stems;
       hear = λ w i c x a at has read stems. rw accepted-hearing (stems_more w.accepted (acceptance_in (heard w.view c a)) line stems);
       ask = λ w i c op at free few brief stems. rw accepted-posts stems;
       again = λ w i c q at waits stems. rw accepted-posts stems;

@@ -139,6 +139,7 @@ unfolding hearing
 keeps-unforged step =
     record {
       event = λ w i h event there at may is. unforged-stepped w i h (step h.node event) is;
+      disk = λ w i h at is. record { each = is.each };
       hear = λ w i c x a at has read is. record { each = is.each };
       ask = λ w i c op at free few brief is. unforged-posts (asked_by w i c op) (from_client c (ask_of c op)) tt (record { each = is.each });
       again = λ w i c q at waits is. unforged-posts w (from_client c (signed_by c q)) tt is;

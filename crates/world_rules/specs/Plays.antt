@@ -8,7 +8,8 @@ use Rattle.node_rules.specs.Nodes.{Node}
 use Rattle.node_rules.specs.Steps.{Outcome}
 use Rattle.smart_base.specs.declared.party.Party.{Party}
 use Rattle.smart_base.specs.declared.party.Party.TheVariants as parties
-use Rattle.world_rules.specs.Worlds.{World, asks, repeats, tells, settle, settle_all, flows, host_index, at_member, give_number, deliver_each, tick_each, shows, declares_faulty, declares_rogue, injects, begun}
+use Rattle.world_rules.specs.Worlds.{World, asks, repeats, tells, calls_disk, settle, settle_all, flows, host_index, at_member, give_number, deliver_each, tick_each, shows, declares_faulty, declares_rogue, injects, begun}
+use Rattle.world_rules.specs.Repeats.{repeated}
 use Rattle.world_rules.specs.Injections.{injected_bytes}
 use Rattle.world_rules.specs.declared.line.Line.{Line}
 use Rattle.world_rules.specs.declared.line.Line.TheVariants as lines
@@ -34,6 +35,7 @@ is_there w (lines.Give number to) = nat_le 1 number && nat_le number (length w.s
 is_there w (lines.Deliver members) = list_all (has_member w) members
 is_there w (lines.Tick members) = list_all (has_member w) members
 is_there w (lines.Settle member) = has_member w member
+is_there w (lines.Disk member count) = has_member w member
 is_there w lines.SettleAll = true
 is_there w lines.Show = true
 is_there w (lines.Faulty member) = has_member w member
@@ -51,6 +53,7 @@ line_played step w (lines.Give number to) = give_number step number to w
 line_played step w (lines.Deliver members) = deliver_each step members w
 line_played step w (lines.Tick members) = tick_each step members w
 line_played step w (lines.Settle member) = at_member (settle step) member w
+line_played step w (lines.Disk member count) = at_member (λ i v. repeated (calls_disk step i) count v) member w
 line_played step w lines.SettleAll = settle_all step [] w
 line_played step w lines.Show = shows w
 line_played step w (lines.Faulty member) = declares_faulty member w

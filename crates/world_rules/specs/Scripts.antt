@@ -147,6 +147,18 @@ settle_line [] = Err kinds.Count
 settle_line (word ∷ []) = if same_bytes word (codes "all") then Ok lines.SettleAll else or_number lines.Settle (member_of word)
 settle_line (word ∷ next ∷ more) = Err kinds.Count
 
+-- a member, and how many device calls: one where no number is named
+abbrev pub disk_with : Option ℕ → Option ℕ → Result Line Kind
+disk_with None count = Err kinds.Number
+disk_with (Some member) None = Err kinds.Number
+disk_with (Some member) (Some count) = Ok (lines.Disk member count)
+
+abbrev pub disk_line : List (List ℕ) → Result Line Kind
+disk_line [] = Err kinds.Count
+disk_line (member ∷ []) = disk_with (member_of member) (Some 1)
+disk_line (member ∷ count ∷ []) = disk_with (member_of member) (number_in 1 1000 count)
+disk_line (member ∷ count ∷ next ∷ more) = Err kinds.Count
+
 abbrev pub show_line : List (List ℕ) → Result Line Kind
 show_line [] = Ok lines.Show
 show_line (word ∷ words) = Err kinds.Count
@@ -357,6 +369,7 @@ line_by bytes (word ∷ words) =
     else if same_bytes word (codes "deliver") then deliver_line words
     else if same_bytes word (codes "tick") then tick_line words
     else if same_bytes word (codes "settle") then settle_line words
+    else if same_bytes word (codes "disk") then disk_line words
     else if same_bytes word (codes "show") then show_line words
     else if same_bytes word (codes "faulty") then faulty_line words
     else if same_bytes word (codes "rogue") then rogue_line words

@@ -1,6 +1,6 @@
 -- The world: all hosts and clients, each message that was ever sent, and the list of batches that was chosen. What happens in it is a
 -- function from world to world. The step of a node is an argument.
-use Rattle.std.specs.Prelude.{ℕ, zero, suc, ◌+◌, ◌^◌, ◌==◌, nat_lt, List, [], ◌∷◌, ◌++◌, length, if◌then◌else◌, Option, Some, None, is_some, slice_get, slice_set, Result, Ok, Err, nat_le, ◌&&◌, ◌-◌, Bool, true}
+use Rattle.std.specs.Prelude.{ℕ, zero, suc, ◌+◌, ◌^◌, ◌==◌, nat_lt, List, [], ◌∷◌, ◌++◌, length, map, drop, if◌then◌else◌, Option, Some, None, is_some, slice_get, slice_set, Result, Ok, Err, nat_le, ◌&&◌, ◌-◌, Bool, true}
 use Rattle.std.specs.List.{flat_map, list_any, position}
 use Rattle.std.specs.Option.{option_and_then}
 use Rattle.smart_base.specs.Lists.{or_else}
@@ -36,6 +36,11 @@ use Rattle.node_rules.specs.declared.node.Target.TheVariants as targets
 use Rattle.node_rules.specs.declared.node.Delivery.{Delivery}
 use Rattle.node_rules.specs.declared.node.Fired.{Fired}
 use Rattle.node_rules.specs.declared.node.Fired.TheVariants as fires
+use Rattle.vote_book.specs.Entries.{entry_text}
+use Rattle.vote_book.specs.declared.entry.LogEntry.{LogEntry}
+use Rattle.durable_store.specs.States.{StoreState}
+use Rattle.durable_store.specs.Exact.{call_due, store_called, started, store_opened}
+use Rattle.durable_store.specs.Lives.{no_bytes}
 use Rattle.world_rules.specs.Repeats.{until_rest, each_from}
 use Rattle.world_rules.specs.Secrets.{group_secret}
 use Rattle.world_rules.specs.Premises.{is_among, too_many, is_forged, collides, bytes_of}
@@ -61,9 +66,10 @@ use Rattle.world_rules.specs.declared.line.Summary.TheVariants as summaries
 use Rattle.world_rules.specs.declared.line.OutLine.{OutLine}
 use Rattle.world_rules.specs.declared.line.OutLine.TheVariants as outs
 
--- a member's host: its node, and the batches that it ever delivered
+-- a member's host: its node, the store of what its node writes down, and the batches that the node ever delivered
 pub record Host (S : Type 0) : Type 0 where
   pub node : Node S
+  pub store : StoreState
   pub delivered : List Delivery
 
 pub record World (S : Type 0) : Type 0 where
@@ -177,8 +183,17 @@ abbrev pub chosen_with : List Batch → ℕ → Option Batch → List Batch
 chosen_with chosen place None = chosen
 chosen_with chosen place (Some batch) = if place == length chosen + 1 then chosen ++ batch ∷ [] else chosen
 
+-- entries behind some others, as they are spelled
+abbrev pub spelled_behind : ℕ → List LogEntry → List (List ℕ)
+spelled_behind count entries = map entry_text (drop count entries)
+
+-- what the node has written down waits in the store
 abbrev pub host_after : {S : Type 0} → Host S → Outcome S → Host S
-host_after h o = record { node = released o.node; delivered = h.delivered ++ flat_map delivery_in o.fired }
+host_after h o = record {
+  node = released o.node;
+  store = started h.store (spelled_behind (length h.node.entries) o.node.entries);
+  delivered = h.delivered ++ flat_map delivery_in o.fired;
+}
 
 -- a node's step: what it tells comes first, then what leaves
 unfoldable pub stepped : {S : Type 0} → World S → ℕ → Host S → Outcome S → World S
@@ -207,20 +222,38 @@ host_takes step i event w (Some h) = if is_gone w h.node.id then w else stepped 
 unfoldable pub node_takes : {S : Type 0} → (Node S → NodeEvent → Outcome S) → ℕ → NodeEvent → World S → World S
 node_takes step i event w = if is_some w.ending then w else host_takes step i event w (slice_get w.hosts i)
 
--- what is due at a host without another message: the entries that its node has made become firm, or the batch that waits is delivered.
--- The first stands for the disk.
-abbrev pub due : {S : Type 0} → Host S → Option NodeEvent
-due h =
-    if nat_lt h.node.firm (length h.node.entries) then Some (Firm (length h.node.entries))
-    else if is_some h.node.waiting then Some Deliver
-    else None
+-- the next call of a host's store
+unfoldable pub disk_called : {S : Type 0} → Host S → Host S
+disk_called h = record h { store = store_called h.store }
 
-abbrev pub takes_due : {S : Type 0} → (Node S → NodeEvent → Outcome S) → ℕ → World S → Option NodeEvent → World S
+-- a node hears how many entries of its life are firm, where more are than it knows
+abbrev pub hears_firm : {S : Type 0} → (Node S → NodeEvent → Outcome S) → ℕ → World S → Host S → World S
+hears_firm step i w h =
+    if nat_lt h.node.firm h.store.firm
+    then stepped w i h (step h.node (Firm (h.store.firm - h.node.restored)))
+    else record w { hosts = slice_set w.hosts i h }
+
+abbrev pub host_calls : {S : Type 0} → (Node S → NodeEvent → Outcome S) → ℕ → World S → Option (Host S) → World S
+host_calls step i w None = w
+host_calls step i w (Some h) =
+    if is_gone w h.node.id then w
+    else if call_due h.store then hears_firm step i w (disk_called h)
+    else w
+
+-- the store at an index makes its next device call, if there is one, and its node hears what is firm then
+unfoldable pub calls_disk : {S : Type 0} → (Node S → NodeEvent → Outcome S) → ℕ → World S → World S
+calls_disk step i w = if is_some w.ending then w else host_calls step i w (slice_get w.hosts i)
+
+-- what is due at a host without another message: the next call of its store, or else the delivery of the batch that waits
+abbrev pub takes_due : {S : Type 0} → (Node S → NodeEvent → Outcome S) → ℕ → World S → Option (Host S) → World S
 takes_due step i w None = w
-takes_due step i w (Some event) = node_takes step i event w
+takes_due step i w (Some h) =
+    if call_due h.store then calls_disk step i w
+    else if is_some h.node.waiting then node_takes step i Deliver w
+    else w
 
 unfoldable pub settle_once : {S : Type 0} → (Node S → NodeEvent → Outcome S) → ℕ → World S → World S
-settle_once step i w = takes_due step i w (option_and_then due (slice_get w.hosts i))
+settle_once step i w = takes_due step i w (slice_get w.hosts i)
 
 -- the node at an index takes what is due until nothing is
 abbrev pub settle : {S : Type 0} → (Node S → NodeEvent → Outcome S) → ℕ → World S → World S
@@ -477,9 +510,13 @@ host_of (h ∷ hs) id = if h.node.id == id then Some h else host_of hs id
 
 -- the beginning
 
+-- a host whose node has opened its book, over empty devices
+abbrev pub host_of_node : {S : Type 0} → Node S → Host S
+host_of_node n = record { node = n; store = started (store_opened no_bytes) (spelled_behind 0 n.entries); delivered = [] }
+
 abbrev pub hosts_from : {S : Type 0} → Meaning S → View → List ℕ → List (Host S)
 hosts_from m view [] = []
-hosts_from m view (id ∷ ids) = record { node = opened m group_secret id view 1024; delivered = [] } ∷ hosts_from m view ids
+hosts_from m view (id ∷ ids) = host_of_node (opened m group_secret id view 1024) ∷ hosts_from m view ids
 
 -- clients that have not asked, of count numbers from i on
 unfoldable pub clients_from : ℕ → ℕ → List Client

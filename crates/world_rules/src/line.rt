@@ -38,6 +38,9 @@ pub enum Line {
     Deliver { members: Sequence<MemberId> },
     /// `tick M..`: time passes at each of these members, in order.
     Tick { members: Sequence<MemberId> },
+    /// `disk M [COUNT]`: the member's store makes so many device calls, one where no number is named,
+    /// or fewer where no more are due.
+    Disk { member: MemberId, count: u64 },
     /// `settle M`: the member takes what is due until nothing is.
     Settle { member: MemberId },
     /// `settle all`: each member does, ascending.

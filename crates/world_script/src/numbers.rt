@@ -34,6 +34,11 @@ pub const CLIENTS: Range = Range {
     least: 1,
     most: 1024,
 };
+/// How many device calls a line may ask for.
+pub const CALLS: Range = Range {
+    least: 1,
+    most: 1000,
+};
 /// The numbers of messages in lines.
 pub const MESSAGES: Range = Range {
     least: 1,

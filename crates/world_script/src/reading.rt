@@ -1,10 +1,10 @@
 //! What the lines of a script mean.
 ghost use Rattle.std.specs.Prelude.{◌≡◌, ◌&&◌, ◌<◌, ◌≤◌, nat_le, IfOk, IfSome, take};
 ghost use Rattle.std.specs.List.{list_all};
-ghost use Rattle.world_rules.specs.Scripts.{is_printed, is_short, is_nothing, number_in, member_of, client_of, each_word, party_of_word, ask_line, again_line, told_line, flow_line, give_line, deliver_line, tick_line, settle_line, show_line, faulty_line, rogue_line, form_by, injecting, line_by, line_of, members_from, view_for, group_words, group_line, app_line};
+ghost use Rattle.world_rules.specs.Scripts.{is_printed, is_short, is_nothing, number_in, member_of, client_of, each_word, party_of_word, ask_line, again_line, told_line, flow_line, give_line, deliver_line, tick_line, settle_line, disk_with, disk_line, show_line, faulty_line, rogue_line, form_by, injecting, line_by, line_of, members_from, view_for, group_words, group_line, app_line};
 
 use crate::forms::form_by;
-use crate::numbers::{CLIENTS, MEMBERS, MESSAGES, number_in};
+use crate::numbers::{CALLS, CLIENTS, MEMBERS, MESSAGES, number_in};
 use crate::words::{Words, behind_spaces, payload_of, words_in};
 use smart_base::decimal::number_of;
 use smart_base::equality::same_bytes;
@@ -233,6 +233,28 @@ fn settle_line(words: Words<'_>) -> Result<Line, Kind>
     Ok(Line::Settle { member })
 }
 
+fn disk_with(member: Option<MemberId>, count: Option<u64>) -> Result<Line, Kind>
+    ensures { result ≡ disk_with member count }
+{
+    let member = member.ok_or(Kind::Number)?;
+    let count = count.ok_or(Kind::Number)?;
+    Ok(Line::Disk { member, count })
+}
+
+/// One member's number, and how many calls.
+fn disk_line(words: Words<'_>) -> Result<Line, Kind>
+    ensures { result ≡ disk_line words.entry }
+{
+    let (member, words) = words.split_first().ok_or(Kind::Count)?;
+    let Some((count, words)) = words.split_first() else {
+        return disk_with(member_of(member), Some(1));
+    };
+    if words.split_first().is_some() {
+        return Err(Kind::Count);
+    }
+    disk_with(member_of(member), number_in(&CALLS, count))
+}
+
 fn show_line(words: Words<'_>) -> Result<Line, Kind>
     ensures { result ≡ show_line words.entry }
 {
@@ -296,6 +318,8 @@ fn line_by(alloc: Global, bytes: &[u8], words: Words<'_>) -> Result<Result<Line,
         tick_line(alloc, words)
     } else if same_bytes(word, b"settle") {
         Ok(settle_line(words))
+    } else if same_bytes(word, b"disk") {
+        Ok(disk_line(words))
     } else if same_bytes(word, b"show") {
         Ok(show_line(words))
     } else if same_bytes(word, b"faulty") {

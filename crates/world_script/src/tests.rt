@@ -34,6 +34,7 @@ fn line_name(line: &Line) -> &'static str {
         Line::Give { .. } => "give",
         Line::Deliver { .. } => "deliver",
         Line::Tick { .. } => "tick",
+        Line::Disk { .. } => "disk",
         Line::Settle { .. } => "settle",
         Line::SettleAll => "settle all",
         Line::Show => "show",
@@ -245,6 +246,10 @@ fn push_line(out: &mut String, line: &Line) -> Result<(), AllocError> {
             let client = client.get();
             write!(out, "c{client} is rogue")
         }
+        Line::Disk { member, count } => {
+            let member = member.get();
+            write!(out, "{count} calls of n{member}")
+        }
         Line::Inject(form) => push_form(out, form),
         _ => out.push_str(line_name(line)),
     }
@@ -298,6 +303,15 @@ told 1  => Number\n\
 deliver => Count\n\
 deliver 1 1 => deliver\n\
 deliver 1  => Number\n\
+disk => Count\n\
+disk 1 => 1 calls of n1\n\
+disk 65535 1000 => 1000 calls of n65535\n\
+disk 1 1 1 => Count\n\
+disk all => Number\n\
+disk 0 => Number\n\
+disk 1 0 => Number\n\
+disk 1 1001 => Number\n\
+disk 1  => Number\n\
 settle => Count\n\
 settle all => settle all\n\
 settle 2 => settle\n\

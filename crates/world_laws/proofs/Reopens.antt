@@ -1,0 +1,155 @@
+-- A node that goes on after a crash: it delivers in order, what it holds has a spelling, its batches were met, and what it will send rests on its book.
+use Rattle.std.proofs.Common.{◌≡◌, ℕ, ◌+◌, ◌^◌, ◌<◌, ◌==◌, true, false, List, [], ◌∷◌, length, arith, ap, subst, sym, refl}
+use Rattle.std.proofs.lemmas.List.{take_all}
+use Rattle.smart_base.specs.Lists.{Each}
+use Rattle.smart_base.specs.Views.{View, is_view, present}
+use Rattle.smart_messages.specs.Messages.{Batch, FitsBatch}
+use Rattle.smart_messages.specs.Spelling.{IsSigner}
+use Rattle.smart_service.specs.Services.{Meaning}
+use Rattle.smart_service.specs.declared.replica.Replica.{Replica}
+use Rattle.vote_book.specs.Entries.{FitsEntry}
+use Rattle.vote_book.specs.declared.entry.LogEntry.{LogEntry}
+use Rattle.vote_book.specs.declared.entry.LogEntry.TheVariants.{Opened, Wrote, Accepted, Promised, Synced, Decided, Installed, Marked}
+use Rattle.replica_rules.specs.Replicas.{at_next, delivered, executed_lines, after_batches, empty, state}
+use Rattle.agreement_laws.specs.Statements.{Statement}
+use Rattle.node_rules.specs.Nodes.{Node, regency_in, greatest_regency, regency_of}
+use Rattle.node_rules.specs.Reopening.{decided_of, reopened, stopped}
+use Rattle.node_rules.specs.Steps.{opened}
+use Rattle.node_laws.proofs.Reopened.{reopened_is, state_place, sound_reopened}
+use Rattle.node_laws.specs.Restored.{IsSoundBook}
+use Rattle.node_laws.specs.Sound.{IsSound}
+use Rattle.replica_laws.specs.Books.{DeliversInOrder}
+use Rattle.replica_laws.proofs.Lists.{either}
+use Rattle.replica_laws.proofs.Again.{each-delivered}
+use Rattle.replica_laws.proofs.Executions.{state-views, views-delivered}
+use Rattle.replica_laws.proofs.InOrder.{get-past, place-delivered}
+use Rattle.replica_laws.proofs.Onward.{NodeRests}
+use Rattle.replica_laws.proofs.FitNodes.{FitNode, FitsLine, IsBrief, fit-as, lines_of-fit, view-low}
+use Rattle.replica_laws.proofs.FitNodes as nodes
+use Rattle.replica_laws.proofs.FitBooks.{FitBook, spelled-opened}
+use Rattle.world_laws.proofs.Grounded.{EntryMet, NodeMet}
+
+-- the node that goes on from some entries
+going : {S : Type 0} → Meaning S → List ℕ → ℕ → View → List LogEntry → Node S
+going m secret id view es = record (stopped m secret id view) { entries = es; replica = state m view (decided_of es); restored = length es; firm = length es }
+
+-- ---- what it has delivered
+
+going_order : {S : Type 0} (m : Meaning S) (secret : List ℕ) (id : ℕ) (view : View) (es : List LogEntry) → DeliversInOrder m view (going m secret id view es)
+unfolding going
+going_order {S = S} m secret id view es =
+    let ds : List Batch = decided_of es in
+    let at : (state m view ds).place ≡ length ds = state_place m view ds in
+    record {
+      replica = ap (λ (bs : List Batch). state m view bs) (sym (take_all (state m view ds).place ds (omega (arith, at))));
+      waiting = sym (get-past ds (state m view ds).place (omega (arith, at)));
+      count = sym at;
+    }
+
+pub order_reopened : {S : Type 0} (m : Meaning S) (secret : List ℕ) (id : ℕ) (view : View) (period : ℕ) (entries : List LogEntry)
+    → DeliversInOrder m view (reopened m secret id view period entries)
+unfolding reopened going
+order_reopened m secret id view period [] = record { replica = refl; waiting = refl; count = refl }
+order_reopened {S = S} m secret id view period (e ∷ es) =
+    subst (λ (n : Node S). DeliversInOrder m view n) (sym (reopened_is m secret id view period e es)) (going_order m secret id view (e ∷ es))
+
+-- ---- what has a spelling
+
+regency-fits : (view : ℕ) (es : List LogEntry) → Each FitsEntry es → greatest_regency view es < 2 ^ 32
+regency-fits view [] each = omega arith
+regency-fits view (e ∷ es) each = let rest = regency-fits view es each.1 in let here = one e each.0 in omega (arith, rest, here)
+  where
+    one : (e : LogEntry) → FitsEntry e → regency_in view e < 2 ^ 32
+    one (Promised p) fit = either (λ (k : ℕ). k < 2 ^ 32) (p.view == view) p.regency 0 fit.regency_fits (omega arith)
+    one (Opened o) fit = omega arith
+    one (Wrote w) fit = omega arith
+    one (Accepted a) fit = omega arith
+    one (Synced s) fit = omega arith
+    one (Decided d) fit = omega arith
+    one (Installed i) fit = omega arith
+    one (Marked k) fit = omega arith
+
+batches-fit : (es : List LogEntry) → Each FitsEntry es → Each FitsBatch (decided_of es)
+batches-fit [] each = tt
+batches-fit (Opened o ∷ es) each = batches-fit es each.1
+batches-fit (Wrote w ∷ es) each = batches-fit es each.1
+batches-fit (Accepted a ∷ es) each = batches-fit es each.1
+batches-fit (Promised p ∷ es) each = batches-fit es each.1
+batches-fit (Synced s ∷ es) each = batches-fit es each.1
+batches-fit (Decided d ∷ es) each = (each.0.batch_fits, batches-fit es each.1)
+batches-fit (Installed i ∷ es) each = batches-fit es each.1
+batches-fit (Marked k ∷ es) each = batches-fit es each.1
+
+executed-fit : {S : Type 0} (m : Meaning S) → IsBrief m → (r : Replica S) (batch : Batch) → (present r.views).number < 2 ^ 32 → r.place + 1 < 2 ^ 63 → FitsBatch batch
+    → Each FitsLine (executed_lines m r batch)
+unfolding executed_lines
+executed-fit m brief r batch view low fit = lines_of-fit m brief (at_next r) 0 batch view (omega arith, low) (omega (arith, fit.count_fits.1)) fit.each_fits
+
+lines-fit : {S : Type 0} (m : Meaning S) → IsBrief m → (r : Replica S) (bs : List Batch) → (present r.views).number < 2 ^ 32 → r.place + length bs < 2 ^ 63 → Each FitsBatch bs
+    → Each FitsLine r.table → Each FitsLine (after_batches m r bs).table
+lines-fit m brief r [] view low fit lines = lines
+lines-fit {S = S} m brief r (b ∷ bs) view low fit lines =
+    lines-fit m brief (delivered m r b) bs
+    (subst (λ (vs : List View). (present vs).number < 2 ^ 32) (sym (views-delivered m r b)) view)
+    (let next : (delivered m r b).place ≡ r.place + 1 = place-delivered m r b in omega (arith, next, low))
+    fit.1 (each-delivered FitsLine m r b lines (executed-fit m brief r b view (omega (arith, low)) fit.0))
+
+going_fits : {S : Type 0} (secret : List ℕ) (m : Meaning S) → IsBrief m → (id : ℕ) (view : View) (es : List LogEntry) → IsSigner 1 id → is_view view ≡ true
+    → Each (nodes.FitsEntry secret) es → Each FitsEntry es → length (decided_of es) < 2 ^ 63 → FitNode secret (going m secret id view es)
+unfolding going regency_of
+going_fits secret m brief id view es named viewed kept spelled few =
+    let vs : (state m view (decided_of es)).views ≡ view ∷ [] = state-views m view (decided_of es) in
+    let from_none : 0 + length (decided_of es) < 2 ^ 63 = omega (arith, few) in
+    record {
+      named = named;
+      shared = refl;
+      view = subst (λ (xs : List View). is_view (present xs) ≡ true) (sym vs) viewed;
+      views = subst (λ (xs : List View). Each (λ v. is_view v ≡ true) xs) (sym vs) (viewed, tt);
+      regency = regency-fits (present (state m view (decided_of es)).views).number es spelled;
+      lines = lines-fit m brief (empty m view) (decided_of es) (view-low view viewed) from_none (batches-fit es spelled) tt;
+      pool = tt;
+      arrivals = tt;
+      told = tt;
+      begun = tt;
+      book = kept;
+      waiting = tt;
+      held = tt;
+    }
+
+-- the entries of a node that fits, or a front of them, leave one that fits
+pub fit_reopened : {S : Type 0} (secret : List ℕ) (m : Meaning S) → IsBrief m → (id : ℕ) (view : View) (period : ℕ) (entries : List LogEntry) → IsSigner 1 id → is_view view ≡ true
+    → period < 2 ^ 32 → Each (nodes.FitsEntry secret) entries → Each FitsEntry entries → length (decided_of entries) < 2 ^ 63
+    → FitBook secret (reopened m secret id view period entries)
+unfolding reopened going
+fit_reopened {S = S} secret m brief id view period [] named viewed low kept spelled few =
+    let n : Node S = opened m secret id view period in
+    let is : FitBook secret n = spelled-opened secret m id view period named viewed low in
+    record { node = fit-as secret n 0 [] false false false true is.node; book = is.book }
+fit_reopened {S = S} secret m brief id view period (e ∷ es) named viewed low kept spelled few =
+    subst (λ (n : Node S). FitBook secret n) (sym (reopened_is m secret id view period e es))
+    (record { node = going_fits secret m brief id view (e ∷ es) named viewed kept spelled few; book = spelled })
+
+-- ---- what was met, and what is behind a reply
+
+-- an opening has no batch
+pub met_reopened : {S : Type 0} (M : Batch → Type 0) (m : Meaning S) (secret : List ℕ) (id : ℕ) (view : View) (period : ℕ) (entries : List LogEntry) → Each (EntryMet M) entries
+    → NodeMet M (reopened m secret id view period entries)
+unfolding reopened
+met_reopened M m secret id view period [] met = record { arrivals = tt; entries = (tt, tt); waiting = tt }
+met_reopened {S = S} M m secret id view period (e ∷ es) met =
+    subst (λ (n : Node S). NodeMet M n) (sym (reopened_is m secret id view period e es)) (record { arrivals = tt; entries = met; waiting = tt })
+
+going_rests : {S : Type 0} (m : Meaning S) (secret : List ℕ) (id : ℕ) (stated : List Statement) (view : View) (es : List LogEntry) → IsSound stated view (going m secret id view es)
+    → NodeRests (going m secret id view es)
+unfolding going
+going_rests m secret id stated view es is = record { held = tt; waits = tt; lines = is.table }
+
+pub rests_reopened : {S : Type 0} (m : Meaning S) (secret : List ℕ) (id : ℕ) (stated : List Statement) (view : View) (period : ℕ) (entries : List LogEntry)
+    → IsSoundBook secret stated view entries → NodeRests (reopened m secret id view period entries)
+unfolding reopened going
+rests_reopened m secret id stated view period [] book = record { held = tt; waits = tt; lines = tt }
+rests_reopened {S = S} m secret id stated view period (e ∷ es) book =
+    let same = reopened_is m secret id view period e es in
+    let is : IsSound stated view (going m secret id view (e ∷ es)) =
+    subst (λ (n : Node S). IsSound stated view n) same (sound_reopened m secret id stated view period (e ∷ es) book) in
+    subst (λ (n : Node S). NodeRests n) (sym same) (going_rests m secret id stated view (e ∷ es) is)
