@@ -1,9 +1,10 @@
 #!/bin/sh
 # What an ask costs. Plays a script of N asks by so many clients with a flow after each has asked, and then one of 2N: the
 # seconds of a run and of an ask, the peak memory of a run, and the bytes of memory that an ask adds.
-# usage: bench/asks.sh [N [CLIENTS [PROGRAM [EVERY]]]]
+# usage: bench/asks.sh [N [CLIENTS [PROGRAM [EVERY [CRASH]]]]]
 # Without N it is 2000, without CLIENTS 8, and without PROGRAM the proved program that ./prove makes. With EVERY the leader is
-# replaced at every ask whose number it divides: the others ask for the next regency as time passes. With 1000 clients most
+# replaced at every ask whose number it divides: the others ask for the next regency as time passes. With CRASH all members
+# stop behind every ask whose number it divides, and go on from what their devices hold. With 1000 clients most
 # batches have 64 requests. Of three runs the fastest counts, and
 # the least peak. A line of ratios follows, of the run of 2N to that of N: near 2 where the work grows with the asks alone.
 # The status is 1 where the seconds' ratio is 2.3 or more. Memory is measured where there is a GNU time.
@@ -12,10 +13,11 @@ n=${1:-2000}
 clients=${2:-8}
 program=${3:-$top/out/smart}
 every=${4:-4294967296}
-for number in "$n" "$clients" "$every"; do
+crash=${5:-4294967296}
+for number in "$n" "$clients" "$every" "$crash"; do
     case $number in
     '' | 0* | *[!0-9]*)
-        echo "usage: bench/asks.sh [N [CLIENTS [PROGRAM [EVERY]]]]" >&2
+        echo "usage: bench/asks.sh [N [CLIENTS [PROGRAM [EVERY [CRASH]]]]]" >&2
         exit 2
         ;;
     esac
@@ -36,7 +38,7 @@ trap 'rm -rf "$folder"' EXIT
 
 # A script of so many asks.
 script() {
-    awk -v asks="$1" -v clients="$clients" -v every="$every" 'BEGIN {
+    awk -v asks="$1" -v clients="$clients" -v every="$every" -v crash="$crash" 'BEGIN {
         leader = 1
         print "group 4 1"
         print "app count"
@@ -51,7 +53,11 @@ script() {
                 print "tick" others
                 leader = leader % 4 + 1
             }
-            if (i % clients == 0 || i % every == 0 || i == asks) print "flow"
+            if (i % clients == 0 || i % every == 0 || i % crash == 0 || i == asks) print "flow"
+            if (i % crash == 0) {
+                print "crash all new"
+                print "restart all"
+            }
         }
     }'
 }

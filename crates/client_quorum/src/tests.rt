@@ -1,6 +1,7 @@
 use crate::asking::AskError;
-use crate::client::{Client, Heard, Ignored};
+use crate::client::{Acceptance, Client, Heard, Ignored};
 use smart_base::bytes::Payload;
+use smart_base::keys::Signer;
 use smart_base::name::{ClientId, MemberId};
 use smart_base::number::{Place, ViewNo};
 use smart_base::party::Party;
@@ -9,7 +10,7 @@ use smart_base::view::View;
 use smart_keys::ring::Ring;
 use smart_messages::codec::encode;
 use smart_messages::message::Message;
-use smart_messages::signed::Signed;
+use smart_messages::signed::{Signed, Statement};
 use smart_messages::statement::{Answer, Request};
 use std::alloc::{AllocError, Global};
 use std::test::Fail;
@@ -41,13 +42,46 @@ fn ask(
     Ok(client.ask(alloc, ring, &op))
 }
 
+/// The request that it asks.
+fn asked(alloc: Global, ring: &Ring, client: &mut Client, op: u8) -> Result<Signed<Request>, Fail> {
+    Ok(ask(alloc, ring, client, op)?.ok().ok_or("not asked")?)
+}
+
+/// Why it does not ask once more.
+fn refused(alloc: Global, ring: &Ring, client: &mut Client) -> Result<Option<AskError>, Fail> {
+    Ok(ask(alloc, ring, client, b'-')?.err())
+}
+
+/// The request that waits, once more, where one does.
+fn waiting(
+    alloc: Global,
+    ring: &Ring,
+    client: &Client,
+) -> Result<Option<Signed<Request>>, AllocError> {
+    client.again(alloc, ring)
+}
+
+/// The request that waits, once more.
+fn again(alloc: Global, ring: &Ring, client: &Client) -> Result<Signed<Request>, Fail> {
+    Ok(waiting(alloc, ring, client)?.ok_or("none waits")?)
+}
+
+/// A client that has not asked.
+fn fresh(alloc: Global) -> Client {
+    Client::new(alloc, ClientId::new(5))
+}
+
 /// A client whose first request waits.
 fn asking(alloc: Global, ring: &Ring) -> Result<Client, Fail> {
-    let mut client = Client::new(alloc, ClientId::new(5));
-    ask(alloc, ring, &mut client, b'+')?
-        .ok()
-        .ok_or("not asked")?;
+    let mut client = fresh(alloc);
+    asked(alloc, ring, &mut client, b'+')?;
     Ok(client)
+}
+
+/// A request's client, its number, and the place that its client has seen.
+fn numbers(request: &Signed<Request>) -> (u16, u64, u64) {
+    let request = request.statement();
+    (request.client.get(), request.seq, request.after)
 }
 
 /// A reply of one byte to that request, at place 7.
@@ -62,6 +96,19 @@ fn answer(alloc: Global, reply: u8) -> Result<Answer, AllocError> {
     })
 }
 
+fn seal<S: Statement, K: Signer>(
+    alloc: Global,
+    key: &mut K,
+    signer: u16,
+    statement: S,
+) -> Result<Signed<S>, Fail> {
+    Ok(
+        Signed::seal(alloc, key, signer, statement)
+            .ok()
+            .ok_or("not signed")?,
+    )
+}
+
 fn signed(
     alloc: Global,
     ring: &Ring,
@@ -70,11 +117,7 @@ fn signed(
     answer: Answer,
 ) -> Result<Signed<Answer>, Fail> {
     let mut key = ring.sealer(Party::Member(MemberId::new(sealer)));
-    Ok(
-        Signed::seal(alloc, &mut key, member, answer)
-            .ok()
-            .ok_or("not signed")?,
-    )
+    seal(alloc, &mut key, member, answer)
 }
 
 /// A member's reply with some of its parts wrong: the tag (`t`), the client (`c`), the request's
@@ -114,6 +157,26 @@ fn in_short(heard: &Heard) -> Told {
     }
 }
 
+fn heard(
+    alloc: Global,
+    ring: &Ring,
+    view: &View,
+    client: &mut Client,
+    bytes: &[u8],
+) -> Result<Heard, AllocError> {
+    client.hear(alloc, view, ring, bytes)
+}
+
+fn heard_reply(
+    alloc: Global,
+    ring: &Ring,
+    view: &View,
+    client: &mut Client,
+    reply: &Signed<Answer>,
+) -> Result<Heard, AllocError> {
+    client.hear_reply(alloc, view, ring, reply)
+}
+
 /// The client hears bytes.
 fn hear_bytes(
     alloc: Global,
@@ -122,7 +185,17 @@ fn hear_bytes(
     bytes: &[u8],
 ) -> Result<Heard, Fail> {
     let view = view(alloc)?;
-    Ok(client.hear(alloc, &view, ring, bytes)?)
+    Ok(heard(alloc, ring, &view, client, bytes)?)
+}
+
+fn spelled(alloc: Global, message: &Message) -> Result<Vec<u8>, AllocError> {
+    encode(alloc, message)
+}
+
+/// The bytes of a member's reply.
+fn reply_text(alloc: Global, ring: &Ring, member: u16, reply: u8) -> Result<Vec<u8>, Fail> {
+    let signed = signed(alloc, ring, member, member, answer(alloc, reply)?)?;
+    Ok(spelled(alloc, &Message::Reply(signed))?)
 }
 
 /// The client hears the bytes of a member's reply.
@@ -133,9 +206,16 @@ fn hear(
     member: u16,
     reply: u8,
 ) -> Result<Heard, Fail> {
-    let signed = signed(alloc, ring, member, member, answer(alloc, reply)?)?;
-    let bytes = encode(alloc, &Message::Reply(signed))?;
+    let bytes = reply_text(alloc, ring, member, reply)?;
     hear_bytes(alloc, ring, client, bytes.as_slice())
+}
+
+/// The reply that the client accepts.
+fn accepted(heard: Heard) -> Result<Acceptance, Fail> {
+    match heard {
+        Heard::Accepted(acceptance) => Ok(acceptance),
+        Heard::Counted { .. } | Heard::Ignored(_) => Err("not accepted".into()),
+    }
 }
 
 /// What the client makes of replies, given one after the other: the members and their replies.
@@ -163,34 +243,49 @@ fn hear_wrong(
 ) -> Result<Told, Fail> {
     let reply = wrong_reply(alloc, ring, member, wrong)?;
     let view = view(alloc)?;
-    Ok(in_short(&client.hear_reply(alloc, &view, ring, &reply)?))
+    Ok(in_short(&heard_reply(alloc, ring, &view, client, &reply)?))
 }
 
 #[test]
-fn a_client_asks_and_asks_again(rt: HostRuntime) -> Result<(), Fail> {
-    let alloc = rt.alloc();
-    let ring = ring(alloc)?;
-    let mut client = Client::new(alloc, ClientId::new(5));
+fn a_client_begins_with_nothing(rt: HostRuntime) -> Result<(), Fail> {
+    let ring = ring(rt.alloc())?;
+    let client = fresh(rt.alloc());
     assert_eq!(rt; client.last(), 0);
     assert!(rt; client.waiting().is_none());
-    assert!(rt; client.again(alloc, &ring)?.is_none());
-    let first = ask(alloc, &ring, &mut client, b'+')?
-        .ok()
-        .ok_or("not asked")?;
-    let request = first.statement();
-    assert!(rt; first.verifies(&ring) && first.signer() == 5);
-    assert_eq!(rt;
-        (request.client.get(), request.seq, request.after),
-        (5, 1, 0)
-    );
-    assert_eq!(rt; request.op.as_slice(), b"+".as_slice());
-    let busy = ask(alloc, &ring, &mut client, b'-')?;
-    assert!(rt; matches!(busy, Err(AskError::Busy { seq: 1 })));
-    assert_eq!(rt; client.last(), 1);
-    let again = client.again(alloc, &ring)?.ok_or("none waits")?;
-    assert_eq!(rt; again.bytes(), first.bytes());
-    assert_eq!(rt; again.tag().as_slice(), first.tag().as_slice());
+    assert!(rt; waiting(rt.alloc(), &ring, &client)?.is_none());
     Ok(())
+}
+
+#[test]
+fn a_client_asks(rt: HostRuntime) -> Result<(), Fail> {
+    let ring = ring(rt.alloc())?;
+    let mut client = fresh(rt.alloc());
+    let first = asked(rt.alloc(), &ring, &mut client, b'+')?;
+    assert!(rt; first.verifies(&ring) && first.signer() == 5);
+    assert_eq!(rt; numbers(&first), (5, 1, 0));
+    assert_eq!(rt; first.statement().op.as_slice(), b"+".as_slice());
+    Ok(())
+}
+
+#[test]
+fn a_client_asks_again(rt: HostRuntime) -> Result<(), Fail> {
+    let ring = ring(rt.alloc())?;
+    let mut client = fresh(rt.alloc());
+    let first = asked(rt.alloc(), &ring, &mut client, b'+')?;
+    let why = refused(rt.alloc(), &ring, &mut client)?;
+    assert_eq!(rt; why, Some(AskError::Busy { seq: 1 }));
+    assert_eq!(rt; client.last(), 1);
+    let second = again(rt.alloc(), &ring, &client)?;
+    assert_eq!(rt; second.bytes(), first.bytes());
+    assert_eq!(rt; second.tag().as_slice(), first.tag().as_slice());
+    Ok(())
+}
+
+/// A client that has counted member 1's reply.
+fn counting(alloc: Global, ring: &Ring) -> Result<Client, Fail> {
+    let mut client = asking(alloc, ring)?;
+    hear(alloc, ring, &mut client, 1, b'a')?;
+    Ok(client)
 }
 
 /// Each reason, in their order, and the client is as before.
@@ -198,8 +293,7 @@ fn a_client_asks_and_asks_again(rt: HostRuntime) -> Result<(), Fail> {
 fn the_first_reason_is_told(rt: HostRuntime) -> Result<(), Fail> {
     let alloc = rt.alloc();
     let ring = ring(alloc)?;
-    let mut client = asking(alloc, &ring)?;
-    hear(alloc, &ring, &mut client, 1, b'a')?;
+    let mut client = counting(alloc, &ring)?;
     for (member, wrong, want) in [
         (9, "tcsv", Ignored::BadTag),
         (9, "csv", Ignored::Settled),
@@ -216,14 +310,19 @@ fn the_first_reason_is_told(rt: HostRuntime) -> Result<(), Fail> {
     Ok(())
 }
 
+/// The bytes of the request that waits.
+fn ask_text(alloc: Global, ring: &Ring, client: &Client) -> Result<Vec<u8>, Fail> {
+    let request = again(alloc, ring, client)?;
+    Ok(spelled(alloc, &Message::Ask(request))?)
+}
+
 /// Bytes that are no message, and those of a request.
 #[test]
 fn what_is_no_reply_is_unread(rt: HostRuntime) -> Result<(), Fail> {
     let alloc = rt.alloc();
     let ring = ring(alloc)?;
     let mut client = asking(alloc, &ring)?;
-    let request = client.again(alloc, &ring)?.ok_or("none waits")?;
-    let bytes = encode(alloc, &Message::Ask(request))?;
+    let bytes = ask_text(alloc, &ring, &client)?;
     for bytes in [bytes.as_slice(), b"".as_slice()] {
         let heard = hear_bytes(alloc, &ring, &mut client, bytes)?;
         assert_eq!(rt; in_short(&heard), Told::Ignored(Ignored::Unread));
@@ -246,9 +345,7 @@ fn the_third_equal_reply_is_accepted(rt: HostRuntime) -> Result<(), Fail> {
         counted.as_slice(),
         [Told::Counted(1), Told::Counted(1), Told::Counted(2)].as_slice()
     );
-    let Heard::Accepted(accepted) = hear(alloc, &ring, &mut client, 3, b'a')? else {
-        return Err("not accepted".into());
-    };
+    let accepted = accepted(hear(alloc, &ring, &mut client, 3, b'a')?)?;
     assert_eq!(rt; accepted.request.op.as_slice(), b"+".as_slice());
     assert_eq!(rt; accepted.reply.as_slice(), b"a".as_slice());
     assert_eq!(rt;
@@ -273,10 +370,8 @@ fn the_next_request_knows_the_place(rt: HostRuntime) -> Result<(), Fail> {
     let last = [Told::Accepted, Told::Ignored(Ignored::Settled)];
     assert_eq!(rt; all.as_slice().get(2..), Some(last.as_slice()));
     assert!(rt; client.waiting().is_none());
-    let next = ask(alloc, &ring, &mut client, b'-')?
-        .ok()
-        .ok_or("not asked")?;
-    assert_eq!(rt; (next.statement().seq, next.statement().after), (2, 7));
+    let next = asked(alloc, &ring, &mut client, b'-')?;
+    assert_eq!(rt; numbers(&next), (5, 2, 7));
     Ok(())
 }
 

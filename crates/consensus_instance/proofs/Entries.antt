@@ -1,18 +1,20 @@
 -- How the instance of a node follows its book, and what is due in it.
-use Rattle.std.proofs.Common.{◌≡◌, ℕ, ◌+◌, ◌≤◌, ◌<◌, ◌==◌, ◌++◌, ◌&&◌, ◌||◌, ◌⊎◌, inl, inr, not, max, nat_lt, Bool, true, false, List, [], ◌∷◌, refl, ap, sym, subst, ◌∙◌, cond, arith, Option, Some, None, is_some, is_none, option_map}
-use Rattle.std.proofs.lemmas.Bool.{eqb-true, eq-eqb, ne_eqb, ltb-true}
-use Rattle.std.proofs.lemmas.List.{append-nil}
+use Rattle.std.proofs.Common.{◌≡◌, ℕ, ◌+◌, ◌<◌, ◌==◌, ◌++◌, ◌&&◌, ◌||◌, not, max, nat_lt, Bool, true, false, List, [], ◌∷◌, refl, ap, sym, ◌∙◌, cond, arith, Option, Some, None, is_some, is_none, option_map}
+use Rattle.std.proofs.lemmas.Bool.{eq-eqb, ne_eqb}
 use Rattle.std.proofs.lemmas.List.Folds.{list_any-append}
 use Rattle.std.specs.List.{list_any}
-use Rattle.smart_base.specs.Lists.{Each}
 use Rattle.smart_base.specs.Views.{View}
-use Rattle.smart_base.proofs.SameLists.{and_true}
 use Rattle.smart_messages.specs.Messages.{Batch}
 use Rattle.smart_messages.specs.Equality.{same_slot}
 use Rattle.smart_messages.specs.declared.statement.Slot.{Slot}
 use Rattle.smart_messages.specs.declared.message.Message.{Message}
 use Rattle.smart_messages.specs.declared.message.Proposed.{Proposed}
+use Rattle.smart_base.specs.Lists.{or_else}
 use Rattle.vote_book.specs.Admission.{writes_in, accepts_in}
+use Rattle.vote_book.specs.Standing as books
+use Rattle.vote_book.specs.Standing.{first_start, own_votes}
+use Rattle.vote_book.specs.declared.votes.OwnVotes.{OwnVotes}
+use Rattle.vote_book.proofs.Standing.{start_push}
 use Rattle.vote_book.specs.declared.entry.Opening.{Opening}
 use Rattle.vote_book.specs.declared.entry.Write.{Write as Writing}
 use Rattle.vote_book.specs.declared.entry.Accept.{Accept as Accepting}
@@ -22,7 +24,7 @@ use Rattle.vote_book.specs.declared.entry.Decision.{Decision}
 use Rattle.vote_book.specs.declared.entry.LogEntry.{LogEntry}
 use Rattle.vote_book.specs.declared.entry.LogEntry.TheVariants.{Opened, Wrote, Accepted, Promised, Synced, Decided, Installed, Marked}
 use Rattle.node_rules.specs.Nodes as nodes
-use Rattle.node_rules.specs.Nodes.{Node, view_of, regency_of, start_of, next_place, is_synced, is_within, regency_in, greatest_regency, start_in, start_at, first_start}
+use Rattle.node_rules.specs.Nodes.{Node, view_of, regency_of, start_of, next_place, is_synced, is_within, regency_in, greatest_regency, start_in, start_at}
 use Rattle.node_rules.specs.Arrivals as arrivals
 use Rattle.node_rules.specs.Votes.{proposed_for}
 use Rattle.node_rules.specs.Rules as rules
@@ -30,9 +32,8 @@ use Rattle.node_rules.specs.Rules.{writing, accepting}
 use Rattle.consensus_instance.specs.declared.rule.Rule.{Rule}
 use Rattle.consensus_instance.specs.declared.rule.Rule.TheVariants.{Write, Accept}
 use Rattle.consensus_instance.specs.declared.start.Start.{Start}
-use Rattle.consensus_instance.specs.Instances.{Instance, first_of, decided_place, is_free, has_begun, bound_at, is_bound_to, is_unbound, is_open, open_slot, votable, written, due_by, moved_on, promising, is_unsynced, syncing}
-use Rattle.consensus_instance.specs.Nodes.{slot_behind, IsWithin, UpTo, start_by, IsInstance, HasInstance, due_at}
-use Rattle.consensus_instance.proofs.Lists.{each_more, each_as}
+use Rattle.consensus_instance.specs.Instances.{Instance, first_of, decided_place, is_free, has_begun, bound_at, is_bound_to, is_unbound, is_open, open_slot, votable, written, due_by, moved_on, promising, is_unsynced, syncing, resuming}
+use Rattle.consensus_instance.specs.Nodes.{slot_behind, start_by, IsInstance, HasInstance, due_at}
 
 -- BOOLEANS
 
@@ -52,10 +53,6 @@ and_same : (a : Bool) → (a && true) ≡ a
 and_same true = refl
 and_same false = refl
 
-none_any : {A : Type 0} (p : A → Bool) (xs : List A) → Each (λ x. p x ≡ false) xs → list_any p xs ≡ false
-none_any p [] all = refl
-none_any p (x ∷ xs) all = rw all.0 (none_any p xs all.1)
-
 any_end : {A : Type 0} (p : A → Bool) (xs : List A) (x : A) (test : Bool) → p x ≡ test → list_any p (xs ++ x ∷ []) ≡ (list_any p xs || test)
 any_end p xs x test is = list_any-append p xs (x ∷ []) ∙ ap (λ t. list_any p xs || t) (or_false (p x) ∙ is)
 
@@ -68,74 +65,6 @@ any_made p xs x is = any_end p xs x true is ∙ or_true (list_any p xs)
 
 same_self : (s : Slot) → same_slot s s ≡ true
 same_self s = rw (eq-eqb s.view s.view refl, eq-eqb s.place s.place refl, eq-eqb s.regency s.regency refl) refl
-
--- WHAT ENTRIES UP TO A SLOT ARE TO A LATER ONE
-
--- a slot is behind another in its view: at a later place, or in a later regency
-abbrev pub Behind : Slot → Slot → Type 0
-Behind slot next = (next.view ≡ slot.view) × ((slot.place < next.place) ⊎ (slot.regency < next.regency))
-
-other_slot : (s slot next : Slot) (test : Bool) → same_slot s next ≡ test → Behind slot next → IsWithin slot s → test ≡ false
-other_slot s slot next false is behind within = refl
-other_slot s slot next true is behind within =
-    let outer = and_true ((s.view == next.view) && (s.place == next.place)) (s.regency == next.regency) is in
-    let inner = and_true (s.view == next.view) (s.place == next.place) outer.0 in
-    let view : s.view ≡ next.view = eqb-true s.view next.view inner.0 in
-    let place : s.place ≡ next.place = eqb-true s.place next.place inner.1 in
-    let regency : s.regency ≡ next.regency = eqb-true s.regency next.regency outer.1 in
-    let most = within (view ∙ behind.0) in
-    absurd (later behind.1 place regency most)
-  where
-    later : (slot.place < next.place) ⊎ (slot.regency < next.regency) → s.place ≡ next.place → s.regency ≡ next.regency → (s.place ≤ slot.place) × (s.regency ≤ slot.regency) → ⊥
-    later (inl lt) place regency most = omega (arith, lt, place, most.0)
-    later (inr lt) place regency most = omega (arith, lt, regency, most.1)
-
-earlier_wrote : (slot next : Slot) → Behind slot next → (e : LogEntry) → UpTo slot e → writes_in next e ≡ false
-earlier_wrote slot next behind (Opened o) up = refl
-earlier_wrote slot next behind (Wrote w) up = other_slot w.slot slot next (same_slot w.slot next) refl behind up
-earlier_wrote slot next behind (Accepted a) up = refl
-earlier_wrote slot next behind (Promised p) up = refl
-earlier_wrote slot next behind (Synced s) up = refl
-earlier_wrote slot next behind (Decided d) up = refl
-earlier_wrote slot next behind (Installed i) up = refl
-earlier_wrote slot next behind (Marked m) up = refl
-
-earlier_accepted : (slot next : Slot) → Behind slot next → (e : LogEntry) → UpTo slot e → accepts_in next e ≡ false
-earlier_accepted slot next behind (Opened o) up = refl
-earlier_accepted slot next behind (Wrote w) up = refl
-earlier_accepted slot next behind (Accepted a) up = other_slot a.slot slot next (same_slot a.slot next) refl behind up
-earlier_accepted slot next behind (Promised p) up = refl
-earlier_accepted slot next behind (Synced s) up = refl
-earlier_accepted slot next behind (Decided d) up = refl
-earlier_accepted slot next behind (Installed i) up = refl
-earlier_accepted slot next behind (Marked m) up = refl
-
--- a slot is at no earlier place and in no earlier regency of a view
-abbrev pub From : Slot → Slot → Type 0
-From slot next = (next.view ≡ slot.view) × (slot.place ≤ next.place) × (slot.regency ≤ next.regency)
-
-within_from : (s slot next : Slot) → From slot next → IsWithin slot s → IsWithin next s
-within_from s slot next from within = λ view.
-    let most = within (view ∙ from.0) in
-    (omega (arith, most.0, from.1), omega (arith, most.1, from.2))
-
-up_from : (slot next : Slot) → From slot next → (e : LogEntry) → UpTo slot e → UpTo next e
-up_from slot next from (Opened o) up = tt
-up_from slot next from (Wrote w) up = within_from w.slot slot next from up
-up_from slot next from (Accepted a) up = within_from a.slot slot next from up
-up_from slot next from (Promised p) up = tt
-up_from slot next from (Synced s) up = λ view. let most = up (view ∙ from.0) in omega (arith, most, from.2)
-up_from slot next from (Decided d) up = tt
-up_from slot next from (Installed i) up = tt
-up_from slot next from (Marked m) up = tt
-
-none_written : (slot next : Slot) → Behind slot next → (entries : List LogEntry) → Each (UpTo slot) entries → list_any (writes_in next) entries ≡ false
-none_written slot next behind entries all =
-    none_any (writes_in next) entries (each_as (UpTo slot) (λ e. writes_in next e ≡ false) (λ e up. earlier_wrote slot next behind e up) entries all)
-
-none_accepted : (slot next : Slot) → Behind slot next → (entries : List LogEntry) → Each (UpTo slot) entries → list_any (accepts_in next) entries ≡ false
-none_accepted slot next behind entries all =
-    none_any (accepts_in next) entries (each_as (UpTo slot) (λ e. accepts_in next e ≡ false) (λ e up. earlier_accepted slot next behind e up) entries all)
 
 -- THE REGENCY AND ITS START, BY ONE MORE ENTRY
 
@@ -150,6 +79,35 @@ greatest_more view (x ∷ xs) e = ap (λ n. max (regency_in view x) n) (greatest
 greatest_passed : (view : ℕ) (entries : List LogEntry) (e : LogEntry) → regency_in view e ≡ 0 → greatest_regency view (entries ++ e ∷ []) ≡ greatest_regency view entries
 greatest_passed view entries e none = greatest_more view entries e ∙ (ap (λ n. max (greatest_regency view entries) n) none ∙ max_zero (greatest_regency view entries))
 
+-- the first beginning of a regency, by the book's word and by the node's
+
+first_or : (o rest : Option Beginning) → or_else o rest ≡ cond (is_some o) o rest
+first_or None rest = refl
+first_or (Some s) rest = refl
+
+first_by : (view regency : ℕ) (e : LogEntry) → books.start_by view regency e ≡ nodes.start_by view regency e
+first_by view regency (Opened o) = refl
+first_by view regency (Wrote w) = refl
+first_by view regency (Accepted a) = refl
+first_by view regency (Promised p) = refl
+first_by view regency (Synced s) = refl
+first_by view regency (Decided d) = refl
+first_by view regency (Installed i) = refl
+first_by view regency (Marked m) = refl
+
+pub first_same : (view regency : ℕ) (entries : List LogEntry) → first_start view regency entries ≡ start_in view regency entries
+first_same view regency [] = refl
+first_same view regency (e ∷ es) =
+    ap (λ (o : Option Beginning). or_else o (first_start view regency es)) (first_by view regency e)
+    ∙ (ap (λ (o : Option Beginning). or_else (nodes.start_by view regency e) o) (first_same view regency es) ∙ first_or (nodes.start_by view regency e) (start_in view regency es))
+
+pub start_pushed : (view regency : ℕ) (entries : List LogEntry) (e : LogEntry) → start_in view regency (entries ++ e ∷ []) ≡ or_else (start_in view regency entries) (nodes.start_by view regency e)
+start_pushed view regency entries e =
+    sym (first_same view regency (entries ++ e ∷ []))
+    ∙ (start_push view regency entries e
+    ∙ (ap (λ (o : Option Beginning). or_else o (books.start_by view regency e)) (first_same view regency entries)
+    ∙ ap (λ (o : Option Beginning). or_else (start_in view regency entries) o) (first_by view regency e)))
+
 if_none : (test : Bool) (o : Option Beginning) → o ≡ None → (rest : Option Beginning) → cond (is_some o) o rest ≡ rest
 if_none test o none rest = ap (λ (x : Option Beginning). cond (is_some x) x rest) none
 
@@ -158,43 +116,9 @@ start_passed view regency [] e none = ap (λ (x : Option Beginning). cond (is_so
 start_passed view regency (x ∷ xs) e none =
     ap (λ (rest : Option Beginning). cond (is_some (nodes.start_by view regency x)) (nodes.start_by view regency x) rest) (start_passed view regency xs e none)
 
--- the first that begins a regency
-pub start_made : (view regency : ℕ) (entries : List LogEntry) (e : LogEntry) (s : Beginning) → start_in view regency entries ≡ None → nodes.start_by view regency e ≡ Some s
-    → start_in view regency (entries ++ e ∷ []) ≡ Some s
-start_made view regency [] e s none is = ap (λ (x : Option Beginning). cond (is_some x) x None) is
-start_made view regency (x ∷ xs) e s none is = by (nodes.start_by view regency x) none (λ rest. start_made view regency xs e s rest is)
-  where
-    by : (o : Option Beginning) → cond (is_some o) o (start_in view regency xs) ≡ None → (start_in view regency xs ≡ None → start_in view regency (xs ++ e ∷ []) ≡ Some s)
-        → cond (is_some o) o (start_in view regency (xs ++ e ∷ [])) ≡ Some s
-    by None none rest = rest none
-    by (Some a) none rest = absurd (cc)
-
 at_passed : (view : View) (regency : ℕ) (entries : List LogEntry) (e : LogEntry) → nodes.start_by view.number regency e ≡ None
     → start_at view regency (entries ++ e ∷ []) ≡ start_at view regency entries
-at_passed view regency entries e none = ap (λ (o : Option Beginning). cond (regency == 0) (Some (first_start view)) o) (start_passed view.number regency entries e none)
-
--- no regency has begun past those up to a slot
-none_begun : (view regency : ℕ) (slot : Slot) (e : LogEntry) → slot.view ≡ view → slot.regency < regency → UpTo slot e → nodes.start_by view regency e ≡ None
-none_begun view regency slot (Opened o) same lt up = refl
-none_begun view regency slot (Wrote w) same lt up = refl
-none_begun view regency slot (Accepted a) same lt up = refl
-none_begun view regency slot (Promised p) same lt up = refl
-none_begun view regency slot (Synced s) same lt up = by ((s.view == view) && (s.regency == regency)) refl
-  where
-    by : (t : Bool) → ((s.view == view) && (s.regency == regency)) ≡ t → cond t (Some s) None ≡ None
-    by false is = refl
-    by true is =
-        let both = and_true (s.view == view) (s.regency == regency) is in
-        let most : s.regency ≤ slot.regency = up (eqb-true s.view view both.0 ∙ sym same) in
-        absurd (omega (arith, most, lt, eqb-true s.regency regency both.1))
-none_begun view regency slot (Decided d) same lt up = refl
-none_begun view regency slot (Installed i) same lt up = refl
-none_begun view regency slot (Marked m) same lt up = refl
-
-none_in : (view regency : ℕ) (slot : Slot) (entries : List LogEntry) → slot.view ≡ view → slot.regency < regency → Each (UpTo slot) entries → start_in view regency entries ≡ None
-none_in view regency slot [] same lt all = refl
-none_in view regency slot (e ∷ es) same lt all =
-    ap (λ (x : Option Beginning). cond (is_some x) x (start_in view regency es)) (none_begun view regency slot e same lt all.0) ∙ none_in view regency slot es same lt all.1
+at_passed view regency entries e none = ap (λ (o : Option Beginning). cond (regency == 0) (Some (nodes.first_start view)) o) (start_passed view.number regency entries e none)
 
 -- TRANSITIONS
 
@@ -208,7 +132,6 @@ opened_instance id view o = record {
   arrivals_same = refl;
   wrote_same = refl;
   accepted_same = refl;
-  none_later = (tt, tt);
 }
 
 pub keeping_instance : (id : ℕ) (view : View) (place : ℕ) (waiting : Option Batch) (old new : List Message) (entries : List LogEntry) (i : Instance) → IsInstance id view place waiting old entries i
@@ -222,7 +145,6 @@ keeping_instance id view place waiting old new entries i is = record {
   arrivals_same = refl;
   wrote_same = is.wrote_same;
   accepted_same = is.accepted_same;
-  none_later = is.none_later;
 }
 
 pub wrote_instance : (id : ℕ) (view : View) (place : ℕ) (waiting : Option Batch) (arrivals : List Message) (entries : List LogEntry) (i : Instance) (w : Writing) → w.slot ≡ slot_behind view.number place i.regency
@@ -231,7 +153,6 @@ wrote_instance id view place waiting arrivals entries i w at is =
     let slot = slot_behind view.number place i.regency in
     let e = Wrote w in
     let here : writes_in slot e ≡ true = ap (λ (s : Slot). same_slot s slot) at ∙ same_self slot in
-    let within : IsWithin slot w.slot = subst (λ (s : Slot). IsWithin slot s) (sym at) (λ v. (omega arith, omega arith)) in
     record {
       id_same = is.id_same;
       place_same = is.place_same;
@@ -241,7 +162,6 @@ wrote_instance id view place waiting arrivals entries i w at is =
       arrivals_same = is.arrivals_same;
       wrote_same = sym (any_made (writes_in slot) entries e here);
       accepted_same = is.accepted_same ∙ sym (any_passed (accepts_in slot) entries e refl);
-      none_later = each_more (UpTo slot) entries e is.none_later within;
     }
 
 pub accepted_instance : (id : ℕ) (view : View) (place : ℕ) (waiting : Option Batch) (arrivals : List Message) (entries : List LogEntry) (i : Instance) (a : Accepting) → a.slot ≡ slot_behind view.number place i.regency
@@ -250,7 +170,6 @@ accepted_instance id view place waiting arrivals entries i a at is =
     let slot = slot_behind view.number place i.regency in
     let e = Accepted a in
     let here : accepts_in slot e ≡ true = ap (λ (s : Slot). same_slot s slot) at ∙ same_self slot in
-    let within : IsWithin slot a.slot = subst (λ (s : Slot). IsWithin slot s) (sym at) (λ v. (omega arith, omega arith)) in
     record {
       id_same = is.id_same;
       place_same = is.place_same;
@@ -260,7 +179,6 @@ accepted_instance id view place waiting arrivals entries i a at is =
       arrivals_same = is.arrivals_same;
       wrote_same = is.wrote_same ∙ sym (any_passed (writes_in slot) entries e refl);
       accepted_same = sym (any_made (accepts_in slot) entries e here);
-      none_later = each_more (UpTo slot) entries e is.none_later within;
     }
 
 -- of whatever slot the decision is
@@ -278,37 +196,29 @@ decided_instance id view place waiting arrivals entries i d batch is =
       arrivals_same = is.arrivals_same;
       wrote_same = is.wrote_same ∙ sym (any_passed (writes_in slot) entries e refl);
       accepted_same = is.accepted_same ∙ sym (any_passed (accepts_in slot) entries e refl);
-      none_later = each_more (UpTo slot) entries e is.none_later tt;
     }
 
-pub delivered_instance : (id : ℕ) (view : View) (place : ℕ) (waiting : Option Batch) (arrivals : List Message) (entries : List LogEntry) (i : Instance)
-    → IsInstance id view place waiting arrivals entries i → IsInstance id view (place + 1) None arrivals entries (moved_on i)
-delivered_instance id view place waiting arrivals entries i is =
-    let slot = slot_behind view.number place i.regency in
-    let next = slot_behind view.number (place + 1) i.regency in
-    let behind : Behind slot next = (refl, inl (omega arith)) in
-    let from : From slot next = (refl, omega arith, omega arith) in
-    record {
-      id_same = is.id_same;
-      place_same = ap (λ p. p + 1) is.place_same;
-      decided_same = refl;
-      regency_same = is.regency_same;
-      start_same = is.start_same;
-      arrivals_same = is.arrivals_same;
-      wrote_same = sym (none_written slot next behind entries is.none_later);
-      accepted_same = sym (none_accepted slot next behind entries is.none_later);
-      none_later = each_as (UpTo slot) (UpTo next) (λ e up. up_from slot next from e up) entries is.none_later;
-    }
+pub delivered_instance : (id : ℕ) (view : View) (place : ℕ) (waiting : Option Batch) (arrivals : List Message) (entries : List LogEntry) (i : Instance) (votes : OwnVotes)
+    → votes ≡ own_votes (slot_behind view.number (place + 1) i.regency) entries
+    → IsInstance id view place waiting arrivals entries i → IsInstance id view (place + 1) None arrivals entries (moved_on votes i)
+delivered_instance id view place waiting arrivals entries i votes voted is = record {
+  id_same = is.id_same;
+  place_same = ap (λ p. p + 1) is.place_same;
+  decided_same = refl;
+  regency_same = is.regency_same;
+  start_same = is.start_same;
+  arrivals_same = is.arrivals_same;
+  wrote_same = ap (λ (v : OwnVotes). v.wrote) voted;
+  accepted_same = ap (λ (v : OwnVotes). v.accepted) voted;
+}
 
 -- a promise of the next regency or of any later one
-pub promised_instance : (id : ℕ) (view : View) (place : ℕ) (waiting : Option Batch) (arrivals : List Message) (entries : List LogEntry) (i : Instance) (p : Promise) → p.view ≡ view.number → i.regency < p.regency
-    → IsInstance id view place waiting arrivals entries i → IsInstance id view place waiting arrivals (entries ++ Promised p ∷ []) (promising p.regency i)
-promised_instance id view place waiting arrivals entries i p at later is =
-    let slot = slot_behind view.number place i.regency in
+pub promised_instance : (id : ℕ) (view : View) (place : ℕ) (waiting : Option Batch) (arrivals : List Message) (entries : List LogEntry) (i : Instance) (p : Promise) (start : Option Start) (votes : OwnVotes)
+    → p.view ≡ view.number → i.regency < p.regency → start ≡ option_map start_by (first_start view.number p.regency entries) → votes ≡ own_votes (slot_behind view.number place p.regency) entries
+    → IsInstance id view place waiting arrivals entries i → IsInstance id view place waiting arrivals (entries ++ Promised p ∷ []) (promising p.regency start votes i)
+promised_instance id view place waiting arrivals entries i p start votes at later begun voted is =
     let next = slot_behind view.number place p.regency in
     let e = Promised p in
-    let behind : Behind slot next = (refl, inr later) in
-    let from : From slot next = (refl, omega arith, omega (arith, later)) in
     let here : regency_in view.number e ≡ p.regency = ap (λ t. cond t p.regency 0) (eq-eqb p.view view.number at) in
     let some : (p.regency == 0) ≡ false = ne_eqb p.regency 0 (λ (none : p.regency ≡ 0). omega (arith, later)) in
     record {
@@ -316,86 +226,61 @@ promised_instance id view place waiting arrivals entries i p at later is =
       place_same = is.place_same;
       decided_same = is.decided_same;
       regency_same = sym (greatest_more view.number entries e ∙ (ap (λ n. max (greatest_regency view.number entries) n) here ∙ omega (arith, later, is.regency_same)));
-      start_same = sym (ap (λ (o : Option Beginning). option_map start_by o)
-          (ap (λ t. cond t (Some (first_start view)) (start_in view.number p.regency (entries ++ e ∷ []))) some
-          ∙ (start_passed view.number p.regency entries e refl ∙ none_in view.number p.regency slot entries refl later is.none_later)));
+      start_same = begun ∙ ap (λ (o : Option Beginning). option_map start_by o)
+          (first_same view.number p.regency entries
+          ∙ sym (ap (λ t. cond t (Some (nodes.first_start view)) (start_in view.number p.regency (entries ++ e ∷ []))) some ∙ start_passed view.number p.regency entries e refl));
       arrivals_same = is.arrivals_same;
-      wrote_same = sym (any_passed (writes_in next) entries e refl ∙ none_written slot next behind entries is.none_later);
-      accepted_same = sym (any_passed (accepts_in next) entries e refl ∙ none_accepted slot next behind entries is.none_later);
-      none_later = each_more (UpTo next) entries e (each_as (UpTo slot) (UpTo next) (λ e up. up_from slot next from e up) entries is.none_later) tt;
+      wrote_same = ap (λ (v : OwnVotes). v.wrote) voted ∙ sym (any_passed (writes_in next) entries e refl);
+      accepted_same = ap (λ (v : OwnVotes). v.accepted) voted ∙ sym (any_passed (accepts_in next) entries e refl);
     }
 
-pub unstarted : (start : Option Start) (o : Option Beginning) → start ≡ None → start ≡ option_map start_by o → o ≡ None
-unstarted start None none is = refl
-unstarted start (Some s) none is = absurd (cc)
+mapped_else : (o : Option Beginning) (s : Beginning) → or_else (option_map start_by o) (Some (start_by s)) ≡ option_map start_by (or_else o (Some s))
+mapped_else None s = refl
+mapped_else (Some a) s = refl
 
--- where no start is in force no entry begins the regency, which is not the first
-pub unbegun : (view : View) (regency : ℕ) (entries : List LogEntry) → start_at view regency entries ≡ None → ((regency == 0) ≡ false) × (start_in view.number regency entries ≡ None)
-unbegun view regency entries none = by (regency == 0) none
+-- where a regency begins, with one more beginning of it
+at_begun : (view : View) (regency : ℕ) (entries : List LogEntry) (s : Beginning) → s.view ≡ view.number → s.regency ≡ regency → start_at view regency (entries ++ Synced s ∷ []) ≡ or_else (start_at view regency entries) (Some s)
+at_begun view regency entries s at same = by (regency == 0)
   where
-    by : (t : Bool) → cond t (Some (first_start view)) (start_in view.number regency entries) ≡ None → (t ≡ false) × (start_in view.number regency entries ≡ None)
-    by true none = absurd (cc)
-    by false none = (refl, none)
+    here : nodes.start_by view.number regency (Synced s) ≡ Some s
+    here = rw (eq-eqb s.view view.number at, eq-eqb s.regency regency same) refl
 
--- a regency that is in force begins
-pub begun_instance : (id : ℕ) (view : View) (place : ℕ) (waiting : Option Batch) (arrivals : List Message) (entries : List LogEntry) (i : Instance) (s : Beginning) → s.view ≡ view.number → s.regency ≡ i.regency → i.start ≡ None
-    → IsInstance id view place waiting arrivals entries i → IsInstance id view place waiting arrivals (entries ++ Synced s ∷ []) (record i { start = Some (start_by s) })
-begun_instance id view place waiting arrivals entries i s at same none is =
+    by : (t : Bool) → cond t (Some (nodes.first_start view)) (start_in view.number regency (entries ++ Synced s ∷ [])) ≡ or_else (cond t (Some (nodes.first_start view)) (start_in view.number regency entries)) (Some s)
+    by true = refl
+    by false = start_pushed view.number regency entries (Synced s) ∙ ap (λ (o : Option Beginning). or_else (start_in view.number regency entries) o) here
+
+-- the regency in force begins, or begins again
+pub synced_instance : (id : ℕ) (view : View) (place : ℕ) (waiting : Option Batch) (arrivals : List Message) (entries : List LogEntry) (i : Instance) (s : Beginning) → s.view ≡ view.number → s.regency ≡ i.regency
+    → IsInstance id view place waiting arrivals entries i → IsInstance id view place waiting arrivals (entries ++ Synced s ∷ []) (syncing (start_by s) i)
+synced_instance id view place waiting arrivals entries i s at same is =
     let slot = slot_behind view.number place i.regency in
     let e = Synced s in
-    let first = unbegun view i.regency entries (unstarted i.start (start_at view i.regency entries) none is.start_same) in
-    let here : nodes.start_by view.number i.regency e ≡ Some s = rw (eq-eqb s.view view.number at, eq-eqb s.regency i.regency same) refl in
     record {
       id_same = is.id_same;
       place_same = is.place_same;
       decided_same = is.decided_same;
       regency_same = is.regency_same ∙ sym (greatest_passed view.number entries e refl);
-      start_same = sym (ap (λ (o : Option Beginning). option_map start_by o)
-          (ap (λ t. cond t (Some (first_start view)) (start_in view.number i.regency (entries ++ e ∷ []))) first.0 ∙ start_made view.number i.regency entries e s first.1 here));
+      start_same = ap (λ (o : Option Start). or_else o (Some (start_by s))) is.start_same
+          ∙ (mapped_else (start_at view i.regency entries) s ∙ sym (ap (λ (o : Option Beginning). option_map start_by o) (at_begun view i.regency entries s at same)));
       arrivals_same = is.arrivals_same;
       wrote_same = is.wrote_same ∙ sym (any_passed (writes_in slot) entries e refl);
       accepted_same = is.accepted_same ∙ sym (any_passed (accepts_in slot) entries e refl);
-      none_later = each_more (UpTo slot) entries e is.none_later (λ v. omega (arith, same));
     }
 
-syncing_later : (regency : ℕ) (start : Start) (i : Instance) → i.regency < regency → syncing regency start i ≡ record (promising regency i) { start = Some start }
-syncing_later regency start i later = rw (ne_eqb i.regency regency (λ (same : i.regency ≡ regency). omega (arith, later, same)), and_false i.wrote, and_false i.accepted) refl
-
-syncing_same : (regency : ℕ) (start : Start) (i : Instance) → i.regency ≡ regency → syncing regency start i ≡ record i { start = Some start }
-syncing_same regency start i same = rw (eq-eqb i.regency regency same, and_same i.wrote, and_same i.accepted, sym same) refl
-
-is_none-true : {A : Type 0} (o : Option A) → is_none o ≡ true → o ≡ None
-is_none-true None is = refl
-is_none-true (Some a) is = absurd (cc)
-
--- a regency that is in force and not synced begins
-pub synced_instance : (id : ℕ) (view : View) (place : ℕ) (waiting : Option Batch) (arrivals : List Message) (entries : List LogEntry) (i : Instance) (s : Beginning) → s.view ≡ view.number → s.regency ≡ i.regency → i.start ≡ None
-    → IsInstance id view place waiting arrivals entries i → IsInstance id view place waiting arrivals (entries ++ Synced s ∷ []) (syncing s.regency (start_by s) i)
-synced_instance id view place waiting arrivals entries i s at same none is =
-    subst (λ (x : Instance). IsInstance id view place waiting arrivals (entries ++ Synced s ∷ []) x) (sym (syncing_same s.regency (start_by s) i (sym same)))
-    (begun_instance id view place waiting arrivals entries i s at same none is)
-
--- what comes before a regency begins: its promise, where it is later than that in force
-abbrev pub promise_for : ℕ → Beginning → List LogEntry
-promise_for regency s = cond (nat_lt regency s.regency) (Promised (record { view = s.view; regency = s.regency }) ∷ []) []
-
--- a later regency begins, or the one in force
-pub adopted_instance : (id : ℕ) (view : View) (place : ℕ) (waiting : Option Batch) (arrivals : List Message) (entries : List LogEntry) (i : Instance) (s : Beginning) → s.view ≡ view.number → is_unsynced s.regency i ≡ true
-    → IsInstance id view place waiting arrivals entries i → IsInstance id view place waiting arrivals ((entries ++ promise_for i.regency s) ++ Synced s ∷ []) (syncing s.regency (start_by s) i)
-adopted_instance id view place waiting arrivals entries i s at un is = by (nat_lt i.regency s.regency) refl un
-  where
-    by : (t : Bool) → nat_lt i.regency s.regency ≡ t → (t || ((i.regency == s.regency) && is_none i.start)) ≡ true
-        → IsInstance id view place waiting arrivals ((entries ++ cond t (Promised (record { view = s.view; regency = s.regency }) ∷ []) []) ++ Synced s ∷ []) (syncing s.regency (start_by s) i)
-    by true lt un =
-        let later : i.regency < s.regency = ltb-true i.regency s.regency lt in
-        let p : Promise = record { view = s.view; regency = s.regency } in
-        subst (λ (x : Instance). IsInstance id view place waiting arrivals ((entries ++ Promised p ∷ []) ++ Synced s ∷ []) x) (sym (syncing_later s.regency (start_by s) i later))
-        (begun_instance id view place waiting arrivals (entries ++ Promised p ∷ []) (promising s.regency i) s at refl refl
-        (promised_instance id view place waiting arrivals entries i p at later is))
-    by false lt un =
-        let both = and_true (i.regency == s.regency) (is_none i.start) un in
-        subst (λ (es : List LogEntry). IsInstance id view place waiting arrivals (es ++ Synced s ∷ []) (syncing s.regency (start_by s) i)) (sym (append-nil entries))
-        (synced_instance id view place waiting arrivals entries i s at (sym (eqb-true i.regency s.regency both.0)) (is_none-true i.start both.1) is)
+-- a member goes on from a book
+pub resumed_instance : (id : ℕ) (view : View) (place : ℕ) (entries : List LogEntry) (regency : ℕ) (start : Option Start) (votes : OwnVotes) → regency ≡ greatest_regency view.number entries
+    → start ≡ option_map start_by (start_at view regency entries) → votes ≡ own_votes (slot_behind view.number place regency) entries
+    → IsInstance id view place None [] entries (resuming id place regency start votes)
+resumed_instance id view place entries regency start votes at begun voted = record {
+  id_same = refl;
+  place_same = refl;
+  decided_same = refl;
+  regency_same = at;
+  start_same = begun;
+  arrivals_same = refl;
+  wrote_same = ap (λ (v : OwnVotes). v.wrote) voted;
+  accepted_same = ap (λ (v : OwnVotes). v.accepted) voted;
+}
 
 -- WHERE THE NODE STANDS
 

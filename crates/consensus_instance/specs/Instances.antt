@@ -1,5 +1,7 @@
 -- The instance of consensus in which a member takes part (Mod-SMaRt, EDCC 2012), and what is due in it.
-use Rattle.std.specs.Prelude.{ℕ, ◌+◌, ◌^◌, ◌==◌, nat_lt, nat_le, Bool, false, not, ◌&&◌, ◌||◌, List, if◌then◌else◌, Option, Some, None, is_none, filter, filter_map}
+use Rattle.std.specs.Prelude.{ℕ, ◌+◌, ◌^◌, ◌==◌, nat_lt, nat_le, Bool, false, not, ◌&&◌, ◌||◌, List, [], if◌then◌else◌, Option, Some, None, is_none, filter, filter_map}
+use Rattle.vote_book.specs.declared.votes.OwnVotes.{OwnVotes}
+use Rattle.smart_base.specs.Lists.{or_else}
 use Rattle.smart_base.specs.Views.{View, is_member}
 use Rattle.smart_messages.specs.declared.statement.Slot.{Slot}
 use Rattle.smart_messages.specs.declared.statement.VoteKind.TheVariants as kinds
@@ -46,6 +48,19 @@ first_of id view arrivals = record {
 -- the regency in force
 abbrev pub regency_of : Instance → ℕ
 regency_of i = i.regency
+
+-- the instance of a member that goes on behind a place, in a regency that starts there, if it is synced, and in whose slot the member has voted so
+abbrev pub resuming : ℕ → ℕ → ℕ → Option Start → OwnVotes → Instance
+resuming id place regency start votes = record {
+  id = id;
+  place = place;
+  decided = false;
+  regency = regency;
+  start = start;
+  arrivals = [];
+  wrote = votes.wrote;
+  accepted = votes.accepted;
+}
 
 -- the last place that is delivered or decided
 abbrev pub decided_place : Instance → ℕ
@@ -111,23 +126,18 @@ accepted_named view slot i = accepted_in view slot i.arrivals (filter_map (named
 unfoldable pub trimmed : ℕ → Instance → Instance
 trimmed view i = record i { arrivals = filter (is_needed view (decided_place i) (regency_of i)) i.arrivals }
 
--- the instance of the next place, in the same view and regency
-abbrev pub moved_on : Instance → Instance
-moved_on i = record i { place = i.place + 1; decided = false; wrote = false; accepted = false }
+-- the instance of the next place, in the same view and regency, in whose slot the member has voted so
+abbrev pub moved_on : OwnVotes → Instance → Instance
+moved_on votes i = record i { place = i.place + 1; decided = false; wrote = votes.wrote; accepted = votes.accepted }
 
--- the instance in a later regency, which is not synced, and in which nothing is written or accepted
-abbrev pub promising : ℕ → Instance → Instance
-promising regency i = record i { regency = regency; start = None; wrote = false; accepted = false }
+-- the instance in a later regency, which starts there, if it is synced, and in whose slot the member has voted so
+abbrev pub promising : ℕ → Option Start → OwnVotes → Instance → Instance
+promising regency start votes i = record i { regency = regency; start = start; wrote = votes.wrote; accepted = votes.accepted }
 
 -- a regency is later, or it is the one in force and not synced
 abbrev pub is_unsynced : ℕ → Instance → Bool
 is_unsynced regency i = nat_lt i.regency regency || ((i.regency == regency) && is_none i.start)
 
--- the instance in a regency that is synced. Of a regency that is in force already, what is written and accepted stays
-abbrev pub syncing : ℕ → Start → Instance → Instance
-syncing regency start i = record i {
-  regency = regency;
-  start = Some start;
-  wrote = i.wrote && (i.regency == regency);
-  accepted = i.accepted && (i.regency == regency);
-}
+-- the instance whose regency is synced. Where it was before, its first start stays
+abbrev pub syncing : Start → Instance → Instance
+syncing start i = record i { start = or_else i.start (Some start) }

@@ -1,7 +1,6 @@
 -- Which instance a node takes part in.
-use Rattle.std.specs.Prelude.{ℕ, ◌≡◌, ◌+◌, ◌≤◌, List, Option, is_some, option_map}
+use Rattle.std.specs.Prelude.{ℕ, ◌≡◌, ◌+◌, List, Option, is_some, option_map}
 use Rattle.std.specs.List.{list_any}
-use Rattle.smart_base.specs.Lists.{Each}
 use Rattle.smart_base.specs.Views.{View}
 use Rattle.smart_messages.specs.Messages.{Batch}
 use Rattle.smart_messages.specs.declared.statement.Slot.{Slot}
@@ -10,7 +9,6 @@ use Rattle.smart_messages.specs.declared.message.Proposed.{Proposed}
 use Rattle.vote_book.specs.Admission.{writes_in, accepts_in}
 use Rattle.vote_book.specs.declared.entry.Start.{Start as Beginning}
 use Rattle.vote_book.specs.declared.entry.LogEntry.{LogEntry}
-use Rattle.vote_book.specs.declared.entry.LogEntry.TheVariants.{Opened, Wrote, Accepted, Promised, Synced, Decided, Installed, Marked}
 use Rattle.node_rules.specs.Nodes.{Node, view_of, greatest_regency, start_at}
 use Rattle.node_rules.specs.Rules.{writing, accepting}
 use Rattle.consensus_instance.specs.declared.rule.Rule.{Rule}
@@ -21,21 +19,6 @@ use Rattle.consensus_instance.specs.Instances.{Instance}
 -- the slot behind a place
 abbrev pub slot_behind : ℕ → ℕ → ℕ → Slot
 slot_behind view place regency = record { view = view; place = place + 1; regency = regency }
-
--- a slot, where it is of a view, is of no later place than another, and of no later regency
-abbrev pub IsWithin : Slot → Slot → Type 0
-IsWithin slot s = s.view ≡ slot.view → (s.place ≤ slot.place) × (s.regency ≤ slot.regency)
-
--- an entry that is a vote in a slot's view is of no later place and no later regency, and one that begins a regency there begins no later one
-abbrev pub UpTo : Slot → LogEntry → Type 0
-UpTo slot (Opened o) = Unit {0}
-UpTo slot (Wrote w) = IsWithin slot w.slot
-UpTo slot (Accepted a) = IsWithin slot a.slot
-UpTo slot (Promised p) = Unit {0}
-UpTo slot (Synced s) = s.view ≡ slot.view → s.regency ≤ slot.regency
-UpTo slot (Decided d) = Unit {0}
-UpTo slot (Installed i) = Unit {0}
-UpTo slot (Marked m) = Unit {0}
 
 -- where a regency starts, by the entry that says so
 abbrev pub start_by : Beginning → Start
@@ -55,8 +38,6 @@ pub record IsInstance (id : ℕ) (view : View) (place : ℕ) (waiting : Option B
   pub wrote_same : i.wrote ≡ list_any (writes_in (slot_behind view.number place i.regency)) entries
   -- the book has an accept for the open slot
   pub accepted_same : i.accepted ≡ list_any (accepts_in (slot_behind view.number place i.regency)) entries
-  -- the book votes in no later place or regency of the view, and none of a later regency begins there
-  pub none_later : Each (UpTo (slot_behind view.number place i.regency)) entries
 
 -- A node has an instance.
 abbrev pub HasInstance : {S : Type 0} → Node S → Instance → Type 0

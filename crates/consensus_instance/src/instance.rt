@@ -8,7 +8,7 @@ ghost use Rattle.node_rules.specs.Votes.{has_quorum};
 ghost use Rattle.node_rules.specs.Arrivals.{is_same_proposal, is_same_vote};
 ghost use Rattle.node_rules.specs.Nodes.{is_within};
 ghost use Rattle.node_rules.specs.Votes.{certificate_votes, proposed_for};
-ghost use Rattle.consensus_instance.specs.Instances.{Instance, first_of, regency_of, decided_place, is_free, has_begun, is_bound_to, is_unbound, is_open, open_slot, votable, written, due_by, name_of, accepted_named, trimmed, moved_on, promising, is_unsynced, syncing};
+ghost use Rattle.consensus_instance.specs.Instances.{Instance, first_of, regency_of, decided_place, is_free, has_begun, is_bound_to, is_unbound, is_open, open_slot, votable, written, due_by, name_of, accepted_named, trimmed, moved_on, promising, is_unsynced, syncing, resuming};
 
 use crate::find::{
     accepted_proposal, certificate_votes, has_quorum, proposed_for, repeats_proposal, repeats_vote,
@@ -28,6 +28,7 @@ use smart_messages::signed_list::SignedList;
 use smart_messages::statement::{Ballot, Proposal, Slot, VoteKind};
 use std::alloc::{AllocError, Global};
 use std::marker::Model;
+use vote_book::votes::OwnVotes;
 
 /// The instance of consensus in which a member takes part, that of its next place (Mod-SMaRt, EDCC
 /// 2012). The view in force is lent to each call that needs it. A batch goes by the digest that its
@@ -88,6 +89,31 @@ impl Instance {
             arrivals: Vec::new(alloc),
             wrote: false,
             accepted: false,
+        }
+    }
+
+    /// The instance of a member that goes on behind a place, in a regency that starts there, if it is
+    /// synced, and in whose slot the member has voted so. It takes no memory.
+    pub fn resume(
+        alloc: Global,
+        id: MemberId,
+        place: Place,
+        regency: Regency,
+        start: Option<Start>,
+        votes: OwnVotes,
+    ) -> Self
+        requires { regency ≡ 0 → IsSome start }
+        ensures { result ≡ resuming id place regency start votes }
+    {
+        Instance {
+            id,
+            place,
+            decided: false,
+            regency,
+            start,
+            arrivals: Vec::new(alloc),
+            wrote: votes.wrote,
+            accepted: votes.accepted,
         }
     }
 
@@ -288,39 +314,37 @@ impl Instance {
         self.decided = true;
     }
 
-    /// The batch that was decided is delivered: the instance is that of the place behind it.
-    pub fn delivered(&mut self)
+    /// The batch that was decided is delivered: the instance is that of the place behind it, in whose
+    /// slot the member has voted so.
+    pub fn delivered(&mut self, votes: OwnVotes)
         requires { self.old.decided ≡ true }
-        ensures { self.new ≡ moved_on self.old }
+        ensures { self.new ≡ moved_on votes self.old }
     {
         self.place = self.place.next();
         self.decided = false;
-        self.wrote = false;
-        self.accepted = false;
+        self.wrote = votes.wrote;
+        self.accepted = votes.accepted;
     }
 
-    /// The member has promised a later regency. It is not synced, and nothing is written or accepted in
-    /// it yet.
-    pub fn promised(&mut self, regency: Regency)
+    /// The member has promised a later regency. It starts there, if it is synced already, and the
+    /// member has voted so in its slot: a book that is not tidy may have both before the promise.
+    pub fn promised(&mut self, regency: Regency, start: Option<Start>, votes: OwnVotes)
         requires { self.old.regency < regency }
-        ensures { self.new ≡ promising regency self.old }
+        ensures { self.new ≡ promising regency start votes self.old }
     {
         self.regency = regency;
-        self.start = None;
-        self.wrote = false;
-        self.accepted = false;
+        self.start = start;
+        self.wrote = votes.wrote;
+        self.accepted = votes.accepted;
     }
 
-    /// A regency is synced, a later one or that in force: it starts there. A later one is so promised
-    /// too.
-    pub fn synced(&mut self, regency: Regency, start: Start)
-        requires { is_unsynced regency self.old ≡ true }
-        ensures { self.new ≡ syncing regency start self.old }
+    /// The regency in force is synced: it starts there, unless it was synced before.
+    pub fn synced(&mut self, start: Start)
+        ensures { self.new ≡ syncing start self.old }
     {
-        self.wrote = self.wrote && self.regency == regency;
-        self.accepted = self.accepted && self.regency == regency;
-        self.regency = regency;
-        self.start = Some(start);
+        if self.start.is_none() {
+            self.start = Some(start);
+        }
     }
 
     /// Drops the proposals and votes that are not needed any more in a view.

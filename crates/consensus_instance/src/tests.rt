@@ -17,6 +17,7 @@ use smart_messages::signed::{Signed, Statement};
 use smart_messages::statement::{Ballot, Proposal, Request, Slot, VoteKind};
 use std::alloc::Global;
 use std::test::Fail;
+use vote_book::votes::OwnVotes;
 
 fn view(alloc: Global) -> Result<View, Fail> {
     let mut members = Vec::new(alloc);
@@ -124,12 +125,19 @@ fn started(
     Ok((instance, digest))
 }
 
-/// Regency 1 is synced, if it is not yet.
+/// Nothing is voted in a slot.
+const NO_VOTES: OwnVotes = OwnVotes {
+    wrote: false,
+    accepted: false,
+};
+
+/// Regency 1 is promised, if it is not yet, and synced.
 fn start(instance: &mut Instance, base: u64, bound: Option<Digest32>) {
     let regency = Regency::new(1);
-    if instance.is_unsynced(regency) {
-        instance.synced(regency, Start { base, bound });
+    if instance.regency() < regency {
+        instance.promised(regency, None, NO_VOTES);
     }
+    instance.synced(Start { base, bound });
 }
 
 /// Another digest.
@@ -186,7 +194,7 @@ fn a_quorum_of_accepts_is_of_one_regency(rt: HostRuntime) -> Result<(), Fail> {
     assert!(rt; instance.repeats_vote(&again));
     if instance.is_free() {
         instance.decided();
-        instance.delivered();
+        instance.delivered(NO_VOTES);
     }
     assert_eq!(rt; instance.place().get(), 1);
     instance.trim(view.number());
@@ -204,7 +212,7 @@ fn no_vote_is_open_below_the_base(rt: HostRuntime) -> Result<(), Fail> {
     assert!(rt; !is_due(&instance, &view, Rule::Write));
     if instance.is_free() {
         instance.decided();
-        instance.delivered();
+        instance.delivered(NO_VOTES);
     }
     assert!(rt; instance.is_open(&view));
     let (instance, digest) = started(alloc, &view, 1, None)?;
@@ -239,7 +247,7 @@ fn a_promise_closes_the_vote_until_it_is_synced(rt: HostRuntime) -> Result<(), F
     instance.wrote();
     instance.accepted();
     if instance.regency().get() == 0 {
-        instance.promised(Regency::new(1));
+        instance.promised(Regency::new(1), None, NO_VOTES);
     }
     assert_eq!(rt; instance.start(), None);
     assert!(rt; !instance.is_open(&view));

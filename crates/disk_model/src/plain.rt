@@ -37,6 +37,13 @@ impl PlainDisk {
         }
     }
 
+    /// The greatest length since the last sync.
+    pub fn greatest(&self) -> u64
+        ensures { result ≡ (plain_cells self.now).greatest }
+    {
+        self.platter.greatest
+    }
+
     /// What a read gives.
     pub fn as_read(&self) -> &[u8]
         ensures { result.now ≡ (plain_cells self.now).now }

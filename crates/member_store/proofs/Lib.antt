@@ -1,0 +1,9 @@
+pub mod Wrong
+pub mod Patches
+pub mod Parts
+pub mod Told
+pub mod Begins
+pub mod Opened
+pub mod Goes
+pub mod Crashed
+pub mod Groups

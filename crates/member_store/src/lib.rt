@@ -1,4 +1,10 @@
-//! A member's store in a world: its devices are in memory, and what is written down goes into it.
+//! A member's store in a world: its devices are in memory, what is written down goes into it, and
+//! crashes leave of it what a script says.
 #![tactic(auto)]
 
+pub mod crash;
+pub mod laws;
+mod left;
 pub mod store;
+#[cfg(test)]
+mod tests;

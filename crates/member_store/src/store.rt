@@ -1,13 +1,21 @@
 //! The store of a member.
-ghost use Rattle.std.specs.Prelude.{◌≡◌, [], map, IfOk, OnOk};
+ghost use Rattle.std.specs.Prelude.{◌≡◌, ◌&&◌, [], true, false, map, Ok, IfOk, IfErr, OnOk, OnErr, if◌then◌else◌, None};
 ghost use Rattle.disk_model.specs.Cells.{settled};
 ghost use Rattle.disk_model.specs.Memory.{plain_cells};
 ghost use Rattle.vote_book.specs.Entries.{entry_text};
 ghost use Rattle.store_form.specs.Spelling.{IsEntry};
+ghost use Rattle.durable_store.specs.Disks.{contents, AreSettled};
 ghost use Rattle.durable_store.specs.Fit.{AreEntries};
 ghost use Rattle.durable_store.specs.Lives.{no_bytes};
+ghost use Rattle.durable_store.specs.Restored.{restores};
+ghost use Rattle.durable_store.specs.States.{state_of};
 ghost use Rattle.durable_store.specs.Exact.{store_opened, store_called, started, call_due};
+ghost use Rattle.member_store.specs.Crashes.{bytes_held, even_log, odd_log, images_left, wrong_images};
+ghost use Rattle.member_store.specs.Left.{Tells};
 
+use crate::crash::{CrashFault, Image, Patch};
+use crate::left::disk_left;
+use checkpoint_store::reading::is_odd;
 use disk_model::plain::PlainDisk;
 use durable_store::disks::Disks;
 use durable_store::laws::what_a_state_says;
@@ -16,31 +24,66 @@ use durable_store::store::{Job, Store, Tail};
 use smart_base::sequence::{Bytes, Sequence};
 use std::alloc::{AllocError, Global};
 use std::marker::Model;
+use std::mem;
 use vote_book::codec::encode_entry;
 use vote_book::entry::LogEntry;
 
 /// The most bytes that an entry of a store has.
 const ENTRY_BYTES: usize = 0xffff_ffff;
 
-/// A store over four disks in memory. Want of memory inside a device call closes it: from then on it
-/// answers that memory ran out.
+#[derive(Drop)]
+enum Devices {
+    /// A store has them.
+    Running(Store<PlainDisk>),
+    /// A crash has left them.
+    Stopped(Disks<PlainDisk>),
+}
+
+impl Devices {
+    ghost use Rattle.member_store.specs.Devices.{state_in, AreSound};
+
+    /// What a crash has left is what they read as.
+    fn what_is_left(&self)
+        ensures { (state_in self.now).runs ≡ false → store_opened (bytes_held (state_in self.now).state) ≡ (state_in self.now).state }
+    {}
+
+    /// The devices under a store that runs, and the entries that it restores where it is opened. A
+    /// refused opening gives them back.
+    fn opened(self, alloc: Global) -> (Devices, Result<Sequence<Bytes>, AllocError>)
+        requires { AreSound self }
+        ensures sound { AreSound result.0 }
+        ensures state { OnOk result.1 (state_in result.0 ≡ record { runs = true; state = (state_in self).state }) }
+        ensures restores { IfOk result.1 (λ entries. (state_in self).runs ≡ false → entries ≡ (restores (bytes_held (state_in self).state)).entries) }
+        ensures err { OnErr result.1 (state_in result.0 ≡ state_in self) }
+        ensures runs { (state_in self).runs ≡ true → result.1 ≡ Ok [] }
+    {
+        match self {
+            Devices::Running(store) => (Devices::Running(store), Ok(Sequence::new(alloc))),
+            Devices::Stopped(disks) => match reopen(alloc, disks) {
+                Ok((store, kept)) => (Devices::Running(store), Ok(kept.entries)),
+                Err((_, disks)) => (Devices::Stopped(disks), Err(AllocError)),
+            },
+        }
+    }
+}
+
+/// A store over four disks in memory, which a crash stops and a restart opens again. Want of memory
+/// inside a device call closes it: from then on it answers that memory ran out.
 #[derive(Drop)]
 pub struct MemberStore {
     alloc: Global,
-    store: Store<PlainDisk>,
+    devices: Devices,
 }
 
 impl Model for MemberStore {
-    ghost use Rattle.std.specs.Prelude.{◌≡◌};
-    ghost use Rattle.batch_log.specs.declared.log.State.TheVariants.{Open};
-    ghost use Rattle.durable_store.specs.Standing.{IsUnderWay};
-    ghost use Rattle.durable_store.specs.States.{StoreState, state_of};
+    ghost use Rattle.member_store.specs.Members.{MemberState};
+    ghost use Rattle.member_store.specs.Devices.{state_in, AreSound};
 
-    ghost Value = { StoreState };
+    ghost Value = { MemberState };
 
-    ghost view = { λ s. state_of s.store };
+    ghost view = { λ s. state_in s.devices };
 
-    ghost invariant = { λ s. s.store.state ≡ Open → IsUnderWay s.store };
+    ghost invariant = { λ s. AreSound s.devices };
 }
 
 /// A disk that holds nothing.
@@ -48,6 +91,19 @@ fn empty_disk(alloc: Global) -> PlainDisk
     ensures { plain_cells result ≡ settled [] }
 {
     PlainDisk::new(alloc, Bytes::new(alloc))
+}
+
+/// Devices that hold nothing.
+fn empty_disks(alloc: Global) -> Disks<PlainDisk>
+    ensures settled { AreSettled plain_cells result }
+    ensures empty { contents plain_cells result ≡ no_bytes }
+{
+    Disks {
+        even_log: empty_disk(alloc),
+        odd_log: empty_disk(alloc),
+        even_slot: empty_disk(alloc),
+        odd_slot: empty_disk(alloc),
+    }
 }
 
 /// How an entry is spelled. One that is too long for a store counts as want of memory.
@@ -73,60 +129,164 @@ fn texts(alloc: Global, entries: &[LogEntry]) -> Result<Sequence<Bytes>, AllocEr
     Ok(texts)
 }
 
+/// The devices of the logs, of the even and of the odd generations.
+fn logs(store: &Store<PlainDisk>) -> (&PlainDisk, &PlainDisk)
+    ensures even { plain_cells result.0.now ≡ even_log (state_of store.now) }
+    ensures odd { plain_cells result.1.now ≡ odd_log (state_of store.now) }
+{
+    let (own, other) = (&store.log.device, &store.other_log);
+    if is_odd(store.generation) {
+        (other, own)
+    } else {
+        (own, other)
+    }
+}
+
+/// What a crash leaves of the devices of a store, as a script says.
+#[tactic(auto, unfolding(crate::specs::Crashes::wrong_images))]
+fn disks_left(
+    alloc: Global,
+    store: &Store<PlainDisk>,
+    image: Image,
+    patches: &[Patch],
+) -> Result<Disks<PlainDisk>, CrashFault>
+    ensures right { IfOk result (λ disks. wrong_images (state_of store.now) (images_left image patches.now (state_of store.now)) ≡ None) }
+    ensures settled { IfOk result (λ disks. AreSettled plain_cells disks) }
+    ensures left { IfOk result (λ disks. contents plain_cells disks ≡ images_left image patches.now (state_of store.now)) }
+    ensures wrong { IfErr result (λ e. Tells e (wrong_images (state_of store.now) (images_left image patches.now (state_of store.now)))) }
+{
+    let (even_log, odd_log) = logs(store);
+    let slots = &store.slots;
+    Ok(Disks {
+        even_log: disk_left(alloc, 0, even_log, image, patches)?,
+        odd_log: disk_left(alloc, 1, odd_log, image, patches)?,
+        even_slot: disk_left(alloc, 2, &slots.even.device, image, patches)?,
+        odd_slot: disk_left(alloc, 3, &slots.odd.device, image, patches)?,
+    })
+}
+
 impl MemberStore {
+    ghost use Rattle.member_store.specs.Members.{MemberState};
+
     /// A store over devices that hold nothing.
     pub fn empty(alloc: Global) -> Result<Self, AllocError>
-        ensures { IfOk result (λ s. s ≡ store_opened no_bytes) }
+        ensures { IfOk result (λ s. s ≡ record { runs = true; state = store_opened no_bytes }) }
     {
-        let disks = Disks {
-            even_log: empty_disk(alloc),
-            odd_log: empty_disk(alloc),
-            even_slot: empty_disk(alloc),
-            odd_slot: empty_disk(alloc),
-        };
-        match reopen(alloc, disks) {
-            Ok((store, _)) => Ok(MemberStore { alloc, store }),
+        match reopen(alloc, empty_disks(alloc)) {
+            Ok((store, _)) => Ok(MemberStore {
+                alloc,
+                devices: Devices::Running(store),
+            }),
             Err(_) => Err(AllocError),
         }
     }
 
+    /// Whether it runs.
+    pub fn runs(&self) -> bool
+        ensures { result ≡ self.now.runs }
+    {
+        match &self.devices {
+            Devices::Running(_) => true,
+            Devices::Stopped(_) => false,
+        }
+    }
+
+    /// What a crash has left is what its devices read as.
+    pub fn what_is_left(&self)
+        ensures { self.now.runs ≡ false → store_opened (bytes_held self.now.state) ≡ self.now.state }
+    {
+        self.devices.what_is_left();
+    }
+
     /// Whether there is a device call to make.
     pub fn is_due(&self) -> bool
-        ensures { result ≡ call_due self.now }
+        ensures { result ≡ (self.now.runs && call_due self.now.state) }
     {
-        what_a_state_says(&self.store);
-        self.store.is_due()
+        match &self.devices {
+            Devices::Running(store) => {
+                what_a_state_says(store);
+                store.is_due()
+            }
+            Devices::Stopped(_) => false,
+        }
     }
 
     /// Makes the next device call, if there is one.
     pub fn call(&mut self) -> Result<(), AllocError>
-        ensures { OnOk result (self.new ≡ store_called self.old) }
+        ensures runs { OnOk result (self.old.runs ≡ true → self.new ≡ record { runs = true; state = store_called self.old.state }) }
+        ensures stopped { self.old.runs ≡ false → (result ≡ Ok tt) × (self.new ≡ self.old) }
     {
+        let alloc = self.alloc;
+        let Devices::Running(store) = &mut self.devices else {
+            return Ok(());
+        };
         let tail = Tail {
             made: 0,
-            entries: Sequence::new(self.alloc),
+            entries: Sequence::new(alloc),
         };
-        match self.store.next_call(self.alloc, &tail) {
+        match store.next_call(alloc, &tail) {
             Ok(_) => Ok(()),
             Err(_) => Err(AllocError),
         }
     }
 
-    /// Entries wait for the next group.
+    /// Entries wait for the next group. To a store that does not run none are given.
     pub fn write_down(&mut self, entries: &[LogEntry]) -> Result<(), AllocError>
-        ensures { OnOk result (self.new ≡ started self.old (map entry_text entries.now)) }
+        ensures runs { OnOk result (self.old.runs ≡ true → self.new ≡ record { runs = true; state = started self.old.state (map entry_text entries.now) }) }
+        ensures stopped { self.old.runs ≡ false → (result ≡ Ok tt) × (self.new ≡ self.old) }
     {
-        let texts = texts(self.alloc, entries)?;
-        match self.store.start(self.alloc, Job::Append(texts)) {
+        let alloc = self.alloc;
+        let Devices::Running(store) = &mut self.devices else {
+            return Ok(());
+        };
+        let texts = texts(alloc, entries)?;
+        match store.start(alloc, Job::Append(texts)) {
             Ok(()) => Ok(()),
             Err(_) => Err(AllocError),
         }
     }
 
-    /// How many entries are firm.
+    /// How many entries are firm, 0 where it does not run.
     pub fn firm(&self) -> u64
-        ensures { result ≡ self.now.firm }
+        ensures { result ≡ (if self.now.runs then self.now.state.firm else 0) }
     {
-        self.store.firm()
+        match &self.devices {
+            Devices::Running(store) => store.firm(),
+            Devices::Stopped(_) => 0,
+        }
+    }
+
+    /// A crash stops it, and leaves its devices as they were or as they read, with patches. What no
+    /// crash leaves there is refused, and changes nothing.
+    pub fn crash(&mut self, image: Image, patches: &[Patch]) -> Result<(), CrashFault>
+        ensures right { OnOk result (self.old.runs ≡ true → wrong_images self.old.state (images_left image patches.now self.old.state) ≡ None) }
+        ensures left { OnOk result (self.old.runs ≡ true → self.new ≡ record { runs = false; state = store_opened (images_left image patches.now self.old.state) }) }
+        ensures wrong { IfErr result (λ e. Tells e (wrong_images self.old.state (images_left image patches.now self.old.state))) }
+        ensures err { OnErr result (self.new ≡ self.old) }
+        ensures stopped { self.old.runs ≡ false → (result ≡ Ok tt) × (self.new ≡ self.old) }
+    {
+        let alloc = self.alloc;
+        let Devices::Running(store) = &self.devices else {
+            return Ok(());
+        };
+        let disks = disks_left(alloc, store, image, patches)?;
+        self.devices = Devices::Stopped(disks);
+        Ok(())
+    }
+
+    /// Opens it again over what the crash has left, and gives the entries that it restores. Where it
+    /// runs it stays as it is.
+    pub fn restart(&mut self) -> Result<Sequence<Bytes>, AllocError>
+        ensures opened { OnOk result (self.old.runs ≡ false → self.new ≡ record { runs = true; state = self.old.state }) }
+        ensures restores { IfOk result (λ entries. self.old.runs ≡ false → entries ≡ (restores (bytes_held self.old.state)).entries) }
+        ensures err { OnErr result (self.new ≡ self.old) }
+        ensures runs { self.old.runs ≡ true → (result ≡ Ok []) × (self.new ≡ self.old) }
+    {
+        let alloc = self.alloc;
+        let nothing = Devices::Stopped(empty_disks(alloc));
+        let devices = mem::replace(&mut self.devices, nothing);
+        let (devices, answer) = devices.opened(alloc);
+        self.devices = devices;
+        answer
     }
 }

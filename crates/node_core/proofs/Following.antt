@@ -1,6 +1,7 @@
 -- How a node's instance and its synchronizer follow the node.
-use Rattle.std.proofs.Common.{◌≡◌, ℕ, ◌+◌, ◌<◌, ◌^◌, ◌==◌, ◌++◌, ◌&&◌, ◌||◌, filter, filter_map, max, nat_lt, Bool, true, false, List, [], ◌∷◌, refl, ap, sym, subst, ◌∙◌, cond, arith, Option, Some, None, is_some, is_none}
+use Rattle.std.proofs.Common.{◌≡◌, ℕ, ◌+◌, ◌<◌, ◌^◌, ◌==◌, ◌++◌, ◌&&◌, filter, filter_map, max, nat_lt, Bool, true, false, List, [], ◌∷◌, refl, ap, sym, subst, ◌∙◌, cond, arith, Option, Some, None, is_some, is_none, option_map}
 use Rattle.std.proofs.lemmas.Bool.{ltb-true, eq-eqb}
+use Rattle.smart_base.specs.Lists.{or_else}
 use Rattle.smart_base.specs.Views.{View}
 use Rattle.smart_base.proofs.SameLists.{and_true}
 use Rattle.std.specs.Prelude.{Result, Ok, Err, OnOk, OnErr}
@@ -13,6 +14,8 @@ use Rattle.smart_messages.specs.declared.regency.Reported.{Reported}
 use Rattle.smart_messages.specs.declared.statement.Slot.{Slot}
 use Rattle.smart_messages.specs.declared.message.Proposed.{Proposed}
 use Rattle.vote_book.specs.Books.{Book, pushed, last_made, place_made, number_or}
+use Rattle.vote_book.specs.Standing.{first_start, own_votes}
+use Rattle.vote_book.specs.declared.votes.OwnVotes.{OwnVotes}
 use Rattle.vote_book.proofs.Last.{last_push}
 use Rattle.vote_book.specs.declared.entry.Write.{Write as Writing}
 use Rattle.vote_book.specs.declared.entry.Accept.{Accept as Accepting}
@@ -25,15 +28,15 @@ use Rattle.regency_sync.specs.Synchronizers as synchronizers
 use Rattle.regency_sync.specs.Synchronizers.{Synchronizer, adopted, promised_to}
 use Rattle.node_rules.specs.Arrivals as arrivals
 use Rattle.node_rules.specs.Nodes as nodes
-use Rattle.node_rules.specs.Nodes.{Node, view_of, regency_of, start_in, start_at, synchronizer_of, is_synced}
+use Rattle.node_rules.specs.Nodes.{Node, view_of, regency_of, start_in, synchronizer_of, is_synced}
 use Rattle.consensus_instance.specs.Instances as instances
-use Rattle.consensus_instance.specs.Instances.{Instance, decided_place, is_free, is_open, open_slot, is_bound_to, is_unbound, is_unsynced, accepted_named, due_by, moved_on, promising, syncing}
+use Rattle.consensus_instance.specs.Instances.{Instance, decided_place, is_free, is_open, open_slot, is_bound_to, is_unbound, accepted_named, due_by, moved_on, promising, syncing}
 use Rattle.node_rules.specs.Kept.{is_ahead, trimmed}
 use Rattle.node_rules.specs.Votes.{named_in, accepted_in}
 use Rattle.consensus_instance.specs.declared.start.Start.{Start as Beginnings}
 use Rattle.consensus_instance.specs.declared.rule.Rule.{Rule}
 use Rattle.consensus_instance.specs.Nodes.{slot_behind, start_by, IsInstance, HasInstance, due_at}
-use Rattle.consensus_instance.proofs.Entries.{wrote_instance, accepted_instance, decided_instance, delivered_instance, promised_instance, synced_instance, start_passed, start_made, unstarted, unbegun, same_regency, same_decided_place, same_free, same_synced, same_open, same_slot_open, same_bound, same_unbound, due_same}
+use Rattle.consensus_instance.proofs.Entries.{wrote_instance, accepted_instance, decided_instance, delivered_instance, promised_instance, synced_instance, start_passed, start_pushed, first_same, same_regency, same_decided_place, same_free, same_synced, same_open, same_slot_open, same_bound, same_unbound, due_same}
 use Rattle.node_core.specs.Following.{Follows, begun_at}
 
 -- an entry that makes no place
@@ -60,7 +63,6 @@ kept_instance id view place waiting entries i now s arrivals same is =
         arrivals_same = refl;
         wrote_same = is.instance.wrote_same;
         accepted_same = is.instance.accepted_same;
-        none_later = is.instance.none_later;
       };
       member = is.member;
       regency = is.regency;
@@ -134,47 +136,73 @@ made_next : (waiting : Option Batch) (place last : ℕ) (batch : Batch) → Some
 made_next None place last batch some is = absurd (cc)
 made_next (Some b) place last batch some is = is
 
-pub delivered_after : (id : ℕ) (view later : View) (place next : ℕ) (waiting taken : Option Batch) (entries : List LogEntry) (i now : Instance) (s : Synchronizer) (batch : Batch) → Follows id view place waiting entries i s
-    → Some batch ≡ waiting → taken ≡ None → next ≡ place + 1 → later ≡ view → now ≡ moved_on i → Follows id later next taken entries now s
-delivered_after id view later place next waiting taken entries i now s batch is some free at same moved =
+pub delivered_after : (id : ℕ) (view later : View) (place next : ℕ) (waiting taken : Option Batch) (entries : List LogEntry) (i now : Instance) (s : Synchronizer) (batch : Batch) (votes : OwnVotes) → Follows id view place waiting entries i s
+    → votes ≡ own_votes (slot_behind view.number (place + 1) i.regency) entries
+    → Some batch ≡ waiting → taken ≡ None → next ≡ place + 1 → later ≡ view → now ≡ moved_on votes i → Follows id later next taken entries now s
+delivered_after id view later place next waiting taken entries i now s batch votes is voted some free at same moved =
     rw (moved, same, at, free) (record {
       room = λ some. absurd (cc);
-      instance = delivered_instance id view place waiting i.arrivals entries i is.instance;
+      instance = delivered_instance id view place waiting i.arrivals entries i votes voted is.instance;
       member = is.member;
       regency = is.regency;
       synced = is.synced;
       made = made_next waiting place (last_made entries) batch some is.made;
     })
 
-pub promised_after : (id : ℕ) (view : View) (place : ℕ) (waiting : Option Batch) (b c : Book) (i now : Instance) (s then : Synchronizer) (p : Promise) → Follows id view place waiting b.entries i s
-    → p.view ≡ view.number → i.regency < p.regency → c ≡ pushed b (Promised p) → now ≡ promising p.regency i → then ≡ promised_to p.regency s → Follows id view place waiting c.entries now then
-promised_after id view place waiting b c i now s then p is at later grown moved turned =
-    let has = promised_instance id view place waiting i.arrivals b.entries i p at later is.instance in
-    let none = unbegun view p.regency (b.entries ++ Promised p ∷ []) (unstarted None (start_at view p.regency (b.entries ++ Promised p ∷ [])) refl has.start_same) in
+some_mapped : (o : Option Beginning) → is_some (option_map start_by o) ≡ is_some o
+some_mapped None = refl
+some_mapped (Some s) = refl
+
+-- whether a regency has begun, by where it first did
+pub begun_by : (view regency : ℕ) (entries : List LogEntry) (start : Option Beginnings) → start ≡ option_map start_by (first_start view regency entries) → is_some start ≡ is_some (start_in view regency entries)
+begun_by view regency entries start is =
+    ap (λ (o : Option Beginnings). is_some o) is ∙ (some_mapped (first_start view regency entries) ∙ ap (λ (o : Option Beginning). is_some o) (first_same view regency entries))
+
+pub promised_after : (id : ℕ) (view : View) (place : ℕ) (waiting : Option Batch) (b c : Book) (i now : Instance) (s then : Synchronizer) (p : Promise) (start : Option Beginnings) (begun : Bool) (votes : OwnVotes)
+    → Follows id view place waiting b.entries i s → p.view ≡ view.number → i.regency < p.regency
+    → start ≡ option_map start_by (first_start view.number p.regency b.entries) → begun ≡ is_some start → votes ≡ own_votes (slot_behind view.number place p.regency) b.entries
+    → c ≡ pushed b (Promised p) → now ≡ promising p.regency start votes i → then ≡ promised_to p.regency begun s → Follows id view place waiting c.entries now then
+promised_after id view place waiting b c i now s then p start begun votes is at later started has voted grown moved turned =
     rw (moved, grown, turned) (record {
       room = is.room;
-      instance = has;
+      instance = promised_instance id view place waiting i.arrivals b.entries i p start votes at later started voted is.instance;
       member = is.member;
       regency = refl;
-      synced = ap (λ (o : Option Beginning). is_some o) (sym none.1);
+      synced = synced_passed view.number p.regency b.entries (Promised p) begun refl (has ∙ begun_by view.number p.regency b.entries start started);
       made = made_passed b.entries (Promised p) _ refl is.made;
     })
 
+or_some : (o : Option Beginning) (s : Beginning) → true ≡ is_some (or_else o (Some s))
+or_some None s = refl
+or_some (Some a) s = refl
+
 pub begun_after : (id : ℕ) (view : View) (place : ℕ) (waiting : Option Batch) (b c : Book) (i now : Instance) (s then : Synchronizer) (start : Beginning) → Follows id view place waiting b.entries i s
-    → start.view ≡ view.number → start.regency ≡ i.regency → i.start ≡ None → c ≡ pushed b (Synced start) → now ≡ syncing start.regency (start_by start) i → then ≡ adopted start.regency s
+    → start.view ≡ view.number → start.regency ≡ i.regency → c ≡ pushed b (Synced start) → now ≡ syncing (start_by start) i → then ≡ adopted start.regency s
     → Follows id view place waiting c.entries now then
-begun_after id view place waiting b c i now s then start is at same unsynced grown moved turned =
-    let none = unbegun view i.regency b.entries (unstarted i.start (start_at view i.regency b.entries) unsynced is.instance.start_same) in
-    let here : nodes.start_by view.number start.regency (Synced start) ≡ Some start = rw (eq-eqb start.view view.number at, eq-eqb start.regency start.regency refl) refl in
-    let before : start_in view.number start.regency b.entries ≡ None = ap (λ (r : ℕ). start_in view.number r b.entries) same ∙ none.1 in
+begun_after id view place waiting b c i now s then start is at same grown moved turned =
+    let here : nodes.start_by view.number i.regency (Synced start) ≡ Some start = rw (eq-eqb start.view view.number at, eq-eqb start.regency i.regency same) refl in
     rw (moved, grown, turned) (record {
       room = is.room;
-      instance = synced_instance id view place waiting i.arrivals b.entries i start at same unsynced is.instance;
+      instance = synced_instance id view place waiting i.arrivals b.entries i start at same is.instance;
       member = is.member;
-      regency = refl;
-      synced = ap (λ (o : Option Beginning). is_some o) (sym (start_made view.number start.regency b.entries (Synced start) start before here));
+      regency = same;
+      synced = or_some (start_in view.number i.regency b.entries) start
+          ∙ ap (λ (o : Option Beginning). is_some o)
+          (ap (λ (o : Option Beginning). or_else (start_in view.number i.regency b.entries) o) (sym here) ∙ sym (start_pushed view.number i.regency b.entries (Synced start)));
       made = made_passed b.entries (Synced start) _ refl is.made;
     })
+
+-- what the book says of a slot, by the node's word
+
+pub start_where : {S : Type 0} (n inside : Node S) (start : Option Beginnings) (regency : ℕ) → inside ≡ n → start ≡ option_map start_by (first_start (view_of n).number regency n.entries)
+    → start ≡ option_map start_by (first_start (view_of inside).number regency inside.entries)
+start_where {S = S} n inside start regency same is = subst (λ (m : Node S). start ≡ option_map start_by (first_start (view_of m).number regency m.entries)) (sym same) is
+
+pub votes_where : {S : Type 0} (n inside : Node S) (votes : OwnVotes) (place regency : ℕ) → inside ≡ n → place ≡ n.replica.place → votes ≡ own_votes (slot_behind (view_of n).number place regency) n.entries
+    → votes ≡ own_votes (slot_behind (view_of inside).number inside.replica.place regency) inside.entries
+votes_where {S = S} n inside votes place regency same at is =
+    subst (λ (m : Node S). votes ≡ own_votes (slot_behind (view_of m).number m.replica.place regency) m.entries) (sym same)
+    (subst (λ (p : ℕ). votes ≡ own_votes (slot_behind (view_of n).number p regency) n.entries) at is)
 
 -- ---- what the node says
 
@@ -268,31 +296,10 @@ pub named_after : {S : Type 0} (n inside : Node S) (i : Instance) (view : View) 
 named_after {S = S} n inside i view slot same at has =
     rw (at, ← same, has.arrivals_same, same_regency inside i has) refl
 
--- a regency that has not begun
-
-none_where : {A : Type 0} (o : Option A) → is_some o ≡ false → o ≡ None
-none_where None is = refl
-none_where (Some a) is = absurd (cc)
-
-pub unstarted_after : {S : Type 0} (n inside : Node S) (i : Instance) → inside ≡ n → HasInstance inside i → is_synced n ≡ false → i.start ≡ None
-unstarted_after n inside i same has is = none_where i.start (synced_after n inside i same has ∙ is)
-
-unsynced_by : (lt same none : Bool) → same ≡ true → none ≡ true → (lt || (same && none)) ≡ true
-unsynced_by true same none e0 e1 = refl
-unsynced_by false same none e0 e1 = rw (e0, e1) refl
-
-pub unsynced_after : {S : Type 0} (n inside : Node S) (i : Instance) (regency : ℕ) → inside ≡ n → HasInstance inside i → regency_of n ≡ regency → is_synced n ≡ false → is_unsynced regency i ≡ true
-unsynced_after n inside i regency same has at is =
-    unsynced_by (nat_lt i.regency regency) (i.regency == regency) (is_none i.start) (eq-eqb i.regency regency (regency_after n inside i same has ∙ at))
-    (ap (λ (o : Option Beginnings). is_none o) (unstarted_after n inside i same has is))
-
 -- what is behind a promise, and behind a beginning
 
-pub promised_regency : {S : Type 0} (n : Node S) (i j : Instance) (regency : ℕ) → HasInstance n i → i ≡ promising regency j → regency_of n ≡ regency
-promised_regency n i j regency has is = sym (same_regency n i has) ∙ ap (λ (x : Instance). x.regency) is
-
-pub promised_unsynced : {S : Type 0} (n : Node S) (i j : Instance) (regency : ℕ) → HasInstance n i → i ≡ promising regency j → is_synced n ≡ false
-promised_unsynced n i j regency has is = sym (same_synced n i has) ∙ ap (λ (x : Instance). is_some x.start) is
+pub promised_regency : {S : Type 0} (n : Node S) (i j : Instance) (regency : ℕ) (start : Option Beginnings) (votes : OwnVotes) → HasInstance n i → i ≡ promising regency start votes j → regency_of n ≡ regency
+promised_regency n i j regency start votes has is = sym (same_regency n i has) ∙ ap (λ (x : Instance). x.regency) is
 
 and_same : (a b : Bool) → b ≡ true → (a && b) ≡ a
 and_same true b is = is
@@ -309,8 +316,34 @@ adopted_here s then regency turned same =
 -- the node that takes part in its regency
 pub begun_where : {S : Type 0} (n inside : Node S) (i now : Instance) (s then : Synchronizer) (b c : Book) (start : Beginning) → inside ≡ n → start.regency ≡ s.regency
     → i.arrivals ≡ inside.arrivals → s.stop_made ≡ inside.stop_made → s.sync_made ≡ inside.sync_made → s.stops ≡ inside.stops → s.reports ≡ inside.reports → s.syncs ≡ inside.syncs → b.entries ≡ inside.entries
-    → c ≡ pushed b (Synced start) → now ≡ syncing start.regency (start_by start) i → then ≡ adopted start.regency s
+    → c ≡ pushed b (Synced start) → now ≡ syncing (start_by start) i → then ≡ adopted start.regency s
     → record inside { arrivals = now.arrivals; entries = c.entries; stops = then.stops; reports = then.reports; syncs = then.syncs; stop_made = then.stop_made; sync_made = then.sync_made; impatient = false } ≡ begun_at n start
 begun_where {S = S} n inside i now s then b c start same here e0 e1 e2 e3 e4 e5 e6 grown moved turned =
     let done = adopted_here s then start.regency turned here in
     rw (done.0, done.1, grown, moved, turned, e0, e1, e2, e3, e4, e5, e6) (ap (λ (m : Node S). begun_at m start) same)
+
+-- what is voted behind the place that is delivered
+pub votes_next : {S : Type 0} (n inside : Node S) (i : Instance) (votes : OwnVotes) (place next regency : ℕ) → inside ≡ n → HasInstance inside i → place ≡ n.replica.place → next ≡ place + 2 → regency ≡ regency_of n
+    → votes ≡ own_votes (record { view = (view_of n).number; place = next; regency = regency }) n.entries
+    → votes ≡ own_votes (slot_behind (view_of inside).number (inside.replica.place + 1) i.regency) inside.entries
+votes_next {S = S} n inside i votes place next regency same has at behind in_ is =
+    let two : next ≡ (n.replica.place + 1) + 1 = omega (arith, at, behind) in
+    let r : regency ≡ i.regency = in_ ∙ sym (regency_after n inside i same has) in
+    subst (λ (m : Node S). votes ≡ own_votes (slot_behind (view_of m).number (m.replica.place + 1) i.regency) m.entries) (sym same)
+    (subst (λ (r : ℕ). votes ≡ own_votes (slot_behind (view_of n).number (n.replica.place + 1) r) n.entries) r
+    (subst (λ (p : ℕ). votes ≡ own_votes (record { view = (view_of n).number; place = p; regency = regency }) n.entries) two is))
+
+pub votes_same : {S : Type 0} (n inside : Node S) (view : View) (number place regency : ℕ) (votes : OwnVotes) → inside ≡ n → view ≡ view_of n → number ≡ view.number
+    → votes ≡ own_votes (record { view = number; place = place; regency = regency }) inside.entries
+    → votes ≡ own_votes (record { view = (view_of n).number; place = place; regency = regency }) n.entries
+votes_same {S = S} n inside view number place regency votes same at is voted =
+    voted
+    ∙ (ap (λ (v : ℕ). own_votes (record { view = v; place = place; regency = regency }) inside.entries) (is ∙ ap (λ (v : View). v.number) at)
+    ∙ ap (λ (m : Node S). own_votes (record { view = (view_of n).number; place = place; regency = regency }) m.entries) same)
+
+pub begins_same : {S : Type 0} (n inside : Node S) (view : View) (number regency : ℕ) (start : Option Beginnings) → inside ≡ n → view ≡ view_of n → number ≡ view.number
+    → start ≡ option_map start_by (first_start number regency inside.entries) → start ≡ option_map start_by (first_start (view_of n).number regency n.entries)
+begins_same {S = S} n inside view number regency start same at is begun =
+    begun
+    ∙ (ap (λ (v : ℕ). option_map start_by (first_start v regency inside.entries)) (is ∙ ap (λ (v : View). v.number) at)
+    ∙ ap (λ (m : Node S). option_map start_by (first_start (view_of n).number regency m.entries)) same)

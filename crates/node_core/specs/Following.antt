@@ -1,5 +1,5 @@
 -- What a node keeps beside its state, so that its rules need not walk its book.
-use Rattle.std.specs.Prelude.{ℕ, ◌≡◌, ◌+◌, ◌<◌, ◌^◌, ◌==◌, nat_lt, Bool, false, not, ◌&&◌, ◌||◌, List, if◌then◌else◌, Option, IsSome, is_some}
+use Rattle.std.specs.Prelude.{ℕ, ◌≡◌, ◌+◌, ◌<◌, ◌^◌, ◌==◌, nat_lt, Bool, false, true, not, ◌&&◌, ◌||◌, List, [], length, if◌then◌else◌, Option, None, IsSome, is_some}
 use Rattle.smart_base.specs.Views.{View}
 use Rattle.smart_messages.specs.Messages.{Batch}
 use Rattle.vote_book.specs.Books.{last_made}
@@ -11,6 +11,7 @@ use Rattle.vote_book.specs.declared.entry.LogEntry.TheVariants.{Promised, Synced
 use Rattle.regency_sync.specs.Synchronizers.{Synchronizer}
 use Rattle.node_rules.specs.Nodes.{Node, regency_of, is_synced, recording, start_in}
 use Rattle.node_rules.specs.Votes.{Named}
+use Rattle.node_restart.specs.Restarts.{Restart}
 use Rattle.consensus_instance.specs.Instances.{Instance}
 use Rattle.consensus_instance.specs.Nodes.{IsInstance}
 
@@ -45,3 +46,26 @@ reached n promise = if nat_lt (regency_of n) promise.regency then promised_by n 
 -- the node that takes part in its regency from where it begins
 abbrev pub begun_at : {S : Type 0} → Node S → Start → Node S
 begun_at n start = record (recording n (Synced start)) { impatient = false }
+
+-- the node that goes on from what its entries gave back: all of them are firm
+abbrev pub going_on : {S : Type 0} → List ℕ → ℕ → Restart S → Node S
+going_on secret id back = record {
+  id = id;
+  secret = secret;
+  replica = back.replica;
+  waiting = None;
+  pool = [];
+  arrivals = [];
+  stops = [];
+  reports = [];
+  syncs = [];
+  entries = back.entries;
+  restored = length back.entries;
+  firm = length back.entries;
+  held = [];
+  proposed = [];
+  stop_made = false;
+  sync_made = false;
+  impatient = false;
+  behind = true;
+}

@@ -1,18 +1,22 @@
 //! What a node looks up in what it keeps.
-ghost use Rattle.std.specs.Prelude.{◌≡◌, ◌<◌, filter, filter_map, find};
+ghost use Rattle.std.specs.Prelude.{◌≡◌, ◌<◌, ℕ, max, filter, filter_map, find, option_map, IsSome};
 ghost use Rattle.std.specs.List.{list_any};
 ghost use Rattle.smart_messages.specs.Equality.{same_slot};
 ghost use Rattle.smart_base.specs.Lists.{same_bytes};
 ghost use Rattle.smart_messages.specs.declared.statement.VoteKind.TheVariants as kinds;
 ghost use Rattle.std.specs.Option.{option_copied};
 ghost use Rattle.vote_book.specs.Books.{last_made};
+ghost use Rattle.vote_book.specs.Standing.{first_start};
 ghost use Rattle.vote_book.specs.BookReports.{accept_for};
 ghost use Rattle.vote_book.specs.declared.entry.Accept.{Accept};
 ghost use Rattle.node_rules.specs.Votes.{has_quorum};
 ghost use Rattle.node_rules.specs.Kept.{is_ahead};
+ghost use Rattle.node_rules.specs.Nodes.{regency_in, greatest_regency, start_at};
+ghost use Rattle.consensus_instance.specs.Nodes.{start_by};
 
 use consensus_instance::instance::Instance;
 use consensus_instance::needed::is_ahead;
+use consensus_instance::start::Start as Beginning;
 use smart_base::bytes::Digest32;
 use smart_base::equality::same_bytes;
 use smart_base::number::{Place, Regency, ViewNo};
@@ -20,7 +24,7 @@ use smart_base::view::View;
 use smart_messages::equality::same_slot;
 use smart_messages::statement::Slot;
 use vote_book::book::Book;
-use vote_book::entry::Accept;
+use vote_book::entry::{Accept, LogEntry, Start};
 
 /// Whether a slot is among those proposed for.
 pub fn has_proposed(proposed: &[Slot], slot: &Slot) -> bool
@@ -72,4 +76,73 @@ pub fn accept_by_quorum<'a>(
         }
     }
     None
+}
+
+/// Where a regency begins, by the entry that says so.
+fn beginning_of(start: &Start) -> Beginning
+    ensures { result ≡ start_by start.now }
+{
+    Beginning {
+        base: start.base,
+        bound: start.bound,
+    }
+}
+
+/// Where a regency of a view first began, by a book.
+pub fn first_beginning(book: &Book, view: ViewNo, regency: Regency) -> Option<Beginning>
+    ensures { result ≡ option_map start_by (first_start view regency book.now.entries) }
+{
+    match book.start_in(view, regency) {
+        None => None,
+        Some(start) => Some(beginning_of(start)),
+    }
+}
+
+/// Where a regency of a view begins, once a book says so. Regency 0 begins with the view.
+#[tactic(auto, using(crate::proofs::Resuming::starts_at))]
+pub fn start_at(book: &Book, view: &View, regency: Regency) -> Option<Beginning>
+    ensures value { result ≡ option_map start_by (start_at view.now regency book.now.entries) }
+    ensures first { regency ≡ 0 → IsSome result }
+{
+    if regency.get() == 0 {
+        return Some(Beginning {
+            base: view.start(),
+            bound: None,
+        });
+    }
+    first_beginning(book, view.number(), regency)
+}
+
+/// The regency that an entry promises in a view, 0 of one that promises none there.
+fn regency_in(view: ViewNo, entry: &LogEntry) -> Regency
+    ensures { result ≡ regency_in view entry.now }
+{
+    match entry {
+        LogEntry::Promised(promise) if promise.view == view => promise.regency,
+        LogEntry::Opened(_)
+        | LogEntry::Wrote(_)
+        | LogEntry::Accepted(_)
+        | LogEntry::Promised(_)
+        | LogEntry::Synced(_)
+        | LogEntry::Decided(_)
+        | LogEntry::Installed(_)
+        | LogEntry::Marked(_) => Regency::new(0),
+    }
+}
+
+fn greater(a: Regency, b: Regency) -> Regency
+    ensures { result ≡ max a b }
+{
+    if a < b { b } else { a }
+}
+
+/// The greatest regency that entries promise in a view, 0 where they promise none.
+pub fn greatest_regency(view: ViewNo, entries: &[LogEntry]) -> Regency
+    ensures { result ≡ greatest_regency view entries.now }
+{
+    let mut greatest = Regency::new(0);
+    for entry in entries {
+        greatest = greater(greatest, regency_in(view, entry));
+    }
+    greatest
 }

@@ -1,17 +1,21 @@
 //! The node itself.
-ghost use Rattle.std.specs.Prelude.{◌≡◌, ◌+◌, ◌^◌, ◌<◌, ◌≤◌, [], false, true, length, IfOk, OnOk, OnErr, is_some, option_map};
+ghost use Rattle.std.specs.Prelude.{◌≡◌, ◌+◌, ◌^◌, ◌<◌, ◌≤◌, ℕ, [], false, true, length, IfOk, OnOk, OnErr, IsErrOf, Some, None, is_some, option_map};
 ghost use Rattle.std.specs.Option.{option_copied};
 ghost use Rattle.std.specs.Result.{is_err};
 ghost use Rattle.smart_messages.specs.RegencyMessages.{any_decoded};
 ghost use Rattle.vote_book.specs.BookReports.{lock_of};
+ghost use Rattle.vote_book.specs.Standing.{own_votes};
+ghost use Rattle.node_restart.specs.declared.fault.ReopenFault.TheVariants.{Damaged};
 ghost use Rattle.node_rules.specs.Nodes.{view_of, regency_of, decided_place, open_slot, is_free, is_open, synchronizer_of, holding};
 ghost use Rattle.node_rules.specs.Kept.{trimmed, core_step};
+ghost use Rattle.node_rules.specs.Reopening.{damaged, entries_in, reopened};
 ghost use Rattle.node_rules.specs.Steps.{step_of, outcome_from, reading_outcome, timed, first_leaving, after_first, leaving, released, opened};
 ghost use Rattle.node_core.specs.Broken.{IsPartly};
 
 mod arrivals;
 mod asks;
 mod changes;
+mod reopen;
 mod reports;
 mod rules;
 
@@ -19,6 +23,7 @@ use crate::find::keep_ahead;
 use crate::seal::MemberKeys;
 use consensus_instance::instance::Instance;
 use delivery::replica::KeptReplica;
+use node_restart::fault::ReopenFault;
 use node_rules::node::{Fired, Held, Target, Why};
 use outbox::outbox::Outbox;
 use regency_sync::synchronizer::Synchronizer;
@@ -27,7 +32,7 @@ use smart_base::duplicate::Duplicate;
 use smart_base::fault::ReadError;
 use smart_base::name::MemberId;
 use smart_base::number::{Place, Regency};
-use smart_base::sequence::Sequence;
+use smart_base::sequence::{Bytes, Sequence};
 use smart_base::view::View;
 use smart_keys::ring::Ring;
 use smart_messages::any::{AnyMessage, decode_any};
@@ -39,6 +44,7 @@ use std::alloc::{AllocError, Global};
 use std::marker::Model;
 use vote_book::book::Book;
 use vote_book::entry::{Accept, LogEntry, Opening};
+use vote_book::votes::OwnVotes;
 
 /// A member's node, and whether want of memory stopped a step half-way. Then the node is broken: no
 /// event happens to it again, and no call makes it whole.
@@ -126,6 +132,33 @@ impl<S: Service> NodeCore<S> {
             node,
             broken: false,
         })
+    }
+
+    /// A node that goes on after a crash from the entries that its disks restored, of a group that
+    /// began with a view and marks a place every so many. All of them are firm, and nothing else of the
+    /// life before is left: the node knows that it may be behind. Without an entry it opens its book
+    /// anew. The book need not be tidy. The cost is linear in what was restored.
+    pub fn reopen(
+        alloc: Global,
+        id: MemberId,
+        view: View,
+        period: u32,
+        ring: Ring,
+        restored: &[Bytes],
+    ) -> Result<Self, ReopenFault>
+        ensures whole { OnOk result (damaged ring view restored.now ≡ None) }
+        ensures node { IfOk result (λ core. core.node ≡ reopened S.meaning ring id view period (entries_in restored.now)) }
+        ensures broken { IfOk result (λ core. core.broken ≡ false) }
+        // The number of the entry, from 1, that is the first to be damaged.
+        ensures cause { (entry : ℕ) → IsErrOf result (Damaged entry) → damaged ring view restored.now ≡ Some entry }
+    {
+        match NodeState::reopen(alloc, id, view, period, ring, restored) {
+            Ok(node) => Ok(NodeCore {
+                node,
+                broken: false,
+            }),
+            Err(fault) => Err(fault),
+        }
     }
 
     /// Whether want of memory stopped a step half-way.
@@ -449,6 +482,13 @@ impl<S: Service> NodeState<S> {
         ensures { option_copied result ≡ lock_of (view_of self.now).number self.now.entries }
     {
         self.book.lock(self.view().number())
+    }
+
+    /// What the node has voted in a regency of the view in force at a place.
+    fn votes_at(&self, place: u64, regency: Regency) -> OwnVotes
+        ensures { result ≡ own_votes (record { view = (view_of self.now).number; place = place; regency = regency }) self.now.entries }
+    {
+        self.book.votes_at(self.view().number(), place, regency)
     }
 
     /// The last place that is delivered or decided.

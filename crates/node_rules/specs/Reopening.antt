@@ -28,7 +28,7 @@ is_opening (Installed i) = false
 is_opening (Marked m) = false
 
 -- What an entry rests on holds: an accept has its certificate of writes, a decision its proof, each by members of the view, and a batch that may stand at
--- its place. So far there is one view, and an installation is admitted by no book that is restored.
+-- its place. So far there is one view. A book that is restored admits an installation at place 0 alone, while it makes no place; that one changes nothing.
 abbrev pub rests : List ℕ → View → LogEntry → Bool
 rests secret view (Opened o) = true
 rests secret view (Wrote w) = true

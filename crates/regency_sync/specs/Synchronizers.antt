@@ -166,6 +166,11 @@ batch_of view s digest = batch_in (find (bears view s digest) s.reports)
 abbrev pub begun : ℕ → Synchronizer
 begun id = record { id = id; regency = 0; synced = false; stop_made = false; sync_made = false; stops = []; reports = []; syncs = [] }
 
+-- a member that goes on in a regency
+abbrev pub resumed : ℕ → ℕ → Bool → Synchronizer
+resumed id regency synced =
+    record { id = id; regency = regency; synced = synced; stop_made = false; sync_made = false; stops = []; reports = []; syncs = [] }
+
 abbrev pub with_stop : SignedBy Stop → Synchronizer → Synchronizer
 with_stop stop s = record s { stops = s.stops ++ stop ∷ [] }
 
@@ -192,9 +197,9 @@ stopped s = record s { stop_made = true }
 abbrev pub promised : Synchronizer → Synchronizer
 promised s = record s { regency = s.regency + 1; synced = false; stop_made = false; sync_made = false }
 
--- a later regency is promised
-abbrev pub promised_to : ℕ → Synchronizer → Synchronizer
-promised_to regency s = record s { regency = regency; synced = false; stop_made = false; sync_made = false }
+-- a later regency is promised, which the member may have begun to take part in before
+abbrev pub promised_to : ℕ → Bool → Synchronizer → Synchronizer
+promised_to regency begun s = record s { regency = regency; synced = begun; stop_made = false; sync_made = false }
 
 -- the member has begun its regency
 abbrev pub led : Synchronizer → Synchronizer

@@ -2,7 +2,7 @@
 ghost use Rattle.std.specs.Prelude.{◌≡◌, ◌+◌, ◌<◌, ◌^◌, true, length, find, IfOk, OnOk, OnErr};
 ghost use Rattle.std.specs.Option.{option_copied};
 ghost use Rattle.regency_sync.specs.Synchronizers.{Synchronizer, is_synced, is_synced_in, repeats_stop, repeats_report, repeats_sync, is_adoptable};
-ghost use Rattle.regency_sync.specs.Synchronizers.{adopting, has_next, stoppers, is_joining, is_promising, reporters, is_collecting, collect, collecting};
+ghost use Rattle.regency_sync.specs.Synchronizers.{adopting, has_next, stoppers, is_joining, is_promising, reporters, is_collecting, collect, collecting, resumed};
 ghost use Rattle.regency_sync.specs.Synchronizers.{due, bears, batch_of, begun, with_stop, with_report, with_sync};
 ghost use Rattle.regency_sync.specs.Synchronizers.{adopted, stopped, promised, promised_to, led, moved, trimmed};
 
@@ -73,6 +73,22 @@ impl Synchronizer {
             id,
             regency: Regency::new(0),
             synced: false,
+            stop_made: false,
+            sync_made: false,
+            stops: Vec::new(alloc),
+            reports: Vec::new(alloc),
+            syncs: Vec::new(alloc),
+        }
+    }
+
+    /// A member that goes on in a regency, which it takes part in or not. It takes no memory.
+    pub fn resume(alloc: Global, id: MemberId, regency: Regency, synced: bool) -> Self
+        ensures { result ≡ resumed id regency synced }
+    {
+        Synchronizer {
+            id,
+            regency,
+            synced,
             stop_made: false,
             sync_made: false,
             stops: Vec::new(alloc),
@@ -262,12 +278,13 @@ impl Synchronizer {
         self.sync_made = false;
     }
 
-    /// The member has promised a later regency, which that one's leader has to begin.
-    pub fn promised_to(&mut self, regency: Regency)
-        ensures { self.new ≡ promised_to regency self.old }
+    /// The member has promised a later regency, which that one's leader has to begin, unless the
+    /// member adopted its beginning before: a book that is not tidy may have one before the promise.
+    pub fn promised_to(&mut self, regency: Regency, begun: bool)
+        ensures { self.new ≡ promised_to regency begun self.old }
     {
         self.regency = regency;
-        self.synced = false;
+        self.synced = begun;
         self.stop_made = false;
         self.sync_made = false;
     }

@@ -17,7 +17,7 @@ use Rattle.node_rules.specs.Nodes.{Node}
 use Rattle.node_rules.specs.Arrivals.{noted}
 use Rattle.node_rules.specs.Rules.{fired_if, answering, answer_line, answers_again}
 use Rattle.node_rules.specs.declared.node.Fired.TheVariants as fires
-use Rattle.world_rules.specs.Worlds.{delivery_in}
+use Rattle.node_rules.specs.Deliveries.{delivery_in}
 use Rattle.replica_laws.proofs.Lists.{either}
 
 -- the node that is told

@@ -20,8 +20,7 @@ use Rattle.node_rules.specs.Steps.{made_firm, Outcome, fired_pass, outcome_from,
 use Rattle.node_rules.specs.declared.node.Why.{Why}
 use Rattle.node_rules.specs.declared.node.Fired.{Fired}
 use Rattle.node_rules.specs.declared.node.Fired.TheVariants as fires
-use Rattle.world_rules.specs.Worlds.{delivery_in}
-use Rattle.world_rules.specs.Promises.{AtPlaces}
+use Rattle.node_rules.specs.Deliveries.{delivery_in, AtPlaces}
 use Rattle.replica_laws.proofs.Follows.{WasDue, due-pass}
 use Rattle.replica_laws.proofs.Steady.{replica-passes, place-deliver_batch}
 use Rattle.replica_laws.proofs.Leaves.{leaves-kept, leaves-times}

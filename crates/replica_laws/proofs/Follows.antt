@@ -28,7 +28,7 @@ use Rattle.node_rules.specs.declared.node.Why.{Why}
 use Rattle.node_rules.specs.declared.node.Target.TheVariants as targets
 use Rattle.node_rules.specs.declared.node.Fired.{Fired}
 use Rattle.node_rules.specs.declared.node.Fired.TheVariants as fires
-use Rattle.world_rules.specs.Worlds.{delivery_in}
+use Rattle.node_rules.specs.Deliveries.{delivery_in}
 use Rattle.node_rules.specs.Reopening.{decided_of}
 use Rattle.replica_laws.proofs.Lists.{each_append}
 use Rattle.replica_laws.proofs.Again.{entries-noted, entries-answers_again}

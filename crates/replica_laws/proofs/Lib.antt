@@ -11,6 +11,7 @@ pub mod InOrder
 pub mod Follows
 pub mod Entered
 pub mod Steady
+pub mod SteadyAgain
 pub mod Counted
 pub mod Waiting
 pub mod Onward
@@ -21,3 +22,4 @@ pub mod Collected
 pub mod FitNodes
 pub mod FitBooks
 pub mod Voters
+pub mod Sources

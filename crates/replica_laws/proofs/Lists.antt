@@ -1,9 +1,8 @@
--- Facts on lists, tests and repeated steps.
-use Rattle.std.proofs.Common.{◌≡◌, ℕ, zero, suc, ◌+◌, ◌++◌, Bool, true, false, not, ◌&&◌, ◌||◌, List, [], ◌∷◌, refl, cond, Option, Some, None, subst, inl, inr, ◌⊎◌}
+-- Facts on lists and tests.
+use Rattle.std.proofs.Common.{◌≡◌, ℕ, zero, suc, ◌++◌, Bool, true, false, not, ◌&&◌, ◌||◌, List, [], ◌∷◌, refl, cond, Option, Some, None, subst, inl, inr, ◌⊎◌}
 use Rattle.std.specs.Prelude.{IfSome, slice_get, slice_set, option_map, find, filter}
 use Rattle.std.specs.List.{filter_map, cons_option}
 use Rattle.smart_base.specs.Lists.{Each, or_else}
-use Rattle.world_rules.specs.Repeats.{repeated, turns, until_rest, each_from}
 
 -- tests that are joined
 
@@ -71,22 +70,6 @@ pub each_get : {A : Type 0} (P : A → Type 0) (xs : List A) (i : ℕ) (x : A) �
 each_get P [] i x each at = absurd (cc)
 each_get P (y ∷ xs) zero x each at = subst P (some-equal y x at) each.0
 each_get P (y ∷ xs) (suc i) x each at = each_get P xs i x each.1 at
-
--- what a step keeps, repeated steps keep
-
-pub repeated_keeps : {A : Type 0} (P : A → Type 0) (f : A → A) → ((x : A) → P x → P (f x)) → (k : ℕ) (x : A) → P x → P (repeated f k x)
-unfolding repeated
-repeated_keeps P f keeps zero x is = is
-repeated_keeps P f keeps (suc k) x is = repeated_keeps P f keeps k (f x) (keeps x is)
-
-pub until_rest_keeps : {A : Type 0} (P : A → Type 0) (f : A → A) → ((x : A) → P x → P (f x)) → (x : A) → P x → P (until_rest f x)
-unfolding until_rest
-until_rest_keeps P f keeps x is = repeated_keeps P f keeps turns x is
-
-pub each_from_keeps : {A : Type 0} (P : A → Type 0) (f : ℕ → A → A) → ((i : ℕ) (x : A) → P x → P (f i x)) → (k i : ℕ) (x : A) → P x → P (each_from f k i x)
-unfolding each_from
-each_from_keeps P f keeps zero i x is = is
-each_from_keeps P f keeps (suc k) i x is = each_from_keeps P f keeps k (i + 1) (f i x) (keeps i x is)
 
 -- what the first of two gives that is there
 

@@ -379,7 +379,7 @@ no_stop v r later member [] less each = refl
 no_stop v r later member (x ∷ xs) less each =
     rw (far_stop v r later x (x.signer == member) (x.statement.view == v) (x.statement.regency == later) refl refl less each.0) (no_stop v r later member xs less each.1)
 
-filter_none : {A : Type 0} (p : A → Bool) (xs : List A) → ((x : A) → p x ≡ false) → filter p xs ≡ []
+pub filter_none : {A : Type 0} (p : A → Bool) (xs : List A) → ((x : A) → p x ≡ false) → filter p xs ≡ []
 filter_none p [] none = refl
 filter_none p (x ∷ xs) none = rw (none x) (filter_none p xs none)
 
@@ -876,7 +876,7 @@ steady-released {S = S} n is =
     steady-aside n x (record { holds = x.held; slots = n.proposed; stopped = n.stop_made; led = n.sync_made; pressed = n.impatient; told = n.behind; same = refl }) is
 
 -- a node that opens is steady
-none_opened : {A : Type 0} (b : Bool) → cond {A = Option A} b None None ≡ None
+pub none_opened : {A : Type 0} (b : Bool) → cond {A = Option A} b None None ≡ None
 none_opened true = refl
 none_opened false = refl
 

@@ -7,7 +7,7 @@ use Rattle.world_rules.specs.Texts.{text_of}
 use Rattle.smart_top.specs.declared.status.Refusal.{Refusal}
 use Rattle.smart_top.specs.declared.reader.Halt.{Halt}
 use Rattle.smart_top.specs.declared.reader.Halt.TheVariants as halts
-use Rattle.smart_top.specs.Apps.{core_steps, node_steps}
+use Rattle.smart_top.specs.Apps.{core_courses, node_courses}
 use Rattle.smart_top.specs.declared.app.AppPlay.{AppPlay}
 use Rattle.smart_top.specs.Readings.{Reading, unread, whole_lines, rest_of, last_line, script_lines, reading_after, told_after, script_read, end_of, end_by, end_at, end_told, last_told, transcript}
 use Rattle.smart_top.specs.Feeds.{text_after, HasTaken, Halted, Within, halt_end}
@@ -21,21 +21,21 @@ use Rattle.smart_top.proofs.Ending.{Starts, begins, played, same-text, told-line
 
 -- a script that took all lines ends as the input does
 all-read : (written now : Option (List ℕ)) (bytes input line : List ℕ) (script : Reading) → script_lines input ≡ whole_lines [] bytes
-    → HasTaken core_steps bytes written now line script → script ≡ trimmed_reading (script_read node_steps input)
+    → HasTaken core_courses bytes written now line script → script ≡ trimmed_reading (script_read node_courses input)
 all-read written now bytes input line script all taken =
-    taken.script_is ∙ (core-after-unread (whole_lines [] bytes) ∙ ap (λ ls. trimmed_reading (reading_after node_steps unread ls)) (sym all))
+    taken.script_is ∙ (core-after-unread (whole_lines [] bytes) ∙ ap (λ ls. trimmed_reading (reading_after node_courses unread ls)) (sym all))
 
 -- the transcript is what the lines told, and the end
 all-told : (written now : Option (List ℕ)) (bytes input line : List ℕ) (script : Reading) → script_lines input ≡ whole_lines [] bytes
-    → HasTaken core_steps bytes written now line script → text_after core_steps bytes ++ text_of (end_told script.count script.play) ≡ text_of (transcript node_steps input)
+    → HasTaken core_courses bytes written now line script → text_after core_courses bytes ++ text_of (end_told script.count script.play) ≡ text_of (transcript node_courses input)
 all-told written now bytes input line script all taken =
-    let r : Reading = script_read node_steps input in
+    let r : Reading = script_read node_courses input in
     let read : script ≡ trimmed_reading r = all-read written now bytes input line script all taken in
     let last : end_told script.count script.play ≡ last_told r r.refused =
     ap (λ x. last_told script x) (sym taken.going) ∙ (ap (λ (q : Reading). last_told q q.refused) read ∙ core-last r) in
-    ap (λ lines. text_after core_steps bytes ++ text_of lines) last
-    ∙ (ap (λ text. text ++ text_of (last_told r r.refused)) (same-text bytes ∙ ap (λ ls. text_of (told_after node_steps unread ls)) (sym all))
-    ∙ sym (text-append (told_after node_steps unread (script_lines input)) (last_told r r.refused)))
+    ap (λ lines. text_after core_courses bytes ++ text_of lines) last
+    ∙ (ap (λ text. text ++ text_of (last_told r r.refused)) (same-text bytes ∙ ap (λ ls. text_of (told_after node_courses unread ls)) (sym all))
+    ∙ sym (text-append (told_after node_courses unread (script_lines input)) (last_told r r.refused)))
 
 ended-play : (left left' written now : Option (List ℕ)) (wants wants' count : ℕ) (play : Option AppPlay) → IsAtEnd left' → Ends left written now (end_at count play)
     → RunEnd left left' written now wants wants' (end_at count play)
@@ -49,10 +49,10 @@ ended-run left left' written now wants wants' r (Some why) is end e = absurd (cc
 
 -- a run that has written its whole transcript
 pub close-ended : (left left' written now now' : Option (List ℕ)) (wants wants' : ℕ) (bytes input line : List ℕ) (script : Reading)
-    → script_lines input ≡ whole_lines [] bytes → IsLeft left input → IsAtEnd left' → HasTaken core_steps bytes written now line script → Appends now now' (text_of (end_told script.count script.play))
+    → script_lines input ≡ whole_lines [] bytes → IsLeft left input → IsAtEnd left' → HasTaken core_courses bytes written now line script → Appends now now' (text_of (end_told script.count script.play))
     → RunEnd left left' written now' wants wants' (end_of script)
 close-ended left left' written now now' wants wants' bytes input line script all is_left end taken told =
-    let r : Reading = script_read node_steps input in
+    let r : Reading = script_read node_courses input in
     let read : script ≡ trimmed_reading r = all-read written now bytes input line script all taken in
     ended-run left left' written now' wants wants' script script.refused taken.going end
     (record {
@@ -60,36 +60,36 @@ close-ended left left' written now now' wants wants' bytes input line script all
       is_left = is_left;
       status_is = ap (λ (q : Reading). end_of q) read ∙ core-end r;
       text = subst (λ text. Appends written now' text) (all-told written now bytes input line script all taken)
-          (appends-then written now now' (text_after core_steps bytes) (text_of (end_told script.count script.play)) taken.text told);
+          (appends-then written now now' (text_after core_courses bytes) (text_of (end_told script.count script.play)) taken.text told);
       played = played (script_lines input);
     })
 
 -- a run whose end was not written
 pub close-unwritten : (left written now now' : Option (List ℕ)) (bytes input line : List ℕ) (script : Reading)
-    → script_lines input ≡ whole_lines [] bytes → IsLeft left input → now' ≡ now → HasTaken core_steps bytes written now line script → WroteLines left written now'
+    → script_lines input ≡ whole_lines [] bytes → IsLeft left input → now' ≡ now → HasTaken core_courses bytes written now line script → WroteLines left written now'
 close-unwritten left written now now' bytes input line script all is_left same taken =
     told-lines left written now' bytes input (record { more = []; split = all ∙ sym (append-nil (whole_lines [] bytes)) }) is_left
-    (record { text = subst (λ w. Appends written w (text_after core_steps bytes)) (sym same) taken.text })
+    (record { text = subst (λ w. Appends written w (text_after core_courses bytes)) (sym same) taken.text })
 
 -- a run of whose end only a front was written
 close-broken : (left written now now' : Option (List ℕ)) (bytes input line : List ℕ) (script : Reading) (count : ℕ)
-    → script_lines input ≡ whole_lines [] bytes → IsLeft left input → HasTaken core_steps bytes written now line script → Appends now now' (take count (text_of (end_told script.count script.play)))
+    → script_lines input ≡ whole_lines [] bytes → IsLeft left input → HasTaken core_courses bytes written now line script → Appends now now' (take count (text_of (end_told script.count script.play)))
     → WroteFront left written now'
 close-broken left written now now' bytes input line script count all is_left taken told =
-    let some = front_behind (text_after core_steps bytes) (text_of (end_told script.count script.play)) [] count in
-    let whole = ap (λ text. text_after core_steps bytes ++ text) (append-nil (text_of (end_told script.count script.play))) ∙ all-told written now bytes input line script all taken in
+    let some = front_behind (text_after core_courses bytes) (text_of (end_told script.count script.play)) [] count in
+    let whole = ap (λ text. text_after core_courses bytes ++ text) (append-nil (text_of (end_told script.count script.play))) ∙ all-told written now bytes input line script all taken in
     record {
       input = input;
       is_left = is_left;
       count = some.0;
       text = subst (λ text. Appends written now' text) (sym some.1 ∙ ap (λ text. take some.0 text) whole)
-          (appends-then written now now' (text_after core_steps bytes) (take count (text_of (end_told script.count script.play))) taken.text told);
+          (appends-then written now now' (text_after core_courses bytes) (take count (text_of (end_told script.count script.play))) taken.text told);
       played = played (script_lines input);
     }
 
 -- a run that stopped at its end
 pub close-halted : (left left' written now now' : Option (List ℕ)) (wants wants' : ℕ) (bytes input line : List ℕ) (script : Reading) (halt : Halt)
-    → script_lines input ≡ whole_lines [] bytes → IsLeft left input → HasTaken core_steps bytes written now line script → (halt ≡ halts.Refused → ⊥) → (halt ≡ halts.NoMemory → now' ≡ now)
+    → script_lines input ≡ whole_lines [] bytes → IsLeft left input → HasTaken core_courses bytes written now line script → (halt ≡ halts.Refused → ⊥) → (halt ≡ halts.NoMemory → now' ≡ now)
     → (halt ≡ halts.SinkMemory → Rose wants wants') → (count : ℕ) × Appends now now' (take count (text_of (end_told script.count script.play)))
     → RunEnd left left' written now' wants wants' (halt_end script halt)
 close-halted left left' written now now' wants wants' bytes input line script halts.Refused all is_left taken never same rose told = absurd (never refl)
@@ -132,7 +132,7 @@ last-starts bytes P some w = of_front w.front w.rest w.split
 
 -- a run that the last line has stopped
 pub last-halted : (left left' written now : Option (List ℕ)) (wants wants' : ℕ) (bytes : List ℕ) (script : Reading) (halt : Halt)
-    → (rest_of [] bytes ≡ [] → ⊥) → IsLeft left bytes → (halt ≡ halts.SinkMemory → Rose wants wants') → Halted core_steps bytes (10 ∷ []) written now script halt
+    → (rest_of [] bytes ≡ [] → ⊥) → IsLeft left bytes → (halt ≡ halts.SinkMemory → Rose wants wants') → Halted core_courses bytes (10 ∷ []) written now script halt
     → RunEnd left left' written now wants wants' (halt_end script halt)
 last-halted left left' written now wants wants' bytes script halts.Refused some is_left rose w =
     refused-run left left' written now wants wants' script script.refused w.holds.is (refused-ends left written now (bytes ++ w.front) bytes script (last-starts bytes _ some w) is_left w.holds)

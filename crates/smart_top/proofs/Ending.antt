@@ -14,7 +14,7 @@ use Rattle.smart_top.specs.declared.status.Refusal.{Refusal}
 use Rattle.smart_top.specs.declared.status.Refusal.TheVariants as refusals
 use Rattle.smart_top.specs.declared.reader.Halt.{Halt}
 use Rattle.smart_top.specs.declared.reader.Halt.TheVariants as halts
-use Rattle.smart_top.specs.Apps.{core_steps, node_steps}
+use Rattle.smart_top.specs.Apps.{core_courses, node_courses}
 use Rattle.smart_top.specs.Readings.{Reading, unread, whole_lines, rest_of, script_lines, reading_after, told_after, script_read, end_of, last_told, end_by, refused_end, transcript}
 use Rattle.smart_top.specs.Feeds.{text_after, script_after, Closes, HasRefused, HasBroken, HasTold, Within, Halted, GoesOn, halt_end}
 use Rattle.smart_top.specs.Runs.{IsLeft, ArePlayed, Ends, WroteAllRead, WroteLines, WroteFront, RunEnd}
@@ -43,28 +43,28 @@ pub played : (ls : List (List ℕ)) → ArePlayed ls
 played ls = record { tell = tells-read ls; one_list = one_list_holds (λ view is lines. one_list-throughout counting brief_sums view is lines) (λ view is lines. one_list-throughout keeping brief_values view is lines) ls }
 
 -- the text that cores tell is the text that nodes tell
-pub same-text : (bytes : List ℕ) → text_after core_steps bytes ≡ text_after node_steps bytes
+pub same-text : (bytes : List ℕ) → text_after core_courses bytes ≡ text_after node_courses bytes
 same-text bytes = ap text_of (core-told-unread (whole_lines [] bytes))
 
 -- the transcript of an input begins with what its first lines tell
-transcript-front : (bytes input : List ℕ) → Begins bytes input → (rest : List ℕ) × (text_of (transcript node_steps input) ≡ text_after node_steps bytes ++ rest)
+transcript-front : (bytes input : List ℕ) → Begins bytes input → (rest : List ℕ) × (text_of (transcript node_courses input) ≡ text_after node_courses bytes ++ rest)
 transcript-front bytes input b =
-    let told : List OutLine = told_after node_steps unread (whole_lines [] bytes) in
-    let behind : List OutLine = told_after node_steps (script_after node_steps bytes) b.more in
-    let last : List OutLine = last_told (script_read node_steps input) (script_read node_steps input).refused in (
+    let told : List OutLine = told_after node_courses unread (whole_lines [] bytes) in
+    let behind : List OutLine = told_after node_courses (script_after node_courses bytes) b.more in
+    let last : List OutLine = last_told (script_read node_courses input) (script_read node_courses input).refused in (
       text_of behind ++ text_of last,
-      text-append (told_after node_steps unread (script_lines input)) last
-          ∙ (ap (λ ls. text_of (told_after node_steps unread ls) ++ text_of last) b.split
-          ∙ (ap (λ lines. text_of lines ++ text_of last) (told-append node_steps unread (whole_lines [] bytes) b.more)
+      text-append (told_after node_courses unread (script_lines input)) last
+          ∙ (ap (λ ls. text_of (told_after node_courses unread ls) ++ text_of last) b.split
+          ∙ (ap (λ lines. text_of lines ++ text_of last) (told-append node_courses unread (whole_lines [] bytes) b.more)
           ∙ (ap (λ text. text ++ text_of last) (text-append told behind) ∙ append_assoc (text_of told) (text_of behind) (text_of last)))),
     )
 
 -- a run that broke off has written a front of the transcript
 pub broken-front : (left written now : Option (List ℕ)) (bytes input : List ℕ) → Begins bytes input → IsLeft left input
-    → HasBroken core_steps bytes written now → WroteFront left written now
+    → HasBroken core_courses bytes written now → WroteFront left written now
 broken-front left written now bytes input b is_left broken =
     let front = transcript-front bytes input b in
-    let some = front_of (text_after node_steps bytes) front.0 broken.count in
+    let some = front_of (text_after node_courses bytes) front.0 broken.count in
     record {
       input = input;
       is_left = is_left;
@@ -76,7 +76,7 @@ broken-front left written now bytes input b is_left broken =
 
 -- a run that told whole lines has written the transcript of the input's first lines
 pub told-lines : (left written now : Option (List ℕ)) (bytes input : List ℕ) → Begins bytes input → IsLeft left input
-    → HasTold core_steps bytes written now → WroteLines left written now
+    → HasTold core_courses bytes written now → WroteLines left written now
 told-lines left written now bytes input b is_left told =
     record {
       input = input;
@@ -103,19 +103,19 @@ last-refused r (Some why) is = refl
 
 -- an input reads as the whole lines of these bytes
 record ReadsAs (closed input : List ℕ) : Type 0 where
-  read : script_read node_steps input ≡ script_after node_steps closed
-  told : told_after node_steps unread (script_lines input) ≡ told_after node_steps unread (whole_lines [] closed)
+  read : script_read node_courses input ≡ script_after node_courses closed
+  told : told_after node_courses unread (script_lines input) ≡ told_after node_courses unread (whole_lines [] closed)
 
 -- what comes behind a refused line is not read
-reads-ended : (bytes input : List ℕ) → Begins bytes input → is_some (script_after node_steps bytes).refused ≡ true → ReadsAs bytes input
+reads-ended : (bytes input : List ℕ) → Begins bytes input → is_some (script_after node_courses bytes).refused ≡ true → ReadsAs bytes input
 reads-ended bytes input b is =
-    let r = script_after node_steps bytes in
+    let r = script_after node_courses bytes in
     let whole = whole_lines [] bytes in
     record {
-      read = ap (λ ls. reading_after node_steps unread ls) b.split ∙ (after-append node_steps unread whole b.more ∙ after-refused node_steps r b.more is);
-      told = ap (λ ls. told_after node_steps unread ls) b.split
-          ∙ (told-append node_steps unread whole b.more
-          ∙ (ap (λ lines. told_after node_steps unread whole ++ lines) (told_after-refused node_steps r b.more is) ∙ append-nil (told_after node_steps unread whole)));
+      read = ap (λ ls. reading_after node_courses unread ls) b.split ∙ (after-append node_courses unread whole b.more ∙ after-refused node_courses r b.more is);
+      told = ap (λ ls. told_after node_courses unread ls) b.split
+          ∙ (told-append node_courses unread whole b.more
+          ∙ (ap (λ lines. told_after node_courses unread whole ++ lines) (told_after-refused node_courses r b.more is) ∙ append-nil (told_after node_courses unread whole)));
     }
 
 -- nor what comes behind the bytes of a line that is too long
@@ -127,33 +127,33 @@ reads-long bytes input s long =
     let all = s.same ∙ on.2 in
     let closed = whole-feed [] bytes 10 refl in
     record {
-      read = ap (λ ls. reading_after node_steps unread ls) all
-          ∙ (long-read node_steps whole on.1 line (line ++ on.0) long (long-more line on.0 long) (long-front line on.0 long) ∙ ap (λ ls. reading_after node_steps unread ls) (sym closed));
-      told = ap (λ ls. told_after node_steps unread ls) all
-          ∙ (long-untold node_steps whole on.1 (line ++ on.0) (long-more line on.0 long)
-          ∙ (sym (long-untold node_steps whole [] line long) ∙ ap (λ ls. told_after node_steps unread ls) (sym closed)));
+      read = ap (λ ls. reading_after node_courses unread ls) all
+          ∙ (long-read node_courses whole on.1 line (line ++ on.0) long (long-more line on.0 long) (long-front line on.0 long) ∙ ap (λ ls. reading_after node_courses unread ls) (sym closed));
+      told = ap (λ ls. told_after node_courses unread ls) all
+          ∙ (long-untold node_courses whole on.1 (line ++ on.0) (long-more line on.0 long)
+          ∙ (sym (long-untold node_courses whole [] line long) ∙ ap (λ ls. told_after node_courses unread ls) (sym closed)));
     }
 
 -- so an input reads as far as the line that is refused
-reads-closed : (bytes closed input : List ℕ) → Starts bytes input → Closes bytes closed → is_some (script_after node_steps closed).refused ≡ true → ReadsAs closed input
+reads-closed : (bytes closed input : List ℕ) → Starts bytes input → Closes bytes closed → is_some (script_after node_courses closed).refused ≡ true → ReadsAs closed input
 reads-closed bytes closed input s (inl same) is =
-    subst (λ c. ReadsAs c input) (sym same) (reads-ended bytes input (begins bytes input s) (ap (λ c. is_some (script_after node_steps c).refused) (sym same) ∙ is))
+    subst (λ c. ReadsAs c input) (sym same) (reads-ended bytes input (begins bytes input s) (ap (λ c. is_some (script_after node_courses c).refused) (sym same) ∙ is))
 reads-closed bytes closed input s (inr long) is = subst (λ c. ReadsAs c input) (sym long.0) (reads-long bytes input s long.1)
 
 -- a run that a refused line has ended
 pub refused-ends : (left written now : Option (List ℕ)) (bytes input : List ℕ) (script : Reading) → Starts bytes input → IsLeft left input
-    → HasRefused core_steps bytes written now script → Ends left written now (end_of script)
+    → HasRefused core_courses bytes written now script → Ends left written now (end_of script)
 refused-ends left written now bytes input script s is_left refused =
-    let r : Reading = script_after node_steps refused.closed in
+    let r : Reading = script_after node_courses refused.closed in
     let whole : List (List ℕ) = whole_lines [] refused.closed in
     let why : script.refused ≡ r.refused = refused.refused ∙ core-refused whole in
     let is : is_some r.refused ≡ true = sym (ap (λ x. is_some x) why) ∙ refused.is in
     let reads : ReadsAs refused.closed input = reads-closed bytes refused.closed input s refused.closes is in
-    let last : last_told (script_read node_steps input) (script_read node_steps input).refused ≡ [] =
-    last-refused (script_read node_steps input) (script_read node_steps input).refused (ap (λ (q : Reading). is_some q.refused) reads.read ∙ is) in
-    let text : text_of (transcript node_steps input) ≡ text_after node_steps refused.closed =
-    ap (λ lines. text_of (told_after node_steps unread (script_lines input) ++ lines)) last
-    ∙ (ap text_of (append-nil (told_after node_steps unread (script_lines input))) ∙ ap text_of reads.told) in
+    let last : last_told (script_read node_courses input) (script_read node_courses input).refused ≡ [] =
+    last-refused (script_read node_courses input) (script_read node_courses input).refused (ap (λ (q : Reading). is_some q.refused) reads.read ∙ is) in
+    let text : text_of (transcript node_courses input) ≡ text_after node_courses refused.closed =
+    ap (λ lines. text_of (told_after node_courses unread (script_lines input) ++ lines)) last
+    ∙ (ap text_of (append-nil (told_after node_courses unread (script_lines input))) ∙ ap text_of reads.told) in
     record {
       input = input;
       is_left = is_left;
@@ -210,7 +210,7 @@ within-starts left left' bytes piece P consumed w =
     )
 
 pub halted-end : (left left' written now : Option (List ℕ)) (wants wants' : ℕ) (bytes piece : List ℕ) (script : Reading) (halt : Halt)
-    → Consumes left left' (bytes ++ piece) → (halt ≡ halts.SinkMemory → Rose wants wants') → Halted core_steps bytes piece written now script halt
+    → Consumes left left' (bytes ++ piece) → (halt ≡ halts.SinkMemory → Rose wants wants') → Halted core_courses bytes piece written now script halt
     → RunEnd left left' written now wants wants' (halt_end script halt)
 halted-end left left' written now wants wants' bytes piece script halts.Refused consumed rose w =
     let i = within-starts left left' bytes piece _ consumed w in
@@ -224,7 +224,7 @@ halted-end left left' written now wants wants' bytes piece script halts.NoMemory
 
 -- a read that failed
 pub read-failed : (left now_left left' written now : Option (List ℕ)) (bytes line : List ℕ) (script : Reading) → Keeps now_left left'
-    → GoesOn core_steps bytes left now_left written now line script → WroteAllRead left left' written now
+    → GoesOn core_courses bytes left now_left written now line script → WroteAllRead left left' written now
 read-failed left now_left left' written now bytes line script keeps g =
     record {
       read = bytes;
@@ -236,7 +236,7 @@ read-failed left now_left left' written now bytes line script keeps g =
 
 -- a read that wanted memory
 pub read-unread : (left left' written now : Option (List ℕ)) (bytes line : List ℕ) (script : Reading)
-    → GoesOn core_steps bytes left left' written now line script → WroteLines left written now
+    → GoesOn core_courses bytes left left' written now line script → WroteLines left written now
 read-unread left left' written now bytes line script g =
     let some = input_of left left' bytes g.consumed in
     let front = lines-front bytes some.0 in

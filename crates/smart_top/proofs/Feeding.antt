@@ -5,7 +5,7 @@ use Rattle.std.specs.Io.KnownBytes.{Appends, Keeps}
 use Rattle.world_rules.specs.Texts.{text_of}
 use Rattle.smart_top.specs.declared.reader.Halt.{Halt}
 use Rattle.smart_top.specs.declared.reader.Halt.TheVariants as halts
-use Rattle.smart_top.specs.Apps.{Steps}
+use Rattle.smart_top.specs.Apps.{Courses}
 use Rattle.smart_top.specs.Readings.{Reading, unread, whole_lines, rest_of, line_taken, line_told, reading_after, told_after}
 use Rattle.smart_top.specs.Feeds.{text_after, script_after, HasTaken, HasRefused, HasBroken, HasTold, Within, Halted}
 use Rattle.smart_top.proofs.LongLines.{IsLong, long-told, long-refused}
@@ -26,56 +26,56 @@ appends-nothing (Some a) = sym (append-nil a)
 
 -- a line that ends
 
-pub script-feed : (steps : Steps) (bytes : List ℕ) → script_after steps (bytes ++ 10 ∷ []) ≡ line_taken steps (script_after steps bytes) (rest_of [] bytes)
-script-feed steps bytes =
-    ap (λ ls. reading_after steps unread ls) (whole-feed [] bytes 10 refl) ∙ after-append steps unread (whole_lines [] bytes) (rest_of [] bytes ∷ [])
+pub script-feed : (courses : Courses) (bytes : List ℕ) → script_after courses (bytes ++ 10 ∷ []) ≡ line_taken courses (script_after courses bytes) (rest_of [] bytes)
+script-feed courses bytes =
+    ap (λ ls. reading_after courses unread ls) (whole-feed [] bytes 10 refl) ∙ after-append courses unread (whole_lines [] bytes) (rest_of [] bytes ∷ [])
 
-pub text-feed : (steps : Steps) (bytes : List ℕ)
-    → text_after steps (bytes ++ 10 ∷ []) ≡ text_after steps bytes ++ text_of (line_told steps (script_after steps bytes) (rest_of [] bytes))
-text-feed steps bytes =
-    ap (λ ls. text_of (told_after steps unread ls)) (whole-feed [] bytes 10 refl)
-    ∙ (ap text_of (told-append steps unread (whole_lines [] bytes) (rest_of [] bytes ∷ []))
-    ∙ (text-append (told_after steps unread (whole_lines [] bytes)) _
-    ∙ ap (λ text. text_after steps bytes ++ text) (ap text_of (append-nil (line_told steps (script_after steps bytes) (rest_of [] bytes))))))
+pub text-feed : (courses : Courses) (bytes : List ℕ)
+    → text_after courses (bytes ++ 10 ∷ []) ≡ text_after courses bytes ++ text_of (line_told courses (script_after courses bytes) (rest_of [] bytes))
+text-feed courses bytes =
+    ap (λ ls. text_of (told_after courses unread ls)) (whole-feed [] bytes 10 refl)
+    ∙ (ap text_of (told-append courses unread (whole_lines [] bytes) (rest_of [] bytes ∷ []))
+    ∙ (text-append (told_after courses unread (whole_lines [] bytes)) _
+    ∙ ap (λ text. text_after courses bytes ++ text) (ap text_of (append-nil (line_told courses (script_after courses bytes) (rest_of [] bytes))))))
 
 -- what a line tells behind bytes that were taken
-told-line : (steps : Steps) (bytes line : List ℕ) (script : Reading) → line ≡ rest_of [] bytes → script ≡ script_after steps bytes
-    → text_after steps bytes ++ text_of (line_told steps script line) ≡ text_after steps (bytes ++ 10 ∷ [])
-told-line steps bytes line script line_is script_is =
-    ap (λ text. text_after steps bytes ++ text_of text)
-    (ap (λ (r : Reading). line_told steps r line) script_is ∙ ap (λ l. line_told steps (script_after steps bytes) l) line_is)
-    ∙ sym (text-feed steps bytes)
+told-line : (courses : Courses) (bytes line : List ℕ) (script : Reading) → line ≡ rest_of [] bytes → script ≡ script_after courses bytes
+    → text_after courses bytes ++ text_of (line_told courses script line) ≡ text_after courses (bytes ++ 10 ∷ [])
+told-line courses bytes line script line_is script_is =
+    ap (λ text. text_after courses bytes ++ text_of text)
+    (ap (λ (r : Reading). line_told courses r line) script_is ∙ ap (λ l. line_told courses (script_after courses bytes) l) line_is)
+    ∙ sym (text-feed courses bytes)
 
-taken-line : (steps : Steps) (bytes line : List ℕ) (script : Reading) → line ≡ rest_of [] bytes → script ≡ script_after steps bytes
-    → line_taken steps script line ≡ script_after steps (bytes ++ 10 ∷ [])
-taken-line steps bytes line script line_is script_is =
-    ap (λ (r : Reading). line_taken steps r line) script_is ∙ (ap (λ l. line_taken steps (script_after steps bytes) l) line_is ∙ sym (script-feed steps bytes))
+taken-line : (courses : Courses) (bytes line : List ℕ) (script : Reading) → line ≡ rest_of [] bytes → script ≡ script_after courses bytes
+    → line_taken courses script line ≡ script_after courses (bytes ++ 10 ∷ [])
+taken-line courses bytes line script line_is script_is =
+    ap (λ (r : Reading). line_taken courses r line) script_is ∙ (ap (λ l. line_taken courses (script_after courses bytes) l) line_is ∙ sym (script-feed courses bytes))
 
 -- a line that was played and told
-pub line-played : (steps : Steps) (bytes : List ℕ) (written now now' : Option (List ℕ)) (line line' : List ℕ) (script script' : Reading)
-    → HasTaken steps bytes written now line script → script' ≡ line_taken steps script line → script'.refused ≡ None → line' ≡ [] → Appends now now' (text_of (line_told steps script line))
-    → HasTaken steps (bytes ++ 10 ∷ []) written now' line' script'
-line-played steps bytes written now now' line line' script script' taken is going ended told =
-    let count : script'.count ≡ (line_taken steps script line).count = ap (λ (r : Reading). r.count) is in
-    let counts = taken-counts steps script line (ap (λ (r : Reading). r.refused) (sym is) ∙ going) in
+pub line-played : (courses : Courses) (bytes : List ℕ) (written now now' : Option (List ℕ)) (line line' : List ℕ) (script script' : Reading)
+    → HasTaken courses bytes written now line script → script' ≡ line_taken courses script line → script'.refused ≡ None → line' ≡ [] → Appends now now' (text_of (line_told courses script line))
+    → HasTaken courses (bytes ++ 10 ∷ []) written now' line' script'
+line-played courses bytes written now now' line line' script script' taken is going ended told =
+    let count : script'.count ≡ (line_taken courses script line).count = ap (λ (r : Reading). r.count) is in
+    let counts = taken-counts courses script line (ap (λ (r : Reading). r.refused) (sym is) ∙ going) in
     record {
       line_is = ended ∙ sym (rest-feed [] bytes 10 refl);
-      script_is = is ∙ taken-line steps bytes line script taken.line_is taken.script_is;
+      script_is = is ∙ taken-line courses bytes line script taken.line_is taken.script_is;
       going = going;
-      text = subst (λ text. Appends written now' text) (told-line steps bytes line script taken.line_is taken.script_is)
-          (appends-then written now now' (text_after steps bytes) (text_of (line_told steps script line)) taken.text told);
+      text = subst (λ text. Appends written now' text) (told-line courses bytes line script taken.line_is taken.script_is)
+          (appends-then written now now' (text_after courses bytes) (text_of (line_told courses script line)) taken.text told);
       short = omega (arith, ap (λ l. length l) ended);
       within = omega (arith, counts.0, counts.1, count);
       few = omega (arith, counts.0, count, taken.few, taken.short, length-append bytes (10 ∷ []));
     }
 
 -- a line that was refused
-pub line-refused : (steps : Steps) (bytes : List ℕ) (written now now' : Option (List ℕ)) (line : List ℕ) (script script' : Reading)
-    → HasTaken steps bytes written now line script → script'.refused ≡ (line_taken steps script line).refused → script'.count ≡ (line_taken steps script line).count → is_some script'.refused ≡ true
-    → Appends now now' (text_of (line_told steps script line))
-    → Within bytes (10 ∷ []) (λ taken. HasRefused steps taken written now' script')
-line-refused steps bytes written now now' line script script' taken refused count is told =
-    let same = taken-line steps bytes line script taken.line_is taken.script_is in
+pub line-refused : (courses : Courses) (bytes : List ℕ) (written now now' : Option (List ℕ)) (line : List ℕ) (script script' : Reading)
+    → HasTaken courses bytes written now line script → script'.refused ≡ (line_taken courses script line).refused → script'.count ≡ (line_taken courses script line).count → is_some script'.refused ≡ true
+    → Appends now now' (text_of (line_told courses script line))
+    → Within bytes (10 ∷ []) (λ taken. HasRefused courses taken written now' script')
+line-refused courses bytes written now now' line script script' taken refused count is told =
+    let same = taken-line courses bytes line script taken.line_is taken.script_is in
     record {
       front = 10 ∷ [];
       rest = [];
@@ -86,18 +86,18 @@ line-refused steps bytes written now now' line script script' taken refused coun
         refused = refused ∙ ap (λ (r : Reading). r.refused) same;
         count = count ∙ ap (λ (r : Reading). r.count) same;
         is = is;
-        text = subst (λ text. Appends written now' text) (told-line steps bytes line script taken.line_is taken.script_is)
-            (appends-then written now now' (text_after steps bytes) (text_of (line_told steps script line)) taken.text told);
+        text = subst (λ text. Appends written now' text) (told-line courses bytes line script taken.line_is taken.script_is)
+            (appends-then written now now' (text_after courses bytes) (text_of (line_told courses script line)) taken.text told);
       };
     }
 
 -- a line of which only a front was written
-pub line-broken : (steps : Steps) (bytes : List ℕ) (written now now' : Option (List ℕ)) (line : List ℕ) (script : Reading) (count : ℕ)
-    → HasTaken steps bytes written now line script → Appends now now' (take count (text_of (line_told steps script line)))
-    → Within bytes (10 ∷ []) (λ taken. HasBroken steps taken written now')
-line-broken steps bytes written now now' line script count taken told =
-    let more = front_behind (text_after steps bytes) (text_of (line_told steps script line)) [] count in
-    let whole = ap (λ text. text_after steps bytes ++ text) (append-nil (text_of (line_told steps script line))) ∙ told-line steps bytes line script taken.line_is taken.script_is in
+pub line-broken : (courses : Courses) (bytes : List ℕ) (written now now' : Option (List ℕ)) (line : List ℕ) (script : Reading) (count : ℕ)
+    → HasTaken courses bytes written now line script → Appends now now' (take count (text_of (line_told courses script line)))
+    → Within bytes (10 ∷ []) (λ taken. HasBroken courses taken written now')
+line-broken courses bytes written now now' line script count taken told =
+    let more = front_behind (text_after courses bytes) (text_of (line_told courses script line)) [] count in
+    let whole = ap (λ text. text_after courses bytes ++ text) (append-nil (text_of (line_told courses script line))) ∙ told-line courses bytes line script taken.line_is taken.script_is in
     record {
       front = 10 ∷ [];
       rest = [];
@@ -105,29 +105,29 @@ line-broken steps bytes written now now' line script count taken told =
       holds = record {
         count = more.0;
         text = subst (λ text. Appends written now' text) (sym more.1 ∙ ap (λ text. take more.0 text) whole)
-            (appends-then written now now' (text_after steps bytes) (take count (text_of (line_told steps script line))) taken.text told);
+            (appends-then written now now' (text_after courses bytes) (take count (text_of (line_told courses script line))) taken.text told);
       };
     }
 
 -- nothing of a line was written
-pub line-unwritten : (steps : Steps) (bytes piece : List ℕ) (written now now' : Option (List ℕ)) (line : List ℕ) (script : Reading)
-    → HasTaken steps bytes written now line script → now' ≡ now → Within bytes piece (λ taken. HasTold steps taken written now')
-line-unwritten steps bytes piece written now now' line script taken same =
+pub line-unwritten : (courses : Courses) (bytes piece : List ℕ) (written now now' : Option (List ℕ)) (line : List ℕ) (script : Reading)
+    → HasTaken courses bytes written now line script → now' ≡ now → Within bytes piece (λ taken. HasTold courses taken written now')
+line-unwritten courses bytes piece written now now' line script taken same =
     record {
       front = [];
       rest = piece;
       split = refl;
-      holds = record { text = subst (λ text. Appends written now' text) (ap (λ b. text_after steps b) (sym (append-nil bytes))) (subst (λ w. Appends written w (text_after steps bytes)) (sym same) taken.text) };
+      holds = record { text = subst (λ text. Appends written now' text) (ap (λ b. text_after courses b) (sym (append-nil bytes))) (subst (λ w. Appends written w (text_after courses bytes)) (sym same) taken.text) };
     }
 
 -- a line that was not written whole
-pub line-halted : (steps : Steps) (bytes : List ℕ) (written now now' : Option (List ℕ)) (line : List ℕ) (script script' : Reading) (halt : Halt)
-    → HasTaken steps bytes written now line script → (halt ≡ halts.Refused → ⊥) → (halt ≡ halts.NoMemory → now' ≡ now) → (count : ℕ) × Appends now now' (take count (text_of (line_told steps script line)))
-    → Halted steps bytes (10 ∷ []) written now' script' halt
-line-halted steps bytes written now now' line script script' halts.Refused taken never same told = absurd (never refl)
-line-halted steps bytes written now now' line script script' halts.WriteFault taken never same told = line-broken steps bytes written now now' line script told.0 taken told.1
-line-halted steps bytes written now now' line script script' halts.SinkMemory taken never same told = line-broken steps bytes written now now' line script told.0 taken told.1
-line-halted steps bytes written now now' line script script' halts.NoMemory taken never same told = line-unwritten steps bytes (10 ∷ []) written now now' line script taken (same refl)
+pub line-halted : (courses : Courses) (bytes : List ℕ) (written now now' : Option (List ℕ)) (line : List ℕ) (script script' : Reading) (halt : Halt)
+    → HasTaken courses bytes written now line script → (halt ≡ halts.Refused → ⊥) → (halt ≡ halts.NoMemory → now' ≡ now) → (count : ℕ) × Appends now now' (take count (text_of (line_told courses script line)))
+    → Halted courses bytes (10 ∷ []) written now' script' halt
+line-halted courses bytes written now now' line script script' halts.Refused taken never same told = absurd (never refl)
+line-halted courses bytes written now now' line script script' halts.WriteFault taken never same told = line-broken courses bytes written now now' line script told.0 taken told.1
+line-halted courses bytes written now now' line script script' halts.SinkMemory taken never same told = line-broken courses bytes written now now' line script told.0 taken told.1
+line-halted courses bytes written now now' line script script' halts.NoMemory taken never same told = line-unwritten courses bytes (10 ∷ []) written now now' line script taken (same refl)
 
 pub none_is : {A : Type 0} (x : Option A) → is_some x ≡ false → x ≡ None
 none_is None is = refl
@@ -138,40 +138,40 @@ none_is (Some x) is = absurd (cc)
 byte-line : (bytes line line' : List ℕ) (b : ℕ) → (b == 10) ≡ false → line' ≡ line ++ b ∷ [] → line ≡ rest_of [] bytes → line' ≡ rest_of [] (bytes ++ b ∷ [])
 byte-line bytes line line' b other more is = more ∙ (ap (λ l. l ++ b ∷ []) is ∙ sym (rest-more [] bytes b other))
 
-byte-script : (steps : Steps) (bytes : List ℕ) (b : ℕ) → (b == 10) ≡ false → script_after steps bytes ≡ script_after steps (bytes ++ b ∷ [])
-byte-script steps bytes b other = ap (λ ls. reading_after steps unread ls) (sym (whole-more [] bytes b other))
+byte-script : (courses : Courses) (bytes : List ℕ) (b : ℕ) → (b == 10) ≡ false → script_after courses bytes ≡ script_after courses (bytes ++ b ∷ [])
+byte-script courses bytes b other = ap (λ ls. reading_after courses unread ls) (sym (whole-more [] bytes b other))
 
-byte-text : (steps : Steps) (bytes : List ℕ) (b : ℕ) → (b == 10) ≡ false → text_after steps bytes ≡ text_after steps (bytes ++ b ∷ [])
-byte-text steps bytes b other = ap (λ ls. text_of (told_after steps unread ls)) (sym (whole-more [] bytes b other))
+byte-text : (courses : Courses) (bytes : List ℕ) (b : ℕ) → (b == 10) ≡ false → text_after courses bytes ≡ text_after courses (bytes ++ b ∷ [])
+byte-text courses bytes b other = ap (λ ls. text_of (told_after courses unread ls)) (sym (whole-more [] bytes b other))
 
-pub byte-taken : (steps : Steps) (bytes : List ℕ) (written now : Option (List ℕ)) (line line' : List ℕ) (script : Reading) (b : ℕ)
-    → (b == 10) ≡ false → line' ≡ line ++ b ∷ [] → length line' ≤ 65536 → HasTaken steps bytes written now line script → HasTaken steps (bytes ++ b ∷ []) written now line' script
-byte-taken steps bytes written now line line' script b other more short taken =
+pub byte-taken : (courses : Courses) (bytes : List ℕ) (written now : Option (List ℕ)) (line line' : List ℕ) (script : Reading) (b : ℕ)
+    → (b == 10) ≡ false → line' ≡ line ++ b ∷ [] → length line' ≤ 65536 → HasTaken courses bytes written now line script → HasTaken courses (bytes ++ b ∷ []) written now line' script
+byte-taken courses bytes written now line line' script b other more short taken =
     record {
       line_is = byte-line bytes line line' b other more taken.line_is;
-      script_is = taken.script_is ∙ byte-script steps bytes b other;
+      script_is = taken.script_is ∙ byte-script courses bytes b other;
       going = taken.going;
-      text = subst (λ text. Appends written now text) (byte-text steps bytes b other) taken.text;
+      text = subst (λ text. Appends written now text) (byte-text courses bytes b other) taken.text;
       short = short;
       within = taken.within;
       few = omega (arith, taken.few, length-append bytes (b ∷ []), ap (λ l. length l) more, length-append line (b ∷ []));
     }
 
 -- a byte that makes a line too long, which was refused then
-pub byte-refused : (steps : Steps) (bytes : List ℕ) (written now : Option (List ℕ)) (line line' : List ℕ) (script script' : Reading) (b : ℕ)
-    → (b == 10) ≡ false → line' ≡ line ++ b ∷ [] → IsLong line' → HasTaken steps bytes written now line script
-    → script'.refused ≡ (line_taken steps script line').refused → script'.count ≡ (line_taken steps script line').count
-    → Within bytes (b ∷ []) (λ taken. HasRefused steps taken written now script')
-byte-refused steps bytes written now line line' script script' b other more long taken refused count =
+pub byte-refused : (courses : Courses) (bytes : List ℕ) (written now : Option (List ℕ)) (line line' : List ℕ) (script script' : Reading) (b : ℕ)
+    → (b == 10) ≡ false → line' ≡ line ++ b ∷ [] → IsLong line' → HasTaken courses bytes written now line script
+    → script'.refused ≡ (line_taken courses script line').refused → script'.count ≡ (line_taken courses script line').count
+    → Within bytes (b ∷ []) (λ taken. HasRefused courses taken written now script')
+byte-refused courses bytes written now line line' script script' b other more long taken refused count =
     let begun : List ℕ = bytes ++ b ∷ [] in
     let closed : List ℕ = begun ++ 10 ∷ [] in
     let line_is : line' ≡ rest_of [] begun = byte-line bytes line line' b other more taken.line_is in
-    let script_is : script ≡ script_after steps begun = taken.script_is ∙ byte-script steps bytes b other in
-    let same : line_taken steps script line' ≡ script_after steps closed = taken-line steps begun line' script line_is script_is in
-    let told : text_after steps bytes ≡ text_after steps closed =
-    byte-text steps bytes b other
-    ∙ (sym (append-nil (text_after steps begun))
-    ∙ (ap (λ lines. text_after steps begun ++ text_of lines) (sym (long-told steps script line' long)) ∙ told-line steps begun line' script line_is script_is)) in
+    let script_is : script ≡ script_after courses begun = taken.script_is ∙ byte-script courses bytes b other in
+    let same : line_taken courses script line' ≡ script_after courses closed = taken-line courses begun line' script line_is script_is in
+    let told : text_after courses bytes ≡ text_after courses closed =
+    byte-text courses bytes b other
+    ∙ (sym (append-nil (text_after courses begun))
+    ∙ (ap (λ lines. text_after courses begun ++ text_of lines) (sym (long-told courses script line' long)) ∙ told-line courses begun line' script line_is script_is)) in
     record {
       front = b ∷ [];
       rest = [];
@@ -181,7 +181,7 @@ byte-refused steps bytes written now line line' script script' b other more long
         closes = inr (refl, subst (λ l. IsLong l) line_is long);
         refused = refused ∙ ap (λ (r : Reading). r.refused) same;
         count = count ∙ ap (λ (r : Reading). r.count) same;
-        is = ap (λ x. is_some x) refused ∙ long-refused steps script line' long;
+        is = ap (λ x. is_some x) refused ∙ long-refused courses script line' long;
         text = subst (λ text. Appends written now text) told taken.text;
       };
     }
@@ -197,12 +197,12 @@ within-later bytes front piece rest whole P split w =
     }
 
 -- what stopped a piece behind a front of a longer piece stopped that
-pub halted-later : (steps : Steps) (bytes front piece rest whole : List ℕ) (written now : Option (List ℕ)) (script : Reading) (halt : Halt)
-    → whole ≡ front ++ (piece ++ rest) → Halted steps (bytes ++ front) piece written now script halt → Halted steps bytes whole written now script halt
-halted-later steps bytes front piece rest whole written now script halts.Refused split w = within-later bytes front piece rest whole _ split w
-halted-later steps bytes front piece rest whole written now script halts.WriteFault split w = within-later bytes front piece rest whole _ split w
-halted-later steps bytes front piece rest whole written now script halts.SinkMemory split w = within-later bytes front piece rest whole _ split w
-halted-later steps bytes front piece rest whole written now script halts.NoMemory split w = within-later bytes front piece rest whole _ split w
+pub halted-later : (courses : Courses) (bytes front piece rest whole : List ℕ) (written now : Option (List ℕ)) (script : Reading) (halt : Halt)
+    → whole ≡ front ++ (piece ++ rest) → Halted courses (bytes ++ front) piece written now script halt → Halted courses bytes whole written now script halt
+halted-later courses bytes front piece rest whole written now script halts.Refused split w = within-later bytes front piece rest whole _ split w
+halted-later courses bytes front piece rest whole written now script halts.WriteFault split w = within-later bytes front piece rest whole _ split w
+halted-later courses bytes front piece rest whole written now script halts.SinkMemory split w = within-later bytes front piece rest whole _ split w
+halted-later courses bytes front piece rest whole written now script halts.NoMemory split w = within-later bytes front piece rest whole _ split w
 
 -- a list by one of its values
 pub piece-split : (xs : List ℕ) (i d : ℕ) → i < length xs → xs ≡ take i xs ++ ((get_or xs i d ∷ []) ++ drop (suc i) xs)

@@ -9,7 +9,7 @@ use Rattle.world_rules.specs.declared.line.Kind.{Kind}
 use Rattle.world_rules.specs.declared.line.Kind.TheVariants as kinds
 use Rattle.world_laws.proofs.Lists.{either, either_by}
 use Rattle.smart_top.specs.declared.status.Refusal.TheVariants as refusals
-use Rattle.smart_top.specs.Apps.{Steps}
+use Rattle.smart_top.specs.Apps.{Courses}
 use Rattle.smart_top.specs.declared.app.AppPlay.{AppPlay}
 use Rattle.smart_top.specs.Readings.{Reading, unread, refusing, whole_lines, rest_of, last_line, script_lines, line_done, told_done, taken_at, told_at, is_full, line_taken, line_told, reading_after, told_after}
 use Rattle.smart_top.proofs.ReadingLaws.{chosen_true, after-append, told-append, after-refused, told_after-refused, whole-append, rest-append}
@@ -37,31 +37,31 @@ unfolding line_of
 no-meaning l long = by_kind (λ kind. Err kind) (not (is_printed l)) (not (is_short l)) _ (not-short l long)
 
 -- it is refused where it stands
-refused-at : (steps : Steps) (r : Reading) (l : List ℕ) (play : Option AppPlay) → IsLong l
-    → taken_at steps r l play ≡ refusing r (refusals.Script (long_kind l))
-refused-at steps r l None long = by_kind (λ kind. refusing r (refusals.Script kind)) (not (is_printed l)) (not (is_short l)) _ (not-short l long)
-refused-at steps r l (Some p) long = ap (λ line. line_done steps r p line) (no-meaning l long)
+refused-at : (courses : Courses) (r : Reading) (l : List ℕ) (play : Option AppPlay) → IsLong l
+    → taken_at courses r l play ≡ refusing r (refusals.Script (long_kind l))
+refused-at courses r l None long = by_kind (λ kind. refusing r (refusals.Script kind)) (not (is_printed l)) (not (is_short l)) _ (not-short l long)
+refused-at courses r l (Some p) long = ap (λ line. line_done courses r p line) (no-meaning l long)
 
 -- there it tells nothing
-untold-at : (steps : Steps) (r : Reading) (l : List ℕ) (play : Option AppPlay) → IsLong l → told_at steps r l play ≡ []
-untold-at steps r l None long = either (λ told. told ≡ []) (not (is_printed l)) _ _ refl (chosen_true (not (is_short l)) _ _ (not-short l long))
-untold-at steps r l (Some p) long = ap (λ line. told_done steps p line) (no-meaning l long)
+untold-at : (courses : Courses) (r : Reading) (l : List ℕ) (play : Option AppPlay) → IsLong l → told_at courses r l play ≡ []
+untold-at courses r l None long = either (λ told. told ≡ []) (not (is_printed l)) _ _ refl (chosen_true (not (is_short l)) _ _ (not-short l long))
+untold-at courses r l (Some p) long = ap (λ line. told_done courses p line) (no-meaning l long)
 
 -- a script behind it
-pub long-taken : (steps : Steps) (r : Reading) (l : List ℕ) → IsLong l
-    → line_taken steps r l ≡ (if is_some r.refused then r else if is_full r then refusing r refusals.Limit else refusing r (refusals.Script (long_kind l)))
+pub long-taken : (courses : Courses) (r : Reading) (l : List ℕ) → IsLong l
+    → line_taken courses r l ≡ (if is_some r.refused then r else if is_full r then refusing r refusals.Limit else refusing r (refusals.Script (long_kind l)))
 unfolding line_taken
-long-taken steps r l long = ap (λ q. cond (is_some r.refused) r (cond (is_full r) (refusing r refusals.Limit) q)) (refused-at steps r l r.play long)
+long-taken courses r l long = ap (λ q. cond (is_some r.refused) r (cond (is_full r) (refusing r refusals.Limit) q)) (refused-at courses r l r.play long)
 
 -- it tells nothing
-pub long-told : (steps : Steps) (r : Reading) (l : List ℕ) → IsLong l → line_told steps r l ≡ []
+pub long-told : (courses : Courses) (r : Reading) (l : List ℕ) → IsLong l → line_told courses r l ≡ []
 unfolding line_told
-long-told steps r l long = either (λ told. told ≡ []) (is_some r.refused) _ _ refl (either (λ told. told ≡ []) (is_full r) _ _ refl (untold-at steps r l r.play long))
+long-told courses r l long = either (λ told. told ≡ []) (is_some r.refused) _ _ refl (either (λ told. told ≡ []) (is_full r) _ _ refl (untold-at courses r l r.play long))
 
 -- it is refused
-pub long-refused : (steps : Steps) (r : Reading) (l : List ℕ) → IsLong l → is_some (line_taken steps r l).refused ≡ true
-long-refused steps r l long =
-    subst (λ (q : Reading). is_some q.refused ≡ true) (sym (long-taken steps r l long))
+pub long-refused : (courses : Courses) (r : Reading) (l : List ℕ) → IsLong l → is_some (line_taken courses r l).refused ≡ true
+long-refused courses r l long =
+    subst (λ (q : Reading). is_some q.refused ≡ true) (sym (long-taken courses r l long))
     (either_by (λ (q : Reading). is_some q.refused ≡ true) (is_some r.refused) _ _ (λ is. is)
     (λ going. either (λ (q : Reading). is_some q.refused ≡ true) (is_full r) _ _ refl refl))
 
@@ -70,30 +70,30 @@ kind-alike : (k l : List ℕ) → take 65537 k ≡ take 65537 l → long_kind k 
 kind-alike k l same = ap (λ xs. cond (not (list_all (λ b. nat_le 32 b && nat_le b 126) xs)) kinds.Byte kinds.Long) same
 
 -- all such lines that begin alike leave a script alike
-pub long-alike : (steps : Steps) (r : Reading) (k l : List ℕ) → IsLong k → IsLong l → take 65537 k ≡ take 65537 l
-    → line_taken steps r k ≡ line_taken steps r l
-long-alike steps r k l long_k long_l same =
-    long-taken steps r k long_k
-    ∙ (ap (λ kind. cond (is_some r.refused) r (cond (is_full r) (refusing r refusals.Limit) (refusing r (refusals.Script kind)))) (kind-alike k l same) ∙ sym (long-taken steps r l long_l))
+pub long-alike : (courses : Courses) (r : Reading) (k l : List ℕ) → IsLong k → IsLong l → take 65537 k ≡ take 65537 l
+    → line_taken courses r k ≡ line_taken courses r l
+long-alike courses r k l long_k long_l same =
+    long-taken courses r k long_k
+    ∙ (ap (λ kind. cond (is_some r.refused) r (cond (is_full r) (refusing r refusals.Limit) (refusing r (refusals.Script kind)))) (kind-alike k l same) ∙ sym (long-taken courses r l long_l))
 
 -- lines whose last one is too long read as those with another such line in its place that begins alike, and more behind it
-pub long-read : (steps : Steps) (ls more : List (List ℕ)) (k l : List ℕ) → IsLong k → IsLong l → take 65537 l ≡ take 65537 k
-    → reading_after steps unread (ls ++ l ∷ more) ≡ reading_after steps unread (ls ++ k ∷ [])
-long-read steps ls more k l long_k long_l same =
-    let r = reading_after steps unread ls in
-    after-append steps unread ls (l ∷ more)
-    ∙ (after-refused steps (line_taken steps r l) more (long-refused steps r l long_l)
-    ∙ (long-alike steps r l k long_l long_k same ∙ sym (after-append steps unread ls (k ∷ []))))
+pub long-read : (courses : Courses) (ls more : List (List ℕ)) (k l : List ℕ) → IsLong k → IsLong l → take 65537 l ≡ take 65537 k
+    → reading_after courses unread (ls ++ l ∷ more) ≡ reading_after courses unread (ls ++ k ∷ [])
+long-read courses ls more k l long_k long_l same =
+    let r = reading_after courses unread ls in
+    after-append courses unread ls (l ∷ more)
+    ∙ (after-refused courses (line_taken courses r l) more (long-refused courses r l long_l)
+    ∙ (long-alike courses r l k long_l long_k same ∙ sym (after-append courses unread ls (k ∷ []))))
 
 -- of such lines nothing is told
-pub long-untold : (steps : Steps) (ls more : List (List ℕ)) (l : List ℕ) → IsLong l
-    → told_after steps unread (ls ++ l ∷ more) ≡ told_after steps unread ls
-long-untold steps ls more l long =
-    let r = reading_after steps unread ls in
-    told-append steps unread ls (l ∷ more)
-    ∙ (ap (λ told. told_after steps unread ls ++ told)
-    (ap (λ told. told ++ told_after steps (line_taken steps r l) more) (long-told steps r l long) ∙ told_after-refused steps (line_taken steps r l) more (long-refused steps r l long))
-    ∙ append-nil (told_after steps unread ls))
+pub long-untold : (courses : Courses) (ls more : List (List ℕ)) (l : List ℕ) → IsLong l
+    → told_after courses unread (ls ++ l ∷ more) ≡ told_after courses unread ls
+long-untold courses ls more l long =
+    let r = reading_after courses unread ls in
+    told-append courses unread ls (l ∷ more)
+    ∙ (ap (λ told. told_after courses unread ls ++ told)
+    (ap (λ told. told ++ told_after courses (line_taken courses r l) more) (long-told courses r l long) ∙ told_after-refused courses (line_taken courses r l) more (long-refused courses r l long))
+    ∙ append-nil (told_after courses unread ls))
 
 -- the lines that a line which has begun goes on to, by whether the next byte ends it
 lines_step : (t : Bool) (line : List ℕ) (b : ℕ) (ys : List ℕ) (a c : List (List ℕ)) (e : List ℕ) → ((x : List ℕ) × (more : List (List ℕ)) × (c ++ last_line e ≡ ((line ++ b ∷ []) ++ x) ∷ more))

@@ -9,7 +9,7 @@ use Rattle.world_rules.specs.declared.line.Line.{Line}
 use Rattle.world_rules.specs.declared.line.OutLine.{OutLine}
 use Rattle.world_rules.specs.declared.line.Kind.{Kind}
 use Rattle.world_laws.proofs.Lists.{either, either_by}
-use Rattle.smart_top.specs.Apps.{Steps, app_after, app_answer}
+use Rattle.smart_top.specs.Apps.{Courses, app_after, app_answer}
 use Rattle.smart_top.specs.Readings.{Reading, group_taken, app_taken, header_taken, played_to, line_done, taken_at, is_full, line_taken}
 use Rattle.smart_top.specs.declared.app.AppPlay.{AppPlay}
 use Rattle.smart_top.specs.declared.status.Refusal.{Refusal}
@@ -39,27 +39,27 @@ played-counts r p (Ok told) = λ none. refl
 played-counts r p (Err why) = λ none. absurd (cc)
 
 -- a line behind the header
-done-counts : (steps : Steps) (r : Reading) (p : AppPlay) (read : Result Line Kind) → Counts r (line_done steps r p read)
-done-counts steps r p (Err kind) = λ none. absurd (cc)
-done-counts steps r p (Ok line) = played-counts r (app_after steps p line) (app_answer steps p line)
+done-counts : (courses : Courses) (r : Reading) (p : AppPlay) (read : Result Line Kind) → Counts r (line_done courses r p read)
+done-counts courses r p (Err kind) = λ none. absurd (cc)
+done-counts courses r p (Ok line) = played-counts r (app_after courses p line) (app_answer courses p line)
 
 -- a line by where the script stands
-at-counts : (steps : Steps) (r : Reading) (l : List ℕ) (play : Option AppPlay) → Counts r (taken_at steps r l play)
-at-counts steps r l None =
+at-counts : (courses : Courses) (r : Reading) (l : List ℕ) (play : Option AppPlay) → Counts r (taken_at courses r l play)
+at-counts courses r l None =
     either (Counts r) (not (is_printed l)) _ _ (λ none. absurd (cc))
     (either (Counts r) (not (is_short l)) _ _ (λ none. absurd (cc)) (either (Counts r) (is_nothing l) _ _ (λ none. refl) (header-counts r l r.group)))
-at-counts steps r l (Some p) = done-counts steps r p (line_of l)
+at-counts courses r l (Some p) = done-counts courses r p (line_of l)
 
 -- a script has counted one more line than another, which was not full, unless it refuses one
 abbrev CountsOne : Reading → Reading → Type 0
 CountsOne r q = q.refused ≡ None → (q.count ≡ r.count + 1) × (r.count < 2 ^ 20)
 
 -- one more line
-pub taken-counts : (steps : Steps) (r : Reading) (l : List ℕ) → CountsOne r (line_taken steps r l)
+pub taken-counts : (courses : Courses) (r : Reading) (l : List ℕ) → CountsOne r (line_taken courses r l)
 unfolding line_taken
-taken-counts steps r l =
+taken-counts courses r l =
     either_by (CountsOne r) (is_some r.refused) _ _ (λ is none. absurd (no (sym is ∙ ap (λ x. is_some x) none)))
-    (λ going. either_by (CountsOne r) (is_full r) _ _ (λ full none. absurd (cc)) (λ room none. (at-counts steps r l r.play none, leb-false (2 ^ 20) r.count room)))
+    (λ going. either_by (CountsOne r) (is_full r) _ _ (λ full none. absurd (cc)) (λ room none. (at-counts courses r l r.play none, leb-false (2 ^ 20) r.count room)))
   where
     no : true ≡ false → ⊥
     no same = absurd (cc)

@@ -5,7 +5,7 @@ use Rattle.std.proofs.lemmas.List.{append_assoc}
 use Rattle.std.proofs.lemmas.Grind.{flat_map-append}
 use Rattle.world_rules.specs.Texts.{line_text, text_of}
 use Rattle.world_rules.specs.declared.line.OutLine.{OutLine}
-use Rattle.smart_top.specs.Apps.{Steps}
+use Rattle.smart_top.specs.Apps.{Courses}
 use Rattle.smart_top.specs.Readings.{Reading, whole_lines, rest_of, last_line, script_lines, line_taken, line_told, reading_after, told_after}
 
 -- the branch that is taken
@@ -19,42 +19,42 @@ chosen_false true x y is = absurd (cc)
 chosen_false false x y is = refl
 
 -- more lines are read behind the first ones
-pub after-append : (steps : Steps) (r : Reading) (xs ys : List (List ℕ))
-    → reading_after steps r (xs ++ ys) ≡ reading_after steps (reading_after steps r xs) ys
-after-append steps r [] ys = refl
-after-append steps r (l ∷ xs) ys = after-append steps (line_taken steps r l) xs ys
+pub after-append : (courses : Courses) (r : Reading) (xs ys : List (List ℕ))
+    → reading_after courses r (xs ++ ys) ≡ reading_after courses (reading_after courses r xs) ys
+after-append courses r [] ys = refl
+after-append courses r (l ∷ xs) ys = after-append courses (line_taken courses r l) xs ys
 
 -- what more lines tell comes behind what the first ones tell
-pub told-append : (steps : Steps) (r : Reading) (xs ys : List (List ℕ))
-    → told_after steps r (xs ++ ys) ≡ told_after steps r xs ++ told_after steps (reading_after steps r xs) ys
-told-append steps r [] ys = refl
-told-append steps r (l ∷ xs) ys =
-    ap (λ more. line_told steps r l ++ more) (told-append steps (line_taken steps r l) xs ys)
-    ∙ sym (append_assoc (line_told steps r l) (told_after steps (line_taken steps r l) xs) (told_after steps (reading_after steps (line_taken steps r l) xs) ys))
+pub told-append : (courses : Courses) (r : Reading) (xs ys : List (List ℕ))
+    → told_after courses r (xs ++ ys) ≡ told_after courses r xs ++ told_after courses (reading_after courses r xs) ys
+told-append courses r [] ys = refl
+told-append courses r (l ∷ xs) ys =
+    ap (λ more. line_told courses r l ++ more) (told-append courses (line_taken courses r l) xs ys)
+    ∙ sym (append_assoc (line_told courses r l) (told_after courses (line_taken courses r l) xs) (told_after courses (reading_after courses (line_taken courses r l) xs) ys))
 
 -- nothing is read behind a line that is refused
 
 -- a line behind it changes nothing
-pub taken-refused : (steps : Steps) (r : Reading) (l : List ℕ) → is_some r.refused ≡ true → line_taken steps r l ≡ r
+pub taken-refused : (courses : Courses) (r : Reading) (l : List ℕ) → is_some r.refused ≡ true → line_taken courses r l ≡ r
 unfolding line_taken
-taken-refused steps r l refused = chosen_true (is_some r.refused) _ _ refused
+taken-refused courses r l refused = chosen_true (is_some r.refused) _ _ refused
 
 -- a line behind it tells nothing
-pub told-refused : (steps : Steps) (r : Reading) (l : List ℕ) → is_some r.refused ≡ true → line_told steps r l ≡ []
+pub told-refused : (courses : Courses) (r : Reading) (l : List ℕ) → is_some r.refused ≡ true → line_told courses r l ≡ []
 unfolding line_told
-told-refused steps r l refused = chosen_true (is_some r.refused) _ _ refused
+told-refused courses r l refused = chosen_true (is_some r.refused) _ _ refused
 
 -- lines behind it change nothing
-pub after-refused : (steps : Steps) (r : Reading) (ls : List (List ℕ)) → is_some r.refused ≡ true → reading_after steps r ls ≡ r
-after-refused steps r [] refused = refl
-after-refused steps r (l ∷ ls) refused = ap (λ q. reading_after steps q ls) (taken-refused steps r l refused) ∙ after-refused steps r ls refused
+pub after-refused : (courses : Courses) (r : Reading) (ls : List (List ℕ)) → is_some r.refused ≡ true → reading_after courses r ls ≡ r
+after-refused courses r [] refused = refl
+after-refused courses r (l ∷ ls) refused = ap (λ q. reading_after courses q ls) (taken-refused courses r l refused) ∙ after-refused courses r ls refused
 
 -- lines behind it tell nothing
-pub told_after-refused : (steps : Steps) (r : Reading) (ls : List (List ℕ)) → is_some r.refused ≡ true → told_after steps r ls ≡ []
-told_after-refused steps r [] refused = refl
-told_after-refused steps r (l ∷ ls) refused =
-    ap (λ told. told ++ told_after steps (line_taken steps r l) ls) (told-refused steps r l refused)
-    ∙ (ap (λ q. told_after steps q ls) (taken-refused steps r l refused) ∙ told_after-refused steps r ls refused)
+pub told_after-refused : (courses : Courses) (r : Reading) (ls : List (List ℕ)) → is_some r.refused ≡ true → told_after courses r ls ≡ []
+told_after-refused courses r [] refused = refl
+told_after-refused courses r (l ∷ ls) refused =
+    ap (λ told. told ++ told_after courses (line_taken courses r l) ls) (told-refused courses r l refused)
+    ∙ (ap (λ q. told_after courses q ls) (taken-refused courses r l refused) ∙ told_after-refused courses r ls refused)
 
 -- lines of bytes
 

@@ -7,8 +7,7 @@ use Rattle.smart_base.specs.Views.{View, is_view}
 use Rattle.smart_service.specs.Services.{Meaning}
 use Rattle.app_count.specs.Counts.{counting}
 use Rattle.app_kv.specs.Snapshots.{keeping}
-use Rattle.node_rules.specs.Steps.{step_of}
-use Rattle.world_rules.specs.Worlds.{World, begun}
+use Rattle.world_rules.specs.Worlds.{World, course_of, begun}
 use Rattle.world_rules.specs.Plays.{Play, is_there, line_played, rested, world_after}
 use Rattle.world_rules.specs.Promises.{OneListThroughout}
 use Rattle.world_rules.specs.Scripts.{is_printed, is_short, is_nothing, words_in, line_of, members_from, view_for, group_words, group_by, group_line, app_line}
@@ -22,7 +21,7 @@ use Rattle.world_rules.specs.declared.message.Ending.{Ending}
 use Rattle.world_script.proofs.Members.{first_view}
 use Rattle.world_laws.proofs.Lists.{either, either_by}
 use Rattle.world_laws.proofs.Grows.{world_after-append}
-use Rattle.smart_top.specs.Apps.{node_steps, play_begun, play_after, answer_until, play_answer, app_begun, app_after, app_answer}
+use Rattle.smart_top.specs.Apps.{node_courses, play_begun, play_after, answer_until, play_answer, app_begun, app_after, app_answer}
 use Rattle.smart_top.specs.Readings.{Reading, unread, counted, refusing, group_taken, app_taken, header_taken, played_to, line_done, taken_at, is_full, line_taken, reading_after}
 use Rattle.smart_top.specs.Runs.{OneListOf, OneListHolds}
 use Rattle.smart_top.specs.declared.app.AppPlay.{AppPlay}
@@ -67,7 +66,7 @@ is_view-group_line bytes = is_view-group_by (words_in bytes)
 -- a play that was read stands for its lines, goes on, and its group keeps the rule of views
 pub record IsSound {S : Type 0} (m : Meaning S) (p : Play S) : Type 0 where
   pub going : p.over ≡ false
-  pub stands : p.world ≡ world_after (step_of m) (begun m p.group) p.lines
+  pub stands : p.world ≡ world_after (course_of m) (begun m p.group) p.lines
   pub open_world : p.world.ending ≡ None
   pub viewed : is_view p.group ≡ true
 
@@ -82,18 +81,18 @@ answered true w (Some e) why told is = absurd (cc)
 answered false w ending why told is = absurd (cc)
 
 -- a line that tells
-pub answer-tells : {S : Type 0} (m : Meaning S) (p : Play S) (line : Line) (told : List OutLine) → play_answer (step_of m) p line ≡ Ok told
-    → ((line_played (step_of m) p.world line).ending ≡ None) × ((line_played (step_of m) p.world line).told ≡ told)
-answer-tells m p line told is = answered (is_there p.world line) (line_played (step_of m) p.world line) (line_played (step_of m) p.world line).ending (refusals.Script kinds.Refer) told is
+pub answer-tells : {S : Type 0} (m : Meaning S) (p : Play S) (line : Line) (told : List OutLine) → play_answer (course_of m) p line ≡ Ok told
+    → ((line_played (course_of m) p.world line).ending ≡ None) × ((line_played (course_of m) p.world line).told ≡ told)
+answer-tells m p line told is = answered (is_there p.world line) (line_played (course_of m) p.world line) (line_played (course_of m) p.world line).ending (refusals.Script kinds.Refer) told is
 
 -- the world behind one more line
 stands-more : {S : Type 0} (m : Meaning S) (p : Play S) (line : Line) → IsSound m p
-    → rested (line_played (step_of m) p.world line) ≡ world_after (step_of m) (begun m p.group) (p.lines ++ line ∷ [])
+    → rested (line_played (course_of m) p.world line) ≡ world_after (course_of m) (begun m p.group) (p.lines ++ line ∷ [])
 stands-more m p line sound =
-    ap (λ w. rested (line_played (step_of m) w line)) sound.stands ∙ sym (world_after-append (step_of m) (begun m p.group) p.lines (line ∷ []))
+    ap (λ w. rested (line_played (course_of m) w line)) sound.stands ∙ sym (world_after-append (course_of m) (begun m p.group) p.lines (line ∷ []))
 
 -- a play behind one more line
-after-sound : {S : Type 0} (m : Meaning S) (p : Play S) (line : Line) (told : List OutLine) → IsSound m p → play_answer (step_of m) p line ≡ Ok told → IsSound m (play_after (step_of m) p line)
+after-sound : {S : Type 0} (m : Meaning S) (p : Play S) (line : Line) (told : List OutLine) → IsSound m p → play_answer (course_of m) p line ≡ Ok told → IsSound m (play_after (course_of m) p line)
 after-sound m p line told sound is = record { going = refl; stands = stands-more m p line sound; open_world = (answer-tells m p line told is).0; viewed = sound.viewed }
 
 -- the play of the service that the header names
@@ -106,7 +105,7 @@ begun-app : (app : App) (view : View) → is_view view ≡ true → SoundApp (ap
 begun-app apps.Count view viewed = begun-sound counting view viewed
 begun-app apps.Kv view viewed = begun-sound keeping view viewed
 
-after-app : (p : AppPlay) (line : Line) (told : List OutLine) → SoundApp p → app_answer node_steps p line ≡ Ok told → SoundApp (app_after node_steps p line)
+after-app : (p : AppPlay) (line : Line) (told : List OutLine) → SoundApp p → app_answer node_courses p line ≡ Ok told → SoundApp (app_after node_courses p line)
 after-app (plays.Count p) line told sound is = after-sound counting p line told sound is
 after-app (plays.Kv p) line told sound is = after-sound keeping p line told sound is
 
@@ -146,18 +145,18 @@ sound-header r l None viewed sound = sound-group r (group_line l) (is_view-group
 sound-header r l (Some view) viewed sound = sound-app r view (app_line l) viewed sound
 
 -- a line that leads to a play
-sound-played : (r : Reading) (p : AppPlay) (line : Line) → SoundApp p → SoundReading r → (answer : Result (List OutLine) Refusal) → app_answer node_steps p line ≡ answer
-    → SoundReading (played_to r (app_after node_steps p line) answer)
+sound-played : (r : Reading) (p : AppPlay) (line : Line) → SoundApp p → SoundReading r → (answer : Result (List OutLine) Refusal) → app_answer node_courses p line ≡ answer
+    → SoundReading (played_to r (app_after node_courses p line) answer)
 sound-played r p line of sound (Ok told) is = record { of_group = sound.of_group; of_play = after-app p line told of is }
 sound-played r p line of sound (Err why) is = sound-refused r why sound
 
 -- a line behind the header
-sound-done : (r : Reading) (p : AppPlay) (read : Result Line Kind) → SoundApp p → SoundReading r → SoundReading (line_done node_steps r p read)
+sound-done : (r : Reading) (p : AppPlay) (read : Result Line Kind) → SoundApp p → SoundReading r → SoundReading (line_done node_courses r p read)
 sound-done r p (Err kind) of sound = sound-refused r (refusals.Script kind) sound
-sound-done r p (Ok line) of sound = sound-played r p line of sound (app_answer node_steps p line) refl
+sound-done r p (Ok line) of sound = sound-played r p line of sound (app_answer node_courses p line) refl
 
 -- a line by where the script stands
-sound-taken_at : (r : Reading) (l : List ℕ) (play : Option AppPlay) → SoundPlay play → SoundReading r → SoundReading (taken_at node_steps r l play)
+sound-taken_at : (r : Reading) (l : List ℕ) (play : Option AppPlay) → SoundPlay play → SoundReading r → SoundReading (taken_at node_courses r l play)
 sound-taken_at r l None of sound =
     either SoundReading (not (is_printed l)) _ _ (sound-refused r (refusals.Script kinds.Byte) sound)
     (either SoundReading (not (is_short l)) _ _ (sound-refused r (refusals.Script kinds.Long) sound)
@@ -165,19 +164,19 @@ sound-taken_at r l None of sound =
 sound-taken_at r l (Some p) of sound = sound-done r p (line_of l) of sound
 
 -- one more line keeps a reading sound
-pub sound-taken : (r : Reading) (l : List ℕ) → SoundReading r → SoundReading (line_taken node_steps r l)
+pub sound-taken : (r : Reading) (l : List ℕ) → SoundReading r → SoundReading (line_taken node_courses r l)
 unfolding line_taken
 sound-taken r l sound =
     either SoundReading (is_some r.refused) _ _ sound
     (either SoundReading (is_full r) _ _ (sound-refused r refusals.Limit sound) (sound-taken_at r l r.play sound.of_play sound))
 
 -- lines keep a reading sound
-pub sound-after : (r : Reading) (ls : List (List ℕ)) → SoundReading r → SoundReading (reading_after node_steps r ls)
+pub sound-after : (r : Reading) (ls : List (List ℕ)) → SoundReading r → SoundReading (reading_after node_courses r ls)
 sound-after r [] sound = sound
-sound-after r (l ∷ ls) sound = sound-after (line_taken node_steps r l) ls (sound-taken r l sound)
+sound-after r (l ∷ ls) sound = sound-after (line_taken node_courses r l) ls (sound-taken r l sound)
 
 -- whatever is read is sound
-pub sound-read : (ls : List (List ℕ)) → SoundReading (reading_after node_steps unread ls)
+pub sound-read : (ls : List (List ℕ)) → SoundReading (reading_after node_courses unread ls)
 sound-read ls = sound-after unread ls (record { of_group = tt; of_play = tt })
 
 -- the law of one list over a service
@@ -194,5 +193,5 @@ one_list-play sums values (Some (plays.Count p)) of = one_list-of counting sums 
 one_list-play sums values (Some (plays.Kv p)) of = one_list-of keeping values p of
 
 -- so it holds of whatever is read
-pub one_list_holds : Law counting → Law keeping → (ls : List (List ℕ)) → OneListHolds (reading_after node_steps unread ls).play
-one_list_holds sums values ls = one_list-play sums values (reading_after node_steps unread ls).play (sound-read ls).of_play
+pub one_list_holds : Law counting → Law keeping → (ls : List (List ℕ)) → OneListHolds (reading_after node_courses unread ls).play
+one_list_holds sums values ls = one_list-play sums values (reading_after node_courses unread ls).play (sound-read ls).of_play

@@ -3,13 +3,10 @@ use Rattle.std.proofs.Common.{◌≡◌, ℕ, Bool, true, false, List, [], ◌�
 use Rattle.std.specs.Prelude.{not, Result, Ok, Err}
 use Rattle.std.proofs.lemmas.List.{append_assoc, append-nil}
 use Rattle.smart_base.specs.Views.{View}
-use Rattle.smart_messages.specs.declared.entry.NodeEvent.{NodeEvent}
 use Rattle.smart_service.specs.Services.{Meaning}
 use Rattle.app_count.specs.Counts.{counting}
 use Rattle.app_kv.specs.Snapshots.{keeping}
-use Rattle.node_rules.specs.Nodes.{Node}
-use Rattle.node_rules.specs.Steps.{Outcome, step_of}
-use Rattle.world_rules.specs.Worlds.{World, begun}
+use Rattle.world_rules.specs.Worlds.{World, Course, course_of, begun}
 use Rattle.world_rules.specs.Plays.{Play, line_played, rested, world_after, lines_told}
 use Rattle.world_rules.specs.Scripts.{is_printed, is_short, is_nothing, line_of, group_line, app_line}
 use Rattle.world_rules.specs.Texts.{header_line}
@@ -18,7 +15,7 @@ use Rattle.world_rules.specs.declared.line.App.TheVariants as apps
 use Rattle.world_rules.specs.declared.line.Line.{Line}
 use Rattle.world_rules.specs.declared.line.Kind.{Kind}
 use Rattle.world_rules.specs.declared.line.OutLine.{OutLine}
-use Rattle.smart_top.specs.Apps.{node_steps, play_after, play_answer, app_begun, app_after, app_answer}
+use Rattle.smart_top.specs.Apps.{node_courses, play_after, play_answer, app_begun, app_after, app_answer}
 use Rattle.smart_top.specs.Readings.{Reading, unread, group_taken, app_taken, header_taken, app_line_told, header_told, played_to, told_by, line_done, told_done, taken_at, told_at, is_full, line_taken, line_told, reading_after, told_after}
 use Rattle.smart_top.specs.Runs.{play_told, app_told, all_told}
 use Rattle.smart_top.specs.declared.app.AppPlay.{AppPlay}
@@ -29,20 +26,20 @@ use Rattle.smart_top.proofs.ReadingPlays.{IsSound, SoundApp, SoundReading, Sound
 -- a play of one service
 
 -- what one more line tells comes behind what the lines tell
-lines_told-end : {S : Type 0} (step : Node S → NodeEvent → Outcome S) (w : World S) (ls : List Line) (l : Line)
-    → lines_told step w (ls ++ l ∷ []) ≡ lines_told step w ls ++ (line_played step (world_after step w ls) l).told
-lines_told-end step w [] l = append-nil (line_played step w l).told
-lines_told-end step w (k ∷ ls) l =
-    ap (λ told. (line_played step w k).told ++ told) (lines_told-end step (rested (line_played step w k)) ls l)
-    ∙ sym (append_assoc (line_played step w k).told (lines_told step (rested (line_played step w k)) ls) (line_played step (world_after step w (k ∷ ls)) l).told)
+lines_told-end : {S : Type 0} (course : Course S) (w : World S) (ls : List Line) (l : Line)
+    → lines_told course w (ls ++ l ∷ []) ≡ lines_told course w ls ++ (line_played course (world_after course w ls) l).told
+lines_told-end course w [] l = append-nil (line_played course w l).told
+lines_told-end course w (k ∷ ls) l =
+    ap (λ told. (line_played course w k).told ++ told) (lines_told-end course (rested (line_played course w k)) ls l)
+    ∙ sym (append_assoc (line_played course w k).told (lines_told course (rested (line_played course w k)) ls) (line_played course (world_after course w (k ∷ ls)) l).told)
 
 -- what the play of a service tells behind one more line
-play-tells : {S : Type 0} (app : App) (m : Meaning S) (p : Play S) (line : Line) (told : List OutLine) → IsSound m p → play_answer (step_of m) p line ≡ Ok told
-    → play_told app m p ++ told ≡ play_told app m (play_after (step_of m) p line)
+play-tells : {S : Type 0} (app : App) (m : Meaning S) (p : Play S) (line : Line) (told : List OutLine) → IsSound m p → play_answer (course_of m) p line ≡ Ok told
+    → play_told app m p ++ told ≡ play_told app m (play_after (course_of m) p line)
 play-tells app m p line told sound is =
     ap (λ ls. play_told app m p ++ ls) (sym (answer-tells m p line told is).1)
     ∙ ap (λ ls. header_line p.group app ∷ ls)
-    (ap (λ v. lines_told (step_of m) (begun m p.group) p.lines ++ (line_played (step_of m) v line).told) sound.stands ∙ sym (lines_told-end (step_of m) (begun m p.group) p.lines line))
+    (ap (λ v. lines_told (course_of m) (begun m p.group) p.lines ++ (line_played (course_of m) v line).told) sound.stands ∙ sym (lines_told-end (course_of m) (begun m p.group) p.lines line))
 
 -- the play of the service that the header names
 
@@ -52,7 +49,7 @@ begun-tells view apps.Count = refl
 begun-tells view apps.Kv = refl
 
 -- behind one more line
-app-tells : (p : AppPlay) (line : Line) (told : List OutLine) → SoundApp p → app_answer node_steps p line ≡ Ok told → app_told p ++ told ≡ app_told (app_after node_steps p line)
+app-tells : (p : AppPlay) (line : Line) (told : List OutLine) → SoundApp p → app_answer node_courses p line ≡ Ok told → app_told p ++ told ≡ app_told (app_after node_courses p line)
 app-tells (plays.Count p) line told sound is = play-tells apps.Count counting p line told sound is
 app-tells (plays.Kv p) line told sound is = play-tells apps.Kv keeping p line told sound is
 
@@ -88,19 +85,19 @@ tells-header told r l (Some view) none is = tells-app told r view (app_line l) n
 
 -- a line that leads to a play
 tells-played : (told : List OutLine) (r : Reading) (p : AppPlay) (line : Line) → r.play ≡ Some p → SoundApp p → told ≡ all_told r.play → (answer : Result (List OutLine) Refusal)
-    → app_answer node_steps p line ≡ answer → Tells told (played_to r (app_after node_steps p line) answer) (told_by answer)
+    → app_answer node_courses p line ≡ answer → Tells told (played_to r (app_after node_courses p line) answer) (told_by answer)
 tells-played told r p line at sound is (Ok more) answers = ap (λ ls. ls ++ more) (is ∙ ap all_told at) ∙ app-tells p line more sound answers
 tells-played told r p line at sound is (Err why) answers = tells-nothing told r is
 
 -- a line behind the header
 tells-done : (told : List OutLine) (r : Reading) (p : AppPlay) (read : Result Line Kind) → r.play ≡ Some p → SoundApp p → told ≡ all_told r.play
-    → Tells told (line_done node_steps r p read) (told_done node_steps p read)
+    → Tells told (line_done node_courses r p read) (told_done node_courses p read)
 tells-done told r p (Err kind) at sound is = tells-nothing told r is
-tells-done told r p (Ok line) at sound is = tells-played told r p line at sound is (app_answer node_steps p line) refl
+tells-done told r p (Ok line) at sound is = tells-played told r p line at sound is (app_answer node_courses p line) refl
 
 -- a line by where the script stands
 tells-at : (told : List OutLine) (r : Reading) (l : List ℕ) (play : Option AppPlay) → r.play ≡ play → SoundPlay play → told ≡ all_told r.play
-    → Tells told (taken_at node_steps r l play) (told_at node_steps r l play)
+    → Tells told (taken_at node_courses r l play) (told_at node_courses r l play)
 tells-at told r l None at sound is =
     both (Tells told) (not (is_printed l)) _ _ _ _ (tells-nothing told r is)
     (both (Tells told) (not (is_short l)) _ _ _ _ (tells-nothing told r is)
@@ -108,7 +105,7 @@ tells-at told r l None at sound is =
 tells-at told r l (Some p) at sound is = tells-done told r p (line_of l) at sound is
 
 -- one more line
-tells-taken : (told : List OutLine) (r : Reading) (l : List ℕ) → SoundReading r → told ≡ all_told r.play → Tells told (line_taken node_steps r l) (line_told node_steps r l)
+tells-taken : (told : List OutLine) (r : Reading) (l : List ℕ) → SoundReading r → told ≡ all_told r.play → Tells told (line_taken node_courses r l) (line_told node_courses r l)
 unfolding line_taken line_told
 tells-taken told r l sound is =
     both (Tells told) (is_some r.refused) _ _ _ _ (tells-nothing told r is)
@@ -116,12 +113,12 @@ tells-taken told r l sound is =
 
 -- lines, behind some that told this
 tells-after : (told : List OutLine) (r : Reading) (ls : List (List ℕ)) → SoundReading r → told ≡ all_told r.play
-    → told ++ told_after node_steps r ls ≡ all_told (reading_after node_steps r ls).play
+    → told ++ told_after node_courses r ls ≡ all_told (reading_after node_courses r ls).play
 tells-after told r [] sound is = append-nil told ∙ is
 tells-after told r (l ∷ ls) sound is =
-    sym (append_assoc told (line_told node_steps r l) (told_after node_steps (line_taken node_steps r l) ls))
-    ∙ tells-after (told ++ line_told node_steps r l) (line_taken node_steps r l) ls (sound-taken r l sound) (tells-taken told r l sound is)
+    sym (append_assoc told (line_told node_courses r l) (told_after node_courses (line_taken node_courses r l) ls))
+    ∙ tells-after (told ++ line_told node_courses r l) (line_taken node_courses r l) ls (sound-taken r l sound) (tells-taken told r l sound is)
 
 -- whatever is read tells what its play tells
-pub tells-read : (ls : List (List ℕ)) → told_after node_steps unread ls ≡ all_told (reading_after node_steps unread ls).play
+pub tells-read : (ls : List (List ℕ)) → told_after node_courses unread ls ≡ all_told (reading_after node_courses unread ls).play
 tells-read ls = tells-after [] unread ls (sound-read []) refl

@@ -1,16 +1,12 @@
 -- The play of a script over the service that its header names.
 use Rattle.std.specs.Prelude.{ℕ, Bool, false, List, [], ◌∷◌, ◌++◌, length, if◌then◌else◌, Option, Some, None, Result, Ok, Err}
 use Rattle.smart_base.specs.Views.{View}
-use Rattle.smart_messages.specs.declared.entry.NodeEvent.{NodeEvent}
 use Rattle.smart_service.specs.Services.{Meaning}
 use Rattle.app_count.specs.declared.Count.{Count}
 use Rattle.app_count.specs.Counts.{counting}
 use Rattle.app_kv.specs.declared.store.Entry.{Entry}
 use Rattle.app_kv.specs.Snapshots.{keeping}
-use Rattle.node_rules.specs.Nodes.{Node}
-use Rattle.node_rules.specs.Steps.{Outcome, step_of}
-use Rattle.node_rules.specs.Kept.{core_step}
-use Rattle.world_rules.specs.Worlds.{World, begun}
+use Rattle.world_rules.specs.Worlds.{Course, World, course_of, core_course, begun}
 use Rattle.world_rules.specs.Plays.{Play, is_there, line_played, rested}
 use Rattle.world_rules.specs.declared.message.Ending.{Ending}
 use Rattle.world_rules.specs.declared.message.Ending.TheVariants as endings
@@ -24,18 +20,18 @@ use Rattle.smart_top.specs.declared.app.AppPlay.TheVariants as plays
 use Rattle.smart_top.specs.declared.status.Refusal.{Refusal}
 use Rattle.smart_top.specs.declared.status.Refusal.TheVariants as refusals
 
--- how the nodes of each service take an event
-pub record Steps : Type 0 where
-  pub count : Node Count → NodeEvent → Outcome Count
-  pub kv : Node (List Entry) → NodeEvent → Outcome (List Entry)
+-- how the world of each service goes on
+pub record Courses : Type 0 where
+  pub count : Course Count
+  pub kv : Course (List Entry)
 
--- as the nodes do that keep all arrivals
-abbrev pub node_steps : Steps
-node_steps = record { count = step_of counting; kv = step_of keeping }
+-- as the definitions say it: nodes keep all arrivals
+abbrev pub node_courses : Courses
+node_courses = record { count = course_of counting; kv = course_of keeping }
 
--- as their cores do
-abbrev pub core_steps : Steps
-core_steps = record { count = core_step counting; kv = core_step keeping }
+-- as cores do it, which keep only what still matters
+abbrev pub core_courses : Courses
+core_courses = record { count = core_course counting; kv = core_course keeping }
 
 -- a play of one service
 
@@ -44,8 +40,8 @@ abbrev pub play_begun : {S : Type 0} → Meaning S → View → Play S
 play_begun m view = record { group = view; lines = []; world = begun m view; over = false }
 
 -- the play behind one more line
-abbrev pub play_after : {S : Type 0} → (Node S → NodeEvent → Outcome S) → Play S → Line → Play S
-play_after step p line = record { group = p.group; lines = p.lines ++ line ∷ []; world = rested (line_played step p.world line); over = false }
+abbrev pub play_after : {S : Type 0} → Course S → Play S → Line → Play S
+play_after course p line = record { group = p.group; lines = p.lines ++ line ∷ []; world = rested (line_played course p.world line); over = false }
 
 -- why a line is refused by which the world has ended
 abbrev pub refusal_of : Ending → Refusal
@@ -61,8 +57,8 @@ abbrev pub answer_in : {S : Type 0} → World S → Result (List OutLine) Refusa
 answer_in w = answer_until w w.ending
 
 -- what a line tells, or why it is refused. It is played where all that it names is there
-abbrev pub play_answer : {S : Type 0} → (Node S → NodeEvent → Outcome S) → Play S → Line → Result (List OutLine) Refusal
-play_answer step p line = if is_there p.world line then answer_in (line_played step p.world line) else Err (refusals.Script kinds.Refer)
+abbrev pub play_answer : {S : Type 0} → Course S → Play S → Line → Result (List OutLine) Refusal
+play_answer course p line = if is_there p.world line then answer_in (line_played course p.world line) else Err (refusals.Script kinds.Refer)
 
 -- the play of the service that the header names
 
@@ -72,14 +68,14 @@ app_begun apps.Count view = plays.Count (play_begun counting view)
 app_begun apps.Kv view = plays.Kv (play_begun keeping view)
 
 -- behind one more line
-abbrev pub app_after : Steps → AppPlay → Line → AppPlay
-app_after steps (plays.Count p) line = plays.Count (play_after steps.count p line)
-app_after steps (plays.Kv p) line = plays.Kv (play_after steps.kv p line)
+abbrev pub app_after : Courses → AppPlay → Line → AppPlay
+app_after courses (plays.Count p) line = plays.Count (play_after courses.count p line)
+app_after courses (plays.Kv p) line = plays.Kv (play_after courses.kv p line)
 
 -- what a line tells, or why it is refused
-abbrev pub app_answer : Steps → AppPlay → Line → Result (List OutLine) Refusal
-app_answer steps (plays.Count p) line = play_answer steps.count p line
-app_answer steps (plays.Kv p) line = play_answer steps.kv p line
+abbrev pub app_answer : Courses → AppPlay → Line → Result (List OutLine) Refusal
+app_answer courses (plays.Count p) line = play_answer courses.count p line
+app_answer courses (plays.Kv p) line = play_answer courses.kv p line
 
 -- whether it is over
 abbrev pub is_over : AppPlay → Bool

@@ -6,23 +6,23 @@ use Rattle.smart_top.specs.declared.status.Status.{Status}
 use Rattle.smart_top.specs.declared.status.Status.TheVariants as ends
 use Rattle.smart_top.specs.declared.reader.Halt.{Halt}
 use Rattle.smart_top.specs.declared.reader.Halt.TheVariants as halts
-use Rattle.smart_top.specs.Apps.{Steps}
+use Rattle.smart_top.specs.Apps.{Courses}
 use Rattle.smart_top.specs.Readings.{Reading, unread, whole_lines, rest_of, reading_after, told_after, end_of}
 
 -- what the whole lines of bytes tell, as text
-abbrev pub text_after : Steps → List ℕ → List ℕ
-text_after steps bytes = text_of (told_after steps unread (whole_lines [] bytes))
+abbrev pub text_after : Courses → List ℕ → List ℕ
+text_after courses bytes = text_of (told_after courses unread (whole_lines [] bytes))
 
 -- the script behind the whole lines of bytes
-abbrev pub script_after : Steps → List ℕ → Reading
-script_after steps bytes = reading_after steps unread (whole_lines [] bytes)
+abbrev pub script_after : Courses → List ℕ → Reading
+script_after courses bytes = reading_after courses unread (whole_lines [] bytes)
 
 -- these bytes were taken: their whole lines were played and told, and none was refused
-pub record HasTaken (steps : Steps) (bytes : List ℕ) (written written' : Option (List ℕ)) (line : List ℕ) (script : Reading) : Type 0 where
+pub record HasTaken (courses : Courses) (bytes : List ℕ) (written written' : Option (List ℕ)) (line : List ℕ) (script : Reading) : Type 0 where
   pub line_is : line ≡ rest_of [] bytes
-  pub script_is : script ≡ script_after steps bytes
+  pub script_is : script ≡ script_after courses bytes
   pub going : script.refused ≡ None
-  pub text : Appends written written' (text_after steps bytes)
+  pub text : Appends written written' (text_after courses bytes)
   -- so each line is short, and they are few: the bytes are no more than these lines have
   pub short : length line ≤ 65536
   pub within : script.count ≤ 2 ^ 20
@@ -34,22 +34,22 @@ Closes bytes closed = (closed ≡ bytes) ⊎ ((closed ≡ bytes ++ 10 ∷ []) ×
 
 -- a line of these bytes was refused, and those before it were told. Behind them a line feed may stand in thought, where the last line is too
 -- long already
-pub record HasRefused (steps : Steps) (bytes : List ℕ) (written written' : Option (List ℕ)) (script : Reading) : Type 0 where
+pub record HasRefused (courses : Courses) (bytes : List ℕ) (written written' : Option (List ℕ)) (script : Reading) : Type 0 where
   pub closed : List ℕ
   pub closes : Closes bytes closed
-  pub refused : script.refused ≡ (script_after steps closed).refused
-  pub count : script.count ≡ (script_after steps closed).count
+  pub refused : script.refused ≡ (script_after courses closed).refused
+  pub count : script.count ≡ (script_after courses closed).count
   pub is : is_some script.refused ≡ true
-  pub text : Appends written written' (text_after steps closed)
+  pub text : Appends written written' (text_after courses closed)
 
 -- a front of what these bytes tell was written
-pub record HasBroken (steps : Steps) (bytes : List ℕ) (written written' : Option (List ℕ)) : Type 0 where
+pub record HasBroken (courses : Courses) (bytes : List ℕ) (written written' : Option (List ℕ)) : Type 0 where
   pub count : ℕ
-  pub text : Appends written written' (take count (text_after steps bytes))
+  pub text : Appends written written' (take count (text_after courses bytes))
 
 -- what the whole lines of these bytes tell was written
-pub record HasTold (steps : Steps) (bytes : List ℕ) (written written' : Option (List ℕ)) : Type 0 where
-  pub text : Appends written written' (text_after steps bytes)
+pub record HasTold (courses : Courses) (bytes : List ℕ) (written written' : Option (List ℕ)) : Type 0 where
+  pub text : Appends written written' (text_after courses bytes)
 
 -- what holds behind a front of bytes and some of a piece that comes next
 pub record Within (bytes piece : List ℕ) (P : List ℕ → Type 0) : Type 0 where
@@ -59,22 +59,22 @@ pub record Within (bytes piece : List ℕ) (P : List ℕ → Type 0) : Type 0 wh
   pub holds : P (bytes ++ front)
 
 -- why taking a piece that comes behind these bytes stopped, and what stands then
-abbrev pub Halted : Steps → List ℕ → List ℕ → Option (List ℕ) → Option (List ℕ) → Reading → Halt → Type 0
-Halted steps bytes piece written written' script halts.Refused = Within bytes piece (λ taken. HasRefused steps taken written written' script)
-Halted steps bytes piece written written' script halts.WriteFault = Within bytes piece (λ taken. HasBroken steps taken written written')
-Halted steps bytes piece written written' script halts.SinkMemory = Within bytes piece (λ taken. HasBroken steps taken written written')
-Halted steps bytes piece written written' script halts.NoMemory = Within bytes piece (λ taken. HasTold steps taken written written')
+abbrev pub Halted : Courses → List ℕ → List ℕ → Option (List ℕ) → Option (List ℕ) → Reading → Halt → Type 0
+Halted courses bytes piece written written' script halts.Refused = Within bytes piece (λ taken. HasRefused courses taken written written' script)
+Halted courses bytes piece written written' script halts.WriteFault = Within bytes piece (λ taken. HasBroken courses taken written written')
+Halted courses bytes piece written written' script halts.SinkMemory = Within bytes piece (λ taken. HasBroken courses taken written written')
+Halted courses bytes piece written written' script halts.NoMemory = Within bytes piece (λ taken. HasTold courses taken written written')
 
 -- a run goes on: it has consumed and taken these bytes
-pub record GoesOn (steps : Steps) (bytes : List ℕ) (left left' written written' : Option (List ℕ)) (line : List ℕ) (script : Reading) : Type 0 where
+pub record GoesOn (courses : Courses) (bytes : List ℕ) (left left' written written' : Option (List ℕ)) (line : List ℕ) (script : Reading) : Type 0 where
   pub consumed : Consumes left left' bytes
-  pub taken : HasTaken steps bytes written written' line script
+  pub taken : HasTaken courses bytes written written' line script
 
 -- a run goes on behind these bytes and more
-pub record GoesOnBehind (steps : Steps) (bytes : List ℕ) (left left' written written' : Option (List ℕ)) (line : List ℕ) (script : Reading) : Type 0 where
+pub record GoesOnBehind (courses : Courses) (bytes : List ℕ) (left left' written written' : Option (List ℕ)) (line : List ℕ) (script : Reading) : Type 0 where
   pub more : List ℕ
   pub some : 0 < length more
-  pub going : GoesOn steps (bytes ++ more) left left' written written' line script
+  pub going : GoesOn courses (bytes ++ more) left left' written written' line script
 
 -- how a halt ends a run
 abbrev pub halt_end : Reading → Halt → Status

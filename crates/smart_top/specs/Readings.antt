@@ -9,7 +9,7 @@ use Rattle.world_rules.specs.declared.line.OutLine.{OutLine}
 use Rattle.world_rules.specs.declared.line.OutLine.TheVariants as outs
 use Rattle.world_rules.specs.declared.line.Kind.{Kind}
 use Rattle.world_rules.specs.declared.line.Kind.TheVariants as kinds
-use Rattle.smart_top.specs.Apps.{Steps, app_begun, app_after, app_answer, sent_count}
+use Rattle.smart_top.specs.Apps.{Courses, app_begun, app_after, app_answer, sent_count}
 use Rattle.smart_top.specs.declared.app.AppPlay.{AppPlay}
 use Rattle.smart_top.specs.declared.status.Refusal.{Refusal}
 use Rattle.smart_top.specs.declared.status.Refusal.TheVariants as refusals
@@ -86,67 +86,67 @@ played_to r p (Ok told) = record (counted r) { play = Some p }
 played_to r p (Err why) = refusing r why
 
 -- a line behind the header
-abbrev pub line_done : Steps → Reading → AppPlay → Result Line Kind → Reading
-line_done steps r p (Err kind) = refusing r (refusals.Script kind)
-line_done steps r p (Ok line) = played_to r (app_after steps p line) (app_answer steps p line)
+abbrev pub line_done : Courses → Reading → AppPlay → Result Line Kind → Reading
+line_done courses r p (Err kind) = refusing r (refusals.Script kind)
+line_done courses r p (Ok line) = played_to r (app_after courses p line) (app_answer courses p line)
 
 -- what a line tells, unless it is refused
 abbrev pub told_by : Result (List OutLine) Refusal → List OutLine
 told_by (Ok told) = told
 told_by (Err why) = []
 
-abbrev pub told_done : Steps → AppPlay → Result Line Kind → List OutLine
-told_done steps p (Err kind) = []
-told_done steps p (Ok line) = told_by (app_answer steps p line)
+abbrev pub told_done : Courses → AppPlay → Result Line Kind → List OutLine
+told_done courses p (Err kind) = []
+told_done courses p (Ok line) = told_by (app_answer courses p line)
 
 -- a line by where the script stands
-abbrev pub taken_at : Steps → Reading → List ℕ → Option AppPlay → Reading
-taken_at steps r bytes None =
+abbrev pub taken_at : Courses → Reading → List ℕ → Option AppPlay → Reading
+taken_at courses r bytes None =
     if not (is_printed bytes) then refusing r (refusals.Script kinds.Byte)
     else if not (is_short bytes) then refusing r (refusals.Script kinds.Long)
     else if is_nothing bytes then counted r
     else header_taken r bytes r.group
-taken_at steps r bytes (Some p) = line_done steps r p (line_of bytes)
+taken_at courses r bytes (Some p) = line_done courses r p (line_of bytes)
 
-abbrev pub told_at : Steps → Reading → List ℕ → Option AppPlay → List OutLine
-told_at steps r bytes None =
+abbrev pub told_at : Courses → Reading → List ℕ → Option AppPlay → List OutLine
+told_at courses r bytes None =
     if not (is_printed bytes) then []
     else if not (is_short bytes) then []
     else if is_nothing bytes then []
     else header_told bytes r.group
-told_at steps r bytes (Some p) = told_done steps p (line_of bytes)
+told_at courses r bytes (Some p) = told_done courses p (line_of bytes)
 
 -- a script has at most 2 ^ 20 lines
 abbrev pub is_full : Reading → Bool
 is_full r = nat_le (2 ^ 20) r.count
 
 -- a script with one more line. Nothing is read behind a line that is refused
-unfoldable pub line_taken : Steps → Reading → List ℕ → Reading
-line_taken steps r bytes =
+unfoldable pub line_taken : Courses → Reading → List ℕ → Reading
+line_taken courses r bytes =
     if is_some r.refused then r
     else if is_full r then refusing r refusals.Limit
-    else taken_at steps r bytes r.play
+    else taken_at courses r bytes r.play
 
 -- what the line tells
-unfoldable pub line_told : Steps → Reading → List ℕ → List OutLine
-line_told steps r bytes =
+unfoldable pub line_told : Courses → Reading → List ℕ → List OutLine
+line_told courses r bytes =
     if is_some r.refused then []
     else if is_full r then []
-    else told_at steps r bytes r.play
+    else told_at courses r bytes r.play
 
-abbrev pub reading_after : Steps → Reading → List (List ℕ) → Reading
-reading_after steps r [] = r
-reading_after steps r (l ∷ ls) = reading_after steps (line_taken steps r l) ls
+abbrev pub reading_after : Courses → Reading → List (List ℕ) → Reading
+reading_after courses r [] = r
+reading_after courses r (l ∷ ls) = reading_after courses (line_taken courses r l) ls
 
 -- what lines tell, one after the other
-abbrev pub told_after : Steps → Reading → List (List ℕ) → List OutLine
-told_after steps r [] = []
-told_after steps r (l ∷ ls) = line_told steps r l ++ told_after steps (line_taken steps r l) ls
+abbrev pub told_after : Courses → Reading → List (List ℕ) → List OutLine
+told_after courses r [] = []
+told_after courses r (l ∷ ls) = line_told courses r l ++ told_after courses (line_taken courses r l) ls
 
 -- a whole input
 
-abbrev pub script_read : Steps → List ℕ → Reading
-script_read steps bytes = reading_after steps unread (script_lines bytes)
+abbrev pub script_read : Courses → List ℕ → Reading
+script_read courses bytes = reading_after courses unread (script_lines bytes)
 
 abbrev pub refused_end : ℕ → Refusal → Status
 refused_end line (refusals.Script kind) = ends.Script line kind
@@ -176,6 +176,6 @@ last_told r None = end_told r.count r.play
 last_told r (Some why) = []
 
 -- the transcript of a whole input
-abbrev pub transcript : Steps → List ℕ → List OutLine
-transcript steps bytes =
-    told_after steps unread (script_lines bytes) ++ last_told (script_read steps bytes) (script_read steps bytes).refused
+abbrev pub transcript : Courses → List ℕ → List OutLine
+transcript courses bytes =
+    told_after courses unread (script_lines bytes) ++ last_told (script_read courses bytes) (script_read courses bytes).refused

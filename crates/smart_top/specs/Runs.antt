@@ -6,15 +6,14 @@ use Rattle.faults.specs.Counts.{Rose}
 use Rattle.smart_service.specs.Services.{Meaning}
 use Rattle.app_count.specs.Counts.{counting}
 use Rattle.app_kv.specs.Snapshots.{keeping}
-use Rattle.node_rules.specs.Steps.{step_of}
-use Rattle.world_rules.specs.Worlds.{begun}
+use Rattle.world_rules.specs.Worlds.{course_of, begun}
 use Rattle.world_rules.specs.Plays.{Play, world_after, lines_told}
 use Rattle.world_rules.specs.Promises.{OneListThroughout}
 use Rattle.world_rules.specs.Texts.{header_line, text_of}
 use Rattle.world_rules.specs.declared.line.App.{App}
 use Rattle.world_rules.specs.declared.line.App.TheVariants as apps
 use Rattle.world_rules.specs.declared.line.OutLine.{OutLine}
-use Rattle.smart_top.specs.Apps.{node_steps}
+use Rattle.smart_top.specs.Apps.{node_courses}
 use Rattle.smart_top.specs.Readings.{unread, whole_lines, script_lines, reading_after, told_after, script_read, end_of, transcript}
 use Rattle.smart_top.specs.declared.app.AppPlay.{AppPlay}
 use Rattle.smart_top.specs.declared.app.AppPlay.TheVariants as plays
@@ -28,7 +27,7 @@ IsLeft (Some left) input = left ≡ input
 
 -- the world of a play is the one behind its lines, and one list holds after each of them
 pub record OneListOf {S : Type 0} (m : Meaning S) (p : Play S) : Type 0 where
-  pub stands : p.world ≡ world_after (step_of m) (begun m p.group) p.lines
+  pub stands : p.world ≡ world_after (course_of m) (begun m p.group) p.lines
   pub throughout : OneListThroughout m p.group p.lines
 
 -- one list holds of a play, over its service
@@ -43,7 +42,7 @@ OneListHolds (Some p) = OneListIn p
 
 -- what a play of a service tells: the header's line, and then what the lines that were played tell
 abbrev pub play_told : {S : Type 0} → App → Meaning S → Play S → List OutLine
-play_told app m p = header_line p.group app ∷ lines_told (step_of m) (begun m p.group) p.lines
+play_told app m p = header_line p.group app ∷ lines_told (course_of m) (begun m p.group) p.lines
 
 abbrev pub app_told : AppPlay → List OutLine
 app_told (plays.Count p) = play_told apps.Count counting p
@@ -56,23 +55,23 @@ all_told (Some p) = app_told p
 
 -- lines of a script tell what their play tells, and one list holds of it
 pub record ArePlayed (lines : List (List ℕ)) : Type 0 where
-  pub tell : told_after node_steps unread lines ≡ all_told (reading_after node_steps unread lines).play
-  pub one_list : OneListHolds (reading_after node_steps unread lines).play
+  pub tell : told_after node_courses unread lines ≡ all_told (reading_after node_courses unread lines).play
+  pub one_list : OneListHolds (reading_after node_courses unread lines).play
 
 -- a run that the input has ended: its status is the one that this input has, and it has written the input's transcript
 pub record Ends (left written written' : Option (List ℕ)) (status : Status) : Type 0 where
   pub input : List ℕ
   pub is_left : IsLeft left input
-  pub status_is : status ≡ end_of (script_read node_steps input)
-  pub text : Appends written written' (text_of (transcript node_steps input))
+  pub status_is : status ≡ end_of (script_read node_courses input)
+  pub text : Appends written written' (text_of (transcript node_courses input))
   pub played : ArePlayed (script_lines input)
 
 -- a run that has written the transcript of the whole lines that it has read, of which none was refused
 pub record WroteAllRead (left left' written written' : Option (List ℕ)) : Type 0 where
   pub read : List ℕ
   pub consumed : Consumes left left' read
-  pub going : (reading_after node_steps unread (whole_lines [] read)).refused ≡ None
-  pub text : Appends written written' (text_of (told_after node_steps unread (whole_lines [] read)))
+  pub going : (reading_after node_courses unread (whole_lines [] read)).refused ≡ None
+  pub text : Appends written written' (text_of (told_after node_courses unread (whole_lines [] read)))
   pub played : ArePlayed (whole_lines [] read)
 
 -- a run that has written the transcript of the first lines of its input
@@ -82,7 +81,7 @@ pub record WroteLines (left written written' : Option (List ℕ)) : Type 0 where
   pub front : List (List ℕ)
   pub rest : List (List ℕ)
   pub split : script_lines input ≡ front ++ rest
-  pub text : Appends written written' (text_of (told_after node_steps unread front))
+  pub text : Appends written written' (text_of (told_after node_courses unread front))
   pub played : ArePlayed front
 
 -- a run that has written a front of its input's transcript
@@ -90,7 +89,7 @@ pub record WroteFront (left written written' : Option (List ℕ)) : Type 0 where
   pub input : List ℕ
   pub is_left : IsLeft left input
   pub count : ℕ
-  pub text : Appends written written' (take count (text_of (transcript node_steps input)))
+  pub text : Appends written written' (take count (text_of (transcript node_courses input)))
   pub played : ArePlayed (script_lines input)
 
 -- what a run has read and written, by its status. Where memory ran out it has written whole lines, or the sink wanted memory

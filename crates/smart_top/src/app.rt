@@ -1,7 +1,7 @@
 //! The play of a script over the service that its header names.
 ghost use Rattle.std.specs.Prelude.{◌≡◌, false, IfOk, OnOk, IsErrOf, length};
-ghost use Rattle.node_rules.specs.Kept.{core_step};
-ghost use Rattle.smart_top.specs.Apps.{core_steps, play_after, play_answer, app_begun, app_after, app_answer, is_over, sent_count};
+ghost use Rattle.world_rules.specs.Worlds.{core_course};
+ghost use Rattle.smart_top.specs.Apps.{core_courses, play_after, play_answer, app_begun, app_after, app_answer, is_over, sent_count};
 
 use crate::status::Refusal;
 use app_count::Count;
@@ -28,9 +28,9 @@ fn play_line<S: Service>(
     line: Line,
 ) -> Result<Result<Sequence<OutLine>, Refusal>, AllocError>
     requires { world.old.over ≡ false }
-    ensures answer { IfOk result (λ answer. answer ≡ play_answer (core_step S.meaning) world.old line) }
+    ensures answer { IfOk result (λ answer. answer ≡ play_answer (core_course S.meaning) world.old line) }
     ensures unchanged { IfOk result (λ answer. IsErrOf answer (Refusal.Script Kind.Refer) → world.new ≡ world.old) }
-    ensures after { IfOk result (λ answer. OnOk answer (world.new ≡ play_after (core_step S.meaning) world.old line)) }
+    ensures after { IfOk result (λ answer. OnOk answer (world.new ≡ play_after (core_course S.meaning) world.old line)) }
 {
     match world.play(line) {
         Ok(told) => Ok(Ok(told)),
@@ -56,9 +56,9 @@ impl AppPlay {
     /// Plays a line, and gives what it tells or why it is refused.
     pub fn play(&mut self, line: Line) -> Result<Result<Sequence<OutLine>, Refusal>, AllocError>
         requires { is_over self.old ≡ false }
-        ensures answer { IfOk result (λ answer. answer ≡ app_answer core_steps self.old line) }
+        ensures answer { IfOk result (λ answer. answer ≡ app_answer core_courses self.old line) }
         ensures unchanged { IfOk result (λ answer. IsErrOf answer (Refusal.Script Kind.Refer) → self.new ≡ self.old) }
-        ensures after { IfOk result (λ answer. OnOk answer (self.new ≡ app_after core_steps self.old line)) }
+        ensures after { IfOk result (λ answer. OnOk answer (self.new ≡ app_after core_courses self.old line)) }
     {
         match self {
             AppPlay::Count(world) => play_line(world, line),

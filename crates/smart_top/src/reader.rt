@@ -3,7 +3,7 @@
 ghost use Rattle.std.specs.Prelude.{◌≡◌, ◌≤◌, ◌++◌, [], ◌∷◌, List, ℕ, None, IfOk, IfErr, OnOk, OnErr, IsErrOf, Option, take};
 ghost use Rattle.std.specs.Io.KnownBytes.{Appends};
 ghost use Rattle.faults.specs.Counts.{Rose, HasCause, HasWant};
-ghost use Rattle.smart_top.specs.Apps.{core_steps};
+ghost use Rattle.smart_top.specs.Apps.{core_courses};
 ghost use Rattle.world_rules.specs.Texts.{text_of};
 ghost use Rattle.smart_top.specs.Feeds.{HasTaken, Halted};
 
@@ -87,9 +87,9 @@ pub fn write_lines<O: Sink>(alloc: Global, output: &mut O, lines: &[OutLine]) ->
 /// Ends the line that has begun: it is played, and what it tells is written.
 pub fn end_line<O: Sink>(reader: &mut Reader, output: &mut O) -> Result<(), Halt>
     requires { reader.old.script.refused ≡ None }
-    ensures ok { OnOk result ((bytes : List ℕ) (written : Option (List ℕ)) → HasTaken core_steps bytes written (O.written output.old) reader.old.line reader.old.script → HasTaken core_steps (bytes ++ 10 ∷ []) written (O.written output.new) reader.new.line reader.new.script) }
+    ensures ok { OnOk result ((bytes : List ℕ) (written : Option (List ℕ)) → HasTaken core_courses bytes written (O.written output.old) reader.old.line reader.old.script → HasTaken core_courses (bytes ++ 10 ∷ []) written (O.written output.new) reader.new.line reader.new.script) }
     ensures going { OnOk result (reader.new.script.refused ≡ None) }
-    ensures halted { IfErr result (λ halt. (bytes : List ℕ) (written : Option (List ℕ)) → HasTaken core_steps bytes written (O.written output.old) reader.old.line reader.old.script → Halted core_steps bytes (10 ∷ []) written (O.written output.new) reader.new.script halt) }
+    ensures halted { IfErr result (λ halt. (bytes : List ℕ) (written : Option (List ℕ)) → HasTaken core_courses bytes written (O.written output.old) reader.old.line reader.old.script → Halted core_courses bytes (10 ∷ []) written (O.written output.new) reader.new.script halt) }
     ensures write { IsErrOf result Halt.WriteFault → Rose (O.faults output.old) (O.faults output.new) }
     ensures want { IsErrOf result Halt.SinkMemory → Rose (O.wants output.old) (O.wants output.new) }
     ensures later { (O.faults output.old ≤ O.faults output.new) × (O.wants output.old ≤ O.wants output.new) }
@@ -109,9 +109,9 @@ pub fn end_line<O: Sink>(reader: &mut Reader, output: &mut O) -> Result<(), Halt
 /// refused at once, since what follows changes nothing.
 pub fn take_byte<O: Sink>(reader: &mut Reader, output: &mut O, byte: u8) -> Result<(), Halt>
     requires { reader.old.script.refused ≡ None }
-    ensures ok { OnOk result ((bytes : List ℕ) (written : Option (List ℕ)) → HasTaken core_steps bytes written (O.written output.old) reader.old.line reader.old.script → HasTaken core_steps (bytes ++ byte ∷ []) written (O.written output.new) reader.new.line reader.new.script) }
+    ensures ok { OnOk result ((bytes : List ℕ) (written : Option (List ℕ)) → HasTaken core_courses bytes written (O.written output.old) reader.old.line reader.old.script → HasTaken core_courses (bytes ++ byte ∷ []) written (O.written output.new) reader.new.line reader.new.script) }
     ensures going { OnOk result (reader.new.script.refused ≡ None) }
-    ensures halted { IfErr result (λ halt. (bytes : List ℕ) (written : Option (List ℕ)) → HasTaken core_steps bytes written (O.written output.old) reader.old.line reader.old.script → Halted core_steps bytes (byte ∷ []) written (O.written output.new) reader.new.script halt) }
+    ensures halted { IfErr result (λ halt. (bytes : List ℕ) (written : Option (List ℕ)) → HasTaken core_courses bytes written (O.written output.old) reader.old.line reader.old.script → Halted core_courses bytes (byte ∷ []) written (O.written output.new) reader.new.script halt) }
     ensures write { IsErrOf result Halt.WriteFault → Rose (O.faults output.old) (O.faults output.new) }
     ensures want { IsErrOf result Halt.SinkMemory → Rose (O.wants output.old) (O.wants output.new) }
     ensures later { (O.faults output.old ≤ O.faults output.new) × (O.wants output.old ≤ O.wants output.new) }
@@ -130,9 +130,9 @@ pub fn take_byte<O: Sink>(reader: &mut Reader, output: &mut O, byte: u8) -> Resu
 /// Takes the bytes of a piece, in order.
 pub fn feed<O: Sink>(reader: &mut Reader, output: &mut O, piece: &[u8]) -> Result<(), Halt>
     requires { reader.old.script.refused ≡ None }
-    ensures ok { OnOk result ((bytes : List ℕ) (written : Option (List ℕ)) → HasTaken core_steps bytes written (O.written output.old) reader.old.line reader.old.script → HasTaken core_steps (bytes ++ piece.now) written (O.written output.new) reader.new.line reader.new.script) }
+    ensures ok { OnOk result ((bytes : List ℕ) (written : Option (List ℕ)) → HasTaken core_courses bytes written (O.written output.old) reader.old.line reader.old.script → HasTaken core_courses (bytes ++ piece.now) written (O.written output.new) reader.new.line reader.new.script) }
     ensures going { OnOk result (reader.new.script.refused ≡ None) }
-    ensures halted { IfErr result (λ halt. (bytes : List ℕ) (written : Option (List ℕ)) → HasTaken core_steps bytes written (O.written output.old) reader.old.line reader.old.script → Halted core_steps bytes piece.now written (O.written output.new) reader.new.script halt) }
+    ensures halted { IfErr result (λ halt. (bytes : List ℕ) (written : Option (List ℕ)) → HasTaken core_courses bytes written (O.written output.old) reader.old.line reader.old.script → Halted core_courses bytes piece.now written (O.written output.new) reader.new.script halt) }
     ensures write { IsErrOf result Halt.WriteFault → Rose (O.faults output.old) (O.faults output.new) }
     ensures want { IsErrOf result Halt.SinkMemory → Rose (O.wants output.old) (O.wants output.new) }
     ensures later { (O.faults output.old ≤ O.faults output.new) × (O.wants output.old ≤ O.wants output.new) }

@@ -1,7 +1,7 @@
 //! A script that is read line by line, each line played as it is read.
 ghost use Rattle.std.specs.Prelude.{◌≡◌, ◌+◌, ◌<◌, ◌≤◌, ◌^◌, [], false, None, Some, Ok, IfOk, OnOk};
 ghost use Rattle.world_rules.specs.Scripts.{app_line};
-ghost use Rattle.smart_top.specs.Apps.{core_steps, is_over};
+ghost use Rattle.smart_top.specs.Apps.{core_courses, is_over};
 ghost use Rattle.smart_top.specs.Readings.{unread, refusing, group_taken, app_taken, app_line_told, header_taken, header_told, line_done, told_done, line_taken, line_told, taken_at, told_at, end_at, end_told};
 
 use crate::app::AppPlay;
@@ -130,8 +130,8 @@ impl Script {
         requires open { self.old.refused ≡ None }
         requires room { self.old.count < 2 ^ 20 }
         requires start { self.old.play ≡ None }
-        ensures told { IfOk result (λ told. told ≡ told_at core_steps self.old bytes.now None) }
-        ensures taken { OnOk result (self.new ≡ taken_at core_steps self.old bytes.now None) }
+        ensures told { IfOk result (λ told. told ≡ told_at core_courses self.old bytes.now None) }
+        ensures taken { OnOk result (self.new ≡ taken_at core_courses self.old bytes.now None) }
     {
         if !is_printed(bytes) {
             return Ok(self.refuse(Refusal::Script(Kind::Byte)));
@@ -151,10 +151,10 @@ impl Script {
         requires open { self.old.refused ≡ None }
         requires room { self.old.count < 2 ^ 20 }
         requires going { is_over play ≡ false }
-        ensures told { IfOk result (λ told. told ≡ told_done core_steps play (Ok line)) }
-        ensures refused { OnOk result (self.new.refused ≡ (line_done core_steps (record self.old { play = Some play }) play (Ok line)).refused) }
-        ensures count { OnOk result (self.new.count ≡ (line_done core_steps (record self.old { play = Some play }) play (Ok line)).count) }
-        ensures whole { OnOk result ((line_done core_steps (record self.old { play = Some play }) play (Ok line)).refused ≡ None → self.new ≡ line_done core_steps (record self.old { play = Some play }) play (Ok line)) }
+        ensures told { IfOk result (λ told. told ≡ told_done core_courses play (Ok line)) }
+        ensures refused { OnOk result (self.new.refused ≡ (line_done core_courses (record self.old { play = Some play }) play (Ok line)).refused) }
+        ensures count { OnOk result (self.new.count ≡ (line_done core_courses (record self.old { play = Some play }) play (Ok line)).count) }
+        ensures whole { OnOk result ((line_done core_courses (record self.old { play = Some play }) play (Ok line)).refused ≡ None → self.new ≡ line_done core_courses (record self.old { play = Some play }) play (Ok line)) }
     {
         match play.play(line)? {
             Err(why) => Ok(self.refuse(why)),
@@ -175,10 +175,10 @@ impl Script {
         requires open { self.old.refused ≡ None }
         requires room { self.old.count < 2 ^ 20 }
         requires going { is_over play ≡ false }
-        ensures told { IfOk result (λ told. told ≡ told_at core_steps self.old bytes.now (Some play)) }
-        ensures refused { OnOk result (self.new.refused ≡ (taken_at core_steps (record self.old { play = Some play }) bytes.now (Some play)).refused) }
-        ensures count { OnOk result (self.new.count ≡ (taken_at core_steps (record self.old { play = Some play }) bytes.now (Some play)).count) }
-        ensures whole { OnOk result ((taken_at core_steps (record self.old { play = Some play }) bytes.now (Some play)).refused ≡ None → self.new ≡ taken_at core_steps (record self.old { play = Some play }) bytes.now (Some play)) }
+        ensures told { IfOk result (λ told. told ≡ told_at core_courses self.old bytes.now (Some play)) }
+        ensures refused { OnOk result (self.new.refused ≡ (taken_at core_courses (record self.old { play = Some play }) bytes.now (Some play)).refused) }
+        ensures count { OnOk result (self.new.count ≡ (taken_at core_courses (record self.old { play = Some play }) bytes.now (Some play)).count) }
+        ensures whole { OnOk result ((taken_at core_courses (record self.old { play = Some play }) bytes.now (Some play)).refused ≡ None → self.new ≡ taken_at core_courses (record self.old { play = Some play }) bytes.now (Some play)) }
     {
         match line_of(self.alloc, bytes)? {
             Err(kind) => Ok(self.refuse(Refusal::Script(kind))),
@@ -190,10 +190,10 @@ impl Script {
     #[tactic(auto, unfolding(crate::specs::Readings::line_taken, crate::specs::Readings::line_told))]
     pub fn take_line(&mut self, bytes: &[u8]) -> Result<Sequence<OutLine>, AllocError>
         requires { self.old.refused ≡ None }
-        ensures told { IfOk result (λ told. told ≡ line_told core_steps self.old bytes.now) }
-        ensures refused { OnOk result (self.new.refused ≡ (line_taken core_steps self.old bytes.now).refused) }
-        ensures count { OnOk result (self.new.count ≡ (line_taken core_steps self.old bytes.now).count) }
-        ensures whole { OnOk result ((line_taken core_steps self.old bytes.now).refused ≡ None → self.new ≡ line_taken core_steps self.old bytes.now) }
+        ensures told { IfOk result (λ told. told ≡ line_told core_courses self.old bytes.now) }
+        ensures refused { OnOk result (self.new.refused ≡ (line_taken core_courses self.old bytes.now).refused) }
+        ensures count { OnOk result (self.new.count ≡ (line_taken core_courses self.old bytes.now).count) }
+        ensures whole { OnOk result ((line_taken core_courses self.old bytes.now).refused ≡ None → self.new ≡ line_taken core_courses self.old bytes.now) }
     {
         if self.count >= LINES {
             return Ok(self.refuse(Refusal::Limit));

@@ -2,6 +2,7 @@
 ghost use Rattle.std.specs.Prelude.{◌≡◌};
 ghost use Rattle.smart_top.specs.Statuses.{code_of};
 
+use member_store::crash::NotAnImage;
 use smart_io::stream::{Sink, write_all};
 use std::alloc::{AllocError, Global};
 use std::fmt::Write;
@@ -73,12 +74,15 @@ fn kind_name(kind: Kind) -> &'static str {
     }
 }
 
-fn premise_name(which: Premise) -> &'static str {
+/// Says which premise fails: of a crash also the device and the byte that are wrong.
+fn push_premise(text: &mut String, which: Premise) -> Result<(), AllocError> {
     match which {
-        Premise::TooManyFaulty => "TooManyFaulty",
-        Premise::Forged => "Forged",
-        Premise::Collision => "Collision",
+        Premise::TooManyFaulty => text.push_str("TooManyFaulty")?,
+        Premise::Forged => text.push_str("Forged")?,
+        Premise::Collision => text.push_str("Collision")?,
+        Premise::NotAnImage(NotAnImage { device, at }) => write!(text, "NotAnImage {device}@{at}")?,
     }
+    Ok(())
 }
 
 /// What is said of a status; nothing of `Ok`.
@@ -94,8 +98,9 @@ fn text_of(alloc: Global, status: Status) -> Result<String, AllocError> {
         Status::ReadFault => text.push_str("smart: read fault\n")?,
         Status::WriteFault => text.push_str("smart: write fault\n")?,
         Status::Premise { line, which } => {
-            let which = premise_name(which);
-            write!(&mut text, "smart: line {line}: premise {which}\n")?;
+            write!(&mut text, "smart: line {line}: premise ")?;
+            push_premise(&mut text, which)?;
+            text.push_str("\n")?;
         }
         Status::Limit { line } => write!(&mut text, "smart: line {line}: limit\n")?,
         Status::NoMemory => text.push_str("smart: no memory\n")?,

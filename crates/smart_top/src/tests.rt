@@ -1,12 +1,13 @@
 //! Runs over inputs and outputs in memory.
 mod apps;
+mod crashes;
 mod disks;
 mod faulty;
 
 use crate::status::{Status, report};
 use crate::top::run;
 use smart_io::memory::{MemSink, MemSource};
-use std::alloc::Global;
+use std::alloc::{AllocError, Global};
 use std::process::Abort;
 use std::test::Fail;
 use world_rules::line::Kind;
@@ -60,12 +61,34 @@ end 4 5\n";
 
 const FOUR: &[u8] = b"group 4 1\napp count\nask 1 5\nflow\n";
 
+const LONE: &[u8] = b"group 1 0\napp count\nask 1 5\nflow\n";
+
+/// The line that a group of four begins with.
+const OF_FOUR: &[u8] = b"group 4 1 count 1024\n";
+
 /// How a run ended, what it wrote and what it said.
 #[derive(Drop)]
 struct Ending {
     status: Status,
     written: Vec<u8>,
     said: Vec<u8>,
+}
+
+/// Runs words over an input and outputs in memory.
+fn run_over(
+    rt: &HostRuntime,
+    words: &[String],
+    input: &mut MemSource,
+    output: &mut MemSink,
+    errors: &mut MemSink,
+) -> Status {
+    run(rt, rt.alloc(), words, input, output, errors)
+}
+
+fn words_of(alloc: Global, word: &str) -> Result<Vec<String>, AllocError> {
+    let mut words = Vec::new(alloc);
+    words.push(String::from_str(alloc, word)?)?;
+    Ok(words)
 }
 
 /// Runs `word` over a script, where these calls of the input and of the output fail.
@@ -77,19 +100,11 @@ fn run_word(
     writes: &[u64],
 ) -> Result<Ending, Fail> {
     let alloc: Global = rt.alloc();
-    let mut words = Vec::new(alloc);
-    words.push(String::from_str(alloc, word)?)?;
+    let words = words_of(alloc, word)?;
     let mut input = MemSource::new(script.to_vec(alloc)?, reads.to_vec(alloc)?);
     let mut output = MemSink::new(Vec::new(alloc), writes.to_vec(alloc)?);
     let mut errors = MemSink::new(Vec::new(alloc), Vec::new(alloc));
-    let status = run(
-        rt,
-        alloc,
-        words.as_slice(),
-        &mut input,
-        &mut output,
-        &mut errors,
-    );
+    let status = run_over(rt, words.as_slice(), &mut input, &mut output, &mut errors);
     Ok(Ending {
         status,
         written: output.bytes,
@@ -97,80 +112,77 @@ fn run_word(
     })
 }
 
+/// How a run is to end, and what it is to write and to say.
+fn is_ended(rt: &impl Abort, ending: &Ending, status: Status, written: &[u8], said: &[u8]) {
+    assert_eq!(rt; ending.status, status);
+    assert_eq!(rt; ending.written.as_slice(), written);
+    assert_eq!(rt; ending.said.as_slice(), said);
+}
+
 #[test]
 fn asks_are_answered(rt: HostRuntime) -> Result<(), Fail> {
-    let four = run_word(&rt, "world", FOUR, &[], &[])?;
-    assert_eq!(rt; four.status, Status::Ok);
-    assert_eq!(rt; four.written.as_slice(), ONE_ASK);
-    assert_eq!(rt; four.said.len(), 0);
-    let lone = run_word(
-        &rt,
-        "world",
-        b"group 1 0\napp count\nask 1 5\nflow\n",
-        &[],
-        &[],
-    )?;
-    assert_eq!(rt; lone.status, Status::Ok);
-    assert_eq!(rt; lone.written.as_slice(), LONE_MEMBER);
-    // Comments and empty lines count and do nothing, and the last line may lack its line feed.
+    for (script, transcript) in [(FOUR, ONE_ASK), (LONE, LONE_MEMBER)] {
+        let ending = run_word(&rt, "world", script, &[], &[])?;
+        is_ended(&rt, &ending, Status::Ok, transcript, b"");
+    }
+    Ok(())
+}
+
+/// Comments and empty lines count and do nothing, and the last line may lack its line feed.
+#[test]
+fn comments_do_nothing(rt: HostRuntime) -> Result<(), Fail> {
     let script = b"# one member\n\ngroup 1 0\napp count\nask 1 5\nflow";
     let commented = run_word(&rt, "world", script, &[], &[])?;
+    let written = commented.written.as_slice();
     assert_eq!(rt; commented.status, Status::Ok);
-    assert_eq!(rt; commented.written.len(), LONE_MEMBER.len());
-    let (_, end) = commented
-        .written
-        .as_slice()
-        .split_at(commented.written.len().saturating_sub(8));
+    assert_eq!(rt; written.len(), LONE_MEMBER.len());
+    let (_, end) = written.split_at(written.len().saturating_sub(8));
     assert_eq!(rt; end, b"end 6 5\n".as_slice());
     Ok(())
 }
 
+fn refusal(line: u64, kind: Kind) -> Status {
+    Status::Script { line, kind }
+}
+
+/// What fails where calls of the input and of the output fail.
 #[test]
-fn ends_have_their_causes(rt: HostRuntime) -> Result<(), Fail> {
+fn faults_have_their_causes(rt: HostRuntime) -> Result<(), Fail> {
     let read = run_word(&rt, "world", FOUR, &[1], &[])?;
-    assert_eq!(rt; read.status, Status::ReadFault);
-    assert_eq!(rt; read.written.len(), 0);
-    assert_eq!(rt; read.said.as_slice(), b"smart: read fault\n".as_slice());
+    is_ended(&rt, &read, Status::ReadFault, b"", b"smart: read fault\n");
     // Each line is written and then flushed: the third call is the second write.
     let write = run_word(&rt, "world", FOUR, &[], &[3])?;
-    assert_eq!(rt; write.status, Status::WriteFault);
-    assert_eq!(rt;
-        write.written.as_slice(),
-        b"group 4 1 count 1024\n".as_slice()
-    );
-    assert_eq!(rt; write.said.as_slice(), b"smart: write fault\n".as_slice());
-    let line = run_word(
+    is_ended(
         &rt,
-        "world",
-        b"group 4 1\napp count\nflows\nflow\n",
-        &[],
-        &[],
-    )?;
-    assert_eq!(rt;
-        line.status,
-        Status::Script {
-            line: 3,
-            kind: Kind::Word
-        }
+        &write,
+        Status::WriteFault,
+        OF_FOUR,
+        b"smart: write fault\n",
     );
-    assert_eq!(rt;
-        line.written.as_slice(),
-        b"group 4 1 count 1024\n".as_slice()
+    Ok(())
+}
+
+#[test]
+fn refusals_have_their_causes(rt: HostRuntime) -> Result<(), Fail> {
+    let script = b"group 4 1\napp count\nflows\nflow\n";
+    let line = run_word(&rt, "world", script, &[], &[])?;
+    is_ended(
+        &rt,
+        &line,
+        refusal(3, Kind::Word),
+        OF_FOUR,
+        b"smart: line 3: Word\n",
     );
-    assert_eq!(rt; line.said.as_slice(), b"smart: line 3: Word\n".as_slice());
     let header = run_word(&rt, "world", b"group 4 1\n", &[], &[])?;
-    assert_eq!(rt;
-        header.status,
-        Status::Script {
-            line: 2,
-            kind: Kind::Empty
-        }
+    is_ended(
+        &rt,
+        &header,
+        refusal(2, Kind::Empty),
+        b"",
+        b"smart: line 2: Empty\n",
     );
-    assert_eq!(rt; header.written.len(), 0);
     let words = run_word(&rt, "word", FOUR, &[], &[])?;
-    assert_eq!(rt; words.status, Status::Words);
-    assert_eq!(rt; words.written.len(), 0);
-    assert_eq!(rt; words.said.as_slice(), b"smart: bad words\n".as_slice());
+    is_ended(&rt, &words, Status::Words, b"", b"smart: bad words\n");
     Ok(())
 }
 
@@ -479,6 +491,12 @@ fn bad_lines_are_told(rt: HostRuntime) -> Result<(), Fail> {
         ("flow 2 x", Kind::Number, "smart: line 5: Number\n"),
         ("deliver 1 ", Kind::Number, "smart: line 5: Number\n"),
         ("settle 01", Kind::Number, "smart: line 5: Number\n"),
+        ("crash 1", Kind::Count, "smart: line 5: Count\n"),
+        ("restart", Kind::Count, "smart: line 5: Count\n"),
+        ("crash 0 old", Kind::Number, "smart: line 5: Number\n"),
+        ("restart al", Kind::Number, "smart: line 5: Number\n"),
+        ("crash all older", Kind::Form, "smart: line 5: Form\n"),
+        ("crash 1 old 0@0=0", Kind::Form, "smart: line 5: Form\n"),
     ] {
         let refused = run_behind_four(&rt, line.as_bytes())?;
         is_refused(&rt, &refused, kind, said);
@@ -490,11 +508,22 @@ fn bad_lines_are_told(rt: HostRuntime) -> Result<(), Fail> {
         "flow 1 2",
         "deliver 1 2",
         "settle 2",
+        "crash 2 old",
+        "restart 2",
     ] {
         let refused = run_behind_four(&rt, line.as_bytes())?;
         is_refused(&rt, &refused, Kind::Refer, "smart: line 5: Refer\n");
     }
     Ok(())
+}
+
+/// A text, and so often a byte behind it.
+fn long_text(alloc: Global, start: &[u8], count: usize, byte: u8) -> Result<Vec<u8>, AllocError> {
+    let mut text = start.to_vec(alloc)?;
+    for _ in 0..count {
+        text.push(byte)?;
+    }
+    Ok(text)
 }
 
 #[test]
@@ -506,10 +535,7 @@ fn long_lines_are_told(rt: HostRuntime) -> Result<(), Fail> {
         ("ask x ", 65530, "\t", Kind::Byte, "smart: line 5: Byte\n"),
         ("ask 1 ", 65531, "\t", Kind::Long, "smart: line 5: Long\n"),
     ] {
-        let mut line = Vec::from_slice(rt.alloc(), start.as_bytes())?;
-        for _ in 0..count {
-            line.push(b'5')?;
-        }
+        let mut line = long_text(rt.alloc(), start.as_bytes(), count, b'5')?;
         line.extend_from_slice(end.as_bytes())?;
         let refused = run_behind_four(&rt, line.as_slice())?;
         is_refused(&rt, &refused, kind, said);
@@ -519,18 +545,9 @@ fn long_lines_are_told(rt: HostRuntime) -> Result<(), Fail> {
 
 #[test]
 fn lines_have_a_limit(rt: HostRuntime) -> Result<(), Fail> {
-    let mut script = Vec::new(rt.alloc());
-    for _ in 0..(1 << 20) {
-        script.push(b'\n')?;
-    }
+    let mut script = long_text(rt.alloc(), b"", 1 << 20, b'\n')?;
     let full = run_word(&rt, "world", script.as_slice(), &[], &[])?;
-    assert_eq!(rt;
-        full.status,
-        Status::Script {
-            line: 1048577,
-            kind: Kind::Empty
-        }
-    );
+    assert_eq!(rt; full.status, refusal(1048577, Kind::Empty));
     script.push(b'\n')?;
     let over = run_word(&rt, "world", script.as_slice(), &[], &[])?;
     assert_eq!(rt; over.status, Status::Limit { line: 1048577 });
@@ -543,43 +560,37 @@ fn lines_have_a_limit(rt: HostRuntime) -> Result<(), Fail> {
 
 #[test]
 fn a_long_line_is_refused_before_it_ends(rt: HostRuntime) -> Result<(), Fail> {
-    let mut script = Vec::new(rt.alloc());
-    for byte in b"group 4 1\napp count\n" {
-        script.push(*byte)?;
-    }
-    for _ in 0..70000 {
-        script.push(b'a')?;
-    }
+    let script = long_text(rt.alloc(), b"group 4 1\napp count\n", 70000, b'a')?;
     // The 18th read would fail: the line is refused with the 17th.
     let long = run_word(&rt, "world", script.as_slice(), &[18], &[])?;
-    assert_eq!(rt;
-        long.status,
-        Status::Script {
-            line: 3,
-            kind: Kind::Long
-        }
+    is_ended(
+        &rt,
+        &long,
+        refusal(3, Kind::Long),
+        OF_FOUR,
+        b"smart: line 3: Long\n",
     );
-    assert_eq!(rt;
-        long.written.as_slice(),
-        b"group 4 1 count 1024\n".as_slice()
-    );
-    assert_eq!(rt; long.said.as_slice(), b"smart: line 3: Long\n".as_slice());
-    // A comment of 65,536 bytes counts, and one of a byte more has no meaning.
-    let mut comments = Vec::new(rt.alloc());
+    Ok(())
+}
+
+/// A comment of 65,536 bytes, and one of a byte more.
+fn two_comments(alloc: Global) -> Result<Vec<u8>, AllocError> {
+    let mut comments = Vec::new(alloc);
     for length in 65536..65538 {
         for _ in 0..length {
             comments.push(b'#')?;
         }
         comments.push(b'\n')?;
     }
+    Ok(comments)
+}
+
+/// A comment of 65,536 bytes counts, and one of a byte more has no meaning.
+#[test]
+fn a_longer_comment_is_refused(rt: HostRuntime) -> Result<(), Fail> {
+    let comments = two_comments(rt.alloc())?;
     let second = run_word(&rt, "world", comments.as_slice(), &[], &[])?;
-    assert_eq!(rt;
-        second.status,
-        Status::Script {
-            line: 2,
-            kind: Kind::Long
-        }
-    );
+    assert_eq!(rt; second.status, refusal(2, Kind::Long));
     Ok(())
 }
 

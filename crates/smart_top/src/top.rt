@@ -2,7 +2,7 @@
 ghost use Rattle.std.specs.Prelude.{◌≡◌, ◌<◌, ◌≤◌, ◌++◌, ◌↔◌, length, List, ℕ, IsTrue, IsErrOf, IfErr, IfOk, Option, None, [], true, false, map, string_bytes};
 ghost use Rattle.std.specs.Io.KnownBytes.{IsAtEnd};
 ghost use Rattle.faults.specs.Counts.{Rose};
-ghost use Rattle.smart_top.specs.Apps.{core_steps};
+ghost use Rattle.smart_top.specs.Apps.{core_courses};
 ghost use Rattle.smart_top.specs.Readings.{end_of, script_lines, whole_lines};
 ghost use Rattle.smart_top.specs.Feeds.{HasTaken, GoesOn, GoesOnBehind, halt_end};
 ghost use Rattle.smart_top.specs.Runs.{IsLeft, RunEnd, is_command};
@@ -65,7 +65,7 @@ pub fn is_command(words: &[String]) -> bool
 /// Ends a script whose lines were all taken: the end is told and written.
 fn close<O: Sink>(reader: &Reader, output: &mut O) -> Status
     ensures ended { (bytes input : List ℕ) (left left' written : Option (List ℕ)) (wants : ℕ) → script_lines input ≡ whole_lines [] bytes → IsLeft left input → IsAtEnd left'
-        → HasTaken core_steps bytes written (O.written output.old) reader.now.line reader.now.script → wants ≤ O.wants output.old
+        → HasTaken core_courses bytes written (O.written output.old) reader.now.line reader.now.script → wants ≤ O.wants output.old
         → RunEnd left left' written (O.written output.new) wants (O.wants output.new) result }
     ensures read { result ≡ Status.ReadFault → ⊥ }
     ensures write { result ≡ Status.WriteFault → Rose (O.faults output.old) (O.faults output.new) }
@@ -85,7 +85,7 @@ fn close<O: Sink>(reader: &Reader, output: &mut O) -> Status
 fn finish<O: Sink>(reader: &mut Reader, output: &mut O) -> Status
     requires { reader.old.script.refused ≡ None }
     ensures ended { (bytes : List ℕ) (left left' written : Option (List ℕ)) (wants : ℕ) → IsLeft left bytes → IsAtEnd left'
-        → HasTaken core_steps bytes written (O.written output.old) reader.old.line reader.old.script → wants ≤ O.wants output.old
+        → HasTaken core_courses bytes written (O.written output.old) reader.old.line reader.old.script → wants ≤ O.wants output.old
         → RunEnd left left' written (O.written output.new) wants (O.wants output.new) result }
     ensures read { result ≡ Status.ReadFault → ⊥ }
     ensures write { result ≡ Status.WriteFault → Rose (O.faults output.old) (O.faults output.new) }
@@ -109,9 +109,9 @@ fn take_piece<I: Source, O: Sink>(
 ) -> Result<bool, Status>
     requires room { 0 < length buffer.old }
     requires going { reader.old.script.refused ≡ None }
-    ensures more { IfOk result (λ more. more ≡ true → reader.new.script.refused ≡ None × ((bytes : List ℕ) (left written : Option (List ℕ)) → GoesOn core_steps bytes left (I.left input.old) written (O.written output.old) reader.old.line reader.old.script → GoesOnBehind core_steps bytes left (I.left input.new) written (O.written output.new) reader.new.line reader.new.script)) }
-    ensures none { IfOk result (λ more. more ≡ false → IsAtEnd (I.left input.new) × (reader.new ≡ reader.old) × (output.new ≡ output.old) × ((bytes : List ℕ) (left written : Option (List ℕ)) → GoesOn core_steps bytes left (I.left input.old) written (O.written output.old) reader.old.line reader.old.script → GoesOn core_steps bytes left (I.left input.new) written (O.written output.new) reader.new.line reader.new.script)) }
-    ensures ended { IfErr result (λ status. (bytes : List ℕ) (left written : Option (List ℕ)) (wants : ℕ) → GoesOn core_steps bytes left (I.left input.old) written (O.written output.old) reader.old.line reader.old.script → wants ≤ O.wants output.old → RunEnd left (I.left input.new) written (O.written output.new) wants (O.wants output.new) status) }
+    ensures more { IfOk result (λ more. more ≡ true → reader.new.script.refused ≡ None × ((bytes : List ℕ) (left written : Option (List ℕ)) → GoesOn core_courses bytes left (I.left input.old) written (O.written output.old) reader.old.line reader.old.script → GoesOnBehind core_courses bytes left (I.left input.new) written (O.written output.new) reader.new.line reader.new.script)) }
+    ensures none { IfOk result (λ more. more ≡ false → IsAtEnd (I.left input.new) × (reader.new ≡ reader.old) × (output.new ≡ output.old) × ((bytes : List ℕ) (left written : Option (List ℕ)) → GoesOn core_courses bytes left (I.left input.old) written (O.written output.old) reader.old.line reader.old.script → GoesOn core_courses bytes left (I.left input.new) written (O.written output.new) reader.new.line reader.new.script)) }
+    ensures ended { IfErr result (λ status. (bytes : List ℕ) (left written : Option (List ℕ)) (wants : ℕ) → GoesOn core_courses bytes left (I.left input.old) written (O.written output.old) reader.old.line reader.old.script → wants ≤ O.wants output.old → RunEnd left (I.left input.new) written (O.written output.new) wants (O.wants output.new) status) }
     ensures read { IsErrOf result Status.ReadFault → Rose (I.faults input.old) (I.faults input.new) }
     ensures write { IsErrOf result Status.WriteFault → Rose (O.faults output.old) (O.faults output.new) }
     ensures later { (I.faults input.old ≤ I.faults input.new) × (O.faults output.old ≤ O.faults output.new) × (O.wants output.old ≤ O.wants output.new) }
@@ -156,6 +156,20 @@ pub fn play_script<I: Source, O: Sink>(alloc: Global, input: &mut I, output: &mu
 
 /// Runs the program: `world` reads a script from the input and writes its transcript to the
 /// output. Of a status other than `Ok` a line is said on `errors`, whose faults change nothing.
+///
+/// Whatever script is played, of deliveries in any order, losses, repeats, time that passes at any
+/// member, changes of the regency, up to f faulty members, rogue clients, and crashes of any members
+/// or of all at once, between any two device calls, with any image that the model of disks allows:
+/// - the members deliver fronts of one list of batches, which only grows,
+/// - each reply that a client accepts, if it is not rogue, is the service's answer at its request's
+///   one place in that list, past every place that the client knew when it asked,
+/// - whatever crashes leave of the devices, each member goes on from a front of that list: no entry
+///   of its own is damaged, and none that was firm is lost,
+/// - the place of such a reply is kept: whatever crashes leave of all devices at once, more than f
+///   members that are not faulty restore it.
+///
+/// A crash with any other image ends the play, as a forged statement, a collision and one faulty
+/// member too many do.
 pub fn run<H, I: Source, O: Sink, E: Sink>(
     _rt: &H,
     alloc: Global,
@@ -167,7 +181,7 @@ pub fn run<H, I: Source, O: Sink, E: Sink>(
     // The words are no command exactly where the status says so; nothing is read or written then.
     ensures words { (result ≡ Status.Words) ↔ (is_command (map string_bytes words.now) ≡ false) }
     ensures untouched { result ≡ Status.Words → (input.new ≡ input.old) × (output.new ≡ output.old) }
-    // What was read and written, by the status; one list holds of it.
+    // What was read and written, by the status; one list holds of it, crashes or not.
     ensures ended { is_command (map string_bytes words.now) ≡ true → RunEnd (I.left input.old) (I.left input.new) (O.written output.old) (O.written output.new) (O.wants output.old) (O.wants output.new) result }
     // Faults come only where their count rose.
     ensures read { result ≡ Status.ReadFault → Rose (I.faults input.old) (I.faults input.new) }

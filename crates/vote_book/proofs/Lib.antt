@@ -7,3 +7,4 @@ pub mod Reports
 pub mod Tested
 pub mod Pending
 pub mod Tidy
+pub mod Standing

@@ -8,6 +8,9 @@ use Rattle.vote_book.specs.declared.book.index.BookIndex.{BookIndex}
 use Rattle.vote_book.specs.Books.{number_or, place_made, latest_made, last_made}
 use Rattle.vote_book.specs.Admission.{writes_in, accepts_in, makes, forbids, begins}
 use Rattle.vote_book.specs.BookIndex.{IsIndexOf, Adds, open_behind, entry_at, maker_behind}
+use Rattle.vote_book.specs.Standing.{start_by}
+use Rattle.vote_book.specs.declared.entry.Start.{Start}
+use Rattle.vote_book.proofs.Standing.{start_push}
 use Rattle.vote_book.proofs.Last.{latest_push, last_push}
 use Rattle.vote_book.proofs.Reports.{maker_push, maker_within, open_push}
 
@@ -42,6 +45,7 @@ added entries e old new is adds = record {
       ∙ (ap (λ (n : ℕ). open_behind (length entries) n e old.pending) is.last
       ∙ (ap (λ (xs : List OpenAccept). open_behind (length entries) (last_made entries) e xs) is.pending ∙ sym (open_push entries e)));
   begun = λ slot digest. adds.begun slot digest ∙ (ap (λ b. b || begins slot digest e) (is.begun slot digest) ∙ sym (any_push (begins slot digest) entries e));
+  starts = λ view regency. adds.starts view regency ∙ (ap (λ (o : Option Start). or_else o (start_by view regency e)) (is.starts view regency) ∙ sym (start_push view regency entries e));
 }
 
 -- what a list has at least it has with one more

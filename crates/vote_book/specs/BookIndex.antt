@@ -12,6 +12,7 @@ use Rattle.vote_book.specs.declared.book.index.BookIndex.{BookIndex}
 use Rattle.vote_book.specs.Books.{number_or, place_made, latest_made, last_made}
 use Rattle.vote_book.specs.Admission.{writes_in, accepts_in, makes, is_below, forbids, lets, begins, is_above}
 use Rattle.vote_book.specs.BookReports.{last_maker}
+use Rattle.vote_book.specs.Standing.{start_by, first_start, start_under}
 
 -- a slot as the key of a set: its view, place and regency
 abbrev pub is_key : Slot → ℕ × ℕ × ℕ → Bool
@@ -127,6 +128,7 @@ pub record IsIndexOf (entries : List LogEntry) (x : BookIndex) : Type 0 where
   pub last : x.last ≡ last_made entries
   pub promised : (slot : Slot) → is_promised x.promised slot ≡ list_any (forbids slot) entries
   pub begun : (slot : Slot) (digest : List ℕ) → list_any (lets slot digest) x.begun ≡ list_any (begins slot digest) entries
+  pub starts : (view regency : ℕ) → start_under view regency x.starts ≡ first_start view regency entries
   pub maker : entry_at x.maker entries ≡ last_maker entries
   pub maker_within : IfSome x.maker (λ index. index < length entries)
   pub pending : x.pending ≡ filter (is_open (last_made entries)) (accepts_from 0 entries)
@@ -140,5 +142,6 @@ pub record Adds (index : ℕ) (entry : LogEntry) (old new : BookIndex) : Type 0 
   pub last : new.last ≡ max old.last (number_or (place_made entry) 0)
   pub promised : (slot : Slot) → is_promised new.promised slot ≡ (is_promised old.promised slot || forbids slot entry)
   pub begun : (slot : Slot) (digest : List ℕ) → list_any (lets slot digest) new.begun ≡ (list_any (lets slot digest) old.begun || begins slot digest entry)
+  pub starts : (view regency : ℕ) → start_under view regency new.starts ≡ or_else (start_under view regency old.starts) (start_by view regency entry)
   pub maker : new.maker ≡ maker_behind index old.latest old.last (place_made entry) old.maker
   pub pending : new.pending ≡ open_behind index old.last entry old.pending

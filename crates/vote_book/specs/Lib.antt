@@ -3,4 +3,5 @@ pub mod BookIndex
 pub mod BookReports
 pub mod Books
 pub mod Entries
+pub mod Standing
 pub mod Tidy

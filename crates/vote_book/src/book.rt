@@ -1,23 +1,26 @@
 //! A member's book.
-ghost use Rattle.std.specs.Prelude.{◌≡◌, ◌-◌, ◌<◌, ◌||◌, Some, nat_le, slice_get, filter_map, option_copied, OnOk, OnErr};
+ghost use Rattle.std.specs.Prelude.{◌≡◌, ◌+◌, ◌-◌, ◌<◌, ◌||◌, Some, nat_le, slice_get, filter_map, option_copied, OnOk, OnErr};
 ghost use Rattle.std.specs.List.{list_any};
 ghost use Rattle.vote_book.specs.Books.{begun, pushed, ended, restored_of, latest_made, last_made};
 ghost use Rattle.vote_book.specs.Admission.{writes_in, accepts_in, makes, forbids, begins, may_vote, follows, is_above, may_install, admits_next};
 ghost use Rattle.vote_book.specs.BookIndex.{as_accept, accept_found};
 ghost use Rattle.vote_book.specs.BookReports.{last_maker, accept_for, lock_of};
+ghost use Rattle.vote_book.specs.Standing.{first_start, own_votes};
 ghost use Rattle.vote_book.specs.declared.entry.LogEntry.{LogEntry};
 
 mod accepts;
 mod index;
 mod sets;
+mod starts;
 #[cfg(test)]
 mod tests;
 
 use crate::book::accepts::OpenAccept;
 use crate::book::index::BookIndex;
-use crate::entry::{Accept, LogEntry};
+use crate::entry::{Accept, LogEntry, Start};
+use crate::votes::OwnVotes;
 use smart_base::bytes::Digest32;
-use smart_base::number::{Place, ViewNo};
+use smart_base::number::{Place, Regency, ViewNo};
 use smart_messages::statement::Slot;
 use std::alloc::{AllocError, Global};
 use std::marker::Model;
@@ -151,6 +154,36 @@ impl Book {
         ensures { result ≡ list_any (accepts_in slot.now) self.now.entries }
     {
         self.index.accepted.has(slot)
+    }
+
+    /// What the member has voted in a regency of a view at a place, which may be past the last that
+    /// there is. It takes no memory, and walks no entries.
+    pub fn votes_at(&self, view: ViewNo, place: u64, regency: Regency) -> OwnVotes
+        ensures { result ≡ own_votes (record { view = view; place = place; regency = regency }) self.now.entries }
+    {
+        OwnVotes {
+            wrote: self.has_written_at(view, place, regency),
+            accepted: self.has_accepted_at(view, place, regency),
+        }
+    }
+
+    fn has_written_at(&self, view: ViewNo, place: u64, regency: Regency) -> bool
+        ensures { result ≡ list_any (writes_in (record { view = view; place = place; regency = regency })) self.now.entries }
+    {
+        self.index.written.has_at(view, place, regency)
+    }
+
+    fn has_accepted_at(&self, view: ViewNo, place: u64, regency: Regency) -> bool
+        ensures { result ≡ list_any (accepts_in (record { view = view; place = place; regency = regency })) self.now.entries }
+    {
+        self.index.accepted.has_at(view, place, regency)
+    }
+
+    /// The first beginning of a regency of a view. It takes no memory, and walks no entries.
+    pub fn start_in(&self, view: ViewNo, regency: Regency) -> Option<&Start>
+        ensures { option_copied result ≡ first_start view regency self.now.entries }
+    {
+        self.index.starts.get(view, regency)
     }
 
     fn may_decide(&self, place: Place) -> bool

@@ -7,3 +7,4 @@ pub mod entry;
 pub mod laws;
 #[cfg(test)]
 mod tests;
+pub mod votes;

@@ -2,10 +2,8 @@
 use Rattle.std.proofs.Common.{◌≡◌, ℕ, Bool, List, [], ◌∷◌, Option, Some, refl, ap}
 use Rattle.std.specs.Prelude.{slice_get}
 use Rattle.smart_messages.specs.declared.entry.NodeEvent.{NodeEvent}
-use Rattle.node_rules.specs.Nodes.{Node}
-use Rattle.node_rules.specs.Steps.{Outcome}
 use Rattle.node_rules.specs.declared.node.Fired.{Fired}
-use Rattle.world_rules.specs.Worlds.{Host, World, stepped, telling_all, told_idle}
+use Rattle.world_rules.specs.Worlds.{Course, Host, World, stepped, telling_all, told_idle}
 use Rattle.world_rules.specs.declared.line.OutLine.{OutLine}
 use Rattle.world_core.specs.Idling.{steps, tries, is_idle, is_idle_at, idle_lines}
 
@@ -15,9 +13,9 @@ told_idle_is id [] = refl
 told_idle_is id (rule ∷ rules) = refl
 
 -- an event at an index, by what each part of it says
-pub tried_at : {S : Type 0} (step : Node S → NodeEvent → Outcome S) (i : ℕ) (event : NodeEvent) (w x w' : World S) (h : Host S) (id : ℕ) (idle : Bool)
-    → slice_get w.hosts i ≡ Some h → id ≡ h.node.id → idle ≡ is_idle_at step event (slice_get w.hosts i) → x ≡ steps step i event w (slice_get w.hosts i)
-    → w' ≡ telling_all x (idle_lines id idle) → w' ≡ tries step i event w (slice_get w.hosts i)
-tried_at step i event w x w' h id idle there id_is idle_is x_is is =
+pub tried_at : {S : Type 0} (course : Course S) (i : ℕ) (event : NodeEvent) (w x w' : World S) (h : Host S) (id : ℕ) (idle : Bool)
+    → slice_get w.hosts i ≡ Some h → id ≡ h.node.id → idle ≡ is_idle_at course event (slice_get w.hosts i) → x ≡ steps course i event w (slice_get w.hosts i)
+    → w' ≡ telling_all x (idle_lines id idle) → w' ≡ tries course i event w (slice_get w.hosts i)
+tried_at course i event w x w' h id idle there id_is idle_is x_is is =
     rw (is, x_is, idle_is, id_is, there)
-    (ap (λ (lines : List OutLine). telling_all (stepped w i h (step h.node event)) lines) (told_idle_is h.node.id (step h.node event).fired))
+    (ap (λ (lines : List OutLine). telling_all (stepped course w i h (course.step h.node event)) lines) (told_idle_is h.node.id (course.step h.node event).fired))

@@ -6,3 +6,4 @@ pub mod Asking
 pub mod Idling
 pub mod Giving
 pub mod Calling
+pub mod Stopping

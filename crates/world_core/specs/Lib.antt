@@ -3,3 +3,4 @@ pub mod Idling
 pub mod Asking
 pub mod Standing
 pub mod Calling
+pub mod Crashes

@@ -1,9 +1,9 @@
 //! Events of nodes: what is due at them, and what is given to those that a line lists.
-ghost use Rattle.std.specs.Prelude.{◌≡◌, ◌<◌, IfOk, OnOk, length, slice_get, false};
-ghost use Rattle.node_rules.specs.Kept.{core_step};
-ghost use Rattle.world_rules.specs.Worlds.{told_absent, settle_present, node_takes, calls_disk, settle_once, settle, settle_all, give_all, give_one, is_listed, at_listed, at_index, host_index, telling_all};
+ghost use Rattle.std.specs.Prelude.{◌≡◌, ◌<◌, true, IfOk, OnOk, length, slice_get, false};
+ghost use Rattle.world_rules.specs.Worlds.{core_course, told_absent, settle_present, node_takes, calls_disk, settle_once, settle, settle_all, give_all, give_one, is_listed, at_listed, at_index, host_index, telling_all};
 ghost use Rattle.world_rules.specs.Repeats.{repeated};
 ghost use Rattle.world_core.specs.Calling.{steps_if, calls};
+ghost use Rattle.world_core.specs.Crashes.{runs};
 ghost use Rattle.world_core.specs.Idling.{steps, is_idle_at};
 
 use crate::host::{call_disk, host_index, is_among, step_host};
@@ -23,12 +23,13 @@ fn is_listed(members: &[MemberId], member: MemberId) -> bool
 }
 
 impl<S: Service> WorldState<S> {
-    /// The step of the node at an index, which is not gone. Whether no rule fired is given.
+    /// The step of the node at an index, which runs. Whether no rule fired is given.
     #[tactic(auto, unfolding(world_rules::specs::Worlds::stepped))]
     pub(crate) fn step_at(&mut self, i: usize, event: &NodeEvent) -> Result<bool, AllocError>
-        requires { i < length self.old.hosts }
-        ensures world { OnOk result (self.new ≡ steps (core_step S.meaning) i event.now self.old (slice_get self.old.hosts i)) }
-        ensures idle { IfOk result (λ idle. idle ≡ is_idle_at (core_step S.meaning) event.now (slice_get self.old.hosts i)) }
+        requires within { i < length self.old.hosts }
+        requires up { runs (slice_get self.old.hosts i) ≡ true }
+        ensures world { OnOk result (self.new ≡ steps (core_course S.meaning) i event.now self.old (slice_get self.old.hosts i)) }
+        ensures idle { IfOk result (λ idle. idle ≡ is_idle_at (core_course S.meaning) event.now (slice_get self.old.hosts i)) }
     {
         let id = self.hosts[i].id();
         let left = step_host(
@@ -42,25 +43,25 @@ impl<S: Service> WorldState<S> {
         Ok(left.idle)
     }
 
-    /// The node at an index takes an event, unless it is gone.
+    /// The node at an index takes an event, if it runs.
     #[tactic(auto, unfolding(world_rules::specs::Worlds::node_takes))]
     pub(crate) fn node_takes(&mut self, i: usize, event: &NodeEvent) -> Result<(), AllocError>
-        ensures { OnOk result (self.new ≡ node_takes (core_step S.meaning) i event.now self.old) }
+        ensures { OnOk result (self.new ≡ node_takes (core_course S.meaning) i event.now self.old) }
     {
         if self.ending.is_some() || i >= self.hosts.len() {
             return Ok(());
         }
-        let id = self.hosts[i].id();
-        if !self.is_gone(id) {
+        if self.is_up(&self.hosts[i]) {
             let _ = self.step_at(i, event)?;
         }
         Ok(())
     }
 
-    /// The node at an index, which is not gone, takes an event, if there is one.
+    /// The node at an index, which runs, takes an event, if there is one.
     fn step_if(&mut self, i: usize, event: &Option<NodeEvent>) -> Result<(), AllocError>
-        requires { i < length self.old.hosts }
-        ensures { OnOk result (self.new ≡ steps_if (core_step S.meaning) i self.old (slice_get self.old.hosts i) event.now) }
+        requires within { i < length self.old.hosts }
+        requires up { runs (slice_get self.old.hosts i) ≡ true }
+        ensures { OnOk result (self.new ≡ steps_if (core_course S.meaning) i self.old (slice_get self.old.hosts i) event.now) }
     {
         if let Some(event) = event {
             let _ = self.step_at(i, event)?;
@@ -68,12 +69,13 @@ impl<S: Service> WorldState<S> {
         Ok(())
     }
 
-    /// The store at an index makes its next device call, and its node, which is not gone, hears what is
-    /// firm then.
+    /// The store at an index makes its next device call, and its node, which runs, hears what is firm
+    /// then.
     #[tactic(auto, using(crate::proofs::Calling::called_then))]
     fn call_at(&mut self, i: usize) -> Result<(), AllocError>
-        requires { i < length self.old.hosts }
-        ensures { OnOk result (self.new ≡ calls (core_step S.meaning) i self.old (slice_get self.old.hosts i)) }
+        requires within { i < length self.old.hosts }
+        requires up { runs (slice_get self.old.hosts i) ≡ true }
+        ensures { OnOk result (self.new ≡ calls (core_course S.meaning) i self.old (slice_get self.old.hosts i)) }
     {
         let event = call_disk(&mut self.hosts[i])?;
         self.step_if(i, &event)?;
@@ -81,16 +83,15 @@ impl<S: Service> WorldState<S> {
     }
 
     /// The store at an index makes its next device call, if there is one, and its node hears what is
-    /// firm then. Nothing happens at a node that is gone.
+    /// firm then. Nothing happens at a node that does not run.
     #[tactic(auto, unfolding(world_rules::specs::Worlds::calls_disk))]
     fn calls_disk(&mut self, i: usize) -> Result<(), AllocError>
-        ensures { OnOk result (self.new ≡ calls_disk (core_step S.meaning) i self.old) }
+        ensures { OnOk result (self.new ≡ calls_disk (core_course S.meaning) i self.old) }
     {
         if self.ending.is_some() || i >= self.hosts.len() {
             return Ok(());
         }
-        let id = self.hosts[i].id();
-        if !self.is_gone(id) && self.hosts[i].has_call() {
+        if self.is_up(&self.hosts[i]) && self.hosts[i].has_call() {
             self.call_at(i)?;
         }
         Ok(())
@@ -99,7 +100,7 @@ impl<S: Service> WorldState<S> {
     /// The store at an index makes so many device calls, or fewer where no more are due.
     #[tactic(auto, using(crate::proofs::Turns::times_more, crate::proofs::Turns::times_done))]
     pub(crate) fn call_often(&mut self, i: usize, count: u64) -> Result<(), AllocError>
-        ensures { OnOk result (self.new ≡ repeated (calls_disk (core_step S.meaning) i) count self.old) }
+        ensures { OnOk result (self.new ≡ repeated (calls_disk (core_course S.meaning) i) count self.old) }
     {
         for turn in 0..count {
             self.calls_disk(i)?;
@@ -108,16 +109,16 @@ impl<S: Service> WorldState<S> {
     }
 
     /// What is due at an index happens, if anything is: a device call, or else a delivery. Nothing is
-    /// at a node that is gone.
+    /// at a node that does not run.
     #[tactic(auto, unfolding(world_rules::specs::Worlds::settle_once, world_rules::specs::Worlds::calls_disk, world_rules::specs::Worlds::node_takes))]
     fn settle_once(&mut self, i: usize) -> Result<bool, AllocError>
-        ensures world { OnOk result (self.new ≡ settle_once (core_step S.meaning) i self.old) }
+        ensures world { OnOk result (self.new ≡ settle_once (core_course S.meaning) i self.old) }
         ensures idle { IfOk result (λ more. more ≡ false → self.new ≡ self.old) }
     {
         if self.ending.is_some() || i >= self.hosts.len() {
             return Ok(false);
         }
-        if self.is_gone(self.hosts[i].id()) {
+        if !self.is_up(&self.hosts[i]) {
             return Ok(false);
         }
         if self.hosts[i].has_call() {
@@ -134,7 +135,7 @@ impl<S: Service> WorldState<S> {
     /// The node at an index takes what is due until nothing is.
     #[tactic(auto, using(crate::proofs::Turns::rest_begins, crate::proofs::Turns::rest_more, crate::proofs::Turns::rest_done, crate::proofs::Turns::rest_idle))]
     pub(crate) fn settle(&mut self, i: usize) -> Result<(), AllocError>
-        ensures { OnOk result (self.new ≡ settle (core_step S.meaning) i self.old) }
+        ensures { OnOk result (self.new ≡ settle (core_course S.meaning) i self.old) }
     {
         for turn in 0..u64::MAX {
             if !self.settle_once(i)? {
@@ -144,7 +145,7 @@ impl<S: Service> WorldState<S> {
         Ok(())
     }
 
-    /// Tells of a member whose node is gone, if a line lists members.
+    /// Tells of a member whose node does not run, if a line lists members.
     fn tell_absent(&mut self, members: &[MemberId], member: MemberId) -> Result<(), AllocError>
         ensures { OnOk result (self.new ≡ telling_all self.old (told_absent members.now member)) }
     {
@@ -154,25 +155,25 @@ impl<S: Service> WorldState<S> {
         Ok(())
     }
 
-    /// The node at an index settles, unless it is gone.
+    /// The node at an index settles, if it runs.
     fn settle_present(&mut self, members: &[MemberId], i: usize) -> Result<(), AllocError>
-        ensures { OnOk result (self.new ≡ settle_present (core_step S.meaning) members.now i self.old (slice_get self.old.hosts i)) }
+        ensures { OnOk result (self.new ≡ settle_present (core_course S.meaning) members.now i self.old (slice_get self.old.hosts i)) }
     {
         if i >= self.hosts.len() {
             return Ok(());
         }
-        let id = self.hosts[i].id();
-        if self.is_gone(id) {
-            self.tell_absent(members, id)?;
-        } else {
+        if self.is_up(&self.hosts[i]) {
             self.settle(i)?;
+        } else {
+            let member = self.hosts[i].id();
+            self.tell_absent(members, member)?;
         }
         Ok(())
     }
 
     /// The node at an index settles, if its member is listed.
     fn settle_listed(&mut self, members: &[MemberId], i: usize) -> Result<(), AllocError>
-        ensures { OnOk result (self.new ≡ at_listed members.now (λ i w. settle_present (core_step S.meaning) members.now i w (slice_get w.hosts i)) i self.old) }
+        ensures { OnOk result (self.new ≡ at_listed members.now (λ i w. settle_present (core_course S.meaning) members.now i w (slice_get w.hosts i)) i self.old) }
     {
         if i < self.hosts.len() && is_listed(members, self.hosts[i].id()) {
             self.settle_present(members, i)?;
@@ -183,7 +184,7 @@ impl<S: Service> WorldState<S> {
     /// Each listed node settles, ascending.
     #[tactic(auto, using(crate::proofs::Turns::each_more, crate::proofs::Turns::each_done))]
     pub(crate) fn settle_all(&mut self, members: &[MemberId]) -> Result<(), AllocError>
-        ensures { OnOk result (self.new ≡ settle_all (core_step S.meaning) members.now self.old) }
+        ensures { OnOk result (self.new ≡ settle_all (core_course S.meaning) members.now self.old) }
     {
         let count = self.hosts.len();
         for i in 0..count {
@@ -194,7 +195,7 @@ impl<S: Service> WorldState<S> {
 
     /// The node at an index takes an event, and settles.
     fn give(&mut self, i: usize, event: &NodeEvent) -> Result<(), AllocError>
-        ensures { OnOk result (self.new ≡ settle (core_step S.meaning) i (node_takes (core_step S.meaning) i event.now self.old)) }
+        ensures { OnOk result (self.new ≡ settle (core_course S.meaning) i (node_takes (core_course S.meaning) i event.now self.old)) }
     {
         self.node_takes(i, event)?;
         self.settle(i)?;
@@ -208,7 +209,7 @@ impl<S: Service> WorldState<S> {
         i: usize,
         event: &NodeEvent,
     ) -> Result<(), AllocError>
-        ensures { OnOk result (self.new ≡ at_listed members.now (λ i w. settle (core_step S.meaning) i (node_takes (core_step S.meaning) i event.now w)) i self.old) }
+        ensures { OnOk result (self.new ≡ at_listed members.now (λ i w. settle (core_course S.meaning) i (node_takes (core_course S.meaning) i event.now w)) i self.old) }
     {
         if i < self.hosts.len() && is_listed(members, self.hosts[i].id()) {
             self.give(i, event)?;
@@ -219,7 +220,7 @@ impl<S: Service> WorldState<S> {
     /// Each listed node takes the bytes of a message and settles, ascending.
     #[tactic(auto, using(crate::proofs::Turns::each_more, crate::proofs::Turns::each_done), unfolding(world_rules::specs::Worlds::gives))]
     pub(crate) fn give_all(&mut self, members: &[MemberId], bytes: Bytes) -> Result<(), AllocError>
-        ensures { OnOk result (self.new ≡ give_all (core_step S.meaning) members.now bytes self.old) }
+        ensures { OnOk result (self.new ≡ give_all (core_course S.meaning) members.now bytes self.old) }
     {
         let count = self.hosts.len();
         let arrival = NodeEvent::Arrive(bytes);
@@ -236,7 +237,7 @@ impl<S: Service> WorldState<S> {
         member: MemberId,
         event: &NodeEvent,
     ) -> Result<(), AllocError>
-        ensures { OnOk result (self.new ≡ at_index (at_listed members.now (λ i w. settle (core_step S.meaning) i (node_takes (core_step S.meaning) i event.now w))) self.old (host_index self.old.hosts member)) }
+        ensures { OnOk result (self.new ≡ at_index (at_listed members.now (λ i w. settle (core_course S.meaning) i (node_takes (core_course S.meaning) i event.now w))) self.old (host_index self.old.hosts member)) }
     {
         if let Some(i) = host_index(self.hosts.as_slice(), member) {
             self.give_listed(members, i, event)?;
@@ -252,7 +253,7 @@ impl<S: Service> WorldState<S> {
         bytes: Bytes,
         member: MemberId,
     ) -> Result<(), AllocError>
-        ensures { OnOk result (self.new ≡ give_one (core_step S.meaning) members.now bytes member self.old) }
+        ensures { OnOk result (self.new ≡ give_one (core_course S.meaning) members.now bytes member self.old) }
     {
         let arrival = NodeEvent::Arrive(bytes);
         self.give_member(members, member, &arrival)

@@ -1,9 +1,8 @@
 //! Messages that flow to those that they are for.
 ghost use Rattle.std.specs.Prelude.{◌≡◌, IfOk, OnOk, Some, false};
-ghost use Rattle.node_rules.specs.Kept.{core_step};
 ghost use Rattle.world_rules.specs.Repeats.{until_rest};
 ghost use Rattle.world_rules.specs.Premises.{bytes_of};
-ghost use Rattle.world_rules.specs.Worlds.{goes, flow_once, flows};
+ghost use Rattle.world_rules.specs.Worlds.{core_course, goes, flow_once, flows};
 
 use crate::state::WorldState;
 use node_rules::node::Target;
@@ -26,7 +25,7 @@ fn letter(alloc: Global, sent: &Sent) -> Result<(Option<Target>, Bytes), AllocEr
 impl<S: Service> WorldState<S> {
     /// Bytes come to the listed members, or to a client.
     fn reach(&mut self, members: &[MemberId], bytes: Bytes, to: Target) -> Result<(), AllocError>
-        ensures { OnOk result (self.new ≡ goes (core_step S.meaning) members.now self.old bytes (Some to)) }
+        ensures { OnOk result (self.new ≡ goes (core_course S.meaning) members.now self.old bytes (Some to)) }
     {
         match to {
             Target::View => {
@@ -52,7 +51,7 @@ impl<S: Service> WorldState<S> {
         bytes: Bytes,
         to: Option<Target>,
     ) -> Result<(), AllocError>
-        ensures { OnOk result (self.new ≡ goes (core_step S.meaning) members.now self.old bytes to) }
+        ensures { OnOk result (self.new ≡ goes (core_course S.meaning) members.now self.old bytes to) }
     {
         match to {
             None => Ok(()),
@@ -67,7 +66,7 @@ impl<S: Service> WorldState<S> {
     /// is for, or to its client, in bytes.
     #[tactic(auto, unfolding(world_rules::specs::Worlds::flow_once))]
     fn flow_once(&mut self, members: &[MemberId]) -> Result<bool, AllocError>
-        ensures world { OnOk result (self.new ≡ flow_once (core_step S.meaning) members.now self.old) }
+        ensures world { OnOk result (self.new ≡ flow_once (core_course S.meaning) members.now self.old) }
         ensures idle { IfOk result (λ more. more ≡ false → self.new ≡ self.old) }
     {
         let next = self.mark as usize;
@@ -83,7 +82,7 @@ impl<S: Service> WorldState<S> {
     /// Each message behind the mark is given, until none is left.
     #[tactic(auto, using(crate::proofs::Turns::rest_begins, crate::proofs::Turns::rest_more, crate::proofs::Turns::rest_done, crate::proofs::Turns::rest_idle))]
     fn flow_rest(&mut self, members: &[MemberId]) -> Result<(), AllocError>
-        ensures { OnOk result (self.new ≡ until_rest (flow_once (core_step S.meaning) members.now) self.old) }
+        ensures { OnOk result (self.new ≡ until_rest (flow_once (core_course S.meaning) members.now) self.old) }
     {
         for turn in 0..u64::MAX {
             if !self.flow_once(members)? {
@@ -94,7 +93,7 @@ impl<S: Service> WorldState<S> {
     }
 
     pub(crate) fn flow(&mut self, members: &[MemberId]) -> Result<(), AllocError>
-        ensures { OnOk result (self.new ≡ flows (core_step S.meaning) members.now self.old) }
+        ensures { OnOk result (self.new ≡ flows (core_course S.meaning) members.now self.old) }
     {
         self.settle_all(members)?;
         self.flow_rest(members)?;

@@ -1,12 +1,13 @@
 //! A member's host, and what it tells of its node's steps.
-ghost use Rattle.std.specs.Prelude.{◌≡◌, ◌+◌, ◌++◌, ◌==◌, [], IfOk, OnOk, length, map, drop, is_some};
+ghost use Rattle.std.specs.Prelude.{◌≡◌, ◌+◌, ◌++◌, ◌==◌, ◌&&◌, [], true, IfOk, OnOk, length, map, drop, is_some};
 ghost use Rattle.std.specs.List.{flat_map};
 ghost use Rattle.std.specs.Option.{option_copied};
 ghost use Rattle.node_rules.specs.Nodes.{next_place};
 ghost use Rattle.node_rules.specs.Kept.{core_step};
 ghost use Rattle.node_rules.specs.Steps.{leaving, released, opened};
 ghost use Rattle.durable_store.specs.Exact.{call_due};
-ghost use Rattle.world_rules.specs.Worlds.{host_of_node, disk_called, told_drop, told_fired, delivery_in, chosen_with, host_after, host_index, shown_host};
+ghost use Rattle.node_rules.specs.Deliveries.{delivery_in};
+ghost use Rattle.world_rules.specs.Worlds.{core_course, host_of_node, disk_called, told_drop, told_fired, chosen_with, host_after, host_index, shown_host};
 ghost use Rattle.world_rules.specs.Premises.{is_among};
 ghost use Rattle.world_core.specs.Calling.{firmness};
 ghost use Rattle.world_core.specs.Idling.{is_idle};
@@ -30,23 +31,35 @@ use vote_book::entry::LogEntry;
 use world_rules::line::OutLine;
 
 /// How often a place is marked.
-const PERIOD: u32 = 1024;
+pub(crate) const PERIOD: u32 = 1024;
 
-/// A member's host: its node, the store of what its node writes down, and the batches that the node
-/// ever delivered.
+/// A member's host: its node, the store of what its node writes down, which runs where the node does,
+/// the place from which the node went on in this life, and the batches that it delivered since, and in
+/// earlier lives.
 #[derive(Drop)]
 pub struct Host<S> {
-    node: NodeCore<S>,
-    store: MemberStore,
-    delivered: Vec<Delivery>,
+    pub(crate) node: NodeCore<S>,
+    pub(crate) store: MemberStore,
+    pub(crate) resumed: Place,
+    pub(crate) delivered: Vec<Delivery>,
+    pub(crate) earlier: Vec<Delivery>,
 }
 
 impl<S> Model for Host<S> {
+    ghost use Rattle.std.specs.Prelude.{[]};
     ghost use Rattle.world_rules.specs.Worlds.{Host};
 
     ghost Value = { Host S };
 
-    ghost view = { λ h. record { node = h.node.node; store = h.store; delivered = h.delivered.items } };
+    ghost view = { λ h. record {
+      node = h.node.node;
+      up = h.store.runs;
+      store = h.store.state;
+      life = record { diary = []; aside = [] };
+      resumed = h.resumed;
+      delivered = h.delivered.items;
+      earlier = h.earlier.items;
+    } };
 }
 
 /// What a node's step tells: why an arrival was dropped, or the rules that a transcript names.
@@ -166,7 +179,9 @@ impl<S: Service> Host<S> {
         Ok(Host {
             node,
             store,
+            resumed: Place::new(0),
             delivered: Vec::new(alloc),
+            earlier: Vec::new(alloc),
         })
     }
 
@@ -184,16 +199,30 @@ impl<S: Service> Host<S> {
         self.node.book()
     }
 
-    /// The batches that it ever delivered.
+    /// Whether its node runs.
+    pub fn is_up(&self) -> bool
+        ensures { result ≡ self.now.up }
+    {
+        self.store.runs()
+    }
+
+    /// The batches that it delivered in this life.
     pub fn delivered(&self) -> &[Delivery]
         ensures { result.now ≡ self.now.delivered }
     {
         self.delivered.as_slice()
     }
 
-    /// Whether its store has a device call to make.
+    /// The batches that it delivered in earlier lives.
+    pub fn earlier(&self) -> &[Delivery]
+        ensures { result.now ≡ self.now.earlier }
+    {
+        self.earlier.as_slice()
+    }
+
+    /// Whether it runs, and its store has a device call to make.
     pub fn has_call(&self) -> bool
-        ensures { result ≡ call_due self.now.store }
+        ensures { result ≡ (self.now.up && call_due self.now.store) }
     {
         self.store.is_due()
     }
@@ -207,6 +236,7 @@ impl<S: Service> Host<S> {
 
     /// What its node has to hear: how many entries of its life are firm, where more are than it knows.
     fn firmness(&self) -> Option<NodeEvent>
+        requires { self.now.up ≡ true }
         ensures { result ≡ firmness self.now }
     {
         let firm = self.store.firm();
@@ -216,10 +246,15 @@ impl<S: Service> Host<S> {
         None
     }
 
-    /// Where the node stands.
+    /// Where the node stands, or that it has stopped.
     pub fn shown(&self) -> OutLine
         ensures { result ≡ stands self.now }
     {
+        if !self.is_up() {
+            return OutLine::Down {
+                member: self.node.id(),
+            };
+        }
         OutLine::Stands {
             member: self.node.id(),
             place: self.node.place(),
@@ -229,19 +264,20 @@ impl<S: Service> Host<S> {
     }
 }
 
-/// The store of a host makes its next device call, if there is one. What its node has to hear then is
-/// given.
+/// The store of a host whose node runs makes its next device call, if there is one. What its node has
+/// to hear then is given.
 #[tactic(auto, unfolding(world_rules::specs::Worlds::disk_called))]
 pub fn call_disk<S: Service>(host: &mut Host<S>) -> Result<Option<NodeEvent>, AllocError>
-    ensures host { OnOk result (host.new ≡ disk_called host.old) }
-    ensures event { IfOk result (λ event. event ≡ firmness (disk_called host.old)) }
+    requires { host.old.up ≡ true }
+    ensures host { OnOk result (host.new ≡ disk_called (core_course S.meaning) host.old) }
+    ensures event { IfOk result (λ event. event ≡ firmness (disk_called (core_course S.meaning) host.old)) }
 {
     host.store.call()?;
     Ok(host.firmness())
 }
 
 /// The entries behind some others.
-fn behind(entries: &[LogEntry], count: u64) -> &[LogEntry]
+pub(crate) fn behind(entries: &[LogEntry], count: u64) -> &[LogEntry]
     ensures { result.now ≡ drop count entries.now }
 {
     let count = count as usize;
@@ -266,7 +302,7 @@ pub fn is_among(members: &[MemberId], member: MemberId) -> bool
     members.iter().any(|x| *x == member)
 }
 
-/// Tells where a node stands, unless it is gone.
+/// Tells where a node stands, or that it has stopped, unless it is gone.
 fn show_host<S: Service>(
     told: &mut Vec<OutLine>,
     faulty: &[MemberId],
@@ -303,7 +339,7 @@ pub struct Left {
     pub idle: bool,
 }
 
-/// A host's node takes an event. The messages that leave are given, what the step tells and the
+/// A host's node, which runs, takes an event. The messages that leave are given, what the step tells and the
 /// batch that it has chosen are added. A node that a want of memory broke takes none: it says once
 /// more that memory ran out.
 pub fn step_host<S: Service>(
@@ -313,7 +349,8 @@ pub fn step_host<S: Service>(
     told: &mut Vec<OutLine>,
     event: &NodeEvent,
 ) -> Result<Left, AllocError>
-    ensures host { OnOk result (host.new ≡ host_after host.old (core_step S.meaning host.old.node event.now)) }
+    requires { host.old.up ≡ true }
+    ensures host { OnOk result (host.new ≡ host_after (core_course S.meaning) host.old (core_step S.meaning host.old.node event.now)) }
     ensures chosen { OnOk result (let after = (core_step S.meaning host.old.node event.now).node in chosen.new.items ≡ chosen_with chosen.old.items (next_place after) after.waiting) }
     ensures told { OnOk result (let o = core_step S.meaning host.old.node event.now in told.new.items ≡ told.old.items ++ (told_drop host.old.node.id o.dropped ++ flat_map (told_fired host.old.node.id) o.fired)) }
     ensures left { IfOk result (λ left. let after = (core_step S.meaning host.old.node event.now).node in left.messages ≡ leaving after.firm after.held) }

@@ -4,10 +4,12 @@
 
 pub mod byzantine;
 pub mod clients;
+pub mod crashes;
 pub mod deliveries;
 pub mod events;
 pub mod flow;
 pub mod host;
 pub mod lines;
+pub mod lives;
 pub mod state;
 pub mod world;

@@ -1,8 +1,7 @@
 //! Lines of a script.
 ghost use Rattle.std.specs.Prelude.{◌≡◌, OnOk};
 ghost use Rattle.std.specs.List.{list_all};
-ghost use Rattle.node_rules.specs.Kept.{core_step};
-ghost use Rattle.world_rules.specs.Worlds.{shows};
+ghost use Rattle.world_rules.specs.Worlds.{core_course, shows};
 ghost use Rattle.world_rules.specs.Plays.{has_member, has_party, is_there, line_played};
 
 use crate::clients::show_clients;
@@ -53,6 +52,8 @@ impl<S: Service> WorldState<S> {
             | Line::Ask { .. }
             | Line::Again { .. }
             | Line::Tell { .. }
+            | Line::CrashAll { .. }
+            | Line::RestartAll
             | Line::SettleAll
             | Line::Show
             | Line::Rogue { .. } => true,
@@ -64,9 +65,11 @@ impl<S: Service> WorldState<S> {
                     && *number <= self.sent.as_slice().len() as u64
                     && self.has_parties(to.as_slice())
             }
-            Line::Disk { member, .. } | Line::Settle { member } | Line::Faulty { member } => {
-                self.has_member(*member)
-            }
+            Line::Disk { member, .. }
+            | Line::Crash { member, .. }
+            | Line::Restart { member }
+            | Line::Settle { member }
+            | Line::Faulty { member } => self.has_member(*member),
             Line::Inject(form) => is_injectable(self.sent.as_slice(), form),
         }
     }
@@ -87,7 +90,7 @@ impl<S: Service> WorldState<S> {
     /// Plays a line of a script.
     #[tactic(auto, unfolding(world_rules::specs::Plays::line_played))]
     pub fn play(&mut self, line: &Line) -> Result<(), AllocError>
-        ensures { OnOk result (self.new ≡ line_played (core_step S.meaning) self.old line.now) }
+        ensures { OnOk result (self.new ≡ line_played (core_course S.meaning) self.old line.now) }
     {
         match line {
             Line::Nothing => Ok(()),
@@ -121,6 +124,26 @@ impl<S: Service> WorldState<S> {
             }
             Line::Disk { member, count } => {
                 self.call_member(*member, *count)?;
+                Ok(())
+            }
+            Line::Crash {
+                member,
+                image,
+                patches,
+            } => {
+                self.crash_member(*member, *image, patches.as_slice())?;
+                Ok(())
+            }
+            Line::CrashAll { image } => {
+                self.crash_all(*image)?;
+                Ok(())
+            }
+            Line::Restart { member } => {
+                self.restart_member(*member)?;
+                Ok(())
+            }
+            Line::RestartAll => {
+                self.restart_all()?;
                 Ok(())
             }
             Line::Settle { member } => {

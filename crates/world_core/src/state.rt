@@ -4,7 +4,7 @@ ghost use Rattle.smart_base.specs.Lists.{or_else};
 ghost use Rattle.node_rules.specs.Steps.{opened};
 ghost use Rattle.world_rules.specs.Secrets.{group_secret};
 ghost use Rattle.world_rules.specs.Premises.{is_among};
-ghost use Rattle.world_rules.specs.Worlds.{telling, posts, is_gone, is_rogue, sends, sends_all, host_of_node, hosts_from, clients_from, begun};
+ghost use Rattle.world_rules.specs.Worlds.{telling, posts, is_gone, is_rogue, is_up, sends, sends_all, host_of_node, hosts_from, clients_from, begun};
 ghost use Rattle.world_rules.specs.Plays.{rested};
 
 use crate::host::{Host, is_among};
@@ -159,6 +159,13 @@ impl<S: Service> WorldState<S> {
         ensures { result ≡ is_gone self.now member }
     {
         is_among(self.faulty.as_slice(), member)
+    }
+
+    /// Whether a host's node runs.
+    pub(crate) fn is_up(&self, host: &Host<S>) -> bool
+        ensures { result ≡ is_up self.now host.now }
+    {
+        host.is_up() && !self.is_gone(host.id())
     }
 
     pub(crate) fn is_rogue(&self, client: ClientId) -> bool

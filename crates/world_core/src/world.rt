@@ -1,8 +1,7 @@
 //! The play of a script.
 ghost use Rattle.std.specs.Prelude.{◌≡◌, ◌++◌, [], ◌∷◌, true, false, None, Some, IfOk, IfErr, OnOk, IsErrOf, option_map};
 ghost use Rattle.std.specs.Option.{option_copied};
-ghost use Rattle.node_rules.specs.Kept.{core_step};
-ghost use Rattle.world_rules.specs.Worlds.{begun, host_of};
+ghost use Rattle.world_rules.specs.Worlds.{core_course, begun, host_of};
 ghost use Rattle.world_rules.specs.Plays.{is_there, line_played, rested, IsPlay};
 ghost use Rattle.world_rules.specs.declared.message.Ending.TheVariants as endings;
 ghost use Rattle.world_rules.specs.declared.message.Premise.{Premise};
@@ -57,14 +56,14 @@ pub struct World<S: Service> {
 }
 
 impl<S: Service> Model for World<S> {
-    ghost use Rattle.node_rules.specs.Kept.{core_step};
+    ghost use Rattle.world_rules.specs.Worlds.{core_course};
     ghost use Rattle.world_rules.specs.Plays.{Play, IsPlay};
 
     ghost Value = { Play S };
 
     ghost view = { λ w. record { group = w.group; lines = w.lines; world = w.state; over = w.over } };
 
-    ghost invariant = { λ w. IsPlay (core_step S.meaning) S.meaning (record { group = w.group; lines = w.lines; world = w.state; over = w.over }) };
+    ghost invariant = { λ w. IsPlay (core_course S.meaning) S.meaning (record { group = w.group; lines = w.lines; world = w.state; over = w.over }) };
 }
 
 impl<S: Service> World<S> {
@@ -84,17 +83,17 @@ impl<S: Service> World<S> {
     /// Plays a line, and gives what it tells.
     pub fn play(&mut self, line: Line) -> Result<Sequence<OutLine>, WorldEnd>
         requires { self.old.over ≡ false }
-        ensures told { IfOk result (λ told. told ≡ (line_played (core_step S.meaning) self.old.world line).told) }
-        ensures world { OnOk result (self.new ≡ record { group = self.old.group; lines = self.old.lines ++ line ∷ []; world = rested (line_played (core_step S.meaning) self.old.world line); over = false }) }
+        ensures told { IfOk result (λ told. told ≡ (line_played (core_course S.meaning) self.old.world line).told) }
+        ensures world { OnOk result (self.new ≡ record { group = self.old.group; lines = self.old.lines ++ line ∷ []; world = rested (line_played (core_course S.meaning) self.old.world line); over = false }) }
         ensures there { OnOk result (is_there self.old.world line ≡ true) }
-        ensures going { OnOk result ((line_played (core_step S.meaning) self.old.world line).ending ≡ None) }
+        ensures going { OnOk result ((line_played (core_course S.meaning) self.old.world line).ending ≡ None) }
         ensures refer { IsErrOf result WorldEnd.Refer → is_there self.old.world line ≡ false }
         ensures unchanged { IsErrOf result WorldEnd.Refer → self.new ≡ self.old }
         ensures within { IsErrOf result WorldEnd.Limit → is_there self.old.world line ≡ true }
         ensures supposed { (which : Premise) → IsErrOf result (WorldEnd.Premise which) → is_there self.old.world line ≡ true }
         ensures memory { IsErrOf result WorldEnd.NoMemory → is_there self.old.world line ≡ true }
-        ensures limit { IsErrOf result WorldEnd.Limit → (line_played (core_step S.meaning) self.old.world line).ending ≡ Some endings.Limit }
-        ensures premise { (which : Premise) → IsErrOf result (WorldEnd.Premise which) → (line_played (core_step S.meaning) self.old.world line).ending ≡ Some (endings.Premise which) }
+        ensures limit { IsErrOf result WorldEnd.Limit → (line_played (core_course S.meaning) self.old.world line).ending ≡ Some endings.Limit }
+        ensures premise { (which : Premise) → IsErrOf result (WorldEnd.Premise which) → (line_played (core_course S.meaning) self.old.world line).ending ≡ Some (endings.Premise which) }
         ensures over { IfErr result (λ end. (end ≡ WorldEnd.Refer → ⊥) → self.new.over ≡ true) }
     {
         if !self.state.is_there(&line) {
@@ -116,7 +115,7 @@ impl<S: Service> World<S> {
     /// Whether the play is over. Until then it stands for its lines.
     pub fn is_over(&self) -> bool
         ensures value { result ≡ self.now.over }
-        ensures stands { IsPlay (core_step S.meaning) S.meaning self.now }
+        ensures stands { IsPlay (core_course S.meaning) S.meaning self.now }
     {
         self.over
     }
@@ -158,13 +157,23 @@ impl<S: Service> World<S> {
         }
     }
 
-    /// The batches that a member ever delivered, if it is a member.
+    /// The batches that a member delivered in this life, if it is a member.
     pub fn delivered(&self, id: MemberId) -> Option<&[Delivery]>
         ensures { option_copied result ≡ option_map (λ h. h.delivered) (host_of self.now.world.hosts id) }
     {
         match self.host(id) {
             None => None,
             Some(host) => Some(host.delivered()),
+        }
+    }
+
+    /// The batches that a member delivered in earlier lives, if it is a member.
+    pub fn earlier(&self, id: MemberId) -> Option<&[Delivery]>
+        ensures { option_copied result ≡ option_map (λ h. h.earlier) (host_of self.now.world.hosts id) }
+    {
+        match self.host(id) {
+            None => None,
+            Some(host) => Some(host.earlier()),
         }
     }
 }

@@ -15,7 +15,7 @@ use Rattle.node_rules.specs.Steps.{Outcome, step_of, leaving}
 use Rattle.client_quorum.specs.Clients.{acceptance, same_answer, has_answer, have, is_waited_for}
 use Rattle.world_rules.specs.Clients.{heard}
 use Rattle.world_rules.specs.Promises.{HasAsked, IsRight, IsRogue}
-use Rattle.world_rules.specs.Worlds.{Host, World, posts, chosen_with, stepped, acceptance_in, hearing, begun}
+use Rattle.world_rules.specs.Worlds.{Course, course_of, Host, World, posts, chosen_with, stepped, acceptance_in, hearing, begun}
 use Rattle.client_quorum.specs.declared.client.Client.{Client}
 use Rattle.client_quorum.specs.declared.client.Acceptance.{Acceptance}
 use Rattle.client_quorum.specs.declared.client.Heard.{Heard}
@@ -31,7 +31,7 @@ use Rattle.world_rules.specs.Secrets.{group_secret}
 use Rattle.world_rules.specs.Premises.{is_among}
 use Rattle.agreement_laws.proofs.Groups.{quorums_share}
 use Rattle.smart_messages.specs.declared.any.AnyMessage.TheVariants.{Plain}
-use Rattle.world_laws.proofs.Keeps.{HasMessage, ask_of, asked_by, by-posts, keeps-sends_all, Keeps, ReadsSent, heard_has, signed_by, from_node, from_client, from_script}
+use Rattle.world_laws.proofs.Keeps.{HasMessage, ask_of, asked_by, by-posts, keeps-sends_all, KeepsAll, ReadsSent, heard_has, signed_by, from_node, from_client, from_script}
 use Rattle.world_laws.proofs.Aligned.{line_told, IsExecuted}
 use Rattle.replica_laws.proofs.OnePlace.{place_of-line, answer-line}
 use Rattle.replica_laws.proofs.Executions.{executions-more, IsOfRequest, request-line, view-line}
@@ -78,9 +78,9 @@ told-chosen m v chosen place (Some batch) a told =
     either (λ (list : List Batch). IsTold m v list a) (place == length chosen + 1) (chosen ++ batch ∷ []) chosen (executions-more m v chosen (batch ∷ []) (line_accepted a) told) told
 
 -- a host's node steps
-told-stepped : {S : Type 0} (m : Meaning S) (w : World S) (i : ℕ) (h : Host S) (o : Outcome S) → AcceptedTold m w → AcceptedTold m (stepped w i h o)
+told-stepped : {S : Type 0} (course : Course S) (m : Meaning S) (w : World S) (i : ℕ) (h : Host S) (o : Outcome S) → AcceptedTold m w → AcceptedTold m (stepped course w i h o)
 unfolding stepped
-told-stepped m w i h o told =
+told-stepped course m w i h o told =
     let more : List Batch = chosen_with w.chosen (next_place o.node) o.node.waiting in
     keeps-sends_all (AcceptedTold m) h.node.id (λ v held is. told-posts m v (from_node h.node.id held) is) _ (leaving o.node.firm o.node.held)
     (record { all = each_weaker (IsTold m w.view w.chosen) (IsTold m w.view more) (told-chosen m w.view w.chosen (next_place o.node) o.node.waiting) w.accepted told.all })
@@ -159,24 +159,28 @@ told-hearing m w i c a at known has told =
     record { all = told-heard m w c a (heard w.view c a) refl known has (each_get (ClientKeeps (WasSent w.sent)) w.clients i c known.keeps at) told.all }
 
 -- where that is known of replies, each event keeps that the accepted ones tell executions
-pub keeps-told : {S : Type 0} (m : Meaning S) (P : World S → Type 0) → ((w : World S) → P w → Telling m w) → Keeps (step_of m) P → Keeps (step_of m) (λ w. P w × AcceptedTold m w)
+pub keeps-told : {S : Type 0} (m : Meaning S) (P : World S → Type 0) → ((w : World S) → P w → Telling m w) → KeepsAll (course_of m) P → KeepsAll (course_of m) (λ w. P w × AcceptedTold m w)
 keeps-told m P telling k =
     record {
-      event = λ w i h event there at may p. (k.event w i h event there at may p.0, told-stepped m w i h (step_of m h.node event) p.1);
-      disk = λ w i h at p. (k.disk w i h at p.0, record { all = p.1.all });
-      hear = λ w i c x a at has read p. (
-        k.hear w i c x a at has read p.0,
-        (let known = telling w p.0 in told-hearing m w i c a at known (heard_has w x (Reply a) known.reads has read) p.1),
-      );
-      ask = λ w i c op at free few brief p. (
-        k.ask w i c op at free few brief p.0,
-        told-posts m (asked_by w i c op) (from_client c (ask_of c op)) (record { all = p.1.all }),
-      );
-      again = λ w i c q at waits p. (k.again w i c q at waits p.0, told-posts m w (from_client c (signed_by c q)) p.1);
-      learn = λ w i j c d at other p. (k.learn w i j c d at other p.0, record { all = p.1.all });
-      inject = λ w x read fine p. (k.inject w x read fine p.0, told-posts m w (from_script x) p.1);
-      declare = λ w faulty rogue ending how p. (k.declare w faulty rogue ending how p.0, record { all = p.1.all });
-      same = λ w mark told p. (k.same w mark told p.0, record { all = p.1.all });
+      kept = record {
+        event = λ w i h event up at may p. (k.kept.event w i h event up at may p.0, told-stepped (course_of m) m w i h (step_of m h.node event) p.1);
+        disk = λ w i h up at p. (k.kept.disk w i h up at p.0, record { all = p.1.all });
+        crash = λ w i h left up at may p. (k.kept.crash w i h left up at may p.0, record { all = p.1.all });
+        hear = λ w i c x a at has read p. (
+          k.kept.hear w i c x a at has read p.0,
+          (let known = telling w p.0 in told-hearing m w i c a at known (heard_has w x (Reply a) known.reads has read) p.1),
+        );
+        ask = λ w i c op at free few brief p. (
+          k.kept.ask w i c op at free few brief p.0,
+          told-posts m (asked_by w i c op) (from_client c (ask_of c op)) (record { all = p.1.all }),
+        );
+        again = λ w i c q at waits p. (k.kept.again w i c q at waits p.0, told-posts m w (from_client c (signed_by c q)) p.1);
+        learn = λ w i j c d at other p. (k.kept.learn w i j c d at other p.0, record { all = p.1.all });
+        inject = λ w x read fine p. (k.kept.inject w x read fine p.0, told-posts m w (from_script x) p.1);
+        declare = λ w faulty rogue ending how p. (k.kept.declare w faulty rogue ending how p.0, record { all = p.1.all });
+        same = λ w mark told p. (k.kept.same w mark told p.0, record { all = p.1.all });
+      };
+      resume = λ w i h down at p. (k.resume w i h down at p.0, record { all = p.1.all });
     }
 
 -- in the beginning nothing is accepted

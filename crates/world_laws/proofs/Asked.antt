@@ -35,7 +35,7 @@ use Rattle.client_quorum.specs.declared.client.Client.{Client}
 use Rattle.world_rules.specs.Secrets.{group_secret}
 use Rattle.world_rules.specs.Premises.{is_among, is_from, is_forged}
 use Rattle.world_rules.specs.Promises.{HasAsked, IsRogue}
-use Rattle.world_rules.specs.Worlds.{Host, World, posts, sends_all, chosen_with, stepped, hearing, begun}
+use Rattle.world_rules.specs.Worlds.{course_of, Host, World, posts, sends_all, chosen_with, stepped, hearing, begun}
 use Rattle.world_rules.specs.Plays.{world_after}
 use Rattle.world_rules.specs.declared.line.Line.{Line}
 use Rattle.world_rules.specs.declared.message.Origin.{Origin}
@@ -46,7 +46,7 @@ use Rattle.world_rules.specs.declared.message.Sent.{Sent}
 use Rattle.world_laws.specs.Stated.{stated_in, stated, StatedAsked}
 use Rattle.world_laws.proofs.Lists.{some-equal, and_true, either, each_end, each_weaker, each_get}
 use Rattle.world_laws.proofs.Numbered.{EachAt, each_at_end, each_at_get, each_at_weaker}
-use Rattle.world_laws.proofs.Keeps.{IsRead, asked_by, by-posts, MayRead, may_read, Keeps, keeps-world_after, signed_by, from_node, from_client, from_script}
+use Rattle.world_laws.proofs.Keeps.{IsRead, asked_by, by-posts, MayRead, may_read, KeepsAll, keeps-world_after, signed_by, from_node, from_client, from_script}
 use Rattle.world_laws.proofs.Asks.{sent_ask, asked_end, asked_now, asked_among}
 use Rattle.replica_laws.proofs.FitNodes.{IsBrief}
 use Rattle.world_laws.proofs.Fitting.{fit-owns}
@@ -203,7 +203,7 @@ chosen-with T chosen place (Some batch) each good = chosen-if T chosen place bat
 
 -- a node takes an event
 asked-stepped : {S : Type 0} (m : Meaning S) (w : World S) (i : ℕ) (h : Host S) (event : NodeEvent) → slice_get w.hosts i ≡ Some h → MayRead w h event → (step_of m h.node event).node.secret ≡ group_secret → ChosenRight m w → RequestsAsked w
-    → RequestsAsked (stepped w i h (step_of m h.node event))
+    → RequestsAsked (stepped (course_of m) w i h (step_of m h.node event))
 unfolding stepped
 asked-stepped {S = S} m w i h event at may shared r is =
     let n : Node S = (step_of m h.node event).node in
@@ -266,34 +266,38 @@ asked-ask w c q own is =
     statement a b is = cc
 
 -- each request that has been stated was asked by its client, unless it is rogue
-pub keeps-asked : {S : Type 0} (m : Meaning S) → IsBrief m → Keeps (step_of m) (λ w. ChosenRight m w × RequestsAsked w)
+pub keeps-asked : {S : Type 0} (m : Meaning S) → IsBrief m → KeepsAll (course_of m) (λ w. ChosenRight m w × RequestsAsked w)
 unfolding hearing
 keeps-asked {S = S} m brief =
-    let k : Keeps (step_of m) (ChosenRight m) = chosen-kept m brief in
+    let k : KeepsAll (course_of m) (ChosenRight m) = chosen-kept m brief in
     record {
-      event = λ w i h event there at may p.
-          let read : MayRead w h event = may_read w h event (grounded-reads w p.0.0.0) may in
-          let hr : HostRight w.sent m w.view w.chosen h = each_get (HostRight w.sent m w.view w.chosen) w.hosts i h p.0.1.right at in (
-            k.event w i h event there at may p.0,
-            asked-stepped m w i h event at read (secret-step m h.node event ∙ hr.shared) p.0 p.1,
-          );
-      disk = λ w i h at p. (k.disk w i h at p.0, record { each = p.1.each; chosen = p.1.chosen; clients = p.1.clients });
-      hear = λ w i c x a at has read p. (k.hear w i c x a at has read p.0, record { each = p.1.each; chosen = p.1.chosen; clients = p.1.clients });
-      ask = λ w i c op at free low brief p. (
-        k.ask w i c op at free low brief p.0,
-        asked-ask (asked_by w i c op) c (request_of c op) refl (record { each = p.1.each; chosen = p.1.chosen; clients = p.1.clients }),
-      );
-      again = λ w i c q at waits p. (k.again w i c q at waits p.0, asked-ask w c q (fit-owns w p.0.0.0.fit i c q at waits) p.1);
-      learn = λ w i j c d at other p. (k.learn w i j c d at other p.0, record { each = p.1.each; chosen = p.1.chosen; clients = p.1.clients });
-      inject = λ w x read fine p. (
-        k.inject w x read fine p.0,
-        asked-posts w (from_script x) (λ q there. asked-sent w.rogue w.sent (from_script x) q.statement (request_asked w.faulty w.rogue w.sent x q fine p.0.0.0.fit.sent p.1.clients read there)) tt p.1,
-      );
-      declare = λ w faulty rogue ending how p. (
-        k.declare w faulty rogue ending how p.0,
-        record { each = λ q there. asked-more w.rogue rogue w.sent w.sent how.more_rogue (λ r asked. asked) q.statement (p.1.each q there); chosen = p.1.chosen; clients = p.1.clients },
-      );
-      same = λ w mark told p. (k.same w mark told p.0, record { each = p.1.each; chosen = p.1.chosen; clients = p.1.clients });
+      kept = record {
+        event = λ w i h event up at may p.
+            let read : MayRead w h event = may_read w h event (grounded-reads w p.0.0.0) may in
+            let hr : HostRight w.sent m w.view w.chosen h = each_get (HostRight w.sent m w.view w.chosen) w.hosts i h p.0.1.right at in (
+              k.kept.event w i h event up at may p.0,
+              asked-stepped m w i h event at read (secret-step m h.node event ∙ hr.shared) p.0 p.1,
+            );
+        disk = λ w i h up at p. (k.kept.disk w i h up at p.0, record { each = p.1.each; chosen = p.1.chosen; clients = p.1.clients });
+        crash = λ w i h left up at may p. (k.kept.crash w i h left up at may p.0, record { each = p.1.each; chosen = p.1.chosen; clients = p.1.clients });
+        hear = λ w i c x a at has read p. (k.kept.hear w i c x a at has read p.0, record { each = p.1.each; chosen = p.1.chosen; clients = p.1.clients });
+        ask = λ w i c op at free low brief p. (
+          k.kept.ask w i c op at free low brief p.0,
+          asked-ask (asked_by w i c op) c (request_of c op) refl (record { each = p.1.each; chosen = p.1.chosen; clients = p.1.clients }),
+        );
+        again = λ w i c q at waits p. (k.kept.again w i c q at waits p.0, asked-ask w c q (fit-owns w p.0.0.0.fit i c q at waits) p.1);
+        learn = λ w i j c d at other p. (k.kept.learn w i j c d at other p.0, record { each = p.1.each; chosen = p.1.chosen; clients = p.1.clients });
+        inject = λ w x read fine p. (
+          k.kept.inject w x read fine p.0,
+          asked-posts w (from_script x) (λ q there. asked-sent w.rogue w.sent (from_script x) q.statement (request_asked w.faulty w.rogue w.sent x q fine p.0.0.0.fit.sent p.1.clients read there)) tt p.1,
+        );
+        declare = λ w faulty rogue ending how p. (
+          k.kept.declare w faulty rogue ending how p.0,
+          record { each = λ q there. asked-more w.rogue rogue w.sent w.sent how.more_rogue (λ r asked. asked) q.statement (p.1.each q there); chosen = p.1.chosen; clients = p.1.clients },
+        );
+        same = λ w mark told p. (k.kept.same w mark told p.0, record { each = p.1.each; chosen = p.1.chosen; clients = p.1.clients });
+      };
+      resume = λ w i h down at p. (k.resume w i h down at p.0, record { each = p.1.each; chosen = p.1.chosen; clients = p.1.clients });
     }
 
 -- the beginning
@@ -303,9 +307,9 @@ pub asked-begun : {S : Type 0} (m : Meaning S) (view : View) → RequestsAsked (
 asked-begun m view = record { each = λ q never. absurd never; chosen = tt; clients = tt }
 
 -- after any lines of any script, each request was asked by its client, unless it is rogue
-pub asked-after : {S : Type 0} (m : Meaning S) → IsBrief m → (view : View) (ls : List Line) → is_view view ≡ true → RequestsAsked (world_after (step_of m) (begun m view) ls)
+pub asked-after : {S : Type 0} (m : Meaning S) → IsBrief m → (view : View) (ls : List Line) → is_view view ≡ true → RequestsAsked (world_after (course_of m) (begun m view) ls)
 asked-after {S = S} m brief view ls is =
-    (keeps-world_after (step_of m) (λ (w : World S). ChosenRight m w × RequestsAsked w) (keeps-asked m brief) (begun m view) ls (chosen-begun m view is, asked-begun m view)).1
+    (keeps-world_after (course_of m) (λ (w : World S). ChosenRight m w × RequestsAsked w) (keeps-asked m brief) (begun m view) ls (chosen-begun m view is, asked-begun m view)).1
 
 -- what follows
 
@@ -338,5 +342,5 @@ pub stands_right : {S : Type 0} (w : World S) (place index : ℕ) (q : Request) 
 stands_right w place index q is at = stands_found w place (batch_at w.chosen place) index q is (λ batch found. batch_good w place batch is found) at
 
 -- after any lines of any script, each request that has been stated was asked, unless its client is rogue
-pub stated_asked-after : {S : Type 0} (m : Meaning S) → IsBrief m → (view : View) (ls : List Line) → is_view view ≡ true → StatedAsked (world_after (step_of m) (begun m view) ls)
+pub stated_asked-after : {S : Type 0} (m : Meaning S) → IsBrief m → (view : View) (ls : List Line) → is_view view ≡ true → StatedAsked (world_after (course_of m) (begun m view) ls)
 stated_asked-after m brief view ls is = record { each = (asked-after m brief view ls is).each }

@@ -8,15 +8,13 @@ use Rattle.smart_messages.specs.declared.statement.Request.{Request}
 use Rattle.smart_messages.specs.declared.statement.Answer.{Answer}
 use Rattle.smart_messages.specs.declared.message.Message.TheVariants.{Ask, Propose, Vote, Reply}
 use Rattle.smart_messages.specs.declared.any.AnyMessage.TheVariants.{Plain, Change}
-use Rattle.smart_messages.specs.declared.entry.NodeEvent.{NodeEvent}
 use Rattle.smart_service.specs.Services.{Meaning}
-use Rattle.node_rules.specs.Nodes.{Node}
 use Rattle.node_rules.specs.Steps.{Outcome, leaving}
 use Rattle.node_rules.specs.declared.node.Held.{Held}
 use Rattle.client_quorum.specs.Clients.{fresh, request_of, asking, learning, acceptance, after_heard}
 use Rattle.world_rules.specs.Clients.{heard}
 use Rattle.world_rules.specs.Promises.{HasAsked, Rises}
-use Rattle.world_rules.specs.Worlds.{Host, World, posts, stepped, acceptance_in, hearing, clients_from, begun}
+use Rattle.world_rules.specs.Worlds.{Course, Host, World, posts, stepped, acceptance_in, hearing, clients_from, begun}
 use Rattle.world_rules.specs.Plays.{rested, world_after}
 use Rattle.client_quorum.specs.declared.client.Client.{Client}
 use Rattle.world_rules.specs.declared.line.Line.{Line}
@@ -28,7 +26,7 @@ use Rattle.world_rules.specs.declared.message.Origin.TheVariants as origins
 use Rattle.world_rules.specs.declared.message.Sent.{Sent}
 use Rattle.world_laws.proofs.Lists.{some-equal, each_end, each_weaker}
 use Rattle.world_laws.proofs.Numbered.{EachAt, each_at_get, each_at_weaker, each_at_set}
-use Rattle.world_laws.proofs.Keeps.{ask_of, asked_by, by-posts-ended, KeepsLive, live-world_after, signed_by, from_node, from_client, from_script, keeps-sends_all}
+use Rattle.world_laws.proofs.Keeps.{ask_of, asked_by, by-posts-ended, KeepsLives, live-world_after, signed_by, from_node, from_client, from_script, keeps-sends_all}
 use Rattle.world_laws.proofs.Asks.{asked_end, asked_now, sent_ask}
 use Rattle.world_laws.proofs.Hearing.{Accepts, accepts_waiting}
 use Rattle.world_rules.specs.declared.message.Content.{Content}
@@ -128,9 +126,9 @@ right-posts {S = S} w s quiet is =
     (λ free room. record { all = right-sent w.sent (w.sent ++ s ∷ []) w.ending w.ending w.clients w.accepted (asked_end w.sent s) (quiet_asks w.sent s quiet) (λ on. on) is.all })
 
 -- a node takes an event
-right-stepped : {S : Type 0} (w : World S) (i : ℕ) (h : Host S) (o : Outcome S) → ClientsRight w → ClientsRight (stepped w i h o)
+right-stepped : {S : Type 0} (course : Course S) (w : World S) (i : ℕ) (h : Host S) (o : Outcome S) → ClientsRight w → ClientsRight (stepped course w i h o)
 unfolding stepped
-right-stepped w i h o is =
+right-stepped course w i h o is =
     keeps-sends_all ClientsRight h.node.id (λ v held right. right-posts v (from_node h.node.id held) (node_quiet h.node.id held) right) _ (leaving o.node.firm o.node.held) (record { all = is.all })
 
 -- a client asks
@@ -317,20 +315,24 @@ right-learn sent ending clients accepted i c place at is =
     higher low = omega arith
 
 -- clients stay right, whatever the nodes do
-pub keeps-right : {S : Type 0} (step : Node S → NodeEvent → Outcome S) → KeepsLive step ClientsRight
+pub keeps-right : {S : Type 0} (course : Course S) → KeepsLives course ClientsRight
 unfolding hearing
-keeps-right step =
+keeps-right course =
     record {
-      event = λ w i h event on there at may is. right-stepped w i h (step h.node event) is;
-      disk = λ w i h on there at is. record { all = is.all };
-      hear = λ w i c x a on at has read is. record { all = right-heard w.sent w.ending w.clients w.accepted w.view i c a (heard w.view c a) at on refl is.all };
-      ask = λ w i c op on at free few brief is. right-asks w i c op at is;
-      again = λ w i c q on at waits is. right-again w i c q on at waits is;
-      learn = λ w i j c d on at other is. record { all = right-learn w.sent w.ending w.clients w.accepted i c d.seen at is.all };
-      inject = λ w x on read fine is. right-posts w (from_script x) (script_quiet x) is;
-      declare = λ w faulty rogue ending on how is. record { all = right-sent w.sent w.sent w.ending ending w.clients w.accepted (λ q asked. asked) (λ q asked. asked) how.over is.all };
-      mark = λ w s on at is. record { all = is.all };
-      tell = λ w line beside is. record { all = is.all };
+      live = record {
+        event = λ w i h event on up at may is. right-stepped course w i h (course.step h.node event) is;
+        disk = λ w i h on up at is. record { all = is.all };
+        hear = λ w i c x a on at has read is. record { all = right-heard w.sent w.ending w.clients w.accepted w.view i c a (heard w.view c a) at on refl is.all };
+        ask = λ w i c op on at free few brief is. right-asks w i c op at is;
+        again = λ w i c q on at waits is. right-again w i c q on at waits is;
+        learn = λ w i j c d on at other is. record { all = right-learn w.sent w.ending w.clients w.accepted i c d.seen at is.all };
+        inject = λ w x on read fine is. right-posts w (from_script x) (script_quiet x) is;
+        declare = λ w faulty rogue ending on how is. record { all = right-sent w.sent w.sent w.ending ending w.clients w.accepted (λ q asked. asked) (λ q asked. asked) how.over is.all };
+        mark = λ w s on at is. record { all = is.all };
+        tell = λ w line beside is. record { all = is.all };
+      };
+      crash = λ w i h left on up at may is. record { all = is.all };
+      resume = λ w i h on down at is. record { all = is.all };
     }
 
 -- between two lines
@@ -362,5 +364,5 @@ right-begun m view =
     no_request r same = cc
 
 -- after any lines of any script, clients are right
-pub right-after : {S : Type 0} (m : Meaning S) (step : Node S → NodeEvent → Outcome S) (view : View) (ls : List Line) → ClientsRight (world_after step (begun m view) ls)
-right-after m step view ls = live-world_after step ClientsRight (keeps-right step) rested-right (begun m view) ls (right-begun m view)
+pub right-after : {S : Type 0} (m : Meaning S) (course : Course S) (view : View) (ls : List Line) → ClientsRight (world_after course (begun m view) ls)
+right-after m course view ls = live-world_after course ClientsRight (keeps-right course) rested-right (begun m view) ls (right-begun m view)

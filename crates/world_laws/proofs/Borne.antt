@@ -1,8 +1,20 @@
--- What a member has sent rests on entries that are firm at its node.
-use Rattle.std.proofs.Common.{◌≡◌, ℕ, zero, suc, ◌+◌, ◌≤◌, ◌++◌, List, [], ◌∷◌, length, refl, ap, ◌∙◌, sym, arith, Option, Some, None, is_some, inl, inr, ⊎_elim, subst, take, length-append}
+-- What a member has sent rests on entries that became firm there.
+use Rattle.durable_store.specs.Restored.{Images, restores}
+use Rattle.agreement_laws.specs.Fronts.{IsFront}
+use Rattle.node_rules.specs.Reopening.{entries_in, reopened}
+use Rattle.replica_laws.proofs.FitNodes.{IsBrief}
+use Rattle.world_laws.specs.Stated.{stated}
+use Rattle.world_laws.specs.Sending.{AllGenuine}
+use Rattle.world_laws.proofs.Fitting.{all_genuine}
+use Rattle.world_laws.proofs.Lives.{book_left, lasts-stepped}
+use Rattle.world_laws.proofs.Reopens.{rests_reopened}
+use Rattle.world_laws.proofs.Chosen.{HostRight, ChosenRight}
+use Rattle.world_laws.proofs.ChosenLives.{named}
+use Rattle.world_laws.proofs.ChosenKept.{host-right, resumed-right, resumes-diary, keeps-both, chosen-kept, chosen-begun}
+use Rattle.std.proofs.Common.{◌≡◌, ℕ, zero, suc, ◌+◌, ◌≤◌, ◌++◌, List, [], ◌∷◌, length, refl, ap, ◌∙◌, sym, arith, Option, Some, None, is_some, inl, inr, ⊎_elim, subst, take, length-append, append-nil, true, not, drop, false}
 use Rattle.std.specs.Prelude.{slice_get, slice_set}
 use Rattle.smart_base.specs.Lists.{Each}
-use Rattle.smart_base.specs.Views.{View}
+use Rattle.smart_base.specs.Views.{View, is_view}
 use Rattle.smart_messages.specs.declared.any.AnyMessage.{AnyMessage}
 use Rattle.smart_messages.specs.declared.entry.NodeEvent.{NodeEvent}
 use Rattle.smart_messages.specs.declared.entry.NodeEvent.TheVariants.{Arrive, Tick, Deliver, Firm}
@@ -13,7 +25,7 @@ use Rattle.node_rules.specs.Steps.{Outcome, made_firm, step_of, leaving}
 use Rattle.node_rules.specs.declared.node.Held.{Held}
 use Rattle.world_rules.specs.Repeats.{repeated}
 use Rattle.world_rules.specs.Secrets.{group_secret}
-use Rattle.world_rules.specs.Worlds.{Host, World, posts, sends_all, host_after, stepped, host_takes, node_takes, settle_once, settle_all, gives, hearing, flow_once, hosts_from, begun, at_listed, is_gone}
+use Rattle.world_rules.specs.Worlds.{course_of, Host, World, posts, sends_all, host_after, stepped, host_takes, node_takes, settle_once, settle_all, gives, hearing, flow_once, hosts_from, begun, at_listed, host_crashed, host_resumed, with_front, is_up}
 use Rattle.world_rules.specs.Plays.{world_after}
 use Rattle.world_rules.specs.declared.line.Line.{Line}
 use Rattle.world_rules.specs.declared.message.Origin.{Origin}
@@ -23,22 +35,24 @@ use Rattle.world_rules.specs.declared.message.Content.TheVariants as contents
 use Rattle.world_rules.specs.declared.message.Sent.{Sent}
 use Rattle.replica_laws.specs.Sending.{IsOwn, RestsOn}
 use Rattle.replica_laws.proofs.Leaving.{leaving_rest}
-use Rattle.replica_laws.proofs.Onward.{longer-take, longer-front, rests-more, NodeRests, Onward, onward-step, rests-released, rests-opened}
+use Rattle.replica_laws.proofs.Onward.{rests-more, NodeRests, Onward, onward-step, rests-released, rests-opened, Longer, longer-append}
 use Rattle.world_laws.specs.Sending.{IsRested, Bears, IsBorneAt, IsBorne, SentFirm, IsOwnSent}
 use Rattle.world_laws.specs.Settling.{flow_begins, flow_goes, message_goes, node_goes, settles_present}
-use Rattle.world_laws.proofs.Lists.{either, some-equal, each_end, each_weaker, each_set, each_get, repeated_keeps, each_from_keeps}
+use Rattle.world_laws.proofs.Lists.{either, some-equal, each_end, each_weaker, each_set, each_get, repeated_keeps, each_from_keeps, either_by}
 use Rattle.world_laws.proofs.Stores.{Fits, IsTold, may-told, firm-grows, fits-called, fits-stepped, fits-opened}
-use Rattle.world_laws.proofs.Keeps.{after_call, called, ask_of, asked_by, by-posts, Keeps, KeepsLive, live, keeps-world_after, live-settle_once, live-settle, live-settle_all, live-flow_once, at_listed-keeps, signed_by, from_node, from_client, from_script, live-settles_present}
+use Rattle.world_laws.proofs.Keeps.{after_call, called, ask_of, asked_by, by-posts, Keeps, KeepsLive, live, keeps-world_after, live-settle_once, live-settle, live-settle_all, live-flow_once, at_listed-keeps, signed_by, from_node, from_client, from_script, live-settles_present, IsDown, KeepsAll, with_host, node_resumed, entries_left, is-up, not_false}
 
 -- worlds
 
--- a node's held messages are right, no more is firm than is written, and its store fits its book
+-- A node's held messages are right, and no more is firm than is written. Where it runs its store fits its book, and what is firm of that is its member's
+-- diary.
 pub record HostRests {S : Type 0} (h : Host S) : Type 0 where
   pub rests : NodeRests h.node
-  pub stored : Fits h.node h.store
+  pub stored : h.up ≡ true → Fits h.node h.store
+  pub diary : h.up ≡ true → h.life.diary ≡ take h.node.firm h.node.entries
   pub low : h.node.firm ≤ length h.node.entries
 
--- so are all nodes, and what was sent rests on entries that are firm
+-- so are all nodes, and what was sent rests on entries that became firm
 pub record Borne {S : Type 0} (w : World S) : Type 0 where
   pub hosts : Each HostRests w.hosts
   pub sent : SentFirm w
@@ -89,10 +103,11 @@ borne_here id x [] i h h' at is = absurd (cc)
 borne_here id x (y ∷ hs) zero h h' at is = inl is
 borne_here id x (y ∷ hs) (suc i) h h' at is = inr (borne_here id x hs i h h' at is)
 
--- a host with a longer book, of which more is firm
+-- a node with a longer book, of which more is firm
 record Later {S : Type 0} (n n' : Node S) : Type 0 where
   id : n'.id ≡ n.id
-  firm : (x : AnyMessage) → RestsOn (take n.firm n.entries) x → RestsOn (take n'.firm n'.entries) x
+  front : IsFront n.entries n'.entries
+  more : n.firm ≤ n'.firm
   low : n'.firm ≤ length n'.entries
   rests : NodeRests n'
 
@@ -101,87 +116,99 @@ rested-more : (xs ys : List LogEntry) → ((x : AnyMessage) → RestsOn xs x →
 rested-more xs ys more (contents.Message message) rests = more message rests
 rested-more xs ys more (contents.Raw bytes) rests = rests
 
--- what is borne stays so with a later host in its place
-borne-set : {S : Type 0} (hs : List (Host S)) (i : ℕ) (h h' : Host S) → slice_get hs i ≡ Some h → h'.node.id ≡ h.node.id
-    → ((x : AnyMessage) → RestsOn (take h.node.firm h.node.entries) x → RestsOn (take h'.node.firm h'.node.entries) x)
+-- what is borne stays so where a host of the same member stands in another's place, whose diary is longer
+borne-set : {S : Type 0} (hs : List (Host S)) (i : ℕ) (h h' : Host S) → slice_get hs i ≡ Some h → h'.node.id ≡ h.node.id → Longer h.life.diary h'.life.diary
     → (origin : Origin) (x : Content) → IsBorne hs origin x → IsBorne (slice_set hs i h') origin x
 borne-set hs i h h' at same more origins.Script x borne = tt
 borne-set hs i h h' at same more (origins.Client id) x borne = tt
 borne-set hs i h h' at same more (origins.Node id) x borne =
-    borne_set id x hs i h h' at
-    (λ is. record { member = same ∙ is.member; rested = rested-more (take h.node.firm h.node.entries) (take h'.node.firm h'.node.entries) more x is.rested }) borne
+    borne_set id x hs i h h' at (λ is. record { member = same ∙ is.member; rested = rested-more h.life.diary h'.life.diary (rests-more h.life.diary h'.life.diary more) x is.rested }) borne
+
+-- so it is in the world with that host
+borne-with : {S : Type 0} (w : World S) (i : ℕ) (h h' : Host S) → slice_get w.hosts i ≡ Some h → h'.node.id ≡ h.node.id → Longer h.life.diary h'.life.diary → HostRests h' → Borne w → Borne (with_host w i h')
+borne-with {S = S} w i h h' at same more rests is = record {
+  hosts = each_set HostRests w.hosts i h' is.hosts rests;
+  sent = record {
+    own = is.sent.own;
+    borne = each_weaker (λ (s : Sent). IsBorne w.hosts s.origin s.content) (λ (s : Sent). IsBorne (slice_set w.hosts i h') s.origin s.content)
+        (λ s borne. borne-set w.hosts i h h' at same more s.origin s.content borne) w.sent is.sent.borne;
+  };
+}
 
 -- a node with a longer book
 later-onward : {S : Type 0} (n a n' : Node S) → a.id ≡ n.id → a.entries ≡ n.entries → n.firm ≤ a.firm → a.firm ≤ length n.entries → Onward a n' → Later n n'
 later-onward {S = S} n a n' id entries firm low f =
     let book : n'.entries ≡ n.entries ++ f.more = f.book ∙ ap (λ es. es ++ f.more) entries in
     let longer : length n'.entries ≡ length n.entries + length f.more = ap (λ (es : List LogEntry). length es) book ∙ length-append n.entries f.more in
-    record {
-      id = f.id ∙ id;
-      firm = λ x is. subst (λ (es : List LogEntry). RestsOn (take n'.firm es) x) (sym book)
-          (rests-more (take n.firm (n.entries ++ f.more)) (take n'.firm (n.entries ++ f.more)) (longer-front n.firm n'.firm (n.entries ++ f.more) (omega (arith, firm, f.firm))) x
-          (rests-more (take n.firm n.entries) (take n.firm (n.entries ++ f.more)) (longer-take n.firm n.entries f.more) x is));
-      low = omega (arith, low, f.firm, longer);
-      rests = f.rests;
-    }
+    record { id = f.id ∙ id; front = record { rest = f.more; is = book }; more = omega (arith, firm, f.firm); low = omega (arith, low, f.firm, longer); rests = f.rests }
 
 -- a step makes a node later
-later-step : {S : Type 0} (m : Meaning S) (h : Host S) (event : NodeEvent) → IsTold h event → HostRests h → Later h.node (step_of m h.node event).node
-later-step m h (Arrive bytes) told is = later-onward h.node h.node _ refl refl (omega arith) is.low (onward-step m h.node (Arrive bytes) is.rests)
-later-step m h Tick told is = later-onward h.node h.node _ refl refl (omega arith) is.low (onward-step m h.node Tick is.rests)
-later-step m h Deliver told is = later-onward h.node h.node _ refl refl (omega arith) is.low (onward-step m h.node Deliver is.rests)
-later-step m h (Firm count) told is =
-    let grows = firm-grows h count told is.stored in
+later-step : {S : Type 0} (m : Meaning S) (h : Host S) (event : NodeEvent) → h.up ≡ true → IsTold h event → HostRests h → Later h.node (step_of m h.node event).node
+later-step m h (Arrive bytes) up told is = later-onward h.node h.node _ refl refl (omega arith) is.low (onward-step m h.node (Arrive bytes) is.rests)
+later-step m h Tick up told is = later-onward h.node h.node _ refl refl (omega arith) is.low (onward-step m h.node Tick is.rests)
+later-step m h Deliver up told is = later-onward h.node h.node _ refl refl (omega arith) is.low (onward-step m h.node Deliver is.rests)
+later-step m h (Firm count) up told is =
+    let grows = firm-grows h count told (is.stored up) in
     later-onward h.node (made_firm h.node count) _ refl refl grows.0 grows.1 (onward-step m h.node (Firm count) is.rests)
 
+-- a host whose node has stepped
+rests-after : {S : Type 0} (m : Meaning S) (h : Host S) (event : NodeEvent) → h.up ≡ true → Later h.node (step_of m h.node event).node → HostRests h → HostRests (host_after (course_of m) h (step_of m h.node event))
+rests-after {S = S} m h event up later is =
+    let n' : Node S = (step_of m h.node event).node in
+    record {
+      rests = rests-released n' later.rests;
+      stored = λ up. fits-stepped m h event (is.stored up);
+      diary = λ up. ap (λ (es : List LogEntry). with_front h.life.diary n'.firm es) later.front.is
+          ∙ (lasts-stepped h.life.diary h.node.firm n'.firm h.node.entries later.front.rest (is.diary up) is.low later.more ∙ ap (λ (es : List LogEntry). take n'.firm es) (sym later.front.is));
+      low = later.low;
+    }
+
 -- a node's step
-borne-stepped : {S : Type 0} (w : World S) (i : ℕ) (h : Host S) (o : Outcome S) → slice_get w.hosts i ≡ Some h → Later h.node o.node → Fits (host_after h o).node (host_after h o).store → Borne w → Borne (stepped w i h o)
+borne-event : {S : Type 0} (m : Meaning S) (w : World S) (i : ℕ) (h : Host S) (event : NodeEvent) → h.up ≡ true → slice_get w.hosts i ≡ Some h → IsTold h event → Borne w
+    → Borne (stepped (course_of m) w i h (step_of m h.node event))
 unfolding stepped
-borne-stepped {S = S} w i h o at later stored is =
-    let h' : Host S = host_after h o in
+borne-event {S = S} m w i h event up at told is =
+    let o : Outcome S = step_of m h.node event in
+    let h' : Host S = host_after (course_of m) h o in
+    let rests : HostRests h = each_get HostRests w.hosts i h is.hosts at in
+    let later : Later h.node o.node = later-step m h event up told rests in
+    let new : HostRests h' = rests-after m h event up later rests in
+    let b : Borne (with_host w i h') = borne-with w i h h' at later.id (longer-append h.life.diary (drop (length h.life.diary) (take o.node.firm o.node.entries))) new is in
     borne-sends_all h.node.id _ (leaving o.node.firm o.node.held)
     (each_weaker (λ (x : Held). IsOwn o.node.id x.to x.message × RestsOn (take o.node.firm o.node.entries) x.message)
     (LeavesRight h.node.id (slice_set w.hosts i h'))
     (λ x right. (
       subst (λ (k : ℕ). IsOwn k x.to x.message) later.id right.0,
-      borne_here h.node.id (contents.Message x.message) w.hosts i h h' at (record { member = later.id; rested = right.1 }),
+      borne_here h.node.id (contents.Message x.message) w.hosts i h h' at (record { member = later.id; rested = subst (λ (es : List LogEntry). RestsOn es x.message) (sym (new.diary up)) right.1 }),
     ))
     (leaving o.node.firm o.node.held) (leaving_rest o.node.id o.node.firm o.node.entries o.node.held later.rests.held))
-    (record {
-      hosts = each_set HostRests w.hosts i h' is.hosts (record { rests = rests-released o.node later.rests; stored = stored; low = later.low });
-      sent = record {
-        own = is.sent.own;
-        borne = each_weaker (λ (s : Sent). IsBorne w.hosts s.origin s.content) (λ (s : Sent). IsBorne (slice_set w.hosts i h') s.origin s.content)
-            (λ s borne. borne-set w.hosts i h h' at later.id later.firm s.origin s.content borne) w.sent is.sent.borne;
-      };
-    })
-
--- a host takes an event
-borne-event : {S : Type 0} (m : Meaning S) (w : World S) (i : ℕ) (h : Host S) (event : NodeEvent) → slice_get w.hosts i ≡ Some h → IsTold h event → Borne w → Borne (stepped w i h (step_of m h.node event))
-borne-event m w i h event at told is =
-    let rests = each_get HostRests w.hosts i h is.hosts at in
-    borne-stepped w i h (step_of m h.node event) at (later-step m h event told rests) (fits-stepped m h event rests.stored) is
+    (record { hosts = b.hosts; sent = record { own = b.sent.own; borne = b.sent.borne } })
 
 -- the store of a host makes a call
-borne-called : {S : Type 0} (w : World S) (i : ℕ) (h : Host S) → slice_get w.hosts i ≡ Some h → Borne w → Borne (called w i h)
-borne-called {S = S} w i h at is =
+borne-called : {S : Type 0} (m : Meaning S) (w : World S) (i : ℕ) (h : Host S) → slice_get w.hosts i ≡ Some h → Borne w → Borne (called (course_of m) w i h)
+borne-called m w i h at is =
     let rests = each_get HostRests w.hosts i h is.hosts at in
-    record {
-      hosts = each_set HostRests w.hosts i (after_call h) is.hosts (record { rests = rests.rests; stored = fits-called h.node h.store rests.stored; low = rests.low });
-      sent = record {
-        own = is.sent.own;
-        borne = each_weaker (λ (s : Sent). IsBorne w.hosts s.origin s.content) (λ (s : Sent). IsBorne (slice_set w.hosts i (after_call h)) s.origin s.content)
-            (λ s borne. borne-set w.hosts i h (after_call h) at refl (λ x rested. rested) s.origin s.content borne) w.sent is.sent.borne;
-      };
-    }
+    borne-with w i h (after_call (course_of m) h) at refl (record { more = []; split = sym (append-nil h.life.diary) })
+    (record { rests = rests.rests; stored = λ up. fits-called h.node h.store (rests.stored up); diary = rests.diary; low = rests.low }) is
 
--- each event keeps that
-pub keeps-borne : {S : Type 0} (m : Meaning S) → Keeps (step_of m) Borne
+-- a member crashes
+borne-crashed : {S : Type 0} (m : Meaning S) (w : World S) (i : ℕ) (h : Host S) (left : Images) → slice_get w.hosts i ≡ Some h → Borne w → Borne (with_host w i (host_crashed (course_of m) h left))
+borne-crashed m w i h left at is =
+    let rests = each_get HostRests w.hosts i h is.hosts at in
+    borne-with w i h (host_crashed (course_of m) h left) at refl (longer-append h.life.diary (drop (length h.life.diary) (take (length (restores left).entries) (book_left h))))
+    (record { rests = rests.rests; stored = λ up. absurd (apart up); diary = λ up. absurd (apart up); low = rests.low }) is
+  where
+    apart : false ≡ true → ⊥
+    apart same = cc
+
+-- each event keeps that, but that a node goes on
+pub keeps-borne : {S : Type 0} (m : Meaning S) → Keeps (course_of m) Borne
 unfolding hearing
 keeps-borne m =
     record {
-      event = λ w i h event there at may is. borne-event m w i h event at (may-told w h event may) is;
-      disk = λ w i h at is. borne-called w i h at is;
+      event = λ w i h event up at may is. borne-event m w i h event up.0 at (may-told w h event may) is;
+      disk = λ w i h up at is. borne-called m w i h at is;
+      crash = λ w i h left up at may is. borne-crashed m w i h left at is;
       hear = λ w i c x a at has read is. record { hosts = is.hosts; sent = record { own = is.sent.own; borne = is.sent.borne } };
       ask = λ w i c op at free few brief is.
           borne-posts (asked_by w i c op) (from_client c (ask_of c op)) (refl, refl) tt
@@ -193,63 +220,99 @@ keeps-borne m =
       same = λ w mark told is. record { hosts = is.hosts; sent = record { own = is.sent.own; borne = is.sent.borne } };
     }
 
-borne-live : {S : Type 0} (m : Meaning S) → KeepsLive (step_of m) Borne
-borne-live m = live (step_of m) Borne (keeps-borne m)
+borne-live : {S : Type 0} (m : Meaning S) → KeepsLive (course_of m) Borne
+borne-live m = live (course_of m) Borne (keeps-borne m)
+
+-- a node goes on from a diary that is right
+borne-resumed : {S : Type 0} (m : Meaning S) (w : World S) (i : ℕ) (h : Host S) → IsDown w h → slice_get w.hosts i ≡ Some h → ChosenRight m w → Borne w
+    → Borne (with_host w i (host_resumed h (node_resumed (course_of m) w h)))
+borne-resumed {S = S} m w i h down at r is =
+    let right : HostRight w.sent m w.view w.chosen h = host-right m w i h at r in
+    let n : Node S = node_resumed (course_of m) w h in
+    let next : HostRight w.sent m w.view w.chosen (host_resumed h n) = resumed-right m w i h down.0 at r in
+    let by = named m group_secret h.node.id w.view 1024 (entries_in (entries_left h)) in
+    borne-with w i h (host_resumed h n) at by.name (record { more = []; split = sym (append-nil h.life.diary) })
+    (record {
+      rests = subst (λ (es : List LogEntry). NodeRests (reopened m group_secret h.node.id w.view 1024 es)) (sym (resumes-diary m w i h at down.0 r))
+          (rests_reopened m group_secret h.node.id (stated w.sent) w.view 1024 h.life.diary right.diary.sound);
+      stored = next.stored;
+      diary = next.lasts.up;
+      low = next.lasts.low;
+    }) is
+
+-- the list is right, and what was sent rests on entries that became firm
+pub right-borne : {S : Type 0} (m : Meaning S) → IsBrief m → KeepsAll (course_of m) (λ w. ChosenRight m w × Borne w)
+right-borne m brief =
+    record {
+      kept = keeps-both (course_of m) (ChosenRight m) Borne (chosen-kept m brief).kept (keeps-borne m);
+      resume = λ w i h down at is. ((chosen-kept m brief).resume w i h down at is.0, borne-resumed m w i h down at is.0 is.1);
+    }
 
 -- the worlds of a play
 
 -- hosts that have just opened rest
 hosts_rest : {S : Type 0} (m : Meaning S) (view : View) (ids : List ℕ) → Each HostRests (hosts_from m view ids)
 hosts_rest m view [] = tt
-hosts_rest m view (id ∷ ids) = (record { rests = rests-opened m group_secret id view 1024; stored = fits-opened m group_secret id view 1024; low = omega arith }, hosts_rest m view ids)
+hosts_rest m view (id ∷ ids) = (
+  record { rests = rests-opened m group_secret id view 1024; stored = λ up. fits-opened m group_secret id view 1024; diary = λ up. refl; low = omega arith },
+  hosts_rest m view ids,
+)
 
 -- at the beginning
 pub borne-begun : {S : Type 0} (m : Meaning S) (view : View) → Borne (begun m view)
 borne-begun m view = record { hosts = hosts_rest m view view.members; sent = record { own = tt; borne = tt } }
 
 -- after any lines
-borne-after : {S : Type 0} (m : Meaning S) (view : View) (ls : List Line) → Borne (world_after (step_of m) (begun m view) ls)
-borne-after m view ls = keeps-world_after (step_of m) Borne (keeps-borne m) (begun m view) ls (borne-begun m view)
+pub right_borne-after : {S : Type 0} (m : Meaning S) → IsBrief m → (view : View) (ls : List Line) → is_view view ≡ true → ChosenRight m (world_after (course_of m) (begun m view) ls) × Borne (world_after (course_of m) (begun m view) ls)
+right_borne-after m brief view ls is = keeps-world_after (course_of m) (λ w. ChosenRight m w × Borne w) (right-borne m brief) (begun m view) ls (chosen-begun m view is, borne-begun m view)
+
+-- so all that was sent is read
+pub genuine-after : {S : Type 0} (m : Meaning S) → IsBrief m → (view : View) (ls : List Line) → is_view view ≡ true → AllGenuine (world_after (course_of m) (begun m view) ls)
+genuine-after m brief view ls is = all_genuine (world_after (course_of m) (begun m view) ls) (right_borne-after m brief view ls is).0.0.0.fit
+
+borne-after : {S : Type 0} (m : Meaning S) → IsBrief m → (view : View) (ls : List Line) → is_view view ≡ true → Borne (world_after (course_of m) (begun m view) ls)
+borne-after m brief view ls is = (right_borne-after m brief view ls is).1
 
 -- a host that is found takes bytes
-borne-host_takes : {S : Type 0} (m : Meaning S) (i : ℕ) (bytes : List ℕ) (w : World S) (found : Option (Host S)) → slice_get w.hosts i ≡ found → Borne w → Borne (host_takes (step_of m) i (Arrive bytes) w found)
+borne-host_takes : {S : Type 0} (m : Meaning S) (i : ℕ) (bytes : List ℕ) (w : World S) (found : Option (Host S)) → slice_get w.hosts i ≡ found → Borne w → Borne (host_takes (course_of m) i (Arrive bytes) w found)
 borne-host_takes m i bytes w None at is = is
-borne-host_takes {S = S} m i bytes w (Some h) at is = either (λ (v : World S). Borne v) (is_gone w h.node.id) w _ is (borne-event m w i h (Arrive bytes) at tt is)
+borne-host_takes {S = S} m i bytes w (Some h) at is =
+    either_by (λ (v : World S). Borne v) (not (is_up w h)) w _ (λ down. is) (λ up. borne-event m w i h (Arrive bytes) (is-up w h (not_false (is_up w h) up)).0 at tt is)
 
 -- a node takes bytes
-borne-node_takes : {S : Type 0} (m : Meaning S) (i : ℕ) (bytes : List ℕ) (w : World S) → Borne w → Borne (node_takes (step_of m) i (Arrive bytes) w)
+borne-node_takes : {S : Type 0} (m : Meaning S) (i : ℕ) (bytes : List ℕ) (w : World S) → Borne w → Borne (node_takes (course_of m) i (Arrive bytes) w)
 unfolding node_takes
 borne-node_takes {S = S} m i bytes w is = either (λ (v : World S). Borne v) (is_some w.ending) w _ is (borne-host_takes m i bytes w (slice_get w.hosts i) refl is)
 
 -- and settles
-borne-gives : {S : Type 0} (m : Meaning S) (bytes : List ℕ) (i : ℕ) (w : World S) → Borne w → Borne (gives (step_of m) bytes i w)
+borne-gives : {S : Type 0} (m : Meaning S) (bytes : List ℕ) (i : ℕ) (w : World S) → Borne w → Borne (gives (course_of m) bytes i w)
 unfolding gives
-borne-gives m bytes i w is = live-settle (step_of m) Borne (borne-live m) i (node_takes (step_of m) i (Arrive bytes) w) (borne-node_takes m i bytes w is)
+borne-gives m bytes i w is = live-settle (course_of m) Borne (borne-live m) i (node_takes (course_of m) i (Arrive bytes) w) (borne-node_takes m i bytes w is)
 
 -- a node goes on for some turns
-borne-turns : {S : Type 0} (m : Meaning S) (i k : ℕ) (w : World S) → Borne w → Borne (repeated (settle_once (step_of m) i) k w)
-borne-turns m i k w is = repeated_keeps Borne (settle_once (step_of m) i) (live-settle_once (step_of m) Borne (borne-live m) i) k w is
+borne-turns : {S : Type 0} (m : Meaning S) (i k : ℕ) (w : World S) → Borne w → Borne (repeated (settle_once (course_of m) i) k w)
+borne-turns m i k w is = repeated_keeps Borne (settle_once (course_of m) i) (live-settle_once (course_of m) Borne (borne-live m) i) k w is
 
 -- as a flow begins
-pub firm-first : {S : Type 0} (m : Meaning S) (view : View) (ls : List Line) (members : List ℕ) (nodes i k : ℕ)
-    → SentFirm (repeated (settle_once (step_of m) i) k (flow_begins m view ls members nodes))
-firm-first m view ls members nodes i k =
+pub firm-first : {S : Type 0} (m : Meaning S) → IsBrief m → (view : View) → is_view view ≡ true → (ls : List Line) (members : List ℕ) (nodes i k : ℕ)
+    → SentFirm (repeated (settle_once (course_of m) i) k (flow_begins m view ls members nodes))
+firm-first m brief view is ls members nodes i k =
     (borne-turns m i k (flow_begins m view ls members nodes)
-    (each_from_keeps Borne (at_listed members (settles_present m members)) (at_listed-keeps Borne members (settles_present m members) (live-settles_present (step_of m) Borne (borne-live m) members)) nodes 0 (world_after (step_of m) (begun m view) ls) (borne-after m view ls))).sent
+    (each_from_keeps Borne (at_listed members (settles_present m members)) (at_listed-keeps Borne members (settles_present m members) (live-settles_present (course_of m) Borne (borne-live m) members)) nodes 0 (world_after (course_of m) (begun m view) ls) (borne-after m brief view ls is))).sent
 
 -- after some turns of it
-borne-flow : {S : Type 0} (m : Meaning S) (view : View) (ls : List Line) (members : List ℕ) (turn : ℕ) → Borne (flow_goes m view ls members turn)
-borne-flow {S = S} m view ls members turn =
-    let w : World S = world_after (step_of m) (begun m view) ls in
-    repeated_keeps Borne (flow_once (step_of m) members) (live-flow_once (step_of m) Borne (borne-live m) members) turn (settle_all (step_of m) members w) (live-settle_all (step_of m) Borne (borne-live m) members w (borne-after m view ls))
+borne-flow : {S : Type 0} (m : Meaning S) → IsBrief m → (view : View) → is_view view ≡ true → (ls : List Line) (members : List ℕ) (turn : ℕ) → Borne (flow_goes m view ls members turn)
+borne-flow {S = S} m brief view is ls members turn =
+    let w : World S = world_after (course_of m) (begun m view) ls in
+    repeated_keeps Borne (flow_once (course_of m) members) (live-flow_once (course_of m) Borne (borne-live m) members) turn (settle_all (course_of m) members w) (live-settle_all (course_of m) Borne (borne-live m) members w (borne-after m brief view ls is))
 
 -- as bytes are given in it, and a node takes it and goes on
-pub firm-given : {S : Type 0} (m : Meaning S) (view : View) (ls : List Line) (members : List ℕ) (turn : ℕ) (bytes : List ℕ) (nodes i k : ℕ)
+pub firm-given : {S : Type 0} (m : Meaning S) → IsBrief m → (view : View) → is_view view ≡ true → (ls : List Line) (members : List ℕ) (turn : ℕ) (bytes : List ℕ) (nodes i k : ℕ)
     → SentFirm (node_goes m bytes i k (message_goes m members bytes nodes (flow_goes m view ls members turn)))
-firm-given {S = S} m view ls members turn bytes nodes i k =
+firm-given {S = S} m brief view viewed ls members turn bytes nodes i k =
     let w : World S = flow_goes m view ls members turn in
-    let is : Borne w = borne-flow m view ls members turn in
+    let is : Borne w = borne-flow m brief view viewed ls members turn in
     let given : Borne (message_goes m members bytes nodes w) =
-    each_from_keeps Borne (at_listed members (gives (step_of m) bytes)) (at_listed-keeps Borne members (gives (step_of m) bytes) (borne-gives m bytes)) nodes 0 (record w { mark = w.mark + 1 })
+    each_from_keeps Borne (at_listed members (gives (course_of m) bytes)) (at_listed-keeps Borne members (gives (course_of m) bytes) (borne-gives m bytes)) nodes 0 (record w { mark = w.mark + 1 })
     (record { hosts = is.hosts; sent = record { own = is.sent.own; borne = is.sent.borne } }) in
-    (borne-turns m i k (node_takes (step_of m) i (Arrive bytes) (message_goes m members bytes nodes w)) (borne-node_takes m i bytes (message_goes m members bytes nodes w) given)).sent
+    (borne-turns m i k (node_takes (course_of m) i (Arrive bytes) (message_goes m members bytes nodes w)) (borne-node_takes m i bytes (message_goes m members bytes nodes w) given)).sent

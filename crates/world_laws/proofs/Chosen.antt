@@ -1,5 +1,5 @@
 -- The list of chosen batches: each is certified, and every host stands along it.
-use Rattle.std.proofs.Common.{◌≡◌, ◌⊎◌, inl, inr, ℕ, ◌+◌, ◌≤◌, ◌++◌, ◌==◌, true, false, List, [], ◌∷◌, length, refl, ◌∙◌, sym, arith, Option, Some, None, subst, take, length-append, eqb-true, eq-eqb, append-nil, ap}
+use Rattle.std.proofs.Common.{◌≡◌, ◌⊎◌, inl, inr, ℕ, suc, ◌+◌, ◌^◌, ◌≤◌, ◌++◌, ◌==◌, true, false, List, [], ◌∷◌, length, refl, ◌∙◌, sym, arith, Option, Some, None, subst, take, length-append, eqb-true, eq-eqb, append-nil, ap}
 use Rattle.std.specs.Prelude.{map, slice_get, IfSome}
 use Rattle.smart_base.specs.Lists.{Each}
 use Rattle.smart_base.specs.Views.{View, is_view}
@@ -20,10 +20,12 @@ use Rattle.agreement_laws.proofs.Lists.{each_among}
 use Rattle.agreement_laws.proofs.Regencies.{decided_once}
 use Rattle.node_laws.specs.Sound.{IsWithin, IsSound, HasDecided}
 use Rattle.node_laws.proofs.More.{sound_more}
+use Rattle.node_laws.specs.Restored.{IsSoundBook}
+use Rattle.node_laws.proofs.Restored.{book_sound, front_sound, front_decided, book_more}
 use Rattle.world_rules.specs.Secrets.{group_secret}
 use Rattle.world_rules.specs.Premises.{is_among, too_many}
 use Rattle.world_rules.specs.Worlds.{Host, World, chosen_with}
-use Rattle.world_rules.specs.Promises.{AtPlaces}
+use Rattle.node_rules.specs.Deliveries.{AtPlaces}
 use Rattle.world_rules.specs.declared.message.Sent.{Sent}
 use Rattle.node_rules.specs.Reopening.{decided_of}
 use Rattle.replica_laws.specs.Books.{DeliversInOrder}
@@ -31,6 +33,8 @@ use Rattle.replica_laws.proofs.InOrder.{get-end}
 use Rattle.replica_laws.proofs.Follows.{DecidesNext, WasDue}
 use Rattle.world_laws.specs.Stated.{stated_in, stated, diary, Certified, AllCertified}
 use Rattle.world_laws.proofs.Stores.{Fits}
+use Rattle.world_laws.proofs.Lives.{Lasts}
+use Rattle.world_laws.proofs.Few.{FewHost, few-sent}
 use Rattle.world_laws.proofs.Lists.{each_weaker, either, either_by, some-equal}
 use Rattle.world_laws.proofs.Fronts.{front-same, front-append, front-length, front-get, front-batch_at, batch_at-next}
 use Rattle.world_laws.proofs.Certified.{DecidesOnce, Exact, certified-front, all_certified_more, certified-end, certified-get}
@@ -42,19 +46,29 @@ use Rattle.world_laws.proofs.Unforged.{Unforged}
 abbrev pub DeliveredIs : List Batch → Delivery → Type 0
 DeliveredIs chosen d = batch_at chosen d.place ≡ Some d.batch
 
--- a host of the group whose node is sound and delivers in order, which decided what is certified, and no more than the list has, and delivered a batch for
--- each place, the list's; its store fits its book
+-- a book from which a member may go on, which decides what is certified, and no more than the list has
+pub record BookRight (sent : List Sent) (view : View) (chosen : List Batch) (es : List LogEntry) : Type 0 where
+  pub sound : IsSoundBook group_secret (stated sent) view es
+  pub decided : AllCertified (stated sent) view 1 (decided_of es)
+  pub within : length (decided_of es) ≤ length chosen
+
+-- A host of the group whose node is sound and delivers in order, which decided what is certified, and no more than the list has, and delivered a batch for
+-- each place, the list's. Where it runs its store fits its book; its diary and the book that it put aside are such from which it may go on.
 pub record HostRight {S : Type 0} (sent : List Sent) (m : Meaning S) (view : View) (chosen : List Batch) (h : Host S) : Type 0 where
   pub sound : IsSound (stated sent) view h.node
   pub shared : h.node.secret ≡ group_secret
-  pub low : h.node.firm ≤ length h.node.entries
-  pub stored : Fits h.node h.store
+  pub stored : h.up ≡ true → Fits h.node h.store
+  pub lasts : Lasts h
   pub decided : AllCertified (stated sent) view 1 (decided_of h.node.entries)
   pub order : DeliversInOrder m view h.node
   pub within : length (decided_of h.node.entries) ≤ length chosen
-  pub count : length h.delivered ≡ h.node.replica.place
-  pub places : AtPlaces 1 h.delivered
+  pub count : h.resumed + length h.delivered ≡ h.node.replica.place
+  pub places : AtPlaces (h.resumed + 1) h.delivered
   pub agrees : Each (DeliveredIs chosen) h.delivered
+  pub earlier : Each (DeliveredIs chosen) h.earlier
+  pub diary : BookRight sent view chosen h.life.diary
+  pub aside : BookRight sent view chosen h.life.aside
+  pub few : FewHost sent h
 
 -- a world in which all hosts are right, each member has one host, each chosen batch is certified, few are faulty, and what has been stated is shown
 pub record WorldRight {S : Type 0} (m : Meaning S) (w : World S) : Type 0 where
@@ -64,6 +78,7 @@ pub record WorldRight {S : Type 0} (m : Meaning S) (w : World S) : Type 0 where
   pub certified : AllCertified (stated w.sent) w.view 1 w.chosen
   pub few : too_many w.view w.faulty ≡ false
   pub shown : AllShown w.faulty (stated w.sent) w.hosts
+  pub short : length w.sent ≤ 2 ^ 24
 
 -- all batches were met, and are one where their digests are; what was sent is read, and is not forged
 abbrev pub Based : {S : Type 0} → World S → Type 0
@@ -186,7 +201,8 @@ decided-step {S = S} T m view n n' shared is book next order all =
 pub right-witnessed : {S : Type 0} (m : Meaning S) (w : World S) → WorldRight m w → Witnessed group_secret digest_of w.view (is_among w.faulty) (diary w) (stated w.sent)
 right-witnessed {S = S} m w r =
     witnessing w r.viewed r.few
-    (each_weaker (HostRight w.sent m w.view w.chosen) (HostStands (stated w.sent) w.view) (λ h right. record { sound = right.sound; shared = right.shared }) w.hosts r.right) r.ids r.shown
+    (each_weaker (HostRight w.sent m w.view w.chosen) (HostStands (stated w.sent) w.view) (λ h right. record { lawful = right.diary.sound.lawful; backed = right.diary.sound.backed }) w.hosts r.right)
+    r.ids r.shown
 
 -- so a place has one decision
 pub right-once : {S : Type 0} (m : Meaning S) (w : World S) → WorldRight m w → DecidesOnce (stated w.sent) w.view
@@ -226,20 +242,27 @@ due-agrees m view chosen n d order front was =
     subst (λ (k : ℕ). batch_at chosen k ≡ Some d.batch) (sym was.1) (waiting-at m view chosen n d.batch order front was.0)
 
 -- the list grows
+pub book_longer : (sent : List Sent) (view : View) (chosen more : List Batch) → take (length chosen) more ≡ chosen → (es : List LogEntry) → BookRight sent view chosen es → BookRight sent view more es
+book_longer sent view chosen more front es b = record { sound = b.sound; decided = b.decided; within = omega (arith, b.within, front-length chosen more front) }
+
 pub host_longer : {S : Type 0} (sent : List Sent) (m : Meaning S) (view : View) (chosen more : List Batch) → take (length chosen) more ≡ chosen → (h : Host S) → HostRight sent m view chosen h
     → HostRight sent m view more h
 host_longer sent m view chosen more front h r =
     record {
       sound = r.sound;
       shared = r.shared;
-      low = r.low;
       stored = r.stored;
+      lasts = r.lasts;
       decided = r.decided;
       order = r.order;
       within = omega (arith, r.within, front-length chosen more front);
       count = r.count;
       places = r.places;
       agrees = each_weaker (DeliveredIs chosen) (DeliveredIs more) (λ d at. front-batch_at chosen more d.place d.batch front at) h.delivered r.agrees;
+      earlier = each_weaker (DeliveredIs chosen) (DeliveredIs more) (λ d at. front-batch_at chosen more d.place d.batch front at) h.earlier r.earlier;
+      diary = book_longer sent view chosen more front h.life.diary r.diary;
+      aside = book_longer sent view chosen more front h.life.aside r.aside;
+      few = r.few;
     }
 
 -- more is sent
@@ -249,18 +272,57 @@ pub certified_sent : (sent : List Sent) (s : Sent) (view : View) (place : ℕ) (
 certified_sent sent s view place batches all =
     subst (λ (xs : List Statement). AllCertified xs view place batches) (sym (stated-end sent s)) (all_certified_more (stated sent) (stated_in s.content) view place batches all)
 
+book_sent : (sent : List Sent) (s : Sent) (view : View) (chosen : List Batch) (es : List LogEntry) → BookRight sent view chosen es → BookRight (sent ++ s ∷ []) view chosen es
+book_sent sent s view chosen es b = record {
+  sound = book_more (stated sent) (stated (sent ++ s ∷ [])) (among-all (stated sent) (stated (sent ++ s ∷ [])) (stated-grows sent s)) group_secret view es b.sound;
+  decided = certified_sent sent s view 1 (decided_of es) b.decided;
+  within = b.within;
+}
+
 -- and who is right
 pub host_sent : {S : Type 0} (sent : List Sent) (s : Sent) (m : Meaning S) (view : View) (chosen : List Batch) (h : Host S) → HostRight sent m view chosen h → HostRight (sent ++ s ∷ []) m view chosen h
 host_sent sent s m view chosen h r =
     record {
       sound = sound_more (stated sent) (stated (sent ++ s ∷ [])) (among-all (stated sent) (stated (sent ++ s ∷ [])) (stated-grows sent s)) view h.node r.sound;
       shared = r.shared;
-      low = r.low;
       stored = r.stored;
+      lasts = r.lasts;
       decided = certified_sent sent s view 1 (decided_of h.node.entries) r.decided;
       order = r.order;
       within = r.within;
       count = r.count;
       places = r.places;
       agrees = r.agrees;
+      earlier = r.earlier;
+      diary = book_sent sent s view chosen h.life.diary r.diary;
+      aside = book_sent sent s view chosen h.life.aside r.aside;
+      few = few-sent sent s h r.few;
     }
+
+-- ---- fronts of books
+
+pub front_right : (sent : List Sent) (view : View) (chosen : List Batch) (count : ℕ) (es : List LogEntry) → BookRight sent view chosen es → BookRight sent view chosen (take count es)
+front_right sent view chosen count es b =
+    let f : IsFront (decided_of (take count es)) (decided_of es) = front_decided es count in
+    let long : length (decided_of es) ≡ length (decided_of (take count es)) + length f.rest = ap (λ (bs : List Batch). length bs) f.is ∙ length-append (decided_of (take count es)) f.rest in
+    record {
+      sound = front_sound group_secret (stated sent) view es count b.sound;
+      decided = certified_front (stated sent) view 1 (decided_of (take count es)) f.rest (subst (λ (bs : List Batch). AllCertified (stated sent) view 1 bs) f.is b.decided);
+      within = omega (arith, b.within, long);
+    }
+  where
+    certified_front : (T : List Statement) (view : View) (place : ℕ) (front rest : List Batch) → AllCertified T view place (front ++ rest) → AllCertified T view place front
+    certified_front T view place [] rest all = tt
+    certified_front T view place (b ∷ bs) rest all = (all.0, certified_front T view (suc place) bs rest all.1)
+
+-- nothing is one
+pub none_right : (sent : List Sent) (view : View) (chosen : List Batch) (es : List LogEntry) → BookRight sent view chosen es → BookRight sent view chosen []
+none_right sent view chosen es b = front_right sent view chosen 0 es b
+
+-- the book of a host that is right is one
+pub own_right : {S : Type 0} (sent : List Sent) (m : Meaning S) (view : View) (chosen : List Batch) (h : Host S) → HostRight sent m view chosen h → BookRight sent view chosen h.node.entries
+own_right sent m view chosen h r = record {
+  sound = subst (λ (k : List ℕ). IsSoundBook k (stated sent) view h.node.entries) r.shared (book_sound (stated sent) view h.node r.sound);
+  decided = r.decided;
+  within = r.within;
+}

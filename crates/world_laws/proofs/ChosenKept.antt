@@ -1,6 +1,16 @@
 -- Each event of a world keeps the list of chosen batches right.
-use Rattle.std.proofs.Common.{◌≡◌, ⊎_elim, ◌⊎◌, inl, inr, ℕ, ◌+◌, ◌≤◌, Bool, true, false, List, [], ◌∷◌, ◌++◌, length, refl, ap, ◌∙◌, sym, arith, cond, Option, Some, None, is_some, subst, take, length-append, zero, suc, nat_lt, filter}
-use Rattle.std.proofs.lemmas.Bool.{le-ltb}
+use Rattle.replica_laws.specs.Sending.{ForEvent}
+use Rattle.replica_laws.proofs.Sources.{HasSource}
+use Rattle.durable_store.specs.Restored.{Images, restores}
+use Rattle.durable_store.specs.Standing.{MayLeave}
+use Rattle.node_laws.specs.Restored.{IsSoundBook}
+use Rattle.node_laws.proofs.Restored.{book_sound}
+use Rattle.world_laws.proofs.Few.{sources, may-have, few-step, few-after, begun-step, few-opened, few-book, few-decided}
+use Rattle.world_laws.proofs.Fitting.{FitHost}
+use Rattle.world_laws.proofs.Lives.{left-restored, Lasts, book_left, lasts-after, lasts-opened}
+use Rattle.world_laws.proofs.ChosenLives.{named, diary_held, host-called, host-crashes, host-resumes}
+use Rattle.std.proofs.Common.{◌^◌, ◌<◌, ◌≡◌, ⊎_elim, ◌⊎◌, inl, inr, ℕ, ◌+◌, ◌≤◌, Bool, true, false, List, [], ◌∷◌, ◌++◌, length, refl, ap, ◌∙◌, sym, arith, cond, Option, Some, None, is_some, subst, take, length-append, zero, suc, nat_lt, filter, drop}
+use Rattle.std.proofs.lemmas.Bool.{le-ltb, ltb-true}
 use Rattle.std.specs.Prelude.{map, slice_get, slice_set}
 use Rattle.std.specs.List.{flat_map}
 use Rattle.smart_base.specs.Lists.{Each, Distinct}
@@ -21,11 +31,10 @@ use Rattle.vote_book.specs.Books.{Among}
 use Rattle.replica_rules.specs.Replicas.{state, batch_at}
 use Rattle.replica_rules.specs.Seals.{signed}
 use Rattle.node_rules.specs.Nodes.{Node, next_place}
-use Rattle.node_rules.specs.Steps.{Outcome, made_firm, step_of, leaving}
+use Rattle.node_rules.specs.Steps.{Outcome, made_firm, step_of, leaving, opened}
 use Rattle.node_rules.specs.declared.node.Held.{Held}
 use Rattle.agreement_laws.specs.Fronts.{IsFront}
 use Rattle.agreement_laws.specs.Statements.{Statement, Asked, signer_of, within}
-use Rattle.agreement_laws.proofs.Growing.{take-longer}
 use Rattle.agreement_laws.proofs.Lists.{among_flat}
 use Rattle.vote_book.specs.declared.entry.LogEntry.{LogEntry}
 use Rattle.smart_base.proofs.ViewFacts.{view-distinct}
@@ -34,36 +43,38 @@ use Rattle.node_laws.specs.Sound.{IsHeld, IsSound}
 use Rattle.node_laws.proofs.Passes.{sound_step, sound_released, sound_opened}
 use Rattle.world_rules.specs.Secrets.{group_secret}
 use Rattle.world_rules.specs.Clients.{heard}
-use Rattle.world_rules.specs.Worlds.{Host, World, posts, sends_all, delivery_in, chosen_with, host_after, stepped, hearing, hosts_from, begun}
+use Rattle.node_rules.specs.Deliveries.{delivery_in}
+use Rattle.world_rules.specs.Worlds.{Course, course_of, Host, World, posts, sends_all, chosen_with, host_after, stepped, hearing, hosts_from, begun, host_of_node, host_resumed, host_crashed}
 use Rattle.world_rules.specs.Plays.{world_after}
 use Rattle.world_rules.specs.Premises.{is_among, is_excused, is_forged, too_many}
-use Rattle.world_rules.specs.Promises.{AtPlaces, IsNext, IsPrefix}
+use Rattle.node_rules.specs.Deliveries.{AtPlaces}
+use Rattle.world_rules.specs.Promises.{IsNext, IsPrefix}
 use Rattle.world_rules.specs.declared.line.Line.{Line}
 use Rattle.client_quorum.specs.declared.client.Client.{Client}
 use Rattle.client_quorum.specs.declared.client.Heard.{Heard}
 use Rattle.world_rules.specs.declared.message.Content.{Content}
 use Rattle.world_rules.specs.declared.message.Content.TheVariants as contents
 use Rattle.world_rules.specs.declared.message.Sent.{Sent}
-use Rattle.node_rules.specs.Reopening.{decided_of}
+use Rattle.node_rules.specs.Reopening.{decided_of, entries_in}
 use Rattle.replica_laws.specs.Books.{DeliversInOrder}
 use Rattle.replica_laws.proofs.InOrder.{in_order-step, in_order-released, in_order-opened}
 use Rattle.replica_laws.proofs.Follows.{next-step, WasDue, due-step}
 use Rattle.replica_laws.proofs.Counted.{places-append, advances-step}
-use Rattle.world_laws.specs.Stated.{stated_in, stated, AllCertified, IsWitnessed}
+use Rattle.world_laws.specs.Stated.{HasDiary, stated_in, stated, AllCertified, IsWitnessed}
 use Rattle.world_laws.proofs.Lists.{each_append, each_weaker, each_both, each_set, each_get, some-equal}
-use Rattle.world_laws.proofs.Keeps.{after_call, IsRead, called, ask_of, asked_by, by-posts, Keeps, keeps-world_after, ReadsSent, MayRead, may_read, signed_by, from_node, from_client, from_script}
+use Rattle.world_laws.proofs.Keeps.{after_call, IsRead, called, ask_of, asked_by, by-posts, Keeps, keeps-world_after, ReadsSent, MayRead, may_read, signed_by, from_node, from_client, from_script, IsDown, KeepsAll, with_host, entries_left, node_resumed}
 use Rattle.replica_laws.proofs.FitNodes.{IsBrief}
 use Rattle.world_laws.proofs.NoClash.{IsMet}
-use Rattle.world_laws.proofs.Grounded.{NodeMet, Grounded, grounded-exact, grounded-reads, keeps-grounded, grounded-begun}
+use Rattle.world_laws.proofs.Grounded.{NodeMet, Grounded, grounded-exact, grounded-reads, keeps-grounded, grounded-begun, HostMet, grounded-resumes}
 use Rattle.world_laws.proofs.Unforged.{Unforged, keeps-unforged, fine_own}
 use Rattle.world_laws.proofs.Aligned.{Aligned, AllAligned}
 use Rattle.world_laws.proofs.Fronts.{front-take, front-batch_at}
 use Rattle.world_laws.proofs.Certified.{Exact, DecidesOnce}
 use Rattle.world_laws.proofs.Stating.{IsSaid, message_says}
 use Rattle.world_laws.proofs.Longer.{front_same, Longer, longer-step}
-use Rattle.world_laws.proofs.Stores.{Fits, IsTold, may-told, firm-grows, fits-called, fits-stepped, fits-opened}
+use Rattle.world_laws.proofs.Stores.{Fits, IsTold, may-told, firm-grows, fits-stepped, fits-opened, firm-heard}
 use Rattle.world_laws.proofs.Witnessing.{stated_event, stated-grows, StatesShown, ShowsOwn, Firmer, firm_of, shown-faulty, shown-sent, shown-set, leave_shown}
-use Rattle.world_laws.proofs.Chosen.{DeliveredIs, HostRight, WorldRight, Based, ChosenRight, chosen-front, within-step, certified-step, decided-step, right-witnessed, right-once, host-front, waiting-at, due-agrees, host_longer, certified_sent, host_sent}
+use Rattle.world_laws.proofs.Chosen.{DeliveredIs, HostRight, WorldRight, Based, ChosenRight, chosen-front, within-step, certified-step, decided-step, right-witnessed, right-once, host-front, waiting-at, due-agrees, host_longer, certified_sent, host_sent, BookRight, front_right, book_longer, none_right}
 
 -- messages leave
 
@@ -71,7 +82,7 @@ use Rattle.world_laws.proofs.Chosen.{DeliveredIs, HostRight, WorldRight, Based, 
 right-posts : {S : Type 0} (m : Meaning S) (w : World S) (s : Sent) → StatesShown w.faulty (stated w.sent) w.hosts s.content → WorldRight m w → WorldRight m (posts w s)
 right-posts {S = S} m w s states r =
     by-posts (λ (v : World S). WorldRight m v) w s
-    (λ ending. record { right = r.right; ids = r.ids; viewed = r.viewed; certified = r.certified; few = r.few; shown = r.shown })
+    (λ ending. record { right = r.right; ids = r.ids; viewed = r.viewed; certified = r.certified; few = r.few; shown = r.shown; short = r.short })
     (λ free room. record {
       right = each_weaker (HostRight w.sent m w.view w.chosen) (HostRight (w.sent ++ s ∷ []) m w.view w.chosen) (host_sent w.sent s m w.view w.chosen) w.hosts r.right;
       ids = r.ids;
@@ -79,6 +90,7 @@ right-posts {S = S} m w s states r =
       certified = certified_sent w.sent s w.view 1 w.chosen r.certified;
       few = r.few;
       shown = shown-sent w.faulty w.sent s w.hosts states r.shown;
+      short = let below = ltb-true (length w.sent) (2 ^ 24) room in let longer = length-append w.sent (s ∷ []) in omega (arith, below, longer);
     })
 
 -- what states nothing else, does so where a message has left
@@ -146,7 +158,7 @@ inject_shows {S = S} w c fine reads read x there =
 
 -- the batches of a host were met
 host-met : {S : Type 0} (w : World S) (i : ℕ) (h : Host S) → slice_get w.hosts i ≡ Some h → Grounded w → NodeMet (IsMet w.sent) h.node
-host-met {S = S} w i h at g = each_get (λ (x : Host S). NodeMet (IsMet w.sent) x.node) w.hosts i h g.hosts at
+host-met w i h at g = (each_get (HostMet (IsMet w.sent)) w.hosts i h g.hosts at).node
 
 -- hosts keep their names
 ids-set : {S : Type 0} (hs : List (Host S)) (i : ℕ) (h h' : Host S) → slice_get hs i ≡ Some h → h'.node.id ≡ h.node.id → map (λ y. y.node.id) (slice_set hs i h') ≡ map (λ y. y.node.id) hs
@@ -178,19 +190,31 @@ later-step m h (Firm count) told stored low =
     let grows = firm-grows h count told stored in
     later h.node (made_firm h.node count) _ refl refl refl grows.0 grows.1 (longer-step m h.node (Firm count))
 
--- so the host behind it shows what the host showed
-firmer : {S : Type 0} (h : Host S) (o : Outcome S) → Later h.node o.node → Firmer h (host_after h o)
-firmer {S = S} h o l = record {
-  named = l.named;
-  book = subst (λ (es : List LogEntry). IsFront (firm_of h) (take o.node.firm es)) (sym l.book.is) (take-longer h.node.firm o.node.firm h.node.entries l.book.rest l.firm);
-}
+-- as much is firm as the store tells
+heard-step : {S : Type 0} (m : Meaning S) (h : Host S) (event : NodeEvent) → IsTold h event → Fits h.node h.store → h.node.firm ≤ h.store.firm → (step_of m h.node event).node.firm ≤ h.store.firm
+heard-step m h (Arrive bytes) told stored heard = let same = (longer-step m h.node (Arrive bytes)).firm_is in omega (arith, same, heard)
+heard-step m h Tick told stored heard = let same = (longer-step m h.node Tick).firm_is in omega (arith, same, heard)
+heard-step m h Deliver told stored heard = let same = (longer-step m h.node Deliver).firm_is in omega (arith, same, heard)
+heard-step {S = S} m h (Firm count) told stored heard =
+    let same = (longer-step m h.node (Firm count)).firm_is in
+    let all : (made_firm h.node count).firm ≡ h.store.firm = ap (λ (k : ℕ). (made_firm h.node k).firm) told.life ∙ firm-heard h.node h.store stored in
+    omega (arith, same, all)
+
+-- a diary only grows
+grows-firm : {S : Type 0} (h h' : Host S) (more : List LogEntry) → h'.node.id ≡ h.node.id → h'.life.diary ≡ h.life.diary ++ more → Firmer h h'
+grows-firm h h' more id is = record { named = id; book = record { rest = more; is = is } }
+
+-- what comes has a source
+abbrev IsSourced : {S : Type 0} → World S → NodeEvent → Type 0
+IsSourced w event = ForEvent (λ message. HasSource (sources w.sent) message) event
 
 -- the host behind it
-host-stepped : {S : Type 0} (m : Meaning S) (w : World S) (i : ℕ) (h : Host S) (event : NodeEvent) → slice_get w.hosts i ≡ Some h → MayRead w h event → IsTold h event → ChosenRight m w
-    → HostRight w.sent m w.view (chosen_with w.chosen (next_place (step_of m h.node event).node) (step_of m h.node event).node.waiting) (host_after h (step_of m h.node event))
-host-stepped {S = S} m w i h event at may firm r =
+host-stepped : {S : Type 0} (m : Meaning S) (w : World S) (i : ℕ) (h : Host S) (event : NodeEvent) → h.up ≡ true → slice_get w.hosts i ≡ Some h → MayRead w h event → IsSourced w event → IsTold h event → ChosenRight m w
+    → HostRight w.sent m w.view (chosen_with w.chosen (next_place (step_of m h.node event).node) (step_of m h.node event).node.waiting) (host_after (course_of m) h (step_of m h.node event))
+host-stepped {S = S} m w i h event up at may came firm r =
     let g : Grounded w = r.0.0 in
-    let n' : Node S = (step_of m h.node event).node in
+    let o : Outcome S = step_of m h.node event in
+    let n' : Node S = o.node in
     let more : List Batch = chosen_with w.chosen (next_place n') n'.waiting in
     let front : take (length w.chosen) more ≡ w.chosen = chosen-front w.chosen (next_place n') n'.waiting in
     let hr : HostRight w.sent m w.view w.chosen h = each_get (HostRight w.sent m w.view w.chosen) w.hosts i h r.1.right at in
@@ -198,22 +222,32 @@ host-stepped {S = S} m w i h event at may firm r =
     host-front m (IsMet w.sent) w.view w.sent w.chosen h (grounded-exact w g) g.chosen (host-met w i h at g) (right-once m w r.1) r.1.certified hr in
     let s : IsSound (stated w.sent) w.view n' = sound_step m (stated w.sent) w.view h.node event r.1.viewed hr.sound (stated_event w h h.node.secret event hr.shared may) in
     let d : DeliversInOrder m w.view n' = in_order-step m w.view h.node event hr.order in
-    let l : Later h.node n' = later-step m h event firm hr.stored hr.low in
+    let l : Later h.node n' = later-step m h event firm (hr.stored up) hr.lasts.low in
+    let shared : n'.secret ≡ group_secret = l.shared ∙ hr.shared in
+    let decided : AllCertified (stated w.sent) w.view 1 (decided_of n'.entries) = decided-step (stated w.sent) m w.view h.node n' shared s l.book (next-step m h.node event) d hr.decided in
+    let within : length (decided_of n'.entries) ≤ length more = within-step m w.view w.chosen h.node n' n'.waiting refl (next-step m h.node event) d hr.within in
+    let book : BookRight w.sent w.view more n'.entries =
+    record { sound = subst (λ (k : List ℕ). IsSoundBook k (stated w.sent) w.view n'.entries) shared (book_sound (stated w.sent) w.view n' s); decided = decided; within = within } in
+    let lasts : Lasts (host_after (course_of m) h o) = lasts-after m h o up l.book l.firm l.low (heard-step m h event firm (hr.stored up) (hr.lasts.heard up)) hr.lasts in
     record {
       sound = sound_released (stated w.sent) w.view n' s;
-      shared = l.shared ∙ hr.shared;
-      low = l.low;
-      stored = fits-stepped m h event hr.stored;
-      decided = decided-step (stated w.sent) m w.view h.node n' (l.shared ∙ hr.shared) s l.book (next-step m h.node event) d hr.decided;
+      shared = shared;
+      stored = λ up. fits-stepped m h event (hr.stored up);
+      lasts = lasts;
+      decided = decided;
       order = in_order-released m w.view n' d;
-      within = within-step m w.view w.chosen h.node n' n'.waiting refl (next-step m h.node event) d hr.within;
-      count = omega (arith, hr.count, (advances-step m h.node event).count, length-append h.delivered (flat_map delivery_in (step_of m h.node event).fired));
-      places = places-append 1 h.delivered (flat_map delivery_in (step_of m h.node event).fired) hr.places
-          (subst (λ (k : ℕ). AtPlaces k (flat_map delivery_in (step_of m h.node event).fired)) (omega (arith, hr.count)) (advances-step m h.node event).places);
-      agrees = each_append (DeliveredIs more) h.delivered (flat_map delivery_in (step_of m h.node event).fired)
+      within = within;
+      count = omega (arith, hr.count, (advances-step m h.node event).count, length-append h.delivered (flat_map delivery_in o.fired));
+      places = places-append (h.resumed + 1) h.delivered (flat_map delivery_in o.fired) hr.places
+          (subst (λ (k : ℕ). AtPlaces k (flat_map delivery_in o.fired)) (omega (arith, hr.count)) (advances-step m h.node event).places);
+      agrees = each_append (DeliveredIs more) h.delivered (flat_map delivery_in o.fired)
           (each_weaker (DeliveredIs w.chosen) (DeliveredIs more) (λ x is. front-batch_at w.chosen more x.place x.batch front is) h.delivered hr.agrees)
           (each_weaker (WasDue h.node) (DeliveredIs more) (λ x was. front-batch_at w.chosen more x.place x.batch front (due-agrees m w.view w.chosen h.node x hr.order own was))
-          (flat_map delivery_in (step_of m h.node event).fired) (due-step m h.node event));
+          (flat_map delivery_in o.fired) (due-step m h.node event));
+      earlier = each_weaker (DeliveredIs w.chosen) (DeliveredIs more) (λ x is. front-batch_at w.chosen more x.place x.batch front is) h.earlier hr.earlier;
+      diary = subst (λ (es : List LogEntry). BookRight w.sent w.view more es) (sym (lasts.up up)) (front_right w.sent w.view more n'.firm n'.entries book);
+      aside = book_longer w.sent w.view w.chosen more front h.life.aside hr.aside;
+      few = few-after m w.sent h o (few-step m w.sent h event came hr.few) (begun-step m h.node event hr.few.begun) (lasts.up up) hr.few;
     }
 
 -- what is held in it
@@ -230,21 +264,21 @@ set_get (x ∷ hs) zero h h' at = refl
 set_get (x ∷ hs) (suc i) h h' at = set_get hs i h h' at
 
 -- the world behind it
-right-event : {S : Type 0} (m : Meaning S) (w : World S) (i : ℕ) (h : Host S) (event : NodeEvent) → slice_get w.hosts i ≡ Some h → MayRead w h event → IsTold h event → ChosenRight m w
-    → WorldRight m (stepped w i h (step_of m h.node event))
+right-event : {S : Type 0} (m : Meaning S) (w : World S) (i : ℕ) (h : Host S) (event : NodeEvent) → h.up ≡ true → slice_get w.hosts i ≡ Some h → MayRead w h event → IsSourced w event → IsTold h event → ChosenRight m w
+    → WorldRight m (stepped (course_of m) w i h (step_of m h.node event))
 unfolding stepped
-right-event {S = S} m w i h event at may firm r =
+right-event {S = S} m w i h event up at may came firm r =
     let n' : Node S = (step_of m h.node event).node in
-    let h' : Host S = host_after h (step_of m h.node event) in
+    let h' : Host S = host_after (course_of m) h (step_of m h.node event) in
     let more : List Batch = chosen_with w.chosen (next_place n') n'.waiting in
     let front : take (length w.chosen) more ≡ w.chosen = chosen-front w.chosen (next_place n') n'.waiting in
     let hr : HostRight w.sent m w.view w.chosen h = each_get (HostRight w.sent m w.view w.chosen) w.hosts i h r.1.right at in
-    let here : HostRight w.sent m w.view more h' = host-stepped m w i h event at may firm r in
-    let l : Later h.node n' = later-step m h event firm hr.stored hr.low in
+    let here : HostRight w.sent m w.view more h' = host-stepped m w i h event up at may came firm r in
+    let l : Later h.node n' = later-step m h event firm (hr.stored up) hr.lasts.low in
     let s : IsSound (stated w.sent) w.view n' = sound_step m (stated w.sent) w.view h.node event r.1.viewed hr.sound (stated_event w h h.node.secret event hr.shared may) in
     let ids : map (λ g. g.node.id) (slice_set w.hosts i h') ≡ w.view.members = ids-set w.hosts i h h' at l.named ∙ r.1.ids in
     right-sends_all m h.node.id _ (leaving n'.firm n'.held)
-    (leave_shown w.faulty (stated w.sent) (slice_set w.hosts i h') i h' n'.held (subst Distinct (sym ids) (view-distinct w.view r.1.viewed)) (set_get w.hosts i h h' at)
+    (leave_shown w.faulty (stated w.sent) (slice_set w.hosts i h') i h' n'.held (subst Distinct (sym ids) (view-distinct w.view r.1.viewed)) (set_get w.hosts i h h' at) (here.lasts.up up)
     (held_as (stated w.sent) h' n' (l.shared ∙ hr.shared) refl refl s.held))
     (record {
       right = each_set (HostRight w.sent m w.view more) w.hosts i h'
@@ -253,49 +287,79 @@ right-event {S = S} m w i h event at may firm r =
       viewed = r.1.viewed;
       certified = certified-step (stated w.sent) m w.view w.chosen n' n'.waiting refl (in_order-step m w.view h.node event hr.order) here.decided r.1.certified;
       few = r.1.few;
-      shown = shown-set w.faulty (stated w.sent) w.hosts i h h' at (firmer h (step_of m h.node event) l) r.1.shown;
+      shown = shown-set w.faulty (stated w.sent) w.hosts i h h' at (grows-firm h h' (drop (length h.life.diary) (take n'.firm n'.entries)) l.named refl) r.1.shown;
+      short = r.1.short;
     })
 
--- the store of a host makes a call
-host-called : {S : Type 0} (sent : List Sent) (m : Meaning S) (view : View) (chosen : List Batch) (h : Host S) → HostRight sent m view chosen h → HostRight sent m view chosen (after_call h)
-host-called sent m view chosen h r = record {
-  sound = r.sound;
-  shared = r.shared;
-  low = r.low;
-  stored = fits-called h.node h.store r.stored;
-  decided = r.decided;
-  order = r.order;
-  within = r.within;
-  count = r.count;
-  places = r.places;
-  agrees = r.agrees;
+-- another host stands at an index, of the same member, whose diary is no shorter
+right-set : {S : Type 0} (m : Meaning S) (w : World S) (i : ℕ) (h h' : Host S) → slice_get w.hosts i ≡ Some h → Firmer h h' → HostRight w.sent m w.view w.chosen h' → WorldRight m w → WorldRight m (with_host w i h')
+right-set m w i h h' at f right r = record {
+  right = each_set (HostRight w.sent m w.view w.chosen) w.hosts i h' r.right right;
+  ids = ids-set w.hosts i h h' at f.named ∙ r.ids;
+  viewed = r.viewed;
+  certified = r.certified;
+  few = r.few;
+  shown = shown-set w.faulty (stated w.sent) w.hosts i h h' at f r.shown;
+  short = r.short;
 }
 
-right-called : {S : Type 0} (m : Meaning S) (w : World S) (i : ℕ) (h : Host S) → slice_get w.hosts i ≡ Some h → WorldRight m w → WorldRight m (called w i h)
-right-called {S = S} m w i h at r =
-    let h' : Host S = after_call h in
-    record {
-      right = each_set (HostRight w.sent m w.view w.chosen) w.hosts i h' r.right (host-called w.sent m w.view w.chosen h (each_get (HostRight w.sent m w.view w.chosen) w.hosts i h r.right at));
-      ids = ids-set w.hosts i h h' at refl ∙ r.ids;
-      viewed = r.viewed;
-      certified = r.certified;
-      few = r.few;
-      shown = shown-set w.faulty (stated w.sent) w.hosts i h h' at (record { named = refl; book = front_same (firm_of h) }) r.shown;
-    }
+-- what is known of a host
+pub host-right : {S : Type 0} (m : Meaning S) (w : World S) (i : ℕ) (h : Host S) → slice_get w.hosts i ≡ Some h → ChosenRight m w → HostRight w.sent m w.view w.chosen h
+host-right m w i h at r = each_get (HostRight w.sent m w.view w.chosen) w.hosts i h r.1.right at
+
+pub host-fit : {S : Type 0} (m : Meaning S) (w : World S) (i : ℕ) (h : Host S) → slice_get w.hosts i ≡ Some h → ChosenRight m w → FitHost h
+host-fit m w i h at r = each_get FitHost w.hosts i h r.0.0.fit.hosts at
+
+-- the store of a host makes a call
+right-called : {S : Type 0} (m : Meaning S) (w : World S) (i : ℕ) (h : Host S) → h.up ≡ true → slice_get w.hosts i ≡ Some h → ChosenRight m w → WorldRight m (called (course_of m) w i h)
+right-called m w i h up at r =
+    right-set m w i h (after_call (course_of m) h) at (record { named = refl; book = front_same (firm_of h) })
+    (host-called w.sent m w.view w.chosen h up r.1.short (host-fit m w i h at r) (host-right m w i h at r)) r.1
+
+-- a member crashes
+right-crashed : {S : Type 0} (m : Meaning S) (w : World S) (i : ℕ) (h : Host S) (left : Images) → h.up ≡ true → slice_get w.hosts i ≡ Some h → MayLeave h.store left → ChosenRight m w
+    → WorldRight m (with_host w i (host_crashed (course_of m) h left))
+right-crashed m w i h left up at may r =
+    right-set m w i h (host_crashed (course_of m) h left) at
+    (grows-firm h (host_crashed (course_of m) h left) (drop (length h.life.diary) (take (length (restores left).entries) (book_left h))) refl refl)
+    (host-crashes w.sent m w.view w.chosen h left up may (host-fit m w i h at r) (host-right m w i h at r)) r.1
+
+-- a member that has crashed goes on from its diary
+pub resumes-diary : {S : Type 0} (m : Meaning S) (w : World S) (i : ℕ) (h : Host S) → slice_get w.hosts i ≡ Some h → h.up ≡ false → ChosenRight m w → entries_in (entries_left h) ≡ h.life.diary
+resumes-diary m w i h at down r = diary_held h down (host-fit m w i h at r) (host-right m w i h at r).lasts
+
+-- which has few entries
+pub diary-few : {S : Type 0} (m : Meaning S) (w : World S) (i : ℕ) (h : Host S) → slice_get w.hosts i ≡ Some h → ChosenRight m w → length h.life.diary < 2 ^ 28
+diary-few m w i h at r = let hr = host-right m w i h at r in few-book group_secret (stated w.sent) w.view w.sent h.life.diary hr.diary.sound hr.few.diary r.1.short
+
+pub diary-decides : {S : Type 0} (m : Meaning S) (w : World S) (i : ℕ) (h : Host S) → slice_get w.hosts i ≡ Some h → ChosenRight m w → length (decided_of h.life.diary) < 2 ^ 63
+diary-decides m w i h at r = let few = diary-few m w i h at r in let less = few-decided h.life.diary in omega (arith, few, less)
+
+pub resumed-right : {S : Type 0} (m : Meaning S) (w : World S) (i : ℕ) (h : Host S) → h.up ≡ false → slice_get w.hosts i ≡ Some h → ChosenRight m w
+    → HostRight w.sent m w.view w.chosen (host_resumed h (node_resumed (course_of m) w h))
+resumed-right m w i h down at r = host-resumes w.sent m w.view w.chosen h (entries_in (entries_left h)) down r.1.short (resumes-diary m w i h at down r) (host-right m w i h at r)
+
+right-resumed : {S : Type 0} (m : Meaning S) (w : World S) (i : ℕ) (h : Host S) → h.up ≡ false → slice_get w.hosts i ≡ Some h → ChosenRight m w
+    → WorldRight m (with_host w i (host_resumed h (node_resumed (course_of m) w h)))
+right-resumed m w i h down at r =
+    let by = named m group_secret h.node.id w.view 1024 (entries_in (entries_left h)) in
+    right-set m w i h (host_resumed h (node_resumed (course_of m) w h)) at (record { named = by.name; book = front_same (firm_of h) })
+    (resumed-right m w i h down at r) r.1
 
 -- clients
 
 -- a client that hears changes none of it
 right-hear : {S : Type 0} (m : Meaning S) (w : World S) (i : ℕ) (c : Client) (a : SignedBy Answer) (h : Heard) → WorldRight m w → WorldRight m (hearing w i c a h)
 unfolding hearing
-right-hear m w i c a h r = record { right = r.right; ids = r.ids; viewed = r.viewed; certified = r.certified; few = r.few; shown = r.shown }
+right-hear m w i c a h r = record { right = r.right; ids = r.ids; viewed = r.viewed; certified = r.certified; few = r.few; shown = r.shown; short = r.short }
 
 -- two facts that are kept, are kept together
-pub keeps-both : {S : Type 0} (step : Node S → NodeEvent → Outcome S) (P Q : World S → Type 0) → Keeps step P → Keeps step Q → Keeps step (λ w. P w × Q w)
-keeps-both step P Q k l =
+pub keeps-both : {S : Type 0} (course : Course S) (P Q : World S → Type 0) → Keeps course P → Keeps course Q → Keeps course (λ w. P w × Q w)
+keeps-both course P Q k l =
     record {
-      event = λ w i h event there at may is. (k.event w i h event there at may is.0, l.event w i h event there at may is.1);
-      disk = λ w i h at is. (k.disk w i h at is.0, l.disk w i h at is.1);
+      event = λ w i h event up at may is. (k.event w i h event up at may is.0, l.event w i h event up at may is.1);
+      disk = λ w i h up at is. (k.disk w i h up at is.0, l.disk w i h up at is.1);
+      crash = λ w i h left up at may is. (k.crash w i h left up at may is.0, l.crash w i h left up at may is.1);
       hear = λ w i c x a at has read is. (k.hear w i c x a at has read is.0, l.hear w i c x a at has read is.1);
       ask = λ w i c op at free low brief is. (k.ask w i c op at free low brief is.0, l.ask w i c op at free low brief is.1);
       again = λ w i c q at waits is. (k.again w i c q at waits is.0, l.again w i c q at waits is.1);
@@ -305,30 +369,41 @@ keeps-both step P Q k l =
       same = λ w mark told is. (k.same w mark told is.0, l.same w mark told is.1);
     }
 
--- each event keeps the base
-keeps-based : {S : Type 0} (m : Meaning S) → IsBrief m → Keeps (step_of m) Based
-keeps-based m brief = keeps-both (step_of m) Grounded Unforged (keeps-grounded m brief) (keeps-unforged (step_of m))
+pub all-both : {S : Type 0} (course : Course S) (P Q : World S → Type 0) → KeepsAll course P → KeepsAll course Q → KeepsAll course (λ w. P w × Q w)
+all-both course P Q k l = record { kept = keeps-both course P Q k.kept l.kept; resume = λ w i h down at is. (k.resume w i h down at is.0, l.resume w i h down at is.1) }
 
--- each event keeps the list right
-pub chosen-kept : {S : Type 0} (m : Meaning S) → IsBrief m → Keeps (step_of m) (ChosenRight m)
-chosen-kept m brief =
+-- each event keeps the base
+keeps-based : {S : Type 0} (m : Meaning S) → IsBrief m → Keeps (course_of m) Based
+keeps-based m brief = keeps-both (course_of m) Grounded Unforged (keeps-grounded m brief) (keeps-unforged (course_of m)).kept
+
+based-resumes : {S : Type 0} (m : Meaning S) → IsBrief m → (w : World S) (i : ℕ) (h : Host S) → IsDown w h → slice_get w.hosts i ≡ Some h → ChosenRight m w
+    → Based (with_host w i (host_resumed h (node_resumed (course_of m) w h)))
+based-resumes m brief w i h down at r = (
+  grounded-resumes m brief w i h at r.1.viewed (resumes-diary m w i h at down.0 r) (diary-decides m w i h at r) r.0.0,
+  (keeps-unforged (course_of m)).resume w i h down at r.0.1,
+)
+
+-- each event keeps the list right, but that a node goes on
+chosen-keeps : {S : Type 0} (m : Meaning S) → IsBrief m → Keeps (course_of m) (ChosenRight m)
+chosen-keeps m brief =
     let k = keeps-based m brief in
     record {
-      event = λ w i h event there at may r. (
-        k.event w i h event there at may r.0,
-        right-event m w i h event at (may_read w h event (grounded-reads w r.0.0) may) (may-told w h event may) r,
+      event = λ w i h event up at may r. (
+        k.event w i h event up at may r.0,
+        right-event m w i h event up.0 at (may_read w h event (grounded-reads w r.0.0) may) (may-have w h event may) (may-told w h event may) r,
       );
-      disk = λ w i h at r. (k.disk w i h at r.0, right-called m w i h at r.1);
+      disk = λ w i h up at r. (k.disk w i h up at r.0, right-called m w i h up.0 at r);
+      crash = λ w i h left up at may r. (k.crash w i h left up at may r.0, right-crashed m w i h left up.0 at may r);
       hear = λ w i c x a at has read r. (k.hear w i c x a at has read r.0, right-hear m w i c a (heard w.view c a) r.1);
       ask = λ w i c op at free few short r. (
         k.ask w i c op at free few short r.0,
         right-posts m (asked_by w i c op) (from_client c (ask_of c op)) (ask_shows w (signed requests group_secret c.id (request_of c op)))
-            (record { right = r.1.right; ids = r.1.ids; viewed = r.1.viewed; certified = r.1.certified; few = r.1.few; shown = r.1.shown }),
+            (record { right = r.1.right; ids = r.1.ids; viewed = r.1.viewed; certified = r.1.certified; few = r.1.few; shown = r.1.shown; short = r.1.short }),
       );
       again = λ w i c q at waits r. (k.again w i c q at waits r.0, right-posts m w (from_client c (signed_by c q)) (ask_shows w (signed requests group_secret c.id q)) r.1);
       learn = λ w i j c d at other r. (
         k.learn w i j c d at other r.0,
-        record { right = r.1.right; ids = r.1.ids; viewed = r.1.viewed; certified = r.1.certified; few = r.1.few; shown = r.1.shown },
+        record { right = r.1.right; ids = r.1.ids; viewed = r.1.viewed; certified = r.1.certified; few = r.1.few; shown = r.1.shown; short = r.1.short },
       );
       inject = λ w x read fine r. (k.inject w x read fine r.0, right-posts m w (from_script x) (inject_shows w x fine r.0.0.fit.sent read) r.1);
       declare = λ w faulty rogue ending how r. (
@@ -340,10 +415,15 @@ chosen-kept m brief =
           certified = r.1.certified;
           few = how.few r.1.few;
           shown = shown-faulty w.faulty faulty (stated w.sent) w.hosts how.more_faulty r.1.shown;
+          short = r.1.short;
         },
       );
-      same = λ w mark told r. (k.same w mark told r.0, record { right = r.1.right; ids = r.1.ids; viewed = r.1.viewed; certified = r.1.certified; few = r.1.few; shown = r.1.shown });
+      same = λ w mark told r. (k.same w mark told r.0, record { right = r.1.right; ids = r.1.ids; viewed = r.1.viewed; certified = r.1.certified; few = r.1.few; shown = r.1.shown; short = r.1.short });
     }
+
+-- and that, too
+pub chosen-kept : {S : Type 0} (m : Meaning S) → IsBrief m → KeepsAll (course_of m) (ChosenRight m)
+chosen-kept m brief = record { kept = chosen-keeps m brief; resume = λ w i h down at r. (based-resumes m brief w i h down at r, right-resumed m w i h down.0 at r) }
 
 -- what is kept where what was sent is read, is kept where the list is right
 pub right-reads : {S : Type 0} (m : Meaning S) (w : World S) → ChosenRight m w → ReadsSent w
@@ -351,28 +431,41 @@ right-reads m w r = grounded-reads w r.0.0
 
 -- what members have stated is witnessed, and each chosen batch is certified
 pub chosen-witnessed : {S : Type 0} (m : Meaning S) (w : World S) → ChosenRight m w → IsWitnessed w
-chosen-witnessed m w r = record { witnessed = right-witnessed m w r.1; chosen = r.1.certified }
+chosen-witnessed {S = S} m w r =
+    record {
+      diaries = each_weaker (HostRight w.sent m w.view w.chosen) (λ (h : Host S). HasDiary h) (λ h right. record { up = right.lasts.up; down = λ down. left-restored h (right.lasts.down down) }) w.hosts r.1.right;
+      witnessed = right-witnessed m w r.1;
+      chosen = r.1.certified;
+    }
 
 -- the beginning
 
 -- opened hosts are right
 hosts_right : {S : Type 0} (m : Meaning S) (view : View) (members : List ℕ) → Each (HostRight [] m view []) (hosts_from m view members)
 hosts_right m view [] = tt
-hosts_right m view (id ∷ ids) = (
-  record {
-    sound = sound_opened m group_secret id view 1024;
-    shared = refl;
-    low = omega arith;
-    stored = fits-opened m group_secret id view 1024;
-    decided = tt;
-    order = in_order-opened m group_secret id view 1024;
-    within = omega arith;
-    count = refl;
-    places = tt;
-    agrees = tt;
-  },
-  hosts_right m view ids,
-)
+hosts_right m view (id ∷ ids) = (opened_right m view id, hosts_right m view ids)
+  where
+    opened_right : {S : Type 0} (m : Meaning S) (view : View) (id : ℕ) → HostRight [] m view [] (host_of_node (opened m group_secret id view 1024))
+    opened_right m view id =
+        let sound = sound_opened m group_secret id view 1024 in
+        let none : BookRight [] view [] [] =
+        none_right [] view [] (opened m group_secret id view 1024).entries (record { sound = book_sound [] view (opened m group_secret id view 1024) sound; decided = tt; within = omega arith }) in
+        record {
+          sound = sound;
+          shared = refl;
+          stored = λ up. fits-opened m group_secret id view 1024;
+          lasts = lasts-opened m group_secret id view 1024;
+          decided = tt;
+          order = in_order-opened m group_secret id view 1024;
+          within = omega arith;
+          count = refl;
+          places = tt;
+          agrees = tt;
+          earlier = tt;
+          diary = none;
+          aside = none;
+          few = few-opened m [] id view;
+        }
 
 -- and are the members
 hosts_ids : {S : Type 0} (m : Meaning S) (view : View) (members : List ℕ) → map (λ h. h.node.id) (hosts_from m view members) ≡ members
@@ -398,6 +491,7 @@ chosen-begun m view is = (
     certified = tt;
     few = none_faulty view;
     shown = λ x never. absurd never;
+    short = omega arith;
   },
 )
 
@@ -427,8 +521,8 @@ host-aligned {S = S} m M view sent chosen exact all one certified h met right =
 pub chosen-aligned : {S : Type 0} (m : Meaning S) (w : World S) → ChosenRight m w → AllAligned m w
 chosen-aligned {S = S} m w r =
     record {
-      hosts = each_both (λ (h : Host S). NodeMet (IsMet w.sent) h.node) (HostRight w.sent m w.view w.chosen) (Aligned m w.view w.chosen)
-          (λ h met right. host-aligned m (IsMet w.sent) w.view w.sent w.chosen (grounded-exact w r.0.0) r.0.0.chosen (right-once m w r.1) r.1.certified h met right) w.hosts r.0.0.hosts r.1.right;
+      hosts = each_both (HostMet (IsMet w.sent)) (HostRight w.sent m w.view w.chosen) (Aligned m w.view w.chosen)
+          (λ h met right. host-aligned m (IsMet w.sent) w.view w.sent w.chosen (grounded-exact w r.0.0) r.0.0.chosen (right-once m w r.1) r.1.certified h met.node right) w.hosts r.0.0.hosts r.1.right;
     }
 
 -- a batch that waits is the list's at its place
@@ -446,12 +540,13 @@ chosen-prefix m w r =
       count = right.count;
       places = right.places;
       delivered = right.agrees;
+      earlier = right.earlier;
       waiting = next_is w.chosen (next_place h.node) h.node.waiting a.waiting;
     }) w.hosts (chosen-aligned m w r).hosts r.1.right
 
 -- throughout a script
 
 -- after any lines, what members have stated is witnessed, and each chosen batch is certified
-pub witnessed-after : {S : Type 0} (m : Meaning S) → IsBrief m → (view : View) (ls : List Line) → is_view view ≡ true → IsWitnessed (world_after (step_of m) (begun m view) ls)
+pub witnessed-after : {S : Type 0} (m : Meaning S) → IsBrief m → (view : View) (ls : List Line) → is_view view ≡ true → IsWitnessed (world_after (course_of m) (begun m view) ls)
 witnessed-after {S = S} m brief view ls is =
-    chosen-witnessed m (world_after (step_of m) (begun m view) ls) (keeps-world_after (step_of m) (ChosenRight m) (chosen-kept m brief) (begun m view) ls (chosen-begun m view is))
+    chosen-witnessed m (world_after (course_of m) (begun m view) ls) (keeps-world_after (course_of m) (ChosenRight m) (chosen-kept m brief) (begun m view) ls (chosen-begun m view is))

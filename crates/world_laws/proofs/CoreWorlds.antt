@@ -1,5 +1,5 @@
 -- The play of cores, which keep no more than they need, is the play of the nodes that keep all.
-use Rattle.std.proofs.Common.{◌≡◌, ℕ, zero, suc, ◌+◌, ◌^◌, ◌++◌, Bool, true, false, List, [], ◌∷◌, length, map, refl, ap, sym, ◌∙◌, cond, Option, Some, None, is_some, nat_lt, nat_le, ◌&&◌, Result, Ok, Err, ◌==◌, ◌-◌, not}
+use Rattle.std.proofs.Common.{◌≡◌, ℕ, zero, suc, ◌+◌, ◌^◌, ◌++◌, Bool, true, false, List, [], ◌∷◌, length, map, refl, ap, sym, ◌∙◌, cond, Option, Some, None, is_some, nat_lt, nat_le, ◌&&◌, ◌||◌, Result, Ok, Err, ◌==◌, ◌-◌, not}
 use Rattle.std.specs.Prelude.{slice_get, slice_set, option_map}
 use Rattle.std.specs.List.{flat_map, list_all, position_or_len}
 use Rattle.smart_base.specs.Views.{View}
@@ -19,10 +19,20 @@ use Rattle.node_rules.specs.Kept.{trimmed, core_step}
 use Rattle.node_rules.specs.Nodes as nodes
 use Rattle.kept_arrivals.proofs.Steps.{core_step_trimmed, opened_stands}
 use Rattle.durable_store.specs.Exact.{call_due}
+use Rattle.durable_store.specs.Restored.{Images, restores}
+use Rattle.member_store.specs.Crashes.{images_left, wrong_images, bytes_held}
+use Rattle.member_store.specs.declared.crash.Image.{Image}
+use Rattle.member_store.specs.declared.crash.Patch.{Patch}
+use Rattle.member_store.specs.declared.crash.NotAnImage.{NotAnImage}
+use Rattle.vote_book.specs.declared.entry.LogEntry.{LogEntry}
+use Rattle.smart_service.specs.declared.replica.Replica.{Replica}
+use Rattle.replica_rules.specs.Replicas.{state}
+use Rattle.node_rules.specs.Reopening.{stopped, reopened, damaged, entries_in, decided_of}
+use Rattle.node_laws.proofs.Reopened.{reopened_is}
 use Rattle.world_rules.specs.Repeats.{repeated, turns, until_rest, each_from}
 use Rattle.world_rules.specs.Secrets.{group_secret}
 use Rattle.world_rules.specs.Premises.{collides, too_many, is_forged, bytes_of}
-use Rattle.world_rules.specs.Worlds.{Host, World, sends_all, told_drop, told_fired, chosen_with, host_after, stepped, host_takes, node_takes, disk_called, hears_firm, host_calls, calls_disk, takes_due, host_of_node, settle_once, settle, settle_all, gives, give_all, hearing, client_hears, hears_bytes, client_takes, client_asks, ask_found, asks, client_repeats, repeat_found, repeats, learns, learns_from, tells, goes, flow_sent, flow_once, flows, hosts_from, begun, is_listed, where_listed, at_listed, each_listed, host_index, at_index, at_member, arrives, arrives_at, sent_arrives, give_number, told_idle, telling_all, host_tries, tries_at, tries_each, give_one, shown_host, shown_client, shows, posts, is_gone, is_rogue, settle_present, declares_faulty, declares_rogue, injects_content, injects}
+use Rattle.world_rules.specs.Worlds.{Host, World, course_of, core_course, is_up, at_host, telling, host_crashed, crashes_with, host_crashes, crashes, crash_all, host_resumed, resumes_from, host_resumes, resumes, restart_all, restart_at, restart_member, sends_all, told_drop, told_fired, chosen_with, host_after, stepped, host_takes, node_takes, disk_called, hears_firm, host_calls, calls_disk, takes_due, host_of_node, settle_once, settle, settle_all, gives, give_all, hearing, client_hears, hears_bytes, client_takes, client_asks, ask_found, asks, client_repeats, repeat_found, repeats, learns, learns_from, tells, goes, flow_sent, flow_once, flows, hosts_from, begun, is_listed, where_listed, at_listed, each_listed, host_index, at_index, at_member, arrives, arrives_at, sent_arrives, give_number, told_idle, telling_all, host_tries, tries_at, tries_each, give_one, shown_host, shown_client, shows, posts, is_gone, is_rogue, settle_present, declares_faulty, declares_rogue, injects_content, injects}
 use Rattle.world_rules.specs.Plays.{has_member, has_party, is_there, line_played, rested, world_after, lines_told}
 use Rattle.client_quorum.specs.declared.client.Client.{Client}
 use Rattle.world_rules.specs.declared.message.Sent.{Sent}
@@ -32,6 +42,7 @@ use Rattle.world_laws.specs.Cores.{trimmed_host, trimmed_world}
 use Rattle.smart_base.specs.declared.party.Party.{Party}
 use Rattle.smart_base.specs.declared.party.Party.TheVariants as parties
 use Rattle.world_rules.specs.declared.line.OutLine.{OutLine}
+use Rattle.world_rules.specs.declared.line.OutLine.TheVariants as outs
 use Rattle.world_laws.proofs.Lists.{map_length}
 use Rattle.world_laws.proofs.Keeps.{from_node, from_client, from_script, signed_by, ask_of, asked_by}
 use Rattle.world_rules.specs.Injections.{injected}
@@ -103,74 +114,78 @@ core_step_same m n event = let is = core_step_trimmed m n event in equal _ _ is.
         ap (λ n. record a { node = n }) node ∙ (ap (λ f. record b { fired = f; dropped = a.dropped }) fired ∙ ap (λ d. record b { dropped = d }) dropped)
 
 -- a node's step
-stepped_same : {S : Type 0} (w : World S) (i : ℕ) (h : Host S) (o : Outcome S) → stepped (trimmed_world w) i (trimmed_host h) (trimmed_outcome o) ≡ trimmed_world (stepped w i h o)
+stepped_same : {S : Type 0} (m : Meaning S) (w : World S) (i : ℕ) (h : Host S) (o : Outcome S)
+    → stepped (core_course m) (trimmed_world w) i (trimmed_host h) (trimmed_outcome o) ≡ trimmed_world (stepped (course_of m) w i h o)
 unfolding stepped trimmed_world trimmed_host trimmed nodes.regency_of
-stepped_same {S} w i h o =
+stepped_same {S} m w i h o =
     let behind : List (Host S) → World S = λ hosts. record w {
       hosts = hosts;
       chosen = chosen_with w.chosen (next_place o.node) o.node.waiting;
       told = w.told ++ (told_drop h.node.id o.dropped ++ flat_map (told_fired h.node.id) o.fired);
     } in
-    ap (λ hosts. sends_all h.node.id (behind hosts) (leaving o.node.firm o.node.held)) (map_set trimmed_host w.hosts i (host_after h o))
-    ∙ sends_all_same h.node.id (behind (slice_set w.hosts i (host_after h o))) (leaving o.node.firm o.node.held)
+    ap (λ hosts. sends_all h.node.id (behind hosts) (leaving o.node.firm o.node.held)) (map_set trimmed_host w.hosts i (host_after (course_of m) h o))
+    ∙ sends_all_same h.node.id (behind (slice_set w.hosts i (host_after (course_of m) h o))) (leaving o.node.firm o.node.held)
 
 -- a host that is found takes an event
 host_takes_same : {S : Type 0} (m : Meaning S) (i : ℕ) (event : NodeEvent) (w : World S) (found : Option (Host S))
-    → host_takes (core_step m) i event (trimmed_world w) (option_map trimmed_host found) ≡ trimmed_world (host_takes (step_of m) i event w found)
+    → host_takes (core_course m) i event (trimmed_world w) (option_map trimmed_host found) ≡ trimmed_world (host_takes (course_of m) i event w found)
 unfolding trimmed_host trimmed_world trimmed nodes.regency_of
 host_takes_same m i event w None = refl
 host_takes_same m i event w (Some h) =
-    choice_same trimmed_world (is_gone w h.node.id) _ _ _ _ refl
-    (ap (λ o. stepped (trimmed_world w) i (trimmed_host h) o) (core_step_same m h.node event) ∙ stepped_same w i h (step_of m h.node event))
+    choice_same trimmed_world (not (is_up w h)) _ _ _ _ refl
+    (ap (λ o. stepped (core_course m) (trimmed_world w) i (trimmed_host h) o) (core_step_same m h.node event) ∙ stepped_same m w i h (step_of m h.node event))
 
 -- the node at an index takes an event
-node_takes_same : {S : Type 0} (m : Meaning S) (i : ℕ) (event : NodeEvent) (w : World S) → node_takes (core_step m) i event (trimmed_world w) ≡ trimmed_world (node_takes (step_of m) i event w)
+node_takes_same : {S : Type 0} (m : Meaning S) (i : ℕ) (event : NodeEvent) (w : World S)
+    → node_takes (core_course m) i event (trimmed_world w) ≡ trimmed_world (node_takes (course_of m) i event w)
 unfolding node_takes trimmed_world
 node_takes_same m i event w =
     choice_same trimmed_world (is_some w.ending) _ _ _ _ refl
-    (ap (λ found. host_takes (core_step m) i event (trimmed_world w) found) (map_get trimmed_host w.hosts i) ∙ host_takes_same m i event w (slice_get w.hosts i))
+    (ap (λ found. host_takes (core_course m) i event (trimmed_world w) found) (map_get trimmed_host w.hosts i) ∙ host_takes_same m i event w (slice_get w.hosts i))
 
 -- a node hears what is firm behind a call of its store
-hears_firm_same : {S : Type 0} (m : Meaning S) (i : ℕ) (w : World S) (h : Host S) → hears_firm (core_step m) i (trimmed_world w) (trimmed_host h) ≡ trimmed_world (hears_firm (step_of m) i w h)
+hears_firm_same : {S : Type 0} (m : Meaning S) (i : ℕ) (w : World S) (h : Host S)
+    → hears_firm (core_course m) i (trimmed_world w) (trimmed_host h) ≡ trimmed_world (hears_firm (course_of m) i w h)
 unfolding trimmed_host trimmed_world trimmed nodes.regency_of
 hears_firm_same {S} m i w h =
     let event : NodeEvent = Firm (h.store.firm - h.node.restored) in
     choice_same trimmed_world (nat_lt h.node.firm h.store.firm) _ _ _ _
-    (ap (λ o. stepped (trimmed_world w) i (trimmed_host h) o) (core_step_same m h.node event) ∙ stepped_same w i h (step_of m h.node event))
+    (ap (λ o. stepped (core_course m) (trimmed_world w) i (trimmed_host h) o) (core_step_same m h.node event) ∙ stepped_same m w i h (step_of m h.node event))
     (ap (λ (hosts : List (Host S)). record w { hosts = hosts }) (map_set trimmed_host w.hosts i h))
 
 -- the store of a host that is found makes a call, if there is one
 host_calls_same : {S : Type 0} (m : Meaning S) (i : ℕ) (w : World S) (found : Option (Host S))
-    → host_calls (core_step m) i (trimmed_world w) (option_map trimmed_host found) ≡ trimmed_world (host_calls (step_of m) i w found)
+    → host_calls (core_course m) i (trimmed_world w) (option_map trimmed_host found) ≡ trimmed_world (host_calls (course_of m) i w found)
 unfolding disk_called trimmed_host trimmed_world trimmed nodes.regency_of
 host_calls_same m i w None = refl
 host_calls_same m i w (Some h) =
-    choice_same trimmed_world (is_gone w h.node.id) _ _ _ _ refl (choice_same trimmed_world (call_due h.store) _ _ _ _ (hears_firm_same m i w (disk_called h)) refl)
+    choice_same trimmed_world (not (is_up w h)) _ _ _ _ refl
+    (choice_same trimmed_world (call_due h.store) _ _ _ _ (hears_firm_same m i w (disk_called (course_of m) h)) refl)
 
 -- the store at an index does
-calls_disk_same : {S : Type 0} (m : Meaning S) (i : ℕ) (w : World S) → calls_disk (core_step m) i (trimmed_world w) ≡ trimmed_world (calls_disk (step_of m) i w)
+calls_disk_same : {S : Type 0} (m : Meaning S) (i : ℕ) (w : World S) → calls_disk (core_course m) i (trimmed_world w) ≡ trimmed_world (calls_disk (course_of m) i w)
 unfolding calls_disk trimmed_world
 calls_disk_same m i w =
     choice_same trimmed_world (is_some w.ending) _ _ _ _ refl
-    (ap (λ found. host_calls (core_step m) i (trimmed_world w) found) (map_get trimmed_host w.hosts i) ∙ host_calls_same m i w (slice_get w.hosts i))
+    (ap (λ found. host_calls (core_course m) i (trimmed_world w) found) (map_get trimmed_host w.hosts i) ∙ host_calls_same m i w (slice_get w.hosts i))
 
 -- a host that is found takes what is due
 takes_due_same : {S : Type 0} (m : Meaning S) (i : ℕ) (w : World S) (found : Option (Host S))
-    → takes_due (core_step m) i (trimmed_world w) (option_map trimmed_host found) ≡ trimmed_world (takes_due (step_of m) i w found)
+    → takes_due (core_course m) i (trimmed_world w) (option_map trimmed_host found) ≡ trimmed_world (takes_due (course_of m) i w found)
 unfolding trimmed_host trimmed nodes.regency_of
 takes_due_same m i w None = refl
 takes_due_same m i w (Some h) =
     choice_same trimmed_world (call_due h.store) _ _ _ _ (calls_disk_same m i w) (choice_same trimmed_world (is_some h.node.waiting) _ _ _ _ (node_takes_same m i Deliver w) refl)
 
 -- a node settles once
-settle_once_same : {S : Type 0} (m : Meaning S) (i : ℕ) (w : World S) → settle_once (core_step m) i (trimmed_world w) ≡ trimmed_world (settle_once (step_of m) i w)
+settle_once_same : {S : Type 0} (m : Meaning S) (i : ℕ) (w : World S) → settle_once (core_course m) i (trimmed_world w) ≡ trimmed_world (settle_once (course_of m) i w)
 unfolding settle_once trimmed_world
 settle_once_same m i w =
-    ap (λ found. takes_due (core_step m) i (trimmed_world w) found) (map_get trimmed_host w.hosts i) ∙ takes_due_same m i w (slice_get w.hosts i)
+    ap (λ found. takes_due (core_course m) i (trimmed_world w) found) (map_get trimmed_host w.hosts i) ∙ takes_due_same m i w (slice_get w.hosts i)
 
 -- a node settles
-settle_same : {S : Type 0} (m : Meaning S) (i : ℕ) (w : World S) → settle (core_step m) i (trimmed_world w) ≡ trimmed_world (settle (step_of m) i w)
-settle_same m i w = until_rest_same trimmed_world (settle_once (core_step m) i) (settle_once (step_of m) i) (settle_once_same m i) w
+settle_same : {S : Type 0} (m : Meaning S) (i : ℕ) (w : World S) → settle (core_course m) i (trimmed_world w) ≡ trimmed_world (settle (course_of m) i w)
+settle_same m i w = until_rest_same trimmed_world (settle_once (core_course m) i) (settle_once (course_of m) i) (settle_once_same m i) w
 
 -- there are as many hosts
 hosts_same : {S : Type 0} (w : World S) → length (trimmed_world w).hosts ≡ length w.hosts
@@ -188,13 +203,15 @@ unfolding trimmed_host trimmed nodes.regency_of
 where_listed_same members f g same i w None = refl
 where_listed_same members f g same i w (Some h) = choice_same trimmed_world (is_listed members h.node.id) (g i w) w (f i (trimmed_world w)) (trimmed_world w) (same i w) refl
 
-at_listed_same : {S : Type 0} (members : List ℕ) (f g : ℕ → World S → World S) → Alike f g → (i : ℕ) (w : World S) → at_listed members f i (trimmed_world w) ≡ trimmed_world (at_listed members g i w)
+at_listed_same : {S : Type 0} (members : List ℕ) (f g : ℕ → World S → World S) → Alike f g → (i : ℕ) (w : World S)
+    → at_listed members f i (trimmed_world w) ≡ trimmed_world (at_listed members g i w)
 unfolding trimmed_world
 at_listed_same members f g same i w =
     ap (λ found. where_listed members f i (trimmed_world w) found) (map_get trimmed_host w.hosts i) ∙ where_listed_same members f g same i w (slice_get w.hosts i)
 
 -- at each whose member is
-each_listed_same : {S : Type 0} (members : List ℕ) (f g : ℕ → World S → World S) → Alike f g → (w : World S) → each_listed members f (trimmed_world w) ≡ trimmed_world (each_listed members g w)
+each_listed_same : {S : Type 0} (members : List ℕ) (f g : ℕ → World S → World S) → Alike f g → (w : World S)
+    → each_listed members f (trimmed_world w) ≡ trimmed_world (each_listed members g w)
 each_listed_same members f g same w =
     ap (λ k. each_from (at_listed members f) k 0 (trimmed_world w)) (hosts_same w)
     ∙ each_from_same trimmed_world (at_listed members f) (at_listed members g) (at_listed_same members f g same) (length w.hosts) 0 w
@@ -202,7 +219,8 @@ each_listed_same members f g same w =
 -- at a member's host
 
 -- it stands at the same index
-position_same : {S : Type 0} (hosts : List (Host S)) (member : ℕ) → position_or_len (λ (h : Host S). h.node.id == member) (map trimmed_host hosts) ≡ position_or_len (λ (h : Host S). h.node.id == member) hosts
+position_same : {S : Type 0} (hosts : List (Host S)) (member : ℕ)
+    → position_or_len (λ (h : Host S). h.node.id == member) (map trimmed_host hosts) ≡ position_or_len (λ (h : Host S). h.node.id == member) hosts
 unfolding trimmed_host trimmed nodes.regency_of
 position_same [] member = refl
 position_same (h ∷ hs) member = ap (λ k. cond (not (h.node.id == member)) (1 + k) 0) (position_same hs member)
@@ -217,46 +235,59 @@ at_index_same : {S : Type 0} (f g : ℕ → World S → World S) → Alike f g �
 at_index_same f g same w None = refl
 at_index_same f g same w (Some i) = same i w
 
-at_member_same : {S : Type 0} (f g : ℕ → World S → World S) → Alike f g → (member : ℕ) (w : World S) → at_member f member (trimmed_world w) ≡ trimmed_world (at_member g member w)
-unfolding trimmed_world
-at_member_same f g same member w =
-    choice_same trimmed_world (is_gone w member) _ _ _ _ refl
-    (ap (λ found. at_index f (trimmed_world w) found) (host_index_same w.hosts member) ∙ at_index_same f g same w (host_index w.hosts member))
+at_host_same : {S : Type 0} (f g : ℕ → World S → World S) → Alike f g → (i : ℕ) (w : World S) (found : Option (Host S))
+    → at_host f i (trimmed_world w) (option_map trimmed_host found) ≡ trimmed_world (at_host g i w found)
+unfolding trimmed_host trimmed_world trimmed nodes.regency_of
+at_host_same f g same i w None = refl
+at_host_same f g same i w (Some h) = choice_same trimmed_world (is_up w h) _ _ _ _ (same i w) refl
 
--- a host that is found settles, unless its node is gone
+at_found_same : {S : Type 0} (f g : ℕ → World S → World S) → Alike f g → (i : ℕ) (w : World S)
+    → at_host f i (trimmed_world w) (slice_get (trimmed_world w).hosts i) ≡ trimmed_world (at_host g i w (slice_get w.hosts i))
+unfolding trimmed_world
+at_found_same f g same i w = ap (λ found. at_host f i (trimmed_world w) found) (map_get trimmed_host w.hosts i) ∙ at_host_same f g same i w (slice_get w.hosts i)
+
+at_place_same : {S : Type 0} (f g : ℕ → World S → World S) → Alike f g → (member : ℕ) (w : World S)
+    → at_index f (trimmed_world w) (host_index (trimmed_world w).hosts member) ≡ trimmed_world (at_index g w (host_index w.hosts member))
+unfolding trimmed_world
+at_place_same f g same member w = ap (λ found. at_index f (trimmed_world w) found) (host_index_same w.hosts member) ∙ at_index_same f g same w (host_index w.hosts member)
+
+at_member_same : {S : Type 0} (f g : ℕ → World S → World S) → Alike f g → (member : ℕ) (w : World S) → at_member f member (trimmed_world w) ≡ trimmed_world (at_member g member w)
+at_member_same f g same member w = at_place_same (λ i v. at_host f i v (slice_get v.hosts i)) (λ i v. at_host g i v (slice_get v.hosts i)) (at_found_same f g same) member w
+
+-- a host that is found settles, if its node runs
 settle_present_same : {S : Type 0} (m : Meaning S) (members : List ℕ) (i : ℕ) (w : World S) (found : Option (Host S))
-    → settle_present (core_step m) members i (trimmed_world w) (option_map trimmed_host found) ≡ trimmed_world (settle_present (step_of m) members i w found)
+    → settle_present (core_course m) members i (trimmed_world w) (option_map trimmed_host found) ≡ trimmed_world (settle_present (course_of m) members i w found)
 unfolding trimmed_host trimmed_world trimmed nodes.regency_of
 settle_present_same m members i w None = refl
-settle_present_same m members i w (Some h) = choice_same trimmed_world (is_gone w h.node.id) _ _ _ _ refl (settle_same m i w)
+settle_present_same m members i w (Some h) = choice_same trimmed_world (is_up w h) _ _ _ _ (settle_same m i w) refl
 
 settles_present_same : {S : Type 0} (m : Meaning S) (members : List ℕ) (i : ℕ) (w : World S)
-    → settle_present (core_step m) members i (trimmed_world w) (slice_get (trimmed_world w).hosts i) ≡ trimmed_world (settle_present (step_of m) members i w (slice_get w.hosts i))
+    → settle_present (core_course m) members i (trimmed_world w) (slice_get (trimmed_world w).hosts i) ≡ trimmed_world (settle_present (course_of m) members i w (slice_get w.hosts i))
 unfolding trimmed_world
 settles_present_same m members i w =
-    ap (λ found. settle_present (core_step m) members i (trimmed_world w) found) (map_get trimmed_host w.hosts i) ∙ settle_present_same m members i w (slice_get w.hosts i)
+    ap (λ found. settle_present (core_course m) members i (trimmed_world w) found) (map_get trimmed_host w.hosts i) ∙ settle_present_same m members i w (slice_get w.hosts i)
 
 -- all listed nodes settle
-settle_all_same : {S : Type 0} (m : Meaning S) (members : List ℕ) (w : World S) → settle_all (core_step m) members (trimmed_world w) ≡ trimmed_world (settle_all (step_of m) members w)
+settle_all_same : {S : Type 0} (m : Meaning S) (members : List ℕ) (w : World S) → settle_all (core_course m) members (trimmed_world w) ≡ trimmed_world (settle_all (course_of m) members w)
 settle_all_same m members w =
-    each_listed_same members (λ i v. settle_present (core_step m) members i v (slice_get v.hosts i)) (λ i v. settle_present (step_of m) members i v (slice_get v.hosts i)) (settles_present_same m members) w
+    each_listed_same members (λ i v. settle_present (core_course m) members i v (slice_get v.hosts i)) (λ i v. settle_present (course_of m) members i v (slice_get v.hosts i)) (settles_present_same m members) w
 
 -- a node takes bytes and settles
-gives_same : {S : Type 0} (m : Meaning S) (bytes : List ℕ) (i : ℕ) (w : World S) → gives (core_step m) bytes i (trimmed_world w) ≡ trimmed_world (gives (step_of m) bytes i w)
+gives_same : {S : Type 0} (m : Meaning S) (bytes : List ℕ) (i : ℕ) (w : World S) → gives (core_course m) bytes i (trimmed_world w) ≡ trimmed_world (gives (course_of m) bytes i w)
 unfolding gives
 gives_same m bytes i w =
-    ap (λ v. settle (core_step m) i v) (node_takes_same m i (Arrive bytes) w) ∙ settle_same m i (node_takes (step_of m) i (Arrive bytes) w)
+    ap (λ v. settle (core_course m) i v) (node_takes_same m i (Arrive bytes) w) ∙ settle_same m i (node_takes (course_of m) i (Arrive bytes) w)
 
 -- all listed nodes take bytes
-give_all_same : {S : Type 0} (m : Meaning S) (members : List ℕ) (bytes : List ℕ) (w : World S) → give_all (core_step m) members bytes (trimmed_world w) ≡ trimmed_world (give_all (step_of m) members bytes w)
-give_all_same m members bytes w = each_listed_same members (gives (core_step m) bytes) (gives (step_of m) bytes) (gives_same m bytes) w
+give_all_same : {S : Type 0} (m : Meaning S) (members : List ℕ) (bytes : List ℕ) (w : World S)
+    → give_all (core_course m) members bytes (trimmed_world w) ≡ trimmed_world (give_all (course_of m) members bytes w)
+give_all_same m members bytes w = each_listed_same members (gives (core_course m) bytes) (gives (course_of m) bytes) (gives_same m bytes) w
 
 -- the node of a member does, if it is listed
-give_one_same : {S : Type 0} (m : Meaning S) (members : List ℕ) (bytes : List ℕ) (member : ℕ) (w : World S) → give_one (core_step m) members bytes member (trimmed_world w) ≡ trimmed_world (give_one (step_of m) members bytes member w)
-unfolding trimmed_world
+give_one_same : {S : Type 0} (m : Meaning S) (members : List ℕ) (bytes : List ℕ) (member : ℕ) (w : World S)
+    → give_one (core_course m) members bytes member (trimmed_world w) ≡ trimmed_world (give_one (course_of m) members bytes member w)
 give_one_same m members bytes member w =
-    ap (λ found. at_index (at_listed members (gives (core_step m) bytes)) (trimmed_world w) found) (host_index_same w.hosts member)
-    ∙ at_index_same (at_listed members (gives (core_step m) bytes)) (at_listed members (gives (step_of m) bytes)) (at_listed_same members (gives (core_step m) bytes) (gives (step_of m) bytes) (gives_same m bytes)) w (host_index w.hosts member)
+    at_place_same (at_listed members (gives (core_course m) bytes)) (at_listed members (gives (course_of m) bytes)) (at_listed_same members (gives (core_course m) bytes) (gives (course_of m) bytes) (gives_same m bytes)) member w
 
 -- clients
 
@@ -280,7 +311,8 @@ unfolding client_takes trimmed_world
 client_takes_same i bytes w = choice_same trimmed_world (is_some w.ending) _ _ _ _ refl (hears_bytes_same w i bytes (slice_get w.clients i))
 
 -- a client asks, or tells that it is busy
-client_asks_same : {S : Type 0} (w : World S) (i : ℕ) (c : Client) (op : List ℕ) (waiting : Option Request) → client_asks (trimmed_world w) i c op waiting ≡ trimmed_world (client_asks w i c op waiting)
+client_asks_same : {S : Type 0} (w : World S) (i : ℕ) (c : Client) (op : List ℕ) (waiting : Option Request)
+    → client_asks (trimmed_world w) i c op waiting ≡ trimmed_world (client_asks w i c op waiting)
 unfolding trimmed_world
 client_asks_same w i c op (Some q) = refl
 client_asks_same w i c op None =
@@ -335,47 +367,53 @@ tells_same from to w = choice_same trimmed_world (is_some w.ending) _ _ _ _ refl
 -- flow
 
 -- bytes go to whom they are for
-goes_same : {S : Type 0} (m : Meaning S) (members : List ℕ) (w : World S) (bytes : List ℕ) (to : Option Target) → goes (core_step m) members (trimmed_world w) bytes to ≡ trimmed_world (goes (step_of m) members w bytes to)
+goes_same : {S : Type 0} (m : Meaning S) (members : List ℕ) (w : World S) (bytes : List ℕ) (to : Option Target)
+    → goes (core_course m) members (trimmed_world w) bytes to ≡ trimmed_world (goes (course_of m) members w bytes to)
 goes_same m members w bytes None = refl
 goes_same m members w bytes (Some targets.View) = give_all_same m members bytes w
 goes_same m members w bytes (Some (targets.Node id)) = give_one_same m members bytes id w
 goes_same m members w bytes (Some (targets.Client id)) = client_takes_same id bytes w
 
 -- the message behind the mark goes, if there is one
-flow_sent_same : {S : Type 0} (m : Meaning S) (members : List ℕ) (w : World S) (found : Option Sent) → flow_sent (core_step m) members (trimmed_world w) found ≡ trimmed_world (flow_sent (step_of m) members w found)
+flow_sent_same : {S : Type 0} (m : Meaning S) (members : List ℕ) (w : World S) (found : Option Sent)
+    → flow_sent (core_course m) members (trimmed_world w) found ≡ trimmed_world (flow_sent (course_of m) members w found)
 unfolding trimmed_world
 flow_sent_same m members w None = refl
 flow_sent_same m members w (Some s) = goes_same m members (record w { mark = w.mark + 1 }) (bytes_of s.content) s.to
 
 -- one turn of a flow
-flow_once_same : {S : Type 0} (m : Meaning S) (members : List ℕ) (w : World S) → flow_once (core_step m) members (trimmed_world w) ≡ trimmed_world (flow_once (step_of m) members w)
+flow_once_same : {S : Type 0} (m : Meaning S) (members : List ℕ) (w : World S) → flow_once (core_course m) members (trimmed_world w) ≡ trimmed_world (flow_once (course_of m) members w)
 unfolding flow_once trimmed_world
 flow_once_same m members w = choice_same trimmed_world (is_some w.ending) _ _ _ _ refl (flow_sent_same m members w (slice_get w.sent w.mark))
 
 -- a flow
-flows_same : {S : Type 0} (m : Meaning S) (members : List ℕ) (w : World S) → flows (core_step m) members (trimmed_world w) ≡ trimmed_world (flows (step_of m) members w)
+flows_same : {S : Type 0} (m : Meaning S) (members : List ℕ) (w : World S) → flows (core_course m) members (trimmed_world w) ≡ trimmed_world (flows (course_of m) members w)
 flows_same m members w =
-    ap (λ v. until_rest (flow_once (core_step m) members) v) (settle_all_same m members w)
-    ∙ until_rest_same trimmed_world (flow_once (core_step m) members) (flow_once (step_of m) members) (flow_once_same m members) (settle_all (step_of m) members w)
+    ap (λ v. until_rest (flow_once (core_course m) members) v) (settle_all_same m members w)
+    ∙ until_rest_same trimmed_world (flow_once (core_course m) members) (flow_once (course_of m) members) (flow_once_same m members) (settle_all (course_of m) members w)
 
 -- deliveries one by one
 
 -- bytes arrive at a member's node or at a client
-arrives_same : {S : Type 0} (m : Meaning S) (bytes : List ℕ) (to : Party) (w : World S) → arrives (core_step m) bytes to (trimmed_world w) ≡ trimmed_world (arrives (step_of m) bytes to w)
+arrives_same : {S : Type 0} (m : Meaning S) (bytes : List ℕ) (to : Party) (w : World S)
+    → arrives (core_course m) bytes to (trimmed_world w) ≡ trimmed_world (arrives (course_of m) bytes to w)
 arrives_same m bytes (parties.Member id) w =
-    at_member_same (λ i v. node_takes (core_step m) i (Arrive bytes) v) (λ i v. node_takes (step_of m) i (Arrive bytes) v) (λ i v. node_takes_same m i (Arrive bytes) v) id w
+    at_member_same (λ i v. node_takes (core_course m) i (Arrive bytes) v) (λ i v. node_takes (course_of m) i (Arrive bytes) v) (λ i v. node_takes_same m i (Arrive bytes) v) id w
 arrives_same m bytes (parties.Client id) w = client_takes_same id bytes w
 
-arrives_at_same : {S : Type 0} (m : Meaning S) (bytes : List ℕ) (tos : List Party) (w : World S) → arrives_at (core_step m) bytes tos (trimmed_world w) ≡ trimmed_world (arrives_at (step_of m) bytes tos w)
+arrives_at_same : {S : Type 0} (m : Meaning S) (bytes : List ℕ) (tos : List Party) (w : World S)
+    → arrives_at (core_course m) bytes tos (trimmed_world w) ≡ trimmed_world (arrives_at (course_of m) bytes tos w)
 arrives_at_same m bytes [] w = refl
-arrives_at_same m bytes (to ∷ tos) w = ap (λ v. arrives_at (core_step m) bytes tos v) (arrives_same m bytes to w) ∙ arrives_at_same m bytes tos (arrives (step_of m) bytes to w)
+arrives_at_same m bytes (to ∷ tos) w = ap (λ v. arrives_at (core_course m) bytes tos v) (arrives_same m bytes to w) ∙ arrives_at_same m bytes tos (arrives (course_of m) bytes to w)
 
-sent_arrives_same : {S : Type 0} (m : Meaning S) (tos : List Party) (w : World S) (found : Option Sent) → sent_arrives (core_step m) tos (trimmed_world w) found ≡ trimmed_world (sent_arrives (step_of m) tos w found)
+sent_arrives_same : {S : Type 0} (m : Meaning S) (tos : List Party) (w : World S) (found : Option Sent)
+    → sent_arrives (core_course m) tos (trimmed_world w) found ≡ trimmed_world (sent_arrives (course_of m) tos w found)
 sent_arrives_same m tos w None = refl
 sent_arrives_same m tos w (Some s) = arrives_at_same m (bytes_of s.content) tos w
 
 -- the message of a number does
-give_number_same : {S : Type 0} (m : Meaning S) (number : ℕ) (tos : List Party) (w : World S) → give_number (core_step m) number tos (trimmed_world w) ≡ trimmed_world (give_number (step_of m) number tos w)
+give_number_same : {S : Type 0} (m : Meaning S) (number : ℕ) (tos : List Party) (w : World S)
+    → give_number (core_course m) number tos (trimmed_world w) ≡ trimmed_world (give_number (course_of m) number tos w)
 unfolding trimmed_world
 give_number_same m number tos w = sent_arrives_same m tos w (slice_get w.sent (number - 1))
 
@@ -386,27 +424,140 @@ telling_all_same w lines = refl
 
 -- a host that is found delivers, or time passes there
 host_tries_same : {S : Type 0} (m : Meaning S) (event : NodeEvent) (i : ℕ) (w : World S) (found : Option (Host S))
-    → host_tries (core_step m) event i (trimmed_world w) (option_map trimmed_host found) ≡ trimmed_world (host_tries (step_of m) event i w found)
+    → host_tries (core_course m) event i (trimmed_world w) (option_map trimmed_host found) ≡ trimmed_world (host_tries (course_of m) event i w found)
 unfolding trimmed_host trimmed_world trimmed nodes.regency_of
 host_tries_same m event i w None = refl
 host_tries_same {S} m event i w (Some h) =
     let o : Outcome S = step_of m h.node event in
-    choice_same trimmed_world (is_gone w h.node.id) _ _ _ _ refl
-    (ap (λ (x : Outcome S). telling_all (stepped (trimmed_world w) i (trimmed_host h) x) (told_idle h.node.id x.fired)) (core_step_same m h.node event)
-    ∙ (ap (λ (v : World S). telling_all v (told_idle h.node.id o.fired)) (stepped_same w i h o) ∙ telling_all_same (stepped w i h o) (told_idle h.node.id o.fired)))
+    choice_same trimmed_world (not (is_up w h)) _ _ _ _ refl
+    (ap (λ (x : Outcome S). telling_all (stepped (core_course m) (trimmed_world w) i (trimmed_host h) x) (told_idle h.node.id x.fired)) (core_step_same m h.node event)
+    ∙ (ap (λ (v : World S). telling_all v (told_idle h.node.id o.fired)) (stepped_same m w i h o) ∙ telling_all_same (stepped (course_of m) w i h o) (told_idle h.node.id o.fired)))
 
-tries_at_same : {S : Type 0} (m : Meaning S) (event : NodeEvent) (i : ℕ) (w : World S) → tries_at (core_step m) event i (trimmed_world w) ≡ trimmed_world (tries_at (step_of m) event i w)
+tries_at_same : {S : Type 0} (m : Meaning S) (event : NodeEvent) (i : ℕ) (w : World S) → tries_at (core_course m) event i (trimmed_world w) ≡ trimmed_world (tries_at (course_of m) event i w)
 unfolding tries_at trimmed_world
 tries_at_same m event i w =
     choice_same trimmed_world (is_some w.ending) _ _ _ _ refl
-    (ap (λ found. host_tries (core_step m) event i (trimmed_world w) found) (map_get trimmed_host w.hosts i) ∙ host_tries_same m event i w (slice_get w.hosts i))
+    (ap (λ found. host_tries (core_course m) event i (trimmed_world w) found) (map_get trimmed_host w.hosts i) ∙ host_tries_same m event i w (slice_get w.hosts i))
 
 -- so it is at each of some members
-tries_each_same : {S : Type 0} (m : Meaning S) (event : NodeEvent) (members : List ℕ) (w : World S) → tries_each (core_step m) event members (trimmed_world w) ≡ trimmed_world (tries_each (step_of m) event members w)
+tries_each_same : {S : Type 0} (m : Meaning S) (event : NodeEvent) (members : List ℕ) (w : World S)
+    → tries_each (core_course m) event members (trimmed_world w) ≡ trimmed_world (tries_each (course_of m) event members w)
 tries_each_same m event [] w = refl
 tries_each_same m event (id ∷ ids) w =
-    ap (λ v. tries_each (core_step m) event ids v) (at_member_same (tries_at (core_step m) event) (tries_at (step_of m) event) (tries_at_same m event) id w)
-    ∙ tries_each_same m event ids (at_member (tries_at (step_of m) event) id w)
+    ap (λ v. tries_each (core_course m) event ids v) (at_member_same (tries_at (core_course m) event) (tries_at (course_of m) event) (tries_at_same m event) id w)
+    ∙ tries_each_same m event ids (at_member (tries_at (course_of m) event) id w)
+
+-- crashes
+
+-- what a crash leaves of a host, or that no crash leaves such a thing
+crashes_with_same : {S : Type 0} (m : Meaning S) (i : ℕ) (w : World S) (h : Host S) (left : Images) (wrong : Option NotAnImage)
+    → crashes_with (core_course m) i (trimmed_world w) (trimmed_host h) left wrong ≡ trimmed_world (crashes_with (course_of m) i w h left wrong)
+unfolding trimmed_host trimmed_world trimmed nodes.regency_of
+crashes_with_same {S} m i w h left None =
+    ap (λ (hosts : List (Host S)). telling (record w { hosts = hosts }) (outs.Crashed h.node.id)) (map_set trimmed_host w.hosts i (host_crashed (course_of m) h left))
+crashes_with_same m i w h left (Some wrong) = refl
+
+-- a host that is found stops, if its node runs
+host_crashes_same : {S : Type 0} (m : Meaning S) (image : Image) (patches : List Patch) (i : ℕ) (w : World S) (found : Option (Host S))
+    → host_crashes (core_course m) image patches i (trimmed_world w) (option_map trimmed_host found) ≡ trimmed_world (host_crashes (course_of m) image patches i w found)
+unfolding trimmed_host trimmed_world trimmed nodes.regency_of
+host_crashes_same m image patches i w None = refl
+host_crashes_same m image patches i w (Some h) =
+    let left : Images = images_left image patches h.store in
+    choice_same trimmed_world (is_up w h) _ _ _ _ (crashes_with_same m i w h left (wrong_images h.store left)) refl
+
+-- the node at an index does
+crashes_same : {S : Type 0} (m : Meaning S) (image : Image) (patches : List Patch) (i : ℕ) (w : World S)
+    → crashes (core_course m) image patches i (trimmed_world w) ≡ trimmed_world (crashes (course_of m) image patches i w)
+unfolding crashes trimmed_world
+crashes_same m image patches i w =
+    choice_same trimmed_world (is_some w.ending) _ _ _ _ refl
+    (ap (λ found. host_crashes (core_course m) image patches i (trimmed_world w) found) (map_get trimmed_host w.hosts i) ∙ host_crashes_same m image patches i w (slice_get w.hosts i))
+
+-- what happens at each host
+each_host_same : {S : Type 0} (f g : ℕ → World S → World S) → Alike f g → (w : World S)
+    → each_from f (length (trimmed_world w).hosts) 0 (trimmed_world w) ≡ trimmed_world (each_from g (length w.hosts) 0 w)
+each_host_same f g same w = ap (λ k. each_from f k 0 (trimmed_world w)) (hosts_same w) ∙ each_from_same trimmed_world f g same (length w.hosts) 0 w
+
+-- each node that runs stops
+crash_all_same : {S : Type 0} (m : Meaning S) (image : Image) (w : World S) → crash_all (core_course m) image (trimmed_world w) ≡ trimmed_world (crash_all (course_of m) image w)
+crash_all_same m image w = each_host_same (crashes (core_course m) image []) (crashes (course_of m) image []) (crashes_same m image []) w
+
+-- a node that goes on has nothing that it does not need: nothing but the book is left of the life before
+trimmed-begins : {S : Type 0} (m : Meaning S) (secret : List ℕ) (id : ℕ) (view : View) (period : ℕ)
+    → trimmed (record (opened m secret id view period) { behind = true }) ≡ record (opened m secret id view period) { behind = true }
+unfolding trimmed
+trimmed-begins m secret id view period = refl
+
+trimmed-goes_on : {S : Type 0} (m : Meaning S) (secret : List ℕ) (id : ℕ) (view : View) (es : List LogEntry) (r : Replica S) (count : ℕ)
+    → trimmed (record (stopped m secret id view) { entries = es; replica = r; restored = count; firm = count })
+    ≡ record (stopped m secret id view) { entries = es; replica = r; restored = count; firm = count }
+unfolding trimmed
+trimmed-goes_on m secret id view es r count = refl
+
+trimmed-reopened : {S : Type 0} (m : Meaning S) (secret : List ℕ) (id : ℕ) (view : View) (period : ℕ) (es : List LogEntry)
+    → trimmed (reopened m secret id view period es) ≡ reopened m secret id view period es
+unfolding reopened
+trimmed-reopened m secret id view period [] = trimmed-begins m secret id view period
+trimmed-reopened m secret id view period (e ∷ es) =
+    let is = reopened_is m secret id view period e es in
+    ap (λ n. trimmed n) is ∙ (trimmed-goes_on m secret id view (e ∷ es) (state m view (decided_of (e ∷ es))) (length (e ∷ es)) ∙ sym is)
+
+-- the world in which a node goes on
+abbrev going_on : {S : Type 0} → World S → ℕ → Host S → ℕ → Node S → World S
+going_on w i h count n = telling (record w { hosts = slice_set w.hosts i (host_resumed h n) }) (outs.Restarted h.node.id n.replica.place count)
+
+going_on_same : {S : Type 0} (w : World S) (i : ℕ) (h : Host S) (count : ℕ) (n : Node S) → trimmed n ≡ n
+    → going_on (trimmed_world w) i (trimmed_host h) count n ≡ trimmed_world (going_on w i h count n)
+unfolding trimmed_host trimmed_world trimmed nodes.regency_of
+going_on_same {S} w i h count n same =
+    let line : OutLine = outs.Restarted h.node.id n.replica.place count in
+    let left : Node S → Host S = λ k. record (host_resumed h n) { node = k; life = record { diary = []; aside = [] } } in
+    ap (λ k. telling (record w { hosts = slice_set (map trimmed_host w.hosts) i (left k) }) line) (sym same)
+    ∙ ap (λ (hosts : List (Host S)). telling (record w { hosts = hosts }) line) (map_set trimmed_host w.hosts i (host_resumed h n))
+
+resumes_from_same : {S : Type 0} (m : Meaning S) (i : ℕ) (w : World S) (h : Host S) (restored : List (List ℕ)) (wrong : Option ℕ)
+    → resumes_from (core_course m) i (trimmed_world w) (trimmed_host h) restored wrong ≡ trimmed_world (resumes_from (course_of m) i w h restored wrong)
+unfolding trimmed_host trimmed_world trimmed nodes.regency_of
+resumes_from_same m i w h restored None =
+    let n : Node _ = reopened m group_secret h.node.id w.view 1024 (entries_in restored) in
+    going_on_same w i h (length restored) n (trimmed-reopened m group_secret h.node.id w.view 1024 (entries_in restored))
+resumes_from_same m i w h restored (Some entry) = refl
+
+-- a host that is found goes on, if its member has crashed
+host_resumes_same : {S : Type 0} (m : Meaning S) (i : ℕ) (w : World S) (found : Option (Host S))
+    → host_resumes (core_course m) i (trimmed_world w) (option_map trimmed_host found) ≡ trimmed_world (host_resumes (course_of m) i w found)
+unfolding trimmed_host trimmed_world trimmed nodes.regency_of
+host_resumes_same m i w None = refl
+host_resumes_same m i w (Some h) =
+    let restored : List (List ℕ) = (restores (bytes_held h.store)).entries in
+    choice_same trimmed_world (h.up || is_gone w h.node.id) _ _ _ _ refl (resumes_from_same m i w h restored (damaged group_secret w.view restored))
+
+resumes_same : {S : Type 0} (m : Meaning S) (i : ℕ) (w : World S) → resumes (core_course m) i (trimmed_world w) ≡ trimmed_world (resumes (course_of m) i w)
+unfolding resumes trimmed_world
+resumes_same m i w =
+    choice_same trimmed_world (is_some w.ending) _ _ _ _ refl
+    (ap (λ found. host_resumes (core_course m) i (trimmed_world w) found) (map_get trimmed_host w.hosts i) ∙ host_resumes_same m i w (slice_get w.hosts i))
+
+restart_all_same : {S : Type 0} (m : Meaning S) (w : World S) → restart_all (core_course m) (trimmed_world w) ≡ trimmed_world (restart_all (course_of m) w)
+restart_all_same m w = each_host_same (resumes (core_course m)) (resumes (course_of m)) (resumes_same m) w
+
+-- one member is restarted
+restart_at_same : {S : Type 0} (m : Meaning S) (i : ℕ) (w : World S) (found : Option (Host S))
+    → restart_at (core_course m) i (trimmed_world w) (option_map trimmed_host found) ≡ trimmed_world (restart_at (course_of m) i w found)
+unfolding trimmed_host trimmed_world trimmed nodes.regency_of
+restart_at_same m i w None = refl
+restart_at_same m i w (Some h) = choice_same trimmed_world (is_gone w h.node.id) _ _ _ _ refl (choice_same trimmed_world h.up _ _ _ _ refl (resumes_same m i w))
+
+restart_found_same : {S : Type 0} (m : Meaning S) (i : ℕ) (w : World S)
+    → restart_at (core_course m) i (trimmed_world w) (slice_get (trimmed_world w).hosts i) ≡ trimmed_world (restart_at (course_of m) i w (slice_get w.hosts i))
+unfolding trimmed_world
+restart_found_same m i w = ap (λ found. restart_at (core_course m) i (trimmed_world w) found) (map_get trimmed_host w.hosts i) ∙ restart_at_same m i w (slice_get w.hosts i)
+
+restart_member_same : {S : Type 0} (m : Meaning S) (member : ℕ) (w : World S)
+    → restart_member (core_course m) member (trimmed_world w) ≡ trimmed_world (restart_member (course_of m) member w)
+restart_member_same m member w =
+    at_place_same (λ i v. restart_at (core_course m) i v (slice_get v.hosts i)) (λ i v. restart_at (course_of m) i v (slice_get v.hosts i)) (restart_found_same m) member w
 
 -- where hosts stand
 shown_same : {S : Type 0} (faulty : List ℕ) (hosts : List (Host S)) → flat_map (shown_host faulty) (map trimmed_host hosts) ≡ flat_map (shown_host faulty) hosts
@@ -445,7 +596,7 @@ injects_same form w = choice_same trimmed_world (is_some w.ending) _ _ _ _ refl 
 -- lines
 
 -- a line of a script
-pub core_line : {S : Type 0} (m : Meaning S) (w : World S) (line : Line) → line_played (core_step m) (trimmed_world w) line ≡ trimmed_world (line_played (step_of m) w line)
+pub core_line : {S : Type 0} (m : Meaning S) (w : World S) (line : Line) → line_played (core_course m) (trimmed_world w) line ≡ trimmed_world (line_played (course_of m) w line)
 unfolding line_played
 core_line m w lines.Nothing = refl
 core_line m w (lines.Ask client op) = asks_same client op w
@@ -455,10 +606,14 @@ core_line m w (lines.Flow members) = flows_same m members w
 core_line m w (lines.Give number to) = give_number_same m number to w
 core_line m w (lines.Deliver members) = tries_each_same m Deliver members w
 core_line m w (lines.Tick members) = tries_each_same m Tick members w
-core_line m w (lines.Settle member) = at_member_same (settle (core_step m)) (settle (step_of m)) (settle_same m) member w
+core_line m w (lines.Settle member) = at_member_same (settle (core_course m)) (settle (course_of m)) (settle_same m) member w
 core_line m w (lines.Disk member count) =
-    at_member_same (λ i v. repeated (calls_disk (core_step m) i) count v) (λ i v. repeated (calls_disk (step_of m) i) count v)
-    (λ i v. repeated_same trimmed_world (calls_disk (core_step m) i) (calls_disk (step_of m) i) (calls_disk_same m i) count v) member w
+    at_member_same (λ i v. repeated (calls_disk (core_course m) i) count v) (λ i v. repeated (calls_disk (course_of m) i) count v)
+    (λ i v. repeated_same trimmed_world (calls_disk (core_course m) i) (calls_disk (course_of m) i) (calls_disk_same m i) count v) member w
+core_line m w (lines.Crash member image patches) = at_member_same (crashes (core_course m) image patches) (crashes (course_of m) image patches) (crashes_same m image patches) member w
+core_line m w (lines.CrashAll image) = crash_all_same m image w
+core_line m w (lines.Restart member) = restart_member_same m member w
+core_line m w lines.RestartAll = restart_all_same m w
 core_line m w lines.SettleAll = settle_all_same m [] w
 core_line m w lines.Show = shows_same w
 core_line m w (lines.Faulty member) = declares_faulty_same member w
@@ -492,6 +647,10 @@ there_same w (lines.Deliver members) = has_each_same (has_member (trimmed_world 
 there_same w (lines.Tick members) = has_each_same (has_member (trimmed_world w)) (has_member w) (has_member_same w) members
 there_same w (lines.Settle member) = has_member_same w member
 there_same w (lines.Disk member count) = has_member_same w member
+there_same w (lines.Crash member image patches) = has_member_same w member
+there_same w (lines.CrashAll image) = refl
+there_same w (lines.Restart member) = has_member_same w member
+there_same w lines.RestartAll = refl
 there_same w lines.SettleAll = refl
 there_same w lines.Show = refl
 there_same w (lines.Faulty member) = has_member_same w member
@@ -504,13 +663,14 @@ unfolding trimmed_world
 rested_same w = refl
 
 -- a line of a script, and the rest behind it
-line_rested : {S : Type 0} (m : Meaning S) (w : World S) (line : Line) → rested (line_played (core_step m) (trimmed_world w) line) ≡ trimmed_world (rested (line_played (step_of m) w line))
-line_rested m w line = ap (λ v. rested v) (core_line m w line) ∙ rested_same (line_played (step_of m) w line)
+line_rested : {S : Type 0} (m : Meaning S) (w : World S) (line : Line)
+    → rested (line_played (core_course m) (trimmed_world w) line) ≡ trimmed_world (rested (line_played (course_of m) w line))
+line_rested m w line = ap (λ v. rested v) (core_line m w line) ∙ rested_same (line_played (course_of m) w line)
 
 -- all lines of a script
-world_after_same : {S : Type 0} (m : Meaning S) (w : World S) (ls : List Line) → world_after (core_step m) (trimmed_world w) ls ≡ trimmed_world (world_after (step_of m) w ls)
+world_after_same : {S : Type 0} (m : Meaning S) (w : World S) (ls : List Line) → world_after (core_course m) (trimmed_world w) ls ≡ trimmed_world (world_after (course_of m) w ls)
 world_after_same m w [] = refl
-world_after_same m w (l ∷ ls) = ap (λ v. world_after (core_step m) v ls) (line_rested m w l) ∙ world_after_same m (rested (line_played (step_of m) w l)) ls
+world_after_same m w (l ∷ ls) = ap (λ v. world_after (core_course m) v ls) (line_rested m w l) ∙ world_after_same m (rested (line_played (course_of m) w l)) ls
 
 -- what a world of cores has beside its hosts
 pub record Beside {S : Type 0} (cores w : World S) : Type 0 where
@@ -531,13 +691,13 @@ unfolding trimmed_world
 trimmed_beside w = record { view = refl; clients = refl; sent = refl; mark = refl; chosen = refl; accepted = refl; told = refl; faulty = refl; rogue = refl; ending = refl }
 
 -- what the lines of a script tell
-lines_told_same : {S : Type 0} (m : Meaning S) (w : World S) (ls : List Line) → lines_told (core_step m) (trimmed_world w) ls ≡ lines_told (step_of m) w ls
+lines_told_same : {S : Type 0} (m : Meaning S) (w : World S) (ls : List Line) → lines_told (core_course m) (trimmed_world w) ls ≡ lines_told (course_of m) w ls
 lines_told_same m w [] = refl
 lines_told_same m w (l ∷ ls) =
-    let told = ap (λ v. v.told) (core_line m w l) ∙ (trimmed_beside (line_played (step_of m) w l)).told in
-    let rest = ap (λ v. lines_told (core_step m) v ls) (line_rested m w l) ∙ lines_told_same m (rested (line_played (step_of m) w l)) ls in
-    ap (λ ls'. ls' ++ lines_told (core_step m) (rested (line_played (core_step m) (trimmed_world w) l)) ls) told
-    ∙ ap (λ ls'. (line_played (step_of m) w l).told ++ ls') rest
+    let told = ap (λ v. v.told) (core_line m w l) ∙ (trimmed_beside (line_played (course_of m) w l)).told in
+    let rest = ap (λ v. lines_told (core_course m) v ls) (line_rested m w l) ∙ lines_told_same m (rested (line_played (course_of m) w l)) ls in
+    ap (λ ls'. ls' ++ lines_told (core_course m) (rested (line_played (core_course m) (trimmed_world w) l)) ls) told
+    ∙ ap (λ ls'. (line_played (course_of m) w l).told ++ ls') rest
 
 -- the beginning
 
@@ -555,9 +715,9 @@ unfolding trimmed_world
 begun_same m view = ap (λ hosts. record (begun m view) { hosts = hosts }) (hosts_from_same m view view.members)
 
 -- all lines of a script, from the beginning
-pub core_world : {S : Type 0} (m : Meaning S) (view : View) (ls : List Line) → world_after (core_step m) (begun m view) ls ≡ trimmed_world (world_after (step_of m) (begun m view) ls)
-core_world m view ls = ap (λ w. world_after (core_step m) w ls) (sym (begun_same m view)) ∙ world_after_same m (begun m view) ls
+pub core_world : {S : Type 0} (m : Meaning S) (view : View) (ls : List Line) → world_after (core_course m) (begun m view) ls ≡ trimmed_world (world_after (course_of m) (begun m view) ls)
+core_world m view ls = ap (λ w. world_after (core_course m) w ls) (sym (begun_same m view)) ∙ world_after_same m (begun m view) ls
 
 -- what all lines of a script tell, from the beginning
-pub core_told : {S : Type 0} (m : Meaning S) (view : View) (ls : List Line) → lines_told (core_step m) (begun m view) ls ≡ lines_told (step_of m) (begun m view) ls
-core_told m view ls = ap (λ w. lines_told (core_step m) w ls) (sym (begun_same m view)) ∙ lines_told_same m (begun m view) ls
+pub core_told : {S : Type 0} (m : Meaning S) (view : View) (ls : List Line) → lines_told (core_course m) (begun m view) ls ≡ lines_told (course_of m) (begun m view) ls
+core_told m view ls = ap (λ w. lines_told (core_course m) w ls) (sym (begun_same m view)) ∙ lines_told_same m (begun m view) ls

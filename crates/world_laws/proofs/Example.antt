@@ -21,7 +21,6 @@ use Rattle.smart_messages.specs.declared.any.AnyMessage.TheVariants.{Plain}
 use Rattle.smart_messages.specs.declared.statement.VoteKind.{VoteKind}
 use Rattle.smart_messages.specs.declared.statement.VoteKind.TheVariants.{Write, Accept}
 use Rattle.smart_messages.specs.declared.statement.Slot.{Slot}
-use Rattle.smart_messages.specs.declared.entry.NodeEvent.{NodeEvent}
 use Rattle.smart_messages.specs.declared.entry.NodeEvent.TheVariants.{Arrive, Deliver}
 use Rattle.smart_service.specs.Services.{Meaning}
 use Rattle.smart_service.specs.declared.table.TableLine.{TableLine}
@@ -52,7 +51,7 @@ use Rattle.client_quorum.specs.declared.client.Heard.TheVariants as hears
 use Rattle.world_rules.specs.Clients.{heard}
 use Rattle.world_rules.specs.Repeats as repeats
 use Rattle.world_rules.specs.Repeats.{repeated, until_rest, each_from}
-use Rattle.world_rules.specs.Worlds.{Host, World, begun, clients_from, asks, stepped, host_takes, node_takes, disk_called, calls_disk, host_of_node, takes_due, settle_once, settle, settle_all, gives, hearing, client_hears, hears_bytes, client_takes, flow_sent, flow_once, where_listed, at_listed, posts, is_gone}
+use Rattle.world_rules.specs.Worlds.{Course, course_of, Host, World, begun, clients_from, asks, stepped, host_takes, node_takes, disk_called, calls_disk, host_of_node, takes_due, settle_once, settle, settle_all, gives, hearing, client_hears, hears_bytes, client_takes, flow_sent, flow_once, where_listed, at_listed, posts, is_up}
 use Rattle.world_rules.specs.Plays.{line_played, rested}
 use Rattle.world_rules.specs.Promises.{world_at}
 use Rattle.world_rules.specs.declared.message.Origin.{Origin}
@@ -176,7 +175,7 @@ pub decides_one : (slot : Slot) (arrivals : List Message) (same : Bool) (x : Nam
 decides_one slot arrivals true x rest ahead is = refl
 decides_one slot arrivals false x rest ahead is = absurd (cc)
 
--- a step of a node, with what it accepts and decides
+-- a course of a node, with what it accepts and decides
 
 -- an arrival is kept, and the rules pass
 unfoldable pub passed : {S : Type 0} → Node S → Option Proposed → Option Decision → Outcome S
@@ -243,8 +242,8 @@ host_is m (h ∷ hs) one = refl
 -- a message is given to the node, which accepts and decides so and settles in k turns
 unfoldable pub turn : {S : Type 0} → Meaning S → ℕ → AnyMessage → Option Proposed → Option Decision → World S → World S
 turn m k x accepted decided w =
-    repeated (settle_once (step_of m) 0) k
-    (stepped (record w { mark = w.mark + 1 }) 0 (host_in m w.hosts) (passed (kept (noted (host_in m w.hosts).node x) x) accepted decided))
+    repeated (settle_once (course_of m) 0) k
+    (stepped (course_of m) (record w { mark = w.mark + 1 }) 0 (host_in m w.hosts) (passed (kept (noted (host_in m w.hosts).node x) x) accepted decided))
 
 -- a few turns are no more than there are
 pub few : (k : ℕ) → k ≤ 20 → k ≤ repeats.turns
@@ -256,54 +255,54 @@ abbrev pub is_due : {S : Type 0} → Option (Host S) → Bool
 is_due None = false
 is_due (Some h) = call_due h.store || is_some h.node.waiting
 
-none_due : {S : Type 0} (step : Node S → NodeEvent → Outcome S) (w : World S) (found : Option (Host S)) → is_due found ≡ false → takes_due step 0 w found ≡ w
-none_due step w None none = refl
-none_due step w (Some h) none =
+none_due : {S : Type 0} (course : Course S) (w : World S) (found : Option (Host S)) → is_due found ≡ false → takes_due course 0 w found ≡ w
+none_due course w None none = refl
+none_due course w (Some h) none =
     let parts = or_false (call_due h.store) (is_some h.node.waiting) none in
-    ap (λ due. cond due (calls_disk step 0 w) (cond (is_some h.node.waiting) (node_takes step 0 Deliver w) w)) parts.0 ∙ ap (λ waits. cond waits (node_takes step 0 Deliver w) w) parts.1
+    ap (λ due. cond due (calls_disk course 0 w) (cond (is_some h.node.waiting) (node_takes course 0 Deliver w) w)) parts.0 ∙ ap (λ waits. cond waits (node_takes course 0 Deliver w) w) parts.1
 
 -- where nothing is due, a node has settled
-pub settled : {S : Type 0} (step : Node S → NodeEvent → Outcome S) (k : ℕ) (w : World S) → k ≤ 9 → is_due (slice_get (repeated (settle_once step 0) k w).hosts 0) ≡ false
-    → settle step 0 w ≡ repeated (settle_once step 0) k w
+pub settled : {S : Type 0} (course : Course S) (k : ℕ) (w : World S) → k ≤ 9 → is_due (slice_get (repeated (settle_once course 0) k w).hosts 0) ≡ false
+    → settle course 0 w ≡ repeated (settle_once course 0) k w
 unfolding settle_once
-settled step k w le none =
-    rest_is_reached (settle_once step 0) k w (few k (omega (arith, le))) (none_due step (repeated (settle_once step 0) k w) (slice_get (repeated (settle_once step 0) k w).hosts 0) none)
+settled course k w le none =
+    rest_is_reached (settle_once course 0) k w (few k (omega (arith, le))) (none_due course (repeated (settle_once course 0) k w) (slice_get (repeated (settle_once course 0) k w).hosts 0) none)
 
 -- a message that is for the view is given to the one node
 pub given : {S : Type 0} (m : Meaning S) (k : ℕ) (x : AnyMessage) (accepted : Option Proposed) (decided : Option Decision) (origin : Origin) (w : World S) → k ≤ 9 → is_some w.ending ≡ false
     → slice_get w.sent w.mark ≡ Some (record { origin = origin; to = Some targets.View; content = contents.Message x }) → length w.hosts ≡ 1
-    → is_gone w (host_in m w.hosts).node.id ≡ false → Takes (host_in m w.hosts).node x accepted decided → is_due (slice_get (turn m k x accepted decided w).hosts 0) ≡ false → flow_once (step_of m) [] w ≡ turn m k x accepted decided w
+    → is_up w (host_in m w.hosts) ≡ true → Takes (host_in m w.hosts).node x accepted decided → is_due (slice_get (turn m k x accepted decided w).hosts 0) ≡ false → flow_once (course_of m) [] w ≡ turn m k x accepted decided w
 unfolding flow_once turn gives each_from node_takes
 given {S = S} m k x accepted decided origin w le on at one there takes none =
     let next : World S = record w { mark = w.mark + 1 } in
-    ap (λ over. cond over w (flow_sent (step_of m) [] w (slice_get w.sent w.mark))) on
-    ∙ (ap (flow_sent (step_of m) [] w) at
-    ∙ (ap (λ hosts. each_from (at_listed [] (gives (step_of m) (any_spelling x))) hosts 0 next) one
-    ∙ (ap (λ found. where_listed [] (gives (step_of m) (any_spelling x)) 0 next found) (host_is m w.hosts one)
-    ∙ (ap (λ over. settle (step_of m) 0 (cond over next (host_takes (step_of m) 0 (Arrive (any_spelling x)) next (slice_get w.hosts 0)))) on
-    ∙ (ap (λ found. settle (step_of m) 0 (host_takes (step_of m) 0 (Arrive (any_spelling x)) next found)) (host_is m w.hosts one)
-    ∙ (ap (λ gone. settle (step_of m) 0 (cond gone next (stepped next 0 (host_in m w.hosts) (step_of m (host_in m w.hosts).node (Arrive (any_spelling x)))))) there
-    ∙ (ap (λ o. settle (step_of m) 0 (stepped next 0 (host_in m w.hosts) o)) (step_is m (host_in m w.hosts).node x accepted decided takes)
-    ∙ settled (step_of m) k (stepped next 0 (host_in m w.hosts) (passed (kept (noted (host_in m w.hosts).node x) x) accepted decided)) le none)))))))
+    ap (λ over. cond over w (flow_sent (course_of m) [] w (slice_get w.sent w.mark))) on
+    ∙ (ap (flow_sent (course_of m) [] w) at
+    ∙ (ap (λ hosts. each_from (at_listed [] (gives (course_of m) (any_spelling x))) hosts 0 next) one
+    ∙ (ap (λ found. where_listed [] (gives (course_of m) (any_spelling x)) 0 next found) (host_is m w.hosts one)
+    ∙ (ap (λ over. settle (course_of m) 0 (cond over next (host_takes (course_of m) 0 (Arrive (any_spelling x)) next (slice_get w.hosts 0)))) on
+    ∙ (ap (λ found. settle (course_of m) 0 (host_takes (course_of m) 0 (Arrive (any_spelling x)) next found)) (host_is m w.hosts one)
+    ∙ (ap (λ up. settle (course_of m) 0 (cond (not up) next (stepped (course_of m) next 0 (host_in m w.hosts) (step_of m (host_in m w.hosts).node (Arrive (any_spelling x)))))) there
+    ∙ (ap (λ o. settle (course_of m) 0 (stepped (course_of m) next 0 (host_in m w.hosts) o)) (step_is m (host_in m w.hosts).node x accepted decided takes)
+    ∙ settled (course_of m) k (stepped (course_of m) next 0 (host_in m w.hosts) (passed (kept (noted (host_in m w.hosts).node x) x) accepted decided)) le none)))))))
 
 -- a reply that is for a client is given to it
 pub given_back : {S : Type 0} (m : Meaning S) (a : SignedBy Answer) (origin : Origin) (client : ℕ) (c : Client) (h : Heard) (w : World S) → is_some w.ending ≡ false
     → slice_get w.sent w.mark ≡ Some (record { origin = origin; to = Some (targets.Client client); content = contents.Message (Plain (Reply a)) }) → slice_get w.clients client ≡ Some c
-    → decoded (spelling (Reply a)) ≡ Ok (Reply a) → heard w.view c a ≡ h → flow_once (step_of m) [] w ≡ hearing (record w { mark = w.mark + 1 }) client c a h
+    → decoded (spelling (Reply a)) ≡ Ok (Reply a) → heard w.view c a ≡ h → flow_once (course_of m) [] w ≡ hearing (record w { mark = w.mark + 1 }) client c a h
 unfolding flow_once client_takes
 given_back {S = S} m a origin client c h w on at here read hear =
     let next : World S = record w { mark = w.mark + 1 } in
-    ap (λ over. cond over w (flow_sent (step_of m) [] w (slice_get w.sent w.mark))) on
-    ∙ (ap (flow_sent (step_of m) [] w) at
+    ap (λ over. cond over w (flow_sent (course_of m) [] w (slice_get w.sent w.mark))) on
+    ∙ (ap (flow_sent (course_of m) [] w) at
     ∙ (ap (λ over. cond over next (hears_bytes next client (spelling (Reply a)) (slice_get w.clients client))) on
     ∙ (ap (hears_bytes next client (spelling (Reply a))) here
     ∙ (ap (client_hears next client c) read
     ∙ ap (hearing next client c a) hear))))
 
 -- nothing to give is left
-pub idle : {S : Type 0} (step : Node S → NodeEvent → Outcome S) (w : World S) → is_some w.ending ≡ false → slice_get w.sent w.mark ≡ None → flow_once step [] w ≡ w
+pub idle : {S : Type 0} (course : Course S) (w : World S) → is_some w.ending ≡ false → slice_get w.sent w.mark ≡ None → flow_once course [] w ≡ w
 unfolding flow_once
-idle step w on at = ap (λ over. cond over w (flow_sent step [] w (slice_get w.sent w.mark))) on ∙ ap (flow_sent step [] w) at
+idle course w on at = ap (λ over. cond over w (flow_sent course [] w (slice_get w.sent w.mark))) on ∙ ap (flow_sent course [] w) at
 
 -- the worlds of the play
 
@@ -313,7 +312,7 @@ asked m = rested (asks 1 (7 ∷ []) (begun m lone))
 
 -- the node has settled, and no message was given
 unfoldable begins : {S : Type 0} → Meaning S → World S
-begins m = repeated (settle_once (step_of m) 0) 6 (asked m)
+begins m = repeated (settle_once (course_of m) 0) 6 (asked m)
 
 -- the node has proposed the batch
 unfoldable proposed : {S : Type 0} → Meaning S → World S
@@ -347,12 +346,12 @@ computed = tt
 -- the turns of the play
 
 -- the node settles before any message is given
-turn_begins : {S : Type 0} (m : Meaning S) → settle_all (step_of m) [] (asked m) ≡ begins m
+turn_begins : {S : Type 0} (m : Meaning S) → settle_all (course_of m) [] (asked m) ≡ begins m
 unfolding computed each_from
-turn_begins m = settled (step_of m) 6 (asked m) (omega arith) refl
+turn_begins m = settled (course_of m) 6 (asked m) (omega arith) refl
 
 -- the request is given
-turn_proposed : {S : Type 0} (m : Meaning S) → flow_once (step_of m) [] (begins m) ≡ proposed m
+turn_proposed : {S : Type 0} (m : Meaning S) → flow_once (course_of m) [] (begins m) ≡ proposed m
 unfolding computed
 turn_proposed m =
     given m 0 first_ask None None (origins.Client 1) (begins m) (omega arith) refl refl refl refl
@@ -365,7 +364,7 @@ turn_proposed m =
     }) refl
 
 -- the proposal is given
-turn_wrote : {S : Type 0} (m : Meaning S) → flow_once (step_of m) [] (proposed m) ≡ wrote m
+turn_wrote : {S : Type 0} (m : Meaning S) → flow_once (course_of m) [] (proposed m) ≡ wrote m
 unfolding computed
 turn_wrote m =
     given m 4 first_proposal None None (origins.Node 1) (proposed m) (omega arith) refl refl refl refl
@@ -379,7 +378,7 @@ turn_wrote m =
     }) refl
 
 -- the vote to write is given
-turn_accepted : {S : Type 0} (m : Meaning S) → flow_once (step_of m) [] (wrote m) ≡ accepted m
+turn_accepted : {S : Type 0} (m : Meaning S) → flow_once (course_of m) [] (wrote m) ≡ accepted m
 unfolding computed
 turn_accepted m =
     given m 4 (first_vote Write) (Some first_proposed) None (origins.Node 1) (wrote m) (omega arith) refl refl refl refl
@@ -392,7 +391,7 @@ turn_accepted m =
     }) refl
 
 -- the vote to accept is given
-turn_replied : {S : Type 0} (m : Meaning S) → flow_once (step_of m) [] (accepted m) ≡ replied m
+turn_replied : {S : Type 0} (m : Meaning S) → flow_once (course_of m) [] (accepted m) ≡ replied m
 unfolding computed
 turn_replied m =
     given m 5 (first_vote Accept) None (Some first_decision) (origins.Node 1) (accepted m) (omega arith) refl refl refl refl
@@ -419,23 +418,23 @@ accepts_first m brief =
     ∙ one_is_enough (hears.Accepted (first_acceptance m)) _ (same_bytes (m.reply m.first (7 ∷ [])) (m.reply m.first (7 ∷ []))) (bytes-itself (m.reply m.first (7 ∷ [])))
 
 -- the reply is given
-turn_answered : {S : Type 0} (m : Meaning S) → IsBrief m → flow_once (step_of m) [] (replied m) ≡ answered m
+turn_answered : {S : Type 0} (m : Meaning S) → IsBrief m → flow_once (course_of m) [] (replied m) ≡ answered m
 unfolding computed
 turn_answered m brief =
     given_back m (first_reply m) (origins.Node 1) 1 waiting_client (hears.Accepted (first_acceptance m)) (replied m) refl refl refl (spelling_is (Reply (first_reply m)) (good_reply m brief).fits) (accepts_first m brief)
 
 -- no message is left
-turn_over : {S : Type 0} (m : Meaning S) → flow_once (step_of m) [] (answered m) ≡ answered m
+turn_over : {S : Type 0} (m : Meaning S) → flow_once (course_of m) [] (answered m) ≡ answered m
 unfolding computed
-turn_over m = idle (step_of m) (answered m) refl refl
+turn_over m = idle (course_of m) (answered m) refl refl
 
 -- the play
 
 -- the flow ends where the client has heard the reply
-flow_is : {S : Type 0} (m : Meaning S) → IsBrief m → until_rest (flow_once (step_of m) []) (begins m) ≡ answered m
+flow_is : {S : Type 0} (m : Meaning S) → IsBrief m → until_rest (flow_once (course_of m) []) (begins m) ≡ answered m
 unfolding repeated
 flow_is {S = S} m brief =
-    let f : World S → World S = flow_once (step_of m) [] in
+    let f : World S → World S = flow_once (course_of m) [] in
     let all : repeated f 5 (begins m) ≡ answered m =
     ap (repeated f 4) (turn_proposed m) ∙ (ap (repeated f 3) (turn_wrote m) ∙ (ap (repeated f 2) (turn_accepted m) ∙ (ap (repeated f 1) (turn_replied m) ∙ turn_answered m brief))) in
     rest_is_reached f 5 (begins m) (few 5 (omega arith)) (ap f all ∙ (turn_over m ∙ sym all)) ∙ all
@@ -443,7 +442,7 @@ flow_is {S = S} m brief =
 -- so does the play
 play_is : {S : Type 0} (m : Meaning S) → IsBrief m → world_at m lone ask_and_flow 2 ≡ rested (answered m)
 unfolding line_played asked
-play_is m brief = ap rested (ap (until_rest (flow_once (step_of m) [])) (turn_begins m) ∙ flow_is m brief)
+play_is m brief = ap rested (ap (until_rest (flow_once (course_of m) [])) (turn_begins m) ∙ flow_is m brief)
 
 -- one member is a group
 pub lone_is : is_view lone ≡ true

@@ -1,6 +1,7 @@
 -- Each message that is sent in a play over a view is read as itself, and its statements bear the tags of their signers.
 use Rattle.std.proofs.Common.{◌≡◌, ap, sym, ◌∙◌, ℕ, zero, suc, ◌+◌, ◌*◌, ◌^◌, ◌<◌, ◌≤◌, ◌&&◌, true, List, [], ◌∷◌, length, refl, subst, Some, None, nat_lt, nat_le, inl, inr, arith, Result, Ok, Err}
 use Rattle.std.proofs.lemmas.Bool.{ltb-true, leb-true}
+use Rattle.std.specs.Prelude.{slice_get}
 use Rattle.smart_base.specs.Lists.{Each}
 use Rattle.smart_base.specs.Views.{View, ascends, is_view}
 use Rattle.smart_messages.specs.Forms.{SignedBy}
@@ -20,18 +21,16 @@ use Rattle.node_rules.specs.Steps.{Outcome, step_of, leaving}
 use Rattle.node_rules.specs.declared.node.Held.{Held}
 use Rattle.client_quorum.specs.Clients.{request_of, asking, learning, after_heard}
 use Rattle.world_rules.specs.Clients.{heard}
-use Rattle.world_rules.specs.Worlds.{Host, World, posts, sends_all, host_after, stepped, hearing, hosts_from, clients_from, begun}
-use Rattle.world_rules.specs.Plays.{world_after}
+use Rattle.world_rules.specs.Worlds.{course_of, Host, Life, World, host_crashed, host_resumed, posts, sends_all, host_after, stepped, hearing, hosts_from, clients_from, begun}
 use Rattle.client_quorum.specs.declared.client.Client.{Client}
 use Rattle.client_quorum.specs.declared.client.Heard.{Heard}
 use Rattle.client_quorum.specs.declared.client.Heard.TheVariants as hears
-use Rattle.world_rules.specs.declared.line.Line.{Line}
 use Rattle.world_rules.specs.declared.message.Origin.{Origin}
 use Rattle.world_rules.specs.declared.message.Origin.TheVariants as origins
 use Rattle.world_rules.specs.declared.message.Sent.{Sent}
 use Rattle.world_laws.specs.Sending.{AllGenuine, IsReadIfShort, IsHeardAs, IsReadAs, IsGenuineContent, IsGenuineFrom}
 use Rattle.world_laws.proofs.Lists.{and_true, either, some-equal, each_end, each_weaker, each_set, each_get, each_both}
-use Rattle.world_laws.proofs.Keeps.{after_call, change-unheard, MayCome, read_whole, FitsParts, parts_fit, long_unread, ask_of, asked_by, Keeps, by-posts, ReadsSent, keeps-world_after, signed_by, OwnWaits, from_node, from_client, HasContent, IsRead, heard_has, from_script}
+use Rattle.world_laws.proofs.Keeps.{with_host, entries_left, node_resumed, after_call, change-unheard, MayCome, read_whole, FitsParts, parts_fit, long_unread, ask_of, asked_by, Keeps, by-posts, ReadsSent, signed_by, OwnWaits, from_node, from_client, HasContent, IsRead, heard_has, from_script}
 use Rattle.smart_messages.specs.Kinds.{requests}
 use Rattle.smart_messages.specs.Statements.{request_small}
 use Rattle.smart_messages.specs.declared.regency.RegencyMessage.TheVariants as changes
@@ -39,7 +38,16 @@ use Rattle.replica_rules.specs.Seals.{signed}
 use Rattle.world_rules.specs.Secrets.{group_secret}
 use Rattle.replica_laws.proofs.Genuine.{FitsHeld, IsGood, good-genuine, signed-verified, signed-fits, ask-good}
 use Rattle.replica_laws.specs.Sending.{ForRead}
-use Rattle.replica_laws.proofs.FitNodes.{FitNode, IsBrief, FitsEvent, fit-step, fit-released, fit-opened}
+use Rattle.replica_laws.proofs.FitNodes.{IsBrief, FitsEvent, fit-released}
+use Rattle.replica_laws.proofs.FitNodes as nodes
+use Rattle.replica_laws.proofs.FitBooks.{FitBook, spelled-step, spelled-opened}
+use Rattle.vote_book.specs.Entries.{FitsEntry}
+use Rattle.vote_book.specs.declared.entry.LogEntry.{LogEntry}
+use Rattle.node_rules.specs.Nodes.{Node}
+use Rattle.node_rules.specs.Reopening.{decided_of, entries_in, reopened}
+use Rattle.durable_store.specs.Exact.{store_called}
+use Rattle.world_laws.proofs.Lives.{EachLife, life-weaker, life-firm, life-called, life-crashed}
+use Rattle.world_laws.proofs.Reopens.{fit_reopened}
 use Rattle.world_rules.specs.declared.message.Content.{Content}
 use Rattle.world_rules.specs.declared.message.Content.TheVariants as contents
 
@@ -76,9 +84,25 @@ IsTaggedFrom (origins.Node id) content = IsTaggedContent content
 IsTaggedFrom (origins.Client id) content = IsTaggedContent content
 IsTaggedFrom origins.Script content = Unit {0}
 
+-- an entry has a spelling, and so has what it brings into messages
+abbrev pub EntryFits : LogEntry → Type 0
+EntryFits e = nodes.FitsEntry group_secret e × FitsEntry e
+
+-- a host of which all has a spelling: what its node holds, and the entries of all lives
+pub record FitHost {S : Type 0} (h : Host S) : Type 0 where
+  pub node : FitBook group_secret h.node
+  pub life : EachLife EntryFits h.life
+
+-- the entries of its book
+pub book_fits : {S : Type 0} (n : Node S) → FitBook group_secret n → Each EntryFits n.entries
+book_fits n is = each_both (nodes.FitsEntry group_secret) FitsEntry EntryFits (λ e one other. (one, other)) n.entries is.node.book is.book
+
+pub spelled-life : (l : Life) → EachLife EntryFits l → EachLife FitsEntry l
+spelled-life l is = life-weaker EntryFits FitsEntry (λ e fits. fits.1) l is
+
 -- all that nodes and clients hold has a spelling, and all that was sent is read
 pub record AllFit {S : Type 0} (w : World S) : Type 0 where
-  pub hosts : Each (λ h. FitNode group_secret h.node) w.hosts
+  pub hosts : Each FitHost w.hosts
   pub clients : Each FitClient w.clients
   pub sent : Each (λ s. IsRead s.content) w.sent
   pub tagged : Each (λ s. IsTaggedFrom s.origin s.content) w.sent
@@ -129,11 +153,34 @@ fit-sends_all id w [] each is = is
 fit-sends_all id w (h ∷ hs) each is = fit-sends_all id (posts w (from_node id h)) hs each.1 (fit-posts w (from_node id h) (parts-fit h.message each.0.fits) each.0 is)
 
 -- a host's node takes an event
-fit-stepped : {S : Type 0} (w : World S) (i : ℕ) (h : Host S) (o : Outcome S) → FitNode group_secret o.node → AllFit w → AllFit (stepped w i h o)
+fit-after : {S : Type 0} (m : Meaning S) (h : Host S) (o : Outcome S) → FitBook group_secret o.node → FitHost h → FitHost (host_after (course_of m) h o)
+fit-after m h o fit is = record { node = record { node = fit-released group_secret o.node fit.node; book = fit.book }; life = life-firm EntryFits h.life o.node (book_fits o.node fit) is.life }
+
+fit-stepped : {S : Type 0} (m : Meaning S) (w : World S) (i : ℕ) (h : Host S) (o : Outcome S) → slice_get w.hosts i ≡ Some h → FitBook group_secret o.node → AllFit w → AllFit (stepped (course_of m) w i h o)
 unfolding stepped
-fit-stepped {S = S} w i h o fit is =
-    fit-sends_all h.node.id _ (leaving o.node.firm o.node.held) (each-leaving (λ (x : Held). IsGood group_secret x.message) o.node.firm o.node.held fit.held)
-    (record { hosts = each_set (λ (g : Host S). FitNode group_secret g.node) w.hosts i (host_after h o) is.hosts (fit-released group_secret o.node fit); clients = is.clients; sent = is.sent; tagged = is.tagged })
+fit-stepped {S = S} m w i h o at fit is =
+    fit-sends_all h.node.id _ (leaving o.node.firm o.node.held) (each-leaving (λ (x : Held). IsGood group_secret x.message) o.node.firm o.node.held fit.node.held)
+    (record {
+      hosts = each_set FitHost w.hosts i (host_after (course_of m) h o) is.hosts (fit-after m h o fit (each_get FitHost w.hosts i h is.hosts at));
+      clients = is.clients;
+      sent = is.sent;
+      tagged = is.tagged;
+    })
+
+-- another host stands at an index
+fit-set : {S : Type 0} (w : World S) (i : ℕ) (h : Host S) → FitHost h → AllFit w → AllFit (with_host w i h)
+fit-set w i h fit is = record { hosts = each_set FitHost w.hosts i h is.hosts fit; clients = is.clients; sent = is.sent; tagged = is.tagged }
+
+-- a node goes on from entries that have spellings
+pub fit-resumes : {S : Type 0} (m : Meaning S) → IsBrief m → (w : World S) (i : ℕ) (h : Host S) → slice_get w.hosts i ≡ Some h → is_view w.view ≡ true → entries_in (entries_left h) ≡ h.life.diary
+    → length (decided_of h.life.diary) < 2 ^ 63 → AllFit w → AllFit (with_host w i (host_resumed h (node_resumed (course_of m) w h)))
+fit-resumes {S = S} m brief w i h at viewed same few is =
+    let fit : FitHost h = each_get FitHost w.hosts i h is.hosts at in
+    let kept : Each (nodes.FitsEntry group_secret) h.life.diary = each_weaker EntryFits (nodes.FitsEntry group_secret) (λ e fits. fits.0) h.life.diary fit.life.diary in
+    let node : FitBook group_secret (node_resumed (course_of m) w h) =
+    subst (λ (es : List LogEntry). FitBook group_secret (reopened m group_secret h.node.id w.view 1024 es)) (sym same)
+    (fit_reopened group_secret m brief h.node.id w.view 1024 h.life.diary fit.node.node.named viewed (omega arith) kept (spelled-life h.life fit.life).diary few) in
+    fit-set w i (host_resumed h (node_resumed (course_of m) w h)) (record { node = node; life = fit.life }) is
 
 -- where no request waits
 no_request : (id : ℕ) (q : Request) → None ≡ Some q → FitsRequest id q
@@ -154,19 +201,19 @@ reply-low : (a : SignedBy Answer) → FitsParts (Plain (Reply a)) → a.statemen
 reply-low a fits = fits.content_fits.statement_fits.place_fits.1
 
 -- each event keeps that all has a spelling
-pub keeps-fit : {S : Type 0} (m : Meaning S) → IsBrief m → Keeps (step_of m) AllFit
+pub keeps-fit : {S : Type 0} (m : Meaning S) → IsBrief m → Keeps (course_of m) AllFit
 unfolding hearing
 keeps-fit {S = S} m brief =
     record {
-      event = λ w i h event there at may is.
-          fit-stepped w i h (step_of m h.node event)
-          (fit-step group_secret m brief h.node event (may-fit w h event is may) (each_get (λ (g : Host S). FitNode group_secret g.node) w.hosts i h is.hosts at)) is;
-      disk = λ w i h at is. record {
-        hosts = each_set (λ (g : Host S). FitNode group_secret g.node) w.hosts i (after_call h) is.hosts (each_get (λ (g : Host S). FitNode group_secret g.node) w.hosts i h is.hosts at);
-        clients = is.clients;
-        sent = is.sent;
-        tagged = is.tagged;
-      };
+      event = λ w i h event up at may is.
+          fit-stepped m w i h (step_of m h.node event) at
+          (spelled-step group_secret m brief h.node event (may-fit w h event is may) (each_get FitHost w.hosts i h is.hosts at).node) is;
+      disk = λ w i h up at is.
+          let fit : FitHost h = each_get FitHost w.hosts i h is.hosts at in
+          fit-set w i (after_call (course_of m) h) (record { node = fit.node; life = life-called EntryFits h.life (store_called h.store) fit.life }) is;
+      crash = λ w i h left up at may is.
+          let fit : FitHost h = each_get FitHost w.hosts i h is.hosts at in
+          fit-set w i (host_crashed (course_of m) h left) (record { node = fit.node; life = life-crashed EntryFits h left (book_fits h.node fit.node) fit.life }) is;
       hear = λ w i c x a at has read is.
           record {
             hosts = is.hosts;
@@ -226,9 +273,10 @@ view_parts v is =
     (leb-true v.number 1023 f.0, a.1)
 
 -- hosts that have just opened
-hosts_fit : {S : Type 0} (m : Meaning S) (view : View) (ids : List ℕ) → is_view view ≡ true → Each (IsSigner 1) ids → Each (λ h. FitNode group_secret h.node) (hosts_from m view ids)
+hosts_fit : {S : Type 0} (m : Meaning S) (view : View) (ids : List ℕ) → is_view view ≡ true → Each (IsSigner 1) ids → Each FitHost (hosts_from m view ids)
 hosts_fit m view [] low each = tt
-hosts_fit m view (id ∷ ids) low each = (fit-opened group_secret m id view 1024 each.0 low, hosts_fit m view ids low each.1)
+hosts_fit m view (id ∷ ids) low each =
+    (record { node = spelled-opened group_secret m id view 1024 each.0 low (omega arith); life = record { diary = tt; aside = tt } }, hosts_fit m view ids low each.1)
 
 -- clients that have not asked
 clients_fit : (count i : ℕ) → i + count ≤ 2 ^ 16 → Each FitClient (clients_from count i)
@@ -242,11 +290,7 @@ fit-begun m view is =
     let parts = view_parts view is in
     record { hosts = hosts_fit m view view.members is (ascending 0 view.members parts.1); clients = clients_fit 1025 0 (omega arith); sent = tt; tagged = tt }
 
--- in every play
-
--- all that was sent has a spelling
-pub fit-after : {S : Type 0} (m : Meaning S) → IsBrief m → (view : View) (ls : List Line) → is_view view ≡ true → AllFit (world_after (step_of m) (begun m view) ls)
-fit-after m brief view ls is = keeps-world_after (step_of m) AllFit (keeps-fit m brief) (begun m view) ls (fit-begun m view is)
+-- what is read
 
 -- so it is read
 reads-short : (m : AnyMessage) → FitsParts m → IsReadIfShort m
@@ -271,10 +315,8 @@ genuine-from (origins.Node id) x read tagged = genuine_content x tagged
 genuine-from (origins.Client id) x read tagged = genuine_content x tagged
 genuine-from origins.Script x read tagged = tt
 
-pub all_genuine : {S : Type 0} (m : Meaning S) → IsBrief m → (view : View) (ls : List Line) → is_view view ≡ true → AllGenuine (world_after (step_of m) (begun m view) ls)
-all_genuine {S = S} m brief view ls is =
-    let w : World S = world_after (step_of m) (begun m view) ls in
-    let fit : AllFit w = fit-after m brief view ls is in
+pub all_genuine : {S : Type 0} (w : World S) → AllFit w → AllGenuine w
+all_genuine w fit =
     record {
       read = each_weaker (λ (s : Sent). IsRead s.content) (λ (s : Sent). IsReadAs s.content) (λ s. reads-as s.content) w.sent fit.sent;
       heard = each_weaker (λ (s : Sent). IsRead s.content) (λ (s : Sent). IsHeardAs s.content) (λ s. heard-as s.content) w.sent fit.sent;

@@ -1,6 +1,6 @@
 -- In a play each batch that a node holds was in a message that was sent, and is the only one of its digest.
-use Rattle.std.proofs.Common.{◌≡◌, ℕ, ◌++◌, ◌==◌, ◌+◌, ◌&&◌, true, false, not, List, [], ◌∷◌, length, refl, sym, subst, inl, inr, Option, Some, None}
-use Rattle.std.specs.Prelude.{option_map}
+use Rattle.std.proofs.Common.{◌≡◌, ℕ, ◌^◌, ◌<◌, ◌++◌, ◌==◌, ◌+◌, ◌&&◌, true, false, not, List, [], ◌∷◌, length, refl, sym, subst, inl, inr, Option, Some, None}
+use Rattle.std.specs.Prelude.{option_map, slice_get}
 use Rattle.std.specs.List.{list_any, filter_map}
 use Rattle.smart_base.specs.Lists.{Each}
 use Rattle.smart_base.specs.Views.{View, is_view}
@@ -36,7 +36,7 @@ use Rattle.node_rules.specs.Changes.{adopts_by, adopts, adoption, asks_next, joi
 use Rattle.node_rules.specs.Steps.{Outcome, step_of, leaving}
 use Rattle.node_rules.specs.declared.node.Target.TheVariants as targets
 use Rattle.world_rules.specs.Premises.{met, batches}
-use Rattle.world_rules.specs.Worlds.{Host, World, posts, chosen_with, host_after, stepped, hearing, hosts_from, begun}
+use Rattle.world_rules.specs.Worlds.{course_of, Host, World, host_crashed, host_resumed, posts, chosen_with, host_after, stepped, hearing, hosts_from, begun}
 use Rattle.world_rules.specs.declared.message.Sent.{Sent}
 use Rattle.world_rules.specs.declared.message.Content.{Content}
 use Rattle.node_laws.proofs.Lists.{guard, some_equal, each_filter_map_in, each_among, each_append}
@@ -47,9 +47,14 @@ use Rattle.replica_laws.specs.Sending.{ForRead, ForEvent}
 use Rattle.replica_laws.proofs.Rulewise.{KeptByRules, keeps_step}
 use Rattle.world_laws.proofs.Lists.{either, each_end, each_weaker, each_set, each_get}
 use Rattle.world_laws.proofs.Certified.{Exact}
-use Rattle.world_laws.proofs.Keeps.{after_call, HasMessage, ask_of, asked_by, Keeps, by-posts, ReadsSent, MayRead, may_read, signed_by, from_node, from_client, comes-as, keeps-sends_all, from_script}
+use Rattle.world_laws.proofs.Keeps.{with_host, entries_left, node_resumed, after_call, HasMessage, ask_of, asked_by, Keeps, by-posts, ReadsSent, MayRead, may_read, signed_by, from_node, from_client, comes-as, keeps-sends_all, from_script}
 use Rattle.replica_laws.proofs.FitNodes.{IsBrief}
-use Rattle.world_laws.proofs.Fitting.{AllFit, keeps-fit, fit-reads, fit-begun}
+use Rattle.world_laws.proofs.Fitting.{AllFit, keeps-fit, fit-reads, fit-resumes, fit-begun}
+use Rattle.world_laws.proofs.Lives.{EachLife, life-weaker, life-firm, life-called, life-crashed}
+use Rattle.node_rules.specs.Reopening.{decided_of, entries_in, reopened}
+use Rattle.node_laws.proofs.Reopened.{reopened_is}
+use Rattle.durable_store.specs.Exact.{store_called}
+use Rattle.world_rules.specs.Secrets.{group_secret}
 use Rattle.world_laws.proofs.NoClash.{HasBatch, IsMet, has-left, has-right, met-grows, TextsExact, texts-end, met-exact}
 
 -- a node
@@ -317,13 +322,29 @@ met-weaker M N weaker n is =
       waiting = for_batch-weaker M N weaker n.waiting is.waiting;
     }
 
+-- a node that goes on after a crash; an opening has no batch
+pub met_reopened : {S : Type 0} (M : Batch → Type 0) (m : Meaning S) (secret : List ℕ) (id : ℕ) (view : View) (period : ℕ) (entries : List LogEntry) → Each (EntryMet M) entries
+    → NodeMet M (reopened m secret id view period entries)
+unfolding reopened
+met_reopened M m secret id view period [] met = record { arrivals = tt; entries = (tt, tt); waiting = tt }
+met_reopened {S = S} M m secret id view period (e ∷ es) met =
+    subst (λ (n : Node S). NodeMet M n) (sym (reopened_is m secret id view period e es)) (record { arrivals = tt; entries = met; waiting = tt })
+
+-- each batch at a host was met, of all lives of its member
+pub record HostMet {S : Type 0} (M : Batch → Type 0) (h : Host S) : Type 0 where
+  pub node : NodeMet M h.node
+  pub life : EachLife (EntryMet M) h.life
+
+host-weaker : {S : Type 0} (M N : Batch → Type 0) → ((batch : Batch) → M batch → N batch) → (h : Host S) → HostMet M h → HostMet N h
+host-weaker M N weaker h is = record { node = met-weaker M N weaker h.node is.node; life = life-weaker (EntryMet M) (EntryMet N) (entry-weaker M N weaker) h.life is.life }
+
 -- worlds
 
 -- all that is held and sent has a spelling, batches of one digest have one text, and all batches at nodes and all that were chosen were met
 pub record Grounded {S : Type 0} (w : World S) : Type 0 where
   pub fit : AllFit w
   pub texts : TextsExact w.sent
-  pub hosts : Each (λ h. NodeMet (IsMet w.sent) h.node) w.hosts
+  pub hosts : Each (HostMet (IsMet w.sent)) w.hosts
   pub chosen : Each (IsMet w.sent) w.chosen
 
 -- so batches that were met are one where their digests are
@@ -337,7 +358,7 @@ grounded-reads w is = fit-reads w is.fit
 -- the part of it that is not about spelling
 record Met {S : Type 0} (w : World S) : Type 0 where
   texts : TextsExact w.sent
-  hosts : Each (λ h. NodeMet (IsMet w.sent) h.node) w.hosts
+  hosts : Each (HostMet (IsMet w.sent)) w.hosts
   chosen : Each (IsMet w.sent) w.chosen
 
 -- a message leaves
@@ -347,8 +368,7 @@ met-posts {S = S} w s is =
     (λ ending. record { texts = is.texts; hosts = is.hosts; chosen = is.chosen })
     (λ free room. record {
       texts = texts-end w.sent s free is.texts;
-      hosts = each_weaker (λ (h : Host S). NodeMet (IsMet w.sent) h.node) (λ (h : Host S). NodeMet (IsMet (w.sent ++ s ∷ [])) h.node)
-          (λ h node. met-weaker (IsMet w.sent) (IsMet (w.sent ++ s ∷ [])) (met-grows w.sent s) h.node node) w.hosts is.hosts;
+      hosts = each_weaker (HostMet (IsMet w.sent)) (HostMet (IsMet (w.sent ++ s ∷ []))) (host-weaker (IsMet w.sent) (IsMet (w.sent ++ s ∷ [])) (met-grows w.sent s)) w.hosts is.hosts;
       chosen = each_weaker (IsMet w.sent) (IsMet (w.sent ++ s ∷ [])) (met-grows w.sent s) w.chosen is.chosen;
     })
 
@@ -359,14 +379,18 @@ chosen_with-met M chosen place (Some batch) each met =
     either (λ (bs : List Batch). Each M bs) (place == length chosen + 1) (chosen ++ batch ∷ []) chosen (each_end M chosen batch each met) each
 
 -- a host's node takes an event
-met-stepped : {S : Type 0} (w : World S) (i : ℕ) (h : Host S) (o : Outcome S) → NodeMet (IsMet w.sent) o.node → Met w → Met (stepped w i h o)
+met-after : {S : Type 0} (M : Batch → Type 0) (m : Meaning S) (h : Host S) (o : Outcome S) → NodeMet M o.node → HostMet M h → HostMet M (host_after (course_of m) h o)
+met-after M m h o met is = record { node = record { arrivals = met.arrivals; entries = met.entries; waiting = met.waiting }; life = life-firm (EntryMet M) h.life o.node met.entries is.life }
+
+met-stepped : {S : Type 0} (m : Meaning S) (w : World S) (i : ℕ) (h : Host S) (o : Outcome S) → slice_get w.hosts i ≡ Some h → NodeMet (IsMet w.sent) o.node → Met w → Met (stepped (course_of m) w i h o)
 unfolding stepped
-met-stepped {S = S} w i h o met is =
+met-stepped {S = S} m w i h o at met is =
+    let M : Batch → Type 0 = IsMet w.sent in
     keeps-sends_all Met h.node.id (λ v held met. met-posts v (from_node h.node.id held) met) _ (leaving o.node.firm o.node.held)
     (record {
       texts = is.texts;
-      hosts = each_set (λ (g : Host S). NodeMet (IsMet w.sent) g.node) w.hosts i (host_after h o) is.hosts (record { arrivals = met.arrivals; entries = met.entries; waiting = met.waiting });
-      chosen = chosen_with-met (IsMet w.sent) w.chosen (next_place o.node) o.node.waiting is.chosen met.waiting;
+      hosts = each_set (HostMet M) w.hosts i (host_after (course_of m) h o) is.hosts (met-after M m h o met (each_get (HostMet M) w.hosts i h is.hosts at));
+      chosen = chosen_with-met M w.chosen (next_place o.node) o.node.waiting is.chosen met.waiting;
     })
 
 -- a message that was sent
@@ -398,23 +422,38 @@ part w is = record { texts = is.texts; hosts = is.hosts; chosen = is.chosen }
 whole : {S : Type 0} (w : World S) → AllFit w → Met w → Grounded w
 whole w fit is = record { fit = fit; texts = is.texts; hosts = is.hosts; chosen = is.chosen }
 
+-- another host stands at an index
+met-set : {S : Type 0} (w : World S) (i : ℕ) (h : Host S) → AllFit (with_host w i h) → HostMet (IsMet w.sent) h → Grounded w → Grounded (with_host w i h)
+met-set w i h fit met is = record { fit = fit; texts = is.texts; hosts = each_set (HostMet (IsMet w.sent)) w.hosts i h is.hosts met; chosen = is.chosen }
+
+-- a node goes on from entries whose batches were met
+pub grounded-resumes : {S : Type 0} (m : Meaning S) → IsBrief m → (w : World S) (i : ℕ) (h : Host S) → slice_get w.hosts i ≡ Some h → is_view w.view ≡ true → entries_in (entries_left h) ≡ h.life.diary
+    → length (decided_of h.life.diary) < 2 ^ 63 → Grounded w → Grounded (with_host w i (host_resumed h (node_resumed (course_of m) w h)))
+grounded-resumes {S = S} m brief w i h at viewed same few is =
+    let met : HostMet (IsMet w.sent) h = each_get (HostMet (IsMet w.sent)) w.hosts i h is.hosts at in
+    let node : NodeMet (IsMet w.sent) (node_resumed (course_of m) w h) =
+    met_reopened (IsMet w.sent) m group_secret h.node.id w.view 1024 (entries_in (entries_left h)) (subst (λ (es : List LogEntry). Each (EntryMet (IsMet w.sent)) es) (sym same) met.life.diary) in
+    met-set w i (host_resumed h (node_resumed (course_of m) w h)) (fit-resumes m brief w i h at viewed same few is.fit) (record { node = node; life = met.life }) is
+
 -- each event keeps that
-pub keeps-grounded : {S : Type 0} (m : Meaning S) → IsBrief m → Keeps (step_of m) Grounded
+pub keeps-grounded : {S : Type 0} (m : Meaning S) → IsBrief m → Keeps (course_of m) Grounded
 unfolding hearing
 keeps-grounded {S = S} m brief =
-    let k : Keeps (step_of m) AllFit = keeps-fit m brief in
+    let k : Keeps (course_of m) AllFit = keeps-fit m brief in
     record {
-      event = λ w i h event there at may is.
-          whole (stepped w i h (step_of m h.node event)) (k.event w i h event there at may is.fit)
-          (met-stepped w i h (step_of m h.node event)
+      event = λ w i h event up at may is.
+          whole (stepped (course_of m) w i h (step_of m h.node event)) (k.event w i h event up at may is.fit)
+          (met-stepped m w i h (step_of m h.node event) at
           (met-step (IsMet w.sent) m h.node event (event-met w h event (may_read w h event (grounded-reads w is) may))
-          (each_get (λ (g : Host S). NodeMet (IsMet w.sent) g.node) w.hosts i h is.hosts at)) (part w is));
-      disk = λ w i h at is. record {
-        fit = k.disk w i h at is.fit;
-        texts = is.texts;
-        hosts = each_set (λ (g : Host S). NodeMet (IsMet w.sent) g.node) w.hosts i (after_call h) is.hosts (each_get (λ (g : Host S). NodeMet (IsMet w.sent) g.node) w.hosts i h is.hosts at);
-        chosen = is.chosen;
-      };
+          (each_get (HostMet (IsMet w.sent)) w.hosts i h is.hosts at).node) (part w is));
+      disk = λ w i h up at is.
+          let met : HostMet (IsMet w.sent) h = each_get (HostMet (IsMet w.sent)) w.hosts i h is.hosts at in
+          met-set w i (after_call (course_of m) h) (k.disk w i h up at is.fit)
+          (record { node = met.node; life = life-called (EntryMet (IsMet w.sent)) h.life (store_called h.store) met.life }) is;
+      crash = λ w i h left up at may is.
+          let met : HostMet (IsMet w.sent) h = each_get (HostMet (IsMet w.sent)) w.hosts i h is.hosts at in
+          met-set w i (host_crashed (course_of m) h left) (k.crash w i h left up at may is.fit)
+          (record { node = met.node; life = life-crashed (EntryMet (IsMet w.sent)) h left met.node.entries met.life }) is;
       hear = λ w i c x a at has read is. record { fit = k.hear w i c x a at has read is.fit; texts = is.texts; hosts = is.hosts; chosen = is.chosen };
       ask = λ w i c op at free few short is.
           whole (posts (asked_by w i c op) (from_client c (ask_of c op))) (k.ask w i c op at free few short is.fit)
@@ -429,9 +468,9 @@ keeps-grounded {S = S} m brief =
 
 -- the beginning
 
-hosts_met : {S : Type 0} (M : Batch → Type 0) (m : Meaning S) (view : View) (ids : List ℕ) → Each (λ h. NodeMet M h.node) (hosts_from m view ids)
+hosts_met : {S : Type 0} (M : Batch → Type 0) (m : Meaning S) (view : View) (ids : List ℕ) → Each (HostMet M) (hosts_from m view ids)
 hosts_met M m view [] = tt
-hosts_met M m view (id ∷ ids) = (record { arrivals = tt; entries = (tt, tt); waiting = tt }, hosts_met M m view ids)
+hosts_met M m view (id ∷ ids) = (record { node = record { arrivals = tt; entries = (tt, tt); waiting = tt }; life = record { diary = tt; aside = tt } }, hosts_met M m view ids)
 
 pub grounded-begun : {S : Type 0} (m : Meaning S) (view : View) → is_view view ≡ true → Grounded (begun m view)
 grounded-begun m view is =

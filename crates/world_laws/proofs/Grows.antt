@@ -4,19 +4,18 @@ use Rattle.smart_base.specs.Views.{View}
 use Rattle.smart_messages.specs.Forms.{SignedBy}
 use Rattle.smart_messages.specs.Messages.{Batch}
 use Rattle.smart_messages.specs.declared.statement.Answer.{Answer}
-use Rattle.smart_messages.specs.declared.entry.NodeEvent.{NodeEvent}
 use Rattle.smart_service.specs.Services.{Meaning}
-use Rattle.node_rules.specs.Nodes.{Node, next_place}
-use Rattle.node_rules.specs.Steps.{Outcome, step_of, leaving}
+use Rattle.node_rules.specs.Nodes.{next_place}
+use Rattle.node_rules.specs.Steps.{Outcome, leaving}
 use Rattle.world_rules.specs.Clients.{heard}
-use Rattle.world_rules.specs.Worlds.{Host, World, posts, chosen_with, stepped, hearing, begun}
+use Rattle.world_rules.specs.Worlds.{Course, course_of, Host, World, posts, chosen_with, stepped, hearing, begun}
 use Rattle.world_rules.specs.Plays.{line_played, rested, world_after}
 use Rattle.world_rules.specs.Promises.{world_at}
 use Rattle.client_quorum.specs.declared.client.Client.{Client}
 use Rattle.client_quorum.specs.declared.client.Heard.{Heard}
 use Rattle.world_rules.specs.declared.line.Line.{Line}
 use Rattle.world_laws.proofs.Lists.{either}
-use Rattle.world_laws.proofs.Keeps.{ask_of, asked_by, by-posts, Keeps, keeps-world_after, signed_by, from_node, from_client, from_script, keeps-sends_all}
+use Rattle.world_laws.proofs.Keeps.{ask_of, asked_by, by-posts, KeepsAll, keeps-world_after, signed_by, from_node, from_client, from_script, keeps-sends_all}
 use Rattle.world_laws.proofs.Fronts.{IsFront, front-same, front-append}
 use Rattle.world_rules.specs.declared.message.Sent.{Sent}
 
@@ -39,16 +38,16 @@ front-chosen_with front chosen place (Some batch) is =
     either (λ (c : List Batch). take (length front) c ≡ front) (place == length chosen + 1) (chosen ++ batch ∷ []) chosen (front-append front chosen (batch ∷ []) is) is
 
 -- a step adds the batch that waits
-chosen-stepped : {S : Type 0} (w : World S) (i : ℕ) (h : Host S) (o : Outcome S) → (stepped w i h o).chosen ≡ chosen_with w.chosen (next_place o.node) o.node.waiting
+chosen-stepped : {S : Type 0} (course : Course S) (w : World S) (i : ℕ) (h : Host S) (o : Outcome S) → (stepped course w i h o).chosen ≡ chosen_with w.chosen (next_place o.node) o.node.waiting
 unfolding stepped
-chosen-stepped {S = S} w i h o =
+chosen-stepped {S = S} course w i h o =
     keeps-sends_all (λ (v : World S). v.chosen ≡ chosen_with w.chosen (next_place o.node) o.node.waiting) h.node.id (λ v held is. chosen-posts v (from_node h.node.id held) ∙ is) _
     (leaving o.node.firm o.node.held) refl
 
 -- a step keeps the view
-view-stepped : {S : Type 0} (w : World S) (i : ℕ) (h : Host S) (o : Outcome S) → (stepped w i h o).view ≡ w.view
+view-stepped : {S : Type 0} (course : Course S) (w : World S) (i : ℕ) (h : Host S) (o : Outcome S) → (stepped course w i h o).view ≡ w.view
 unfolding stepped
-view-stepped {S = S} w i h o = keeps-sends_all (λ (v : World S). v.view ≡ w.view) h.node.id (λ v held is. view-posts v (from_node h.node.id held) ∙ is) _ (leaving o.node.firm o.node.held) refl
+view-stepped {S = S} course w i h o = keeps-sends_all (λ (v : World S). v.view ≡ w.view) h.node.id (λ v held is. view-posts v (from_node h.node.id held) ∙ is) _ (leaving o.node.firm o.node.held) refl
 
 -- a client that hears keeps the list
 chosen-hearing : {S : Type 0} (w : World S) (i : ℕ) (c : Client) (a : SignedBy Answer) (h : Heard) → (hearing w i c a h).chosen ≡ w.chosen
@@ -61,58 +60,66 @@ unfolding hearing
 view-hearing w i c a h = refl
 
 -- each event keeps what the list began with
-pub front-kept : {S : Type 0} (step : Node S → NodeEvent → Outcome S) (front : List Batch) → Keeps step (λ w. take (length front) w.chosen ≡ front)
-front-kept step front =
+pub front-kept : {S : Type 0} (course : Course S) (front : List Batch) → KeepsAll course (λ w. take (length front) w.chosen ≡ front)
+front-kept course front =
     record {
-      event = λ w i h event there at may is. rw chosen-stepped (front-chosen_with front w.chosen (next_place (step h.node event).node) (step h.node event).node.waiting is);
-      disk = λ w i h at is. is;
-      hear = λ w i c x a at has read is. rw chosen-hearing is;
-      ask = λ w i c op at free few brief is. rw chosen-posts is;
-      again = λ w i c q at waits is. rw chosen-posts is;
-      learn = λ w i j c d at other is. is;
-      inject = λ w x read fine is. rw chosen-posts is;
-      declare = λ w faulty rogue ending how is. is;
-      same = λ w mark told is. is;
+      kept = record {
+        event = λ w i h event up at may is. rw chosen-stepped (front-chosen_with front w.chosen (next_place (course.step h.node event).node) (course.step h.node event).node.waiting is);
+        disk = λ w i h up at is. is;
+        crash = λ w i h left up at may is. is;
+        hear = λ w i c x a at has read is. rw chosen-hearing is;
+        ask = λ w i c op at free few brief is. rw chosen-posts is;
+        again = λ w i c q at waits is. rw chosen-posts is;
+        learn = λ w i j c d at other is. is;
+        inject = λ w x read fine is. rw chosen-posts is;
+        declare = λ w faulty rogue ending how is. is;
+        same = λ w mark told is. is;
+      };
+      resume = λ w i h down at is. is;
     }
 
 -- each event keeps the view
-pub view-kept : {S : Type 0} (step : Node S → NodeEvent → Outcome S) (view : View) → Keeps step (λ w. w.view ≡ view)
-view-kept step view =
+pub view-kept : {S : Type 0} (course : Course S) (view : View) → KeepsAll course (λ w. w.view ≡ view)
+view-kept course view =
     record {
-      event = λ w i h event there at may is. view-stepped w i h (step h.node event) ∙ is;
-      disk = λ w i h at is. is;
-      hear = λ w i c x a at has read is. view-hearing w i c a (heard w.view c a) ∙ is;
-      ask = λ w i c op at free few brief is. view-posts (asked_by w i c op) (from_client c (ask_of c op)) ∙ is;
-      again = λ w i c q at waits is. view-posts w (from_client c (signed_by c q)) ∙ is;
-      learn = λ w i j c d at other is. is;
-      inject = λ w x read fine is. view-posts w (from_script x) ∙ is;
-      declare = λ w faulty rogue ending how is. is;
-      same = λ w mark told is. is;
+      kept = record {
+        event = λ w i h event up at may is. view-stepped course w i h (course.step h.node event) ∙ is;
+        disk = λ w i h up at is. is;
+        crash = λ w i h left up at may is. is;
+        hear = λ w i c x a at has read is. view-hearing w i c a (heard w.view c a) ∙ is;
+        ask = λ w i c op at free few brief is. view-posts (asked_by w i c op) (from_client c (ask_of c op)) ∙ is;
+        again = λ w i c q at waits is. view-posts w (from_client c (signed_by c q)) ∙ is;
+        learn = λ w i j c d at other is. is;
+        inject = λ w x read fine is. view-posts w (from_script x) ∙ is;
+        declare = λ w faulty rogue ending how is. is;
+        same = λ w mark told is. is;
+      };
+      resume = λ w i h down at is. is;
     }
 
 -- lines
 
 -- the list only grows
-pub chosen-grows : {S : Type 0} (m : Meaning S) (w : World S) (ls : List Line) → IsFront w.chosen (world_after (step_of m) w ls).chosen
+pub chosen-grows : {S : Type 0} (m : Meaning S) (w : World S) (ls : List Line) → IsFront w.chosen (world_after (course_of m) w ls).chosen
 chosen-grows {S = S} m w ls =
-    keeps-world_after (step_of m) (λ (v : World S). take (length w.chosen) v.chosen ≡ w.chosen) (front-kept (step_of m) w.chosen) w ls (front-same w.chosen)
+    keeps-world_after (course_of m) (λ (v : World S). take (length w.chosen) v.chosen ≡ w.chosen) (front-kept (course_of m) w.chosen) w ls (front-same w.chosen)
 
 -- the view stays
-pub view-stays : {S : Type 0} (m : Meaning S) (w : World S) (ls : List Line) → (world_after (step_of m) w ls).view ≡ w.view
-view-stays {S = S} m w ls = keeps-world_after (step_of m) (λ (v : World S). v.view ≡ w.view) (view-kept (step_of m) w.view) w ls refl
+pub view-stays : {S : Type 0} (m : Meaning S) (w : World S) (ls : List Line) → (world_after (course_of m) w ls).view ≡ w.view
+view-stays {S = S} m w ls = keeps-world_after (course_of m) (λ (v : World S). v.view ≡ w.view) (view-kept (course_of m) w.view) w ls refl
 
 -- the world after more lines
-pub world_after-append : {S : Type 0} (step : Node S → NodeEvent → Outcome S) (w : World S) (ls more : List Line) → world_after step w (ls ++ more) ≡ world_after step (world_after step w ls) more
-world_after-append step w [] more = refl
-world_after-append step w (l ∷ ls) more = world_after-append step (rested (line_played step w l)) ls more
+pub world_after-append : {S : Type 0} (course : Course S) (w : World S) (ls more : List Line) → world_after course w (ls ++ more) ≡ world_after course (world_after course w ls) more
+world_after-append course w [] more = refl
+world_after-append course w (l ∷ ls) more = world_after-append course (rested (line_played course w l)) ls more
 
 -- of two fronts of a script the longer has the longer list
 pub chosen-grows-between : {S : Type 0} (m : Meaning S) (w : World S) (ls : List Line) (j k : ℕ) → j ≤ k
-    → take (length (world_after (step_of m) w (take j ls)).chosen) (world_after (step_of m) w (take k ls)).chosen ≡ (world_after (step_of m) w (take j ls)).chosen
+    → take (length (world_after (course_of m) w (take j ls)).chosen) (world_after (course_of m) w (take k ls)).chosen ≡ (world_after (course_of m) w (take j ls)).chosen
 chosen-grows-between m w ls zero k le = chosen-grows m w (take k ls)
 chosen-grows-between m w ls (suc j) zero le = absurd (omega (arith, le))
 chosen-grows-between m w [] (suc j) (suc k) le = front-same w.chosen
-chosen-grows-between m w (l ∷ ls) (suc j) (suc k) le = chosen-grows-between m (rested (line_played (step_of m) w l)) ls j k (omega (arith, le))
+chosen-grows-between m w (l ∷ ls) (suc j) (suc k) le = chosen-grows-between m (rested (line_played (course_of m) w l)) ls j k (omega (arith, le))
 
 -- so after a group's begin: the list after j lines is a front of the list after k
 pub list-grows : {S : Type 0} (m : Meaning S) (view : View) (ls : List Line) (j k : ℕ) → j ≤ k

@@ -1,5 +1,5 @@
 -- What each event of a world keeps, the lines of a script keep.
-use Rattle.std.proofs.Common.{◌≡◌, ℕ, zero, suc, ◌+◌, ◌^◌, ◌<◌, ◌≤◌, ◌++◌, ◌∙◌, ◌&&◌, ◌||◌, ◌==◌, arith, Bool, true, false, List, [], ◌∷◌, length, refl, ap, cond, Option, Some, None, is_some, nat_lt, nat_le, inl, inr, ◌⊎◌, subst, Result, Ok, Err, ◌-◌, sym, append-nil, append_assoc, take, drop, eqb-true}
+use Rattle.std.proofs.Common.{◌≡◌, not, ℕ, zero, suc, ◌+◌, ◌^◌, ◌<◌, ◌≤◌, ◌++◌, ◌∙◌, ◌&&◌, ◌||◌, ◌==◌, arith, Bool, true, false, List, [], ◌∷◌, length, refl, ap, cond, Option, Some, None, is_some, nat_lt, nat_le, inl, inr, ◌⊎◌, subst, Result, Ok, Err, ◌-◌, sym, append-nil, append_assoc, take, drop, eqb-true}
 use Rattle.std.proofs.lemmas.Bool.{ltb-true, leb-true, leb-false}
 use Rattle.std.specs.Prelude.{slice_get, slice_set, get_or}
 use Rattle.std.specs.Option.{option_and_then}
@@ -29,6 +29,14 @@ use Rattle.smart_messages.specs.declared.entry.NodeEvent.TheVariants.{Arrive, Ti
 use Rattle.replica_rules.specs.Seals.{signed}
 use Rattle.node_rules.specs.Nodes.{Node, next_place}
 use Rattle.node_rules.specs.Steps.{Outcome, leaving}
+use Rattle.node_rules.specs.Reopening.{reopened, damaged, entries_in}
+use Rattle.durable_store.specs.Restored.{Images, restores}
+use Rattle.durable_store.specs.Standing.{MayLeave}
+use Rattle.member_store.specs.Crashes.{images_left, wrong_images, bytes_held}
+use Rattle.member_store.specs.declared.crash.Image.{Image}
+use Rattle.member_store.specs.declared.crash.Patch.{Patch}
+use Rattle.member_store.specs.declared.crash.NotAnImage as stores
+use Rattle.member_store.proofs.Told.{may_leave}
 use Rattle.node_rules.specs.declared.node.Held.{Held}
 use Rattle.node_rules.specs.declared.node.Target.{Target}
 use Rattle.node_rules.specs.declared.node.Target.TheVariants as targets
@@ -37,7 +45,7 @@ use Rattle.world_rules.specs.Premises.{is_among, too_many, is_forged, collides, 
 use Rattle.world_rules.specs.Injections.{content_by, content_of, are_bytes, content_from, injected_bytes, injected}
 use Rattle.client_quorum.specs.Clients.{request_of, asking, learning}
 use Rattle.world_rules.specs.Clients.{heard}
-use Rattle.world_rules.specs.Worlds.{Host, World, summary, telling, posts, sends_all, told_drop, told_fired, host_after, chosen_with, stepped, is_gone, is_rogue, host_takes, node_takes, disk_called, hears_firm, host_calls, calls_disk, takes_due, settle_once, settle, told_absent, settle_present, settle_all, gives, give_all, hearing, client_hears, hears_bytes, client_takes, client_asks, ask_found, asks, client_repeats, repeat_found, repeats, learns, learns_from, tells, goes, flow_sent, flow_once, is_listed, where_listed, at_listed, each_listed, host_index, at_index, at_member, arrives, arrives_at, sent_arrives, give_number, told_idle, telling_all, host_tries, tries_at, tries_each, give_one, shown_host, shown_client, shows, declares_faulty, declares_rogue, injects_content, injects}
+use Rattle.world_rules.specs.Worlds.{Course, Host, World, is_up, remembered, life_called, host_crashed, crashes_with, host_crashes, crashes, host_resumed, resumes_from, host_resumes, resumes, restart_at, at_host, summary, telling, posts, sends_all, told_drop, told_fired, host_after, chosen_with, stepped, is_gone, is_rogue, host_takes, node_takes, disk_called, hears_firm, host_calls, calls_disk, takes_due, settle_once, settle, told_absent, settle_present, settle_all, gives, give_all, hearing, client_hears, hears_bytes, client_takes, client_asks, ask_found, asks, client_repeats, repeat_found, repeats, learns, learns_from, tells, goes, flow_sent, flow_once, is_listed, where_listed, at_listed, each_listed, host_index, at_index, at_member, arrives, arrives_at, sent_arrives, give_number, told_idle, telling_all, host_tries, tries_at, tries_each, give_one, shown_host, shown_client, shows, declares_faulty, declares_rogue, injects_content, injects}
 use Rattle.world_rules.specs.Repeats.{repeated}
 use Rattle.durable_store.specs.Exact.{call_due, store_called}
 use Rattle.world_rules.specs.Plays.{line_played, rested, world_after}
@@ -53,10 +61,10 @@ use Rattle.world_rules.specs.declared.message.Origin.TheVariants as origins
 use Rattle.world_rules.specs.declared.message.Sent.{Sent}
 use Rattle.world_rules.specs.declared.message.Ending.{Ending}
 use Rattle.world_rules.specs.declared.message.Ending.TheVariants.{Limit, Premise}
-use Rattle.world_rules.specs.declared.message.Premise.TheVariants.{TooManyFaulty, Forged, Collision}
+use Rattle.world_rules.specs.declared.message.Premise.TheVariants.{TooManyFaulty, Forged, Collision, NotAnImage}
 use Rattle.world_rules.specs.declared.line.Injection.{Injection}
 use Rattle.world_laws.specs.Sending.{IsUnread}
-use Rattle.world_laws.proofs.Lists.{and_true, either_by, repeated_keeps, until_rest_keeps, each_from_keeps, some-equal, either, each_append}
+use Rattle.world_laws.proofs.Lists.{and_true, or_false, either_by, repeated_keeps, until_rest_keeps, each_from_keeps, some-equal, either, each_append}
 use Rattle.std.specs.List.{flat_map}
 use Rattle.smart_base.specs.declared.party.Party.{Party}
 use Rattle.smart_base.specs.declared.party.Party.TheVariants as parties
@@ -136,13 +144,31 @@ asked_by w i c op = record w { clients = slice_set w.clients i (asking c (reques
 abbrev pub learned_by : {S : Type 0} → World S → ℕ → Client → ℕ → World S
 learned_by w i c place = record w { clients = slice_set w.clients i (learning c place) }
 
+-- the world with another host at an index
+abbrev pub with_host : {S : Type 0} → World S → ℕ → Host S → World S
+with_host w i h = record w { hosts = slice_set w.hosts i h }
+
 -- the host whose store has made its next device call, and whose node has heard nothing of it
-abbrev pub after_call : {S : Type 0} → Host S → Host S
-after_call h = record h { store = store_called h.store }
+abbrev pub after_call : {S : Type 0} → Course S → Host S → Host S
+after_call course h = record h { store = store_called h.store; life = remembered course h.life (life_called h.life (store_called h.store)) }
 
 -- the world with that host
-abbrev pub called : {S : Type 0} → World S → ℕ → Host S → World S
-called w i h = record w { hosts = slice_set w.hosts i (after_call h) }
+abbrev pub called : {S : Type 0} → Course S → World S → ℕ → Host S → World S
+called course w i h = with_host w i (after_call course h)
+
+-- the entries that the devices of a host hold, and the node that goes on from them
+abbrev pub entries_left : {S : Type 0} → Host S → List (List ℕ)
+entries_left h = (restores (bytes_held h.store)).entries
+
+abbrev pub node_resumed : {S : Type 0} → Course S → World S → Host S → Node S
+node_resumed course w h = reopened course.meaning group_secret h.node.id w.view 1024 (entries_in (entries_left h))
+
+-- a host's node runs, or its member has crashed; it is not gone
+abbrev pub IsUp : {S : Type 0} → World S → Host S → Type 0
+IsUp w h = (h.up ≡ true) × (is_among w.faulty h.node.id ≡ false)
+
+abbrev pub IsDown : {S : Type 0} → World S → Host S → Type 0
+IsDown w h = (h.up ≡ false) × (is_among w.faulty h.node.id ≡ false)
 
 -- what a client tells that has
 abbrev pub learned_line : Client → ℕ → OutLine
@@ -162,6 +188,9 @@ IsBeside (outs.Accepted client seq place index reply) = ⊥
 IsBeside (outs.Ignored client why) = Unit {0}
 IsBeside (outs.Busy client seq) = Unit {0}
 IsBeside (outs.Absent member) = Unit {0}
+IsBeside (outs.Crashed member) = Unit {0}
+IsBeside (outs.Restarted member place entries) = Unit {0}
+IsBeside (outs.Down member) = Unit {0}
 IsBeside (outs.Idle member) = Unit {0}
 IsBeside (outs.IdleClient client) = Unit {0}
 IsBeside (outs.Learned client place) = ⊥
@@ -176,12 +205,14 @@ pub record Declares {S : Type 0} (w : World S) (faulty rogue : List ℕ) (ending
   pub few : too_many w.view w.faulty ≡ false → too_many w.view faulty ≡ false
   pub over : ending ≡ None → w.ending ≡ None
 
--- a fact on worlds that each event keeps
-pub record Keeps {S : Type 0} (step : Node S → NodeEvent → Outcome S) (P : World S → Type 0) : Type 0 where
-  -- the node of a host takes an event. It is not gone
-  pub event : (w : World S) (i : ℕ) (h : Host S) (event : NodeEvent) → is_among w.faulty h.node.id ≡ false → slice_get w.hosts i ≡ Some h → MayCome w h event → P w → P (stepped w i h (step h.node event))
+-- a fact on worlds that each event keeps, but that a node goes on
+pub record Keeps {S : Type 0} (course : Course S) (P : World S → Type 0) : Type 0 where
+  -- the node of a host takes an event
+  pub event : (w : World S) (i : ℕ) (h : Host S) (event : NodeEvent) → IsUp w h → slice_get w.hosts i ≡ Some h → MayCome w h event → P w → P (stepped course w i h (course.step h.node event))
   -- the store of a host makes a device call
-  pub disk : (w : World S) (i : ℕ) (h : Host S) → slice_get w.hosts i ≡ Some h → P w → P (called w i h)
+  pub disk : (w : World S) (i : ℕ) (h : Host S) → IsUp w h → slice_get w.hosts i ≡ Some h → P w → P (called course w i h)
+  -- the node of a host stops, and a crash leaves this of its devices
+  pub crash : (w : World S) (i : ℕ) (h : Host S) (left : Images) → IsUp w h → slice_get w.hosts i ≡ Some h → MayLeave h.store left → P w → P (with_host w i (host_crashed course h left))
   -- a client hears the bytes of a content that are read as a reply
   pub hear : (w : World S) (i : ℕ) (c : Client) (x : Content) (a : SignedBy Answer) → slice_get w.clients i ≡ Some c → HasContent w.sent x → decoded (bytes_of x) ≡ Ok (Reply a)
       → P w → P (hearing w i c a (heard w.view c a))
@@ -199,13 +230,19 @@ pub record Keeps {S : Type 0} (step : Node S → NodeEvent → Outcome S) (P : W
   -- nothing but the flow's mark and the transcript changes
   pub same : (w : World S) (mark : ℕ) (told : List OutLine) → P w → P (record w { mark = mark; told = told })
 
--- a fact on worlds that each event keeps, while nothing has ended the play
-pub record KeepsLive {S : Type 0} (step : Node S → NodeEvent → Outcome S) (P : World S → Type 0) : Type 0 where
-  -- the node of a host takes an event. It is not gone
-  pub event : (w : World S) (i : ℕ) (h : Host S) (event : NodeEvent) → w.ending ≡ None → is_among w.faulty h.node.id ≡ false → slice_get w.hosts i ≡ Some h → MayCome w h event → P w
-      → P (stepped w i h (step h.node event))
-  -- the store of a host makes a device call. Its node is not gone
-  pub disk : (w : World S) (i : ℕ) (h : Host S) → w.ending ≡ None → is_among w.faulty h.node.id ≡ false → slice_get w.hosts i ≡ Some h → P w → P (called w i h)
+-- and that, too
+pub record KeepsAll {S : Type 0} (course : Course S) (P : World S → Type 0) : Type 0 where
+  pub kept : Keeps course P
+  -- a node goes on from what its devices hold
+  pub resume : (w : World S) (i : ℕ) (h : Host S) → IsDown w h → slice_get w.hosts i ≡ Some h → P w → P (with_host w i (host_resumed h (node_resumed course w h)))
+
+-- a fact on worlds that each event of members that run keeps, while nothing has ended the play
+pub record KeepsLive {S : Type 0} (course : Course S) (P : World S → Type 0) : Type 0 where
+  -- the node of a host takes an event
+  pub event : (w : World S) (i : ℕ) (h : Host S) (event : NodeEvent) → w.ending ≡ None → IsUp w h → slice_get w.hosts i ≡ Some h → MayCome w h event → P w
+      → P (stepped course w i h (course.step h.node event))
+  -- the store of a host makes a device call
+  pub disk : (w : World S) (i : ℕ) (h : Host S) → w.ending ≡ None → IsUp w h → slice_get w.hosts i ≡ Some h → P w → P (called course w i h)
   -- a client hears the bytes of a content that are read as a reply
   pub hear : (w : World S) (i : ℕ) (c : Client) (x : Content) (a : SignedBy Answer) → w.ending ≡ None → slice_get w.clients i ≡ Some c → HasContent w.sent x → decoded (bytes_of x) ≡ Ok (Reply a)
       → P w → P (hearing w i c a (heard w.view c a))
@@ -227,12 +264,21 @@ pub record KeepsLive {S : Type 0} (step : Node S → NodeEvent → Outcome S) (P
   -- a line is told that tells of no place that a client knows, and nothing else changes
   pub tell : (w : World S) (line : OutLine) → IsBeside line → P w → P (telling w line)
 
+-- a fact that crashes keep, too, and nodes that go on
+pub record KeepsLives {S : Type 0} (course : Course S) (P : World S → Type 0) : Type 0 where
+  pub live : KeepsLive course P
+  -- the node of a host stops, and a crash leaves this of its devices
+  pub crash : (w : World S) (i : ℕ) (h : Host S) (left : Images) → w.ending ≡ None → IsUp w h → slice_get w.hosts i ≡ Some h → MayLeave h.store left → P w
+      → P (with_host w i (host_crashed course h left))
+  -- a node goes on from what its devices hold
+  pub resume : (w : World S) (i : ℕ) (h : Host S) → w.ending ≡ None → IsDown w h → slice_get w.hosts i ≡ Some h → P w → P (with_host w i (host_resumed h (node_resumed course w h)))
+
 -- what each event keeps whatever was said of the ending, it keeps while nothing has ended the play
-pub live : {S : Type 0} (step : Node S → NodeEvent → Outcome S) (P : World S → Type 0) → Keeps step P → KeepsLive step P
-live step P k =
+pub live : {S : Type 0} (course : Course S) (P : World S → Type 0) → Keeps course P → KeepsLive course P
+live course P k =
     record {
-      event = λ w i h event on there at may p. k.event w i h event there at may p;
-      disk = λ w i h on there at p. k.disk w i h at p;
+      event = λ w i h event on up at may p. k.event w i h event up at may p;
+      disk = λ w i h on up at p. k.disk w i h up at p;
       hear = λ w i c x a on at has read p. k.hear w i c x a at has read p;
       ask = λ w i c op on at free low brief p. k.ask w i c op at free low brief p;
       again = λ w i c q on at is p. k.again w i c q at is p;
@@ -241,6 +287,15 @@ live step P k =
       declare = λ w faulty rogue ending on how p. k.declare w faulty rogue ending how p;
       mark = λ w s on at p. k.same w (w.mark + 1) w.told p;
       tell = λ w line beside p. k.same w w.mark (w.told ++ line ∷ []) p;
+    }
+
+-- through all lives
+pub lives : {S : Type 0} (course : Course S) (P : World S → Type 0) → KeepsAll course P → KeepsLives course P
+lives course P k =
+    record {
+      live = live course P k.kept;
+      crash = λ w i h left on up at may p. k.kept.crash w i h left up at may p;
+      resume = λ w i h on down at p. k.resume w i h down at p;
     }
 
 -- messages leave
@@ -287,9 +342,9 @@ pub has-posts : {S : Type 0} (x : Content) (w : World S) (s : Sent) → HasConte
 has-posts {S = S} x w s has = by-posts (λ (v : World S). HasContent v.sent x) w s (λ ending. has) (λ free room. has_end w.sent s x has)
 
 -- and where a node has taken an event
-pub has-stepped : {S : Type 0} (w : World S) (i : ℕ) (h : Host S) (o : Outcome S) (x : Content) → HasContent w.sent x → HasContent (stepped w i h o).sent x
+pub has-stepped : {S : Type 0} (course : Course S) (w : World S) (i : ℕ) (h : Host S) (o : Outcome S) (x : Content) → HasContent w.sent x → HasContent (stepped course w i h o).sent x
 unfolding stepped
-has-stepped {S = S} w i h o x has = keeps-sends_all (λ (v : World S). HasContent v.sent x) h.node.id (λ v held. has-posts x v (from_node h.node.id held)) _ (leaving o.node.firm o.node.held) has
+has-stepped {S = S} course w i h o x has = keeps-sends_all (λ (v : World S). HasContent v.sent x) h.node.id (λ v held. has-posts x v (from_node h.node.id held)) _ (leaving o.node.firm o.node.held) has
 
 -- and where a client has heard a reply
 pub has-hearing : {S : Type 0} (w : World S) (i : ℕ) (c : Client) (a : SignedBy Answer) (h : Heard) (x : Content) → HasContent w.sent x → HasContent (hearing w i c a h).sent x
@@ -297,11 +352,11 @@ unfolding hearing
 has-hearing w i c a h x has = has
 
 -- the same while nothing has ended the play
-pub live-carries : {S : Type 0} (step : Node S → NodeEvent → Outcome S) (P : World S → Type 0) (x : Content) → KeepsLive step P → KeepsLive step (λ w. P w × HasContent w.sent x)
-live-carries step P x k =
+pub live-carries : {S : Type 0} (course : Course S) (P : World S → Type 0) (x : Content) → KeepsLive course P → KeepsLive course (λ w. P w × HasContent w.sent x)
+live-carries course P x k =
     record {
-      event = λ w i h event on there at may p. (k.event w i h event on there at may p.0, has-stepped w i h (step h.node event) x p.1);
-      disk = λ w i h on there at p. (k.disk w i h on there at p.0, p.1);
+      event = λ w i h event on up at may p. (k.event w i h event on up at may p.0, has-stepped course w i h (course.step h.node event) x p.1);
+      disk = λ w i h on up at p. (k.disk w i h on up at p.0, p.1);
       hear = λ w i c y a on at has read p. (k.hear w i c y a on at has read p.0, has-hearing w i c a (heard w.view c a) x p.1);
       ask = λ w i c op on at free low brief p. (k.ask w i c op on at free low brief p.0, has-posts x (asked_by w i c op) (from_client c (ask_of c op)) p.1);
       again = λ w i c q on at waits p. (k.again w i c q on at waits p.0, has-posts x w (from_client c (signed_by c q)) p.1);
@@ -319,17 +374,29 @@ none_is (Some x) none = absurd (cc)
 
 -- hosts
 
+pub not_false : (b : Bool) → not b ≡ false → b ≡ true
+not_false true is = refl
+not_false false is = absurd (cc)
+
+not_true : (b : Bool) → not b ≡ true → b ≡ false
+not_true true is = absurd (cc)
+not_true false is = refl
+
+-- a host that is up
+pub is-up : {S : Type 0} (w : World S) (h : Host S) → is_up w h ≡ true → IsUp w h
+is-up w h is = let both = and_true h.up (not (is_gone w h.node.id)) is in (both.0, not_true (is_gone w h.node.id) both.1)
+
 -- a host that is found takes an event
-live-host_takes : {S : Type 0} (step : Node S → NodeEvent → Outcome S) (P : World S → Type 0) → KeepsLive step P → (i : ℕ) (event : NodeEvent) (w : World S) (found : Option (Host S))
-    → w.ending ≡ None → slice_get w.hosts i ≡ found → ((h : Host S) → found ≡ Some h → MayCome w h event) → P w → P (host_takes step i event w found)
-live-host_takes step P k i event w None on at may p = p
-live-host_takes step P k i event w (Some h) on at may p = either_by P (is_gone w h.node.id) w _ (λ gone. p) (λ there. k.event w i h event on there at (may h refl) p)
+live-host_takes : {S : Type 0} (course : Course S) (P : World S → Type 0) → KeepsLive course P → (i : ℕ) (event : NodeEvent) (w : World S) (found : Option (Host S))
+    → w.ending ≡ None → slice_get w.hosts i ≡ found → ((h : Host S) → found ≡ Some h → MayCome w h event) → P w → P (host_takes course i event w found)
+live-host_takes course P k i event w None on at may p = p
+live-host_takes course P k i event w (Some h) on at may p = either_by P (not (is_up w h)) w _ (λ not_up. p) (λ up. k.event w i h event on (is-up w h (not_false (is_up w h) up)) at (may h refl) p)
 
 -- the node at an index takes an event
-live-node_takes : {S : Type 0} (step : Node S → NodeEvent → Outcome S) (P : World S → Type 0) → KeepsLive step P → (i : ℕ) (event : NodeEvent) (w : World S)
-    → ((h : Host S) → slice_get w.hosts i ≡ Some h → MayCome w h event) → P w → P (node_takes step i event w)
+live-node_takes : {S : Type 0} (course : Course S) (P : World S → Type 0) → KeepsLive course P → (i : ℕ) (event : NodeEvent) (w : World S)
+    → ((h : Host S) → slice_get w.hosts i ≡ Some h → MayCome w h event) → P w → P (node_takes course i event w)
 unfolding node_takes
-live-node_takes step P k i event w may p = either_by P (is_some w.ending) w _ (λ over. p) (λ on. live-host_takes step P k i event w (slice_get w.hosts i) (none_is w.ending on) refl may p)
+live-node_takes course P k i event w may p = either_by P (is_some w.ending) w _ (λ over. p) (λ on. live-host_takes course P k i event w (slice_get w.hosts i) (none_is w.ending on) refl may p)
 
 -- device calls
 
@@ -346,56 +413,58 @@ set_again (z ∷ xs) zero x y = refl
 set_again {A = A} (z ∷ xs) (suc i) x y = ap (λ (ys : List A). z ∷ ys) (set_again xs i x y)
 
 -- the host that steps takes the place of any other
-pub stepped-set : {S : Type 0} (w : World S) (i : ℕ) (g h : Host S) (o : Outcome S) → stepped (record w { hosts = slice_set w.hosts i g }) i h o ≡ stepped w i h o
+pub stepped-set : {S : Type 0} (course : Course S) (w : World S) (i : ℕ) (g h : Host S) (o : Outcome S) → stepped course (record w { hosts = slice_set w.hosts i g }) i h o ≡ stepped course w i h o
 unfolding stepped
-stepped-set {S = S} w i g h o =
+stepped-set {S = S} course w i g h o =
     ap (λ (hosts : List (Host S)). sends_all h.node.id
     (record w {
       hosts = hosts;
       chosen = chosen_with w.chosen (next_place o.node) o.node.waiting;
       told = w.told ++ (told_drop h.node.id o.dropped ++ flat_map (told_fired h.node.id) o.fired);
     })
-    (leaving o.node.firm o.node.held)) (set_again w.hosts i g (host_after h o))
+    (leaving o.node.firm o.node.held)) (set_again w.hosts i g (host_after course h o))
 
 -- a node hears what is firm behind a call
-live-hears_firm : {S : Type 0} (step : Node S → NodeEvent → Outcome S) (P : World S → Type 0) → KeepsLive step P → (i : ℕ) (w : World S) (h : Host S) → w.ending ≡ None → is_among w.faulty h.node.id ≡ false
-    → slice_get w.hosts i ≡ Some h → P w → P (hears_firm step i w (disk_called h))
+live-hears_firm : {S : Type 0} (course : Course S) (P : World S → Type 0) → KeepsLive course P → (i : ℕ) (w : World S) (h : Host S) → w.ending ≡ None → IsUp w h
+    → slice_get w.hosts i ≡ Some h → P w → P (hears_firm course i w (disk_called course h))
 unfolding disk_called
-live-hears_firm step P k i w h on there at p =
-    let g = after_call h in
+live-hears_firm course P k i w h on up at p =
+    let g = after_call course h in
     either_by P (nat_lt h.node.firm g.store.firm) _ _
-    (λ more. subst P (stepped-set w i g g (step h.node (Firm (g.store.firm - h.node.restored))))
-    (k.event (called w i h) i g (Firm (g.store.firm - h.node.restored)) on there (set_there w.hosts i h g at) (record { more = ltb-true h.node.firm g.store.firm more; life = refl }) (k.disk w i h on there at p)))
-    (λ known. k.disk w i h on there at p)
+    (λ more. subst P (stepped-set course w i g g (course.step h.node (Firm (g.store.firm - h.node.restored))))
+    (k.event (called course w i h) i g (Firm (g.store.firm - h.node.restored)) on up (set_there w.hosts i h g at) (record { more = ltb-true h.node.firm g.store.firm more; life = refl })
+    (k.disk w i h on up at p)))
+    (λ known. k.disk w i h on up at p)
 
 -- the store of a host that is found makes a call, if there is one
-live-host_calls : {S : Type 0} (step : Node S → NodeEvent → Outcome S) (P : World S → Type 0) → KeepsLive step P → (i : ℕ) (w : World S) (found : Option (Host S)) → w.ending ≡ None → slice_get w.hosts i ≡ found
-    → P w → P (host_calls step i w found)
-live-host_calls step P k i w None on at p = p
-live-host_calls step P k i w (Some h) on at p =
-    either_by P (is_gone w h.node.id) w _ (λ gone. p) (λ there. either P (call_due h.store) _ w (live-hears_firm step P k i w h on there at p) p)
+live-host_calls : {S : Type 0} (course : Course S) (P : World S → Type 0) → KeepsLive course P → (i : ℕ) (w : World S) (found : Option (Host S)) → w.ending ≡ None → slice_get w.hosts i ≡ found
+    → P w → P (host_calls course i w found)
+live-host_calls course P k i w None on at p = p
+live-host_calls course P k i w (Some h) on at p =
+    either_by P (not (is_up w h)) w _ (λ not_up. p)
+    (λ up. either P (call_due h.store) _ w (live-hears_firm course P k i w h on (is-up w h (not_false (is_up w h) up)) at p) p)
 
 -- the store at an index does
-pub live-calls_disk : {S : Type 0} (step : Node S → NodeEvent → Outcome S) (P : World S → Type 0) → KeepsLive step P → (i : ℕ) (w : World S) → P w → P (calls_disk step i w)
+pub live-calls_disk : {S : Type 0} (course : Course S) (P : World S → Type 0) → KeepsLive course P → (i : ℕ) (w : World S) → P w → P (calls_disk course i w)
 unfolding calls_disk
-live-calls_disk step P k i w p = either_by P (is_some w.ending) w _ (λ over. p) (λ on. live-host_calls step P k i w (slice_get w.hosts i) (none_is w.ending on) refl p)
+live-calls_disk course P k i w p = either_by P (is_some w.ending) w _ (λ over. p) (λ on. live-host_calls course P k i w (slice_get w.hosts i) (none_is w.ending on) refl p)
 
 -- what is due
 
 -- a host that is found takes what is due
-live-takes_due : {S : Type 0} (step : Node S → NodeEvent → Outcome S) (P : World S → Type 0) → KeepsLive step P → (i : ℕ) (w : World S) (found : Option (Host S)) → P w → P (takes_due step i w found)
-live-takes_due step P k i w None p = p
-live-takes_due step P k i w (Some h) p =
-    either P (call_due h.store) _ _ (live-calls_disk step P k i w p) (either P (is_some h.node.waiting) _ w (live-node_takes step P k i Deliver w (λ g at. tt) p) p)
+live-takes_due : {S : Type 0} (course : Course S) (P : World S → Type 0) → KeepsLive course P → (i : ℕ) (w : World S) (found : Option (Host S)) → P w → P (takes_due course i w found)
+live-takes_due course P k i w None p = p
+live-takes_due course P k i w (Some h) p =
+    either P (call_due h.store) _ _ (live-calls_disk course P k i w p) (either P (is_some h.node.waiting) _ w (live-node_takes course P k i Deliver w (λ g at. tt) p) p)
 
 -- a node settles once
-pub live-settle_once : {S : Type 0} (step : Node S → NodeEvent → Outcome S) (P : World S → Type 0) → KeepsLive step P → (i : ℕ) (w : World S) → P w → P (settle_once step i w)
+pub live-settle_once : {S : Type 0} (course : Course S) (P : World S → Type 0) → KeepsLive course P → (i : ℕ) (w : World S) → P w → P (settle_once course i w)
 unfolding settle_once
-live-settle_once step P k i w p = live-takes_due step P k i w (slice_get w.hosts i) p
+live-settle_once course P k i w p = live-takes_due course P k i w (slice_get w.hosts i) p
 
 -- a node settles
-pub live-settle : {S : Type 0} (step : Node S → NodeEvent → Outcome S) (P : World S → Type 0) → KeepsLive step P → (i : ℕ) (w : World S) → P w → P (settle step i w)
-live-settle step P k i w p = until_rest_keeps P (settle_once step i) (live-settle_once step P k i) w p
+pub live-settle : {S : Type 0} (course : Course S) (P : World S → Type 0) → KeepsLive course P → (i : ℕ) (w : World S) → P w → P (settle course i w)
+live-settle course P k i w p = until_rest_keeps P (settle_once course i) (live-settle_once course P k i) w p
 
 -- members that a line lists
 
@@ -417,17 +486,23 @@ at_index-keeps : {S : Type 0} (P : World S → Type 0) (f : ℕ → World S → 
 at_index-keeps P f keeps w None p = p
 at_index-keeps P f keeps w (Some i) p = keeps i w p
 
--- unless its node is gone
+-- unless its node does not run
+at_host-keeps : {S : Type 0} (P : World S → Type 0) (f : ℕ → World S → World S) → ((i : ℕ) (w : World S) → P w → P (f i w)) → ((w : World S) (line : OutLine) → IsBeside line → P w → P (telling w line))
+    → (i : ℕ) (w : World S) (found : Option (Host S)) → P w → P (at_host f i w found)
+at_host-keeps P f keeps tells i w None p = p
+at_host-keeps P f keeps tells i w (Some h) p = either P (is_up w h) (f i w) _ (keeps i w p) (tells w (outs.Absent h.node.id) tt p)
+
 pub at_member-keeps : {S : Type 0} (P : World S → Type 0) (f : ℕ → World S → World S) → ((i : ℕ) (w : World S) → P w → P (f i w)) → ((w : World S) (line : OutLine) → IsBeside line → P w → P (telling w line))
     → (member : ℕ) (w : World S) → P w → P (at_member f member w)
-at_member-keeps P f keeps tells member w p = either P (is_gone w member) _ _ (tells w (outs.Absent member) tt p) (at_index-keeps P f keeps w (host_index w.hosts member) p)
+at_member-keeps P f keeps tells member w p =
+    at_index-keeps P (λ i v. at_host f i v (slice_get v.hosts i)) (λ i v q. at_host-keeps P f keeps tells i v (slice_get v.hosts i) q) w (host_index w.hosts member) p
 
 -- lines that are told
 
-pub live-telling_all : {S : Type 0} (step : Node S → NodeEvent → Outcome S) (P : World S → Type 0) → KeepsLive step P → (w : World S) (lines : List OutLine) → Each IsBeside lines → P w → P (telling_all w lines)
-live-telling_all step P k w [] beside p = subst (λ (told : List OutLine). P (record w { told = told })) (sym (append-nil w.told)) p
-live-telling_all step P k w (l ∷ ls) beside p =
-    subst (λ (told : List OutLine). P (record w { told = told })) (append_assoc w.told (l ∷ []) ls) (live-telling_all step P k (telling w l) ls beside.1 (k.tell w l beside.0 p))
+pub live-telling_all : {S : Type 0} (course : Course S) (P : World S → Type 0) → KeepsLive course P → (w : World S) (lines : List OutLine) → Each IsBeside lines → P w → P (telling_all w lines)
+live-telling_all course P k w [] beside p = subst (λ (told : List OutLine). P (record w { told = told })) (sym (append-nil w.told)) p
+live-telling_all course P k w (l ∷ ls) beside p =
+    subst (λ (told : List OutLine). P (record w { told = told })) (append_assoc w.told (l ∷ []) ls) (live-telling_all course P k (telling w l) ls beside.1 (k.tell w l beside.0 p))
 
 -- who is absent accepts nothing
 absent-beside : (members : List ℕ) (id : ℕ) → Each IsBeside (told_absent members id)
@@ -435,120 +510,120 @@ absent-beside [] id = tt
 absent-beside (m ∷ ms) id = (tt, tt)
 
 -- a node that is found settles, unless it is gone
-live-settle_present : {S : Type 0} (step : Node S → NodeEvent → Outcome S) (P : World S → Type 0) → KeepsLive step P → (members : List ℕ) (i : ℕ) (w : World S) (found : Option (Host S)) → P w
-    → P (settle_present step members i w found)
-live-settle_present step P k members i w None p = p
-live-settle_present step P k members i w (Some h) p =
-    either P (is_gone w h.node.id) _ (settle step i w) (live-telling_all step P k w (told_absent members h.node.id) (absent-beside members h.node.id) p) (live-settle step P k i w p)
+live-settle_present : {S : Type 0} (course : Course S) (P : World S → Type 0) → KeepsLive course P → (members : List ℕ) (i : ℕ) (w : World S) (found : Option (Host S)) → P w
+    → P (settle_present course members i w found)
+live-settle_present course P k members i w None p = p
+live-settle_present course P k members i w (Some h) p =
+    either P (is_up w h) (settle course i w) _ (live-settle course P k i w p) (live-telling_all course P k w (told_absent members h.node.id) (absent-beside members h.node.id) p)
 
-pub live-settles_present : {S : Type 0} (step : Node S → NodeEvent → Outcome S) (P : World S → Type 0) → KeepsLive step P → (members : List ℕ) (i : ℕ) (w : World S) → P w
-    → P (settle_present step members i w (slice_get w.hosts i))
-live-settles_present step P k members i w p = live-settle_present step P k members i w (slice_get w.hosts i) p
+pub live-settles_present : {S : Type 0} (course : Course S) (P : World S → Type 0) → KeepsLive course P → (members : List ℕ) (i : ℕ) (w : World S) → P w
+    → P (settle_present course members i w (slice_get w.hosts i))
+live-settles_present course P k members i w p = live-settle_present course P k members i w (slice_get w.hosts i) p
 
 -- all listed nodes settle
-pub live-settle_all : {S : Type 0} (step : Node S → NodeEvent → Outcome S) (P : World S → Type 0) → KeepsLive step P → (members : List ℕ) (w : World S) → P w → P (settle_all step members w)
-live-settle_all step P k members w p = each_listed-keeps P members (λ i v. settle_present step members i v (slice_get v.hosts i)) (live-settles_present step P k members) w p
+pub live-settle_all : {S : Type 0} (course : Course S) (P : World S → Type 0) → KeepsLive course P → (members : List ℕ) (w : World S) → P w → P (settle_all course members w)
+live-settle_all course P k members w p = each_listed-keeps P members (λ i v. settle_present course members i v (slice_get v.hosts i)) (live-settles_present course P k members) w p
 
 -- the bytes of a content that was sent are given
 
 -- a node takes the bytes of a content that was sent, and settles
-live-gives : {S : Type 0} (step : Node S → NodeEvent → Outcome S) (P : World S → Type 0) → KeepsLive step P → (x : Content) (i : ℕ) (w : World S)
-    → P w × HasContent w.sent x → P (gives step (bytes_of x) i w) × HasContent (gives step (bytes_of x) i w).sent x
+live-gives : {S : Type 0} (course : Course S) (P : World S → Type 0) → KeepsLive course P → (x : Content) (i : ℕ) (w : World S)
+    → P w × HasContent w.sent x → P (gives course (bytes_of x) i w) × HasContent (gives course (bytes_of x) i w).sent x
 unfolding gives
-live-gives {S = S} step P k x i w p =
+live-gives {S = S} course P k x i w p =
     let Q : World S → Type 0 = λ v. P v × HasContent v.sent x in
-    let kq : KeepsLive step Q = live-carries step P x k in
-    live-settle step Q kq i (node_takes step i (Arrive (bytes_of x)) w)
-    (live-node_takes step Q kq i (Arrive (bytes_of x)) w (λ h at. record { content = x; spelled = refl; has = p.1 }) p)
+    let kq : KeepsLive course Q = live-carries course P x k in
+    live-settle course Q kq i (node_takes course i (Arrive (bytes_of x)) w)
+    (live-node_takes course Q kq i (Arrive (bytes_of x)) w (λ h at. record { content = x; spelled = refl; has = p.1 }) p)
 
 -- all listed nodes take the bytes of a content that was sent
-live-give_all : {S : Type 0} (step : Node S → NodeEvent → Outcome S) (P : World S → Type 0) → KeepsLive step P → (members : List ℕ) (x : Content) (w : World S) → HasContent w.sent x → P w → P (give_all step members (bytes_of x) w)
-live-give_all {S = S} step P k members x w has p =
-    (each_listed-keeps (λ (v : World S). P v × HasContent v.sent x) members (gives step (bytes_of x)) (live-gives step P k x) w (p, has)).0
+live-give_all : {S : Type 0} (course : Course S) (P : World S → Type 0) → KeepsLive course P → (members : List ℕ) (x : Content) (w : World S) → HasContent w.sent x → P w → P (give_all course members (bytes_of x) w)
+live-give_all {S = S} course P k members x w has p =
+    (each_listed-keeps (λ (v : World S). P v × HasContent v.sent x) members (gives course (bytes_of x)) (live-gives course P k x) w (p, has)).0
 
 -- the node of a member does, if it is listed
-live-give_one : {S : Type 0} (step : Node S → NodeEvent → Outcome S) (P : World S → Type 0) → KeepsLive step P → (members : List ℕ) (x : Content) (member : ℕ) (w : World S) → HasContent w.sent x → P w
-    → P (give_one step members (bytes_of x) member w)
-live-give_one {S = S} step P k members x member w has p =
+live-give_one : {S : Type 0} (course : Course S) (P : World S → Type 0) → KeepsLive course P → (members : List ℕ) (x : Content) (member : ℕ) (w : World S) → HasContent w.sent x → P w
+    → P (give_one course members (bytes_of x) member w)
+live-give_one {S = S} course P k members x member w has p =
     let Q : World S → Type 0 = λ v. P v × HasContent v.sent x in
-    (at_index-keeps Q (at_listed members (gives step (bytes_of x))) (at_listed-keeps Q members (gives step (bytes_of x)) (live-gives step P k x)) w (host_index w.hosts member) (p, has)).0
+    (at_index-keeps Q (at_listed members (gives course (bytes_of x))) (at_listed-keeps Q members (gives course (bytes_of x)) (live-gives course P k x)) w (host_index w.hosts member) (p, has)).0
 
 -- clients
 
 -- a client hears what its bytes are read as
-live-client_hears : {S : Type 0} (step : Node S → NodeEvent → Outcome S) (P : World S → Type 0) → KeepsLive step P → (i : ℕ) (x : Content) (w : World S) (c : Client) (read : Result Message ℕ)
+live-client_hears : {S : Type 0} (course : Course S) (P : World S → Type 0) → KeepsLive course P → (i : ℕ) (x : Content) (w : World S) (c : Client) (read : Result Message ℕ)
     → w.ending ≡ None → slice_get w.clients i ≡ Some c → HasContent w.sent x → decoded (bytes_of x) ≡ read → P w → P (client_hears w i c read)
-live-client_hears step P k i x w c (Err at) on here has is p = k.tell w _ tt p
-live-client_hears step P k i x w c (Ok (Ask q)) on here has is p = k.tell w _ tt p
-live-client_hears step P k i x w c (Ok (Propose o)) on here has is p = k.tell w _ tt p
-live-client_hears step P k i x w c (Ok (Vote b)) on here has is p = k.tell w _ tt p
-live-client_hears step P k i x w c (Ok (Reply a)) on here has is p = k.hear w i c x a on here has is p
+live-client_hears course P k i x w c (Err at) on here has is p = k.tell w _ tt p
+live-client_hears course P k i x w c (Ok (Ask q)) on here has is p = k.tell w _ tt p
+live-client_hears course P k i x w c (Ok (Propose o)) on here has is p = k.tell w _ tt p
+live-client_hears course P k i x w c (Ok (Vote b)) on here has is p = k.tell w _ tt p
+live-client_hears course P k i x w c (Ok (Reply a)) on here has is p = k.hear w i c x a on here has is p
 
 -- a client that is found hears bytes
-live-hears_bytes : {S : Type 0} (step : Node S → NodeEvent → Outcome S) (P : World S → Type 0) → KeepsLive step P → (i : ℕ) (x : Content) (w : World S) (found : Option Client)
+live-hears_bytes : {S : Type 0} (course : Course S) (P : World S → Type 0) → KeepsLive course P → (i : ℕ) (x : Content) (w : World S) (found : Option Client)
     → w.ending ≡ None → slice_get w.clients i ≡ found → HasContent w.sent x → P w → P (hears_bytes w i (bytes_of x) found)
-live-hears_bytes step P k i x w None on at has p = p
-live-hears_bytes step P k i x w (Some c) on at has p = live-client_hears step P k i x w c (decoded (bytes_of x)) on at has refl p
+live-hears_bytes course P k i x w None on at has p = p
+live-hears_bytes course P k i x w (Some c) on at has p = live-client_hears course P k i x w c (decoded (bytes_of x)) on at has refl p
 
 -- the client at an index hears bytes
-live-client_takes : {S : Type 0} (step : Node S → NodeEvent → Outcome S) (P : World S → Type 0) → KeepsLive step P → (i : ℕ) (x : Content) (w : World S) → HasContent w.sent x → P w → P (client_takes i (bytes_of x) w)
+live-client_takes : {S : Type 0} (course : Course S) (P : World S → Type 0) → KeepsLive course P → (i : ℕ) (x : Content) (w : World S) → HasContent w.sent x → P w → P (client_takes i (bytes_of x) w)
 unfolding client_takes
-live-client_takes step P k i x w has p = either_by P (is_some w.ending) w _ (λ over. p) (λ on. live-hears_bytes step P k i x w (slice_get w.clients i) (none_is w.ending on) refl has p)
+live-client_takes course P k i x w has p = either_by P (is_some w.ending) w _ (λ over. p) (λ on. live-hears_bytes course P k i x w (slice_get w.clients i) (none_is w.ending on) refl has p)
 
 -- a client asks, or tells that it is busy
-live-client_asks : {S : Type 0} (step : Node S → NodeEvent → Outcome S) (P : World S → Type 0) → KeepsLive step P → (w : World S) (i : ℕ) (c : Client) (op : List ℕ) (waiting : Option Request)
+live-client_asks : {S : Type 0} (course : Course S) (P : World S → Type 0) → KeepsLive course P → (w : World S) (i : ℕ) (c : Client) (op : List ℕ) (waiting : Option Request)
     → w.ending ≡ None → slice_get w.clients i ≡ Some c → c.waiting ≡ waiting → P w → P (client_asks w i c op waiting)
-live-client_asks step P k w i c op (Some q) on at is p = k.tell w _ tt p
-live-client_asks step P k w i c op None on at is p =
+live-client_asks course P k w i c op (Some q) on at is p = k.tell w _ tt p
+live-client_asks course P k w i c op None on at is p =
     either_by P (nat_lt (c.last + 1) (2 ^ 63) && nat_le (length op) 4096) _ w
     (λ may. let both = and_true (nat_lt (c.last + 1) (2 ^ 63)) (nat_le (length op) 4096) may in
     k.ask w i c op on at is (ltb-true (c.last + 1) (2 ^ 63) both.0) (leb-true (length op) 4096 both.1) p)
     (λ not_may. p)
 
 -- a client that is found asks
-live-ask_found : {S : Type 0} (step : Node S → NodeEvent → Outcome S) (P : World S → Type 0) → KeepsLive step P → (w : World S) (i : ℕ) (op : List ℕ) (found : Option Client)
+live-ask_found : {S : Type 0} (course : Course S) (P : World S → Type 0) → KeepsLive course P → (w : World S) (i : ℕ) (op : List ℕ) (found : Option Client)
     → w.ending ≡ None → slice_get w.clients i ≡ found → P w → P (ask_found w i op found)
-live-ask_found step P k w i op None on at p = p
-live-ask_found step P k w i op (Some c) on at p = either P (is_rogue w c.id) _ _ (k.tell w (outs.IdleClient c.id) tt p) (live-client_asks step P k w i c op c.waiting on at refl p)
+live-ask_found course P k w i op None on at p = p
+live-ask_found course P k w i op (Some c) on at p = either P (is_rogue w c.id) _ _ (k.tell w (outs.IdleClient c.id) tt p) (live-client_asks course P k w i c op c.waiting on at refl p)
 
 -- the client at an index asks
-live-asks : {S : Type 0} (step : Node S → NodeEvent → Outcome S) (P : World S → Type 0) → KeepsLive step P → (i : ℕ) (op : List ℕ) (w : World S) → P w → P (asks i op w)
+live-asks : {S : Type 0} (course : Course S) (P : World S → Type 0) → KeepsLive course P → (i : ℕ) (op : List ℕ) (w : World S) → P w → P (asks i op w)
 unfolding asks
-live-asks step P k i op w p = either_by P (is_some w.ending) w _ (λ over. p) (λ on. live-ask_found step P k w i op (slice_get w.clients i) (none_is w.ending on) refl p)
+live-asks course P k i op w p = either_by P (is_some w.ending) w _ (λ over. p) (λ on. live-ask_found course P k w i op (slice_get w.clients i) (none_is w.ending on) refl p)
 
 -- a client sends its request once more, or tells that it is idle
-live-client_repeats : {S : Type 0} (step : Node S → NodeEvent → Outcome S) (P : World S → Type 0) → KeepsLive step P → (w : World S) (i : ℕ) (c : Client) (waiting : Option Request)
+live-client_repeats : {S : Type 0} (course : Course S) (P : World S → Type 0) → KeepsLive course P → (w : World S) (i : ℕ) (c : Client) (waiting : Option Request)
     → w.ending ≡ None → slice_get w.clients i ≡ Some c → c.waiting ≡ waiting → P w → P (client_repeats w c waiting)
-live-client_repeats step P k w i c None on at is p = k.tell w _ tt p
-live-client_repeats step P k w i c (Some q) on at is p = k.again w i c q on at is p
+live-client_repeats course P k w i c None on at is p = k.tell w _ tt p
+live-client_repeats course P k w i c (Some q) on at is p = k.again w i c q on at is p
 
 -- a client that is found does
-live-repeat_found : {S : Type 0} (step : Node S → NodeEvent → Outcome S) (P : World S → Type 0) → KeepsLive step P → (w : World S) (i : ℕ) (found : Option Client)
+live-repeat_found : {S : Type 0} (course : Course S) (P : World S → Type 0) → KeepsLive course P → (w : World S) (i : ℕ) (found : Option Client)
     → w.ending ≡ None → slice_get w.clients i ≡ found → P w → P (repeat_found w found)
-live-repeat_found step P k w i None on at p = p
-live-repeat_found step P k w i (Some c) on at p = either P (is_rogue w c.id) _ _ (k.tell w (outs.IdleClient c.id) tt p) (live-client_repeats step P k w i c c.waiting on at refl p)
+live-repeat_found course P k w i None on at p = p
+live-repeat_found course P k w i (Some c) on at p = either P (is_rogue w c.id) _ _ (k.tell w (outs.IdleClient c.id) tt p) (live-client_repeats course P k w i c c.waiting on at refl p)
 
 -- the client at an index does
-live-repeats : {S : Type 0} (step : Node S → NodeEvent → Outcome S) (P : World S → Type 0) → KeepsLive step P → (i : ℕ) (w : World S) → P w → P (repeats i w)
+live-repeats : {S : Type 0} (course : Course S) (P : World S → Type 0) → KeepsLive course P → (i : ℕ) (w : World S) → P w → P (repeats i w)
 unfolding repeats
-live-repeats step P k i w p = either_by P (is_some w.ending) w _ (λ over. p) (λ on. live-repeat_found step P k w i (slice_get w.clients i) (none_is w.ending on) refl p)
+live-repeats course P k i w p = either_by P (is_some w.ending) w _ (λ over. p) (λ on. live-repeat_found course P k w i (slice_get w.clients i) (none_is w.ending on) refl p)
 
 -- a client that is found learns of the greatest place that another knows
-live-learns : {S : Type 0} (step : Node S → NodeEvent → Outcome S) (P : World S → Type 0) → KeepsLive step P → (w : World S) (j : ℕ) (d : Client) (i : ℕ) (found : Option Client)
+live-learns : {S : Type 0} (course : Course S) (P : World S → Type 0) → KeepsLive course P → (w : World S) (j : ℕ) (d : Client) (i : ℕ) (found : Option Client)
     → w.ending ≡ None → slice_get w.clients j ≡ Some d → slice_get w.clients i ≡ found → P w → P (learns w d.seen i found)
-live-learns step P k w j d i None on other at p = p
-live-learns step P k w j d i (Some c) on other at p = k.learn w i j c d on at other p
+live-learns course P k w j d i None on other at p = p
+live-learns course P k w j d i (Some c) on other at p = k.learn w i j c d on at other p
 
 -- if the other is found
-live-learns_from : {S : Type 0} (step : Node S → NodeEvent → Outcome S) (P : World S → Type 0) → KeepsLive step P → (w : World S) (j : ℕ) (found : Option Client) (i : ℕ)
+live-learns_from : {S : Type 0} (course : Course S) (P : World S → Type 0) → KeepsLive course P → (w : World S) (j : ℕ) (found : Option Client) (i : ℕ)
     → w.ending ≡ None → slice_get w.clients j ≡ found → P w → P (learns_from w found i)
-live-learns_from step P k w j None i on other p = p
-live-learns_from step P k w j (Some d) i on other p = either P (is_rogue w d.id) _ _ (k.tell w (outs.IdleClient d.id) tt p) (live-learns step P k w j d i (slice_get w.clients i) on other refl p)
+live-learns_from course P k w j None i on other p = p
+live-learns_from course P k w j (Some d) i on other p = either P (is_rogue w d.id) _ _ (k.tell w (outs.IdleClient d.id) tt p) (live-learns course P k w j d i (slice_get w.clients i) on other refl p)
 
 -- a client is told of the greatest place that another knows
-live-tells : {S : Type 0} (step : Node S → NodeEvent → Outcome S) (P : World S → Type 0) → KeepsLive step P → (from to : ℕ) (w : World S) → P w → P (tells from to w)
+live-tells : {S : Type 0} (course : Course S) (P : World S → Type 0) → KeepsLive course P → (from to : ℕ) (w : World S) → P w → P (tells from to w)
 unfolding tells
-live-tells step P k from to w p = either_by P (is_some w.ending) w _ (λ over. p) (λ on. live-learns_from step P k w from (slice_get w.clients from) to (none_is w.ending on) refl p)
+live-tells course P k from to w p = either_by P (is_some w.ending) w _ (λ over. p) (λ on. live-learns_from course P k w from (slice_get w.clients from) to (none_is w.ending on) refl p)
 
 -- flow
 
@@ -559,51 +634,51 @@ has_at (t ∷ sent) zero s at = inl (ap (λ (x : Sent). x.content) (some-equal t
 has_at (t ∷ sent) (suc i) s at = inr (has_at sent i s at)
 
 -- a content goes to whom it is for
-pub live-goes : {S : Type 0} (step : Node S → NodeEvent → Outcome S) (P : World S → Type 0) → KeepsLive step P → (members : List ℕ) (w : World S) (x : Content) (to : Option Target) → HasContent w.sent x → P w
-    → P (goes step members w (bytes_of x) to)
-live-goes step P k members w x None has p = p
-live-goes step P k members w x (Some targets.View) has p = live-give_all step P k members x w has p
-live-goes step P k members w x (Some (targets.Node id)) has p = live-give_one step P k members x id w has p
-live-goes step P k members w x (Some (targets.Client id)) has p = live-client_takes step P k id x w has p
+pub live-goes : {S : Type 0} (course : Course S) (P : World S → Type 0) → KeepsLive course P → (members : List ℕ) (w : World S) (x : Content) (to : Option Target) → HasContent w.sent x → P w
+    → P (goes course members w (bytes_of x) to)
+live-goes course P k members w x None has p = p
+live-goes course P k members w x (Some targets.View) has p = live-give_all course P k members x w has p
+live-goes course P k members w x (Some (targets.Node id)) has p = live-give_one course P k members x id w has p
+live-goes course P k members w x (Some (targets.Client id)) has p = live-client_takes course P k id x w has p
 
 -- the message behind the mark goes, if there is one
-live-flow_sent : {S : Type 0} (step : Node S → NodeEvent → Outcome S) (P : World S → Type 0) → KeepsLive step P → (members : List ℕ) (w : World S) (found : Option Sent) → w.ending ≡ None → slice_get w.sent w.mark ≡ found → P w
-    → P (flow_sent step members w found)
-live-flow_sent step P k members w None on at p = p
-live-flow_sent step P k members w (Some s) on at p =
-    live-goes step P k members (record w { mark = w.mark + 1 }) s.content s.to (has_at w.sent w.mark s at) (k.mark w s on at p)
+live-flow_sent : {S : Type 0} (course : Course S) (P : World S → Type 0) → KeepsLive course P → (members : List ℕ) (w : World S) (found : Option Sent) → w.ending ≡ None → slice_get w.sent w.mark ≡ found → P w
+    → P (flow_sent course members w found)
+live-flow_sent course P k members w None on at p = p
+live-flow_sent course P k members w (Some s) on at p =
+    live-goes course P k members (record w { mark = w.mark + 1 }) s.content s.to (has_at w.sent w.mark s at) (k.mark w s on at p)
 
 -- one turn of a flow
-pub live-flow_once : {S : Type 0} (step : Node S → NodeEvent → Outcome S) (P : World S → Type 0) → KeepsLive step P → (members : List ℕ) (w : World S) → P w → P (flow_once step members w)
+pub live-flow_once : {S : Type 0} (course : Course S) (P : World S → Type 0) → KeepsLive course P → (members : List ℕ) (w : World S) → P w → P (flow_once course members w)
 unfolding flow_once
-live-flow_once step P k members w p = either_by P (is_some w.ending) w _ (λ over. p) (λ on. live-flow_sent step P k members w (slice_get w.sent w.mark) (none_is w.ending on) refl p)
+live-flow_once course P k members w p = either_by P (is_some w.ending) w _ (λ over. p) (λ on. live-flow_sent course P k members w (slice_get w.sent w.mark) (none_is w.ending on) refl p)
 
 -- deliveries one by one
 
 -- the bytes of a content that was sent arrive at a member or a client
-live-arrives : {S : Type 0} (step : Node S → NodeEvent → Outcome S) (P : World S → Type 0) → KeepsLive step P → (x : Content) (to : Party) (w : World S) → P w × HasContent w.sent x
-    → P (arrives step (bytes_of x) to w) × HasContent (arrives step (bytes_of x) to w).sent x
-live-arrives {S = S} step P k x (parties.Member id) w p =
+live-arrives : {S : Type 0} (course : Course S) (P : World S → Type 0) → KeepsLive course P → (x : Content) (to : Party) (w : World S) → P w × HasContent w.sent x
+    → P (arrives course (bytes_of x) to w) × HasContent (arrives course (bytes_of x) to w).sent x
+live-arrives {S = S} course P k x (parties.Member id) w p =
     let Q : World S → Type 0 = λ v. P v × HasContent v.sent x in
-    let kq : KeepsLive step Q = live-carries step P x k in
-    at_member-keeps Q (λ i v. node_takes step i (Arrive (bytes_of x)) v)
-    (λ i v q. live-node_takes step Q kq i (Arrive (bytes_of x)) v (λ h at. record { content = x; spelled = refl; has = q.1 }) q) kq.tell id w p
-live-arrives {S = S} step P k x (parties.Client id) w p = live-client_takes step (λ (v : World S). P v × HasContent v.sent x) (live-carries step P x k) id x w p.1 p
+    let kq : KeepsLive course Q = live-carries course P x k in
+    at_member-keeps Q (λ i v. node_takes course i (Arrive (bytes_of x)) v)
+    (λ i v q. live-node_takes course Q kq i (Arrive (bytes_of x)) v (λ h at. record { content = x; spelled = refl; has = q.1 }) q) kq.tell id w p
+live-arrives {S = S} course P k x (parties.Client id) w p = live-client_takes course (λ (v : World S). P v × HasContent v.sent x) (live-carries course P x k) id x w p.1 p
 
 -- and at each of some
-live-arrives_at : {S : Type 0} (step : Node S → NodeEvent → Outcome S) (P : World S → Type 0) → KeepsLive step P → (x : Content) (tos : List Party) (w : World S) → P w × HasContent w.sent x
-    → P (arrives_at step (bytes_of x) tos w)
-live-arrives_at step P k x [] w p = p.0
-live-arrives_at step P k x (to ∷ tos) w p = live-arrives_at step P k x tos (arrives step (bytes_of x) to w) (live-arrives step P k x to w p)
+live-arrives_at : {S : Type 0} (course : Course S) (P : World S → Type 0) → KeepsLive course P → (x : Content) (tos : List Party) (w : World S) → P w × HasContent w.sent x
+    → P (arrives_at course (bytes_of x) tos w)
+live-arrives_at course P k x [] w p = p.0
+live-arrives_at course P k x (to ∷ tos) w p = live-arrives_at course P k x tos (arrives course (bytes_of x) to w) (live-arrives course P k x to w p)
 
-live-sent_arrives : {S : Type 0} (step : Node S → NodeEvent → Outcome S) (P : World S → Type 0) → KeepsLive step P → (i : ℕ) (tos : List Party) (w : World S) (found : Option Sent) → slice_get w.sent i ≡ found → P w
-    → P (sent_arrives step tos w found)
-live-sent_arrives step P k i tos w None at p = p
-live-sent_arrives step P k i tos w (Some s) at p = live-arrives_at step P k s.content tos w (p, has_at w.sent i s at)
+live-sent_arrives : {S : Type 0} (course : Course S) (P : World S → Type 0) → KeepsLive course P → (i : ℕ) (tos : List Party) (w : World S) (found : Option Sent) → slice_get w.sent i ≡ found → P w
+    → P (sent_arrives course tos w found)
+live-sent_arrives course P k i tos w None at p = p
+live-sent_arrives course P k i tos w (Some s) at p = live-arrives_at course P k s.content tos w (p, has_at w.sent i s at)
 
 -- the message of a number does
-live-give_number : {S : Type 0} (step : Node S → NodeEvent → Outcome S) (P : World S → Type 0) → KeepsLive step P → (number : ℕ) (tos : List Party) (w : World S) → P w → P (give_number step number tos w)
-live-give_number step P k number tos w p = live-sent_arrives step P k (number - 1) tos w (slice_get w.sent (number - 1)) refl p
+live-give_number : {S : Type 0} (course : Course S) (P : World S → Type 0) → KeepsLive course P → (number : ℕ) (tos : List Party) (w : World S) → P w → P (give_number course number tos w)
+live-give_number course P k number tos w p = live-sent_arrives course P k (number - 1) tos w (slice_get w.sent (number - 1)) refl p
 
 -- who is idle accepts nothing
 pub idle-beside : (id : ℕ) (fired : List Fired) → Each IsBeside (told_idle id fired)
@@ -624,23 +699,23 @@ try_may w h Deliver may = tt
 try_may w h (Firm count) may = absurd may
 
 -- a node delivers, or time passes there, or it tells that it is idle
-live-host_tries : {S : Type 0} (step : Node S → NodeEvent → Outcome S) (P : World S → Type 0) → KeepsLive step P → (event : NodeEvent) → MayTry event → (i : ℕ) (w : World S) (found : Option (Host S)) → w.ending ≡ None
-    → slice_get w.hosts i ≡ found → P w → P (host_tries step event i w found)
-live-host_tries step P k event may i w None on at p = p
-live-host_tries step P k event may i w (Some h) on at p =
-    either_by P (is_gone w h.node.id) w _ (λ gone. p)
-    (λ there. live-telling_all step P k (stepped w i h (step h.node event)) (told_idle h.node.id (step h.node event).fired) (idle-beside h.node.id (step h.node event).fired)
-    (k.event w i h event on there at (try_may w h event may) p))
+live-host_tries : {S : Type 0} (course : Course S) (P : World S → Type 0) → KeepsLive course P → (event : NodeEvent) → MayTry event → (i : ℕ) (w : World S) (found : Option (Host S)) → w.ending ≡ None
+    → slice_get w.hosts i ≡ found → P w → P (host_tries course event i w found)
+live-host_tries course P k event may i w None on at p = p
+live-host_tries course P k event may i w (Some h) on at p =
+    either_by P (not (is_up w h)) w _ (λ not_up. p)
+    (λ up. live-telling_all course P k (stepped course w i h (course.step h.node event)) (told_idle h.node.id (course.step h.node event).fired) (idle-beside h.node.id (course.step h.node event).fired)
+    (k.event w i h event on (is-up w h (not_false (is_up w h) up)) at (try_may w h event may) p))
 
-live-tries_at : {S : Type 0} (step : Node S → NodeEvent → Outcome S) (P : World S → Type 0) → KeepsLive step P → (event : NodeEvent) → MayTry event → (i : ℕ) (w : World S) → P w → P (tries_at step event i w)
+live-tries_at : {S : Type 0} (course : Course S) (P : World S → Type 0) → KeepsLive course P → (event : NodeEvent) → MayTry event → (i : ℕ) (w : World S) → P w → P (tries_at course event i w)
 unfolding tries_at
-live-tries_at step P k event may i w p = either_by P (is_some w.ending) w _ (λ over. p) (λ on. live-host_tries step P k event may i w (slice_get w.hosts i) (none_is w.ending on) refl p)
+live-tries_at course P k event may i w p = either_by P (is_some w.ending) w _ (λ over. p) (λ on. live-host_tries course P k event may i w (slice_get w.hosts i) (none_is w.ending on) refl p)
 
-live-tries_each : {S : Type 0} (step : Node S → NodeEvent → Outcome S) (P : World S → Type 0) → KeepsLive step P → (event : NodeEvent) → MayTry event → (members : List ℕ) (w : World S) → P w
-    → P (tries_each step event members w)
-live-tries_each step P k event may [] w p = p
-live-tries_each step P k event may (m ∷ ms) w p =
-    live-tries_each step P k event may ms (at_member (tries_at step event) m w) (at_member-keeps P (tries_at step event) (live-tries_at step P k event may) k.tell m w p)
+live-tries_each : {S : Type 0} (course : Course S) (P : World S → Type 0) → KeepsLive course P → (event : NodeEvent) → MayTry event → (members : List ℕ) (w : World S) → P w
+    → P (tries_each course event members w)
+live-tries_each course P k event may [] w p = p
+live-tries_each course P k event may (m ∷ ms) w p =
+    live-tries_each course P k event may ms (at_member (tries_at course event) m w) (at_member-keeps P (tries_at course event) (live-tries_at course P k event may) k.tell m w p)
 
 -- what a node tells
 
@@ -665,7 +740,7 @@ all_fired-beside : (id : ℕ) (fired : List Fired) → Each IsBeside (flat_map (
 all_fired-beside id [] = tt
 all_fired-beside id (f ∷ fired) = each_append IsBeside (told_fired id f) (flat_map (told_fired id) fired) (fired-beside id f) (all_fired-beside id fired)
 
--- a node's step tells a client no place
+-- a node's course tells a client no place
 pub outcome-beside : {S : Type 0} (id : ℕ) (o : Outcome S) → Each IsBeside (told_drop id o.dropped ++ flat_map (told_fired id) o.fired)
 outcome-beside id o = each_append IsBeside (told_drop id o.dropped) (flat_map (told_fired id) o.fired) (drop-beside id o.dropped) (all_fired-beside id o.fired)
 
@@ -674,16 +749,17 @@ outcome-beside id o = each_append IsBeside (told_drop id o.dropped) (flat_map (t
 pub hosts-beside : {S : Type 0} (faulty : List ℕ) (hosts : List (Host S)) → Each IsBeside (flat_map (shown_host faulty) hosts)
 hosts-beside faulty [] = tt
 hosts-beside faulty (h ∷ hs) =
-    each_append IsBeside (shown_host faulty h) (flat_map (shown_host faulty) hs) (either (λ (lines : List OutLine). Each IsBeside lines) (is_among faulty h.node.id) [] _ tt (tt, tt)) (hosts-beside faulty hs)
+    each_append IsBeside (shown_host faulty h) (flat_map (shown_host faulty) hs)
+    (either (λ (lines : List OutLine). Each IsBeside lines) (is_among faulty h.node.id) [] _ tt (either (λ (lines : List OutLine). Each IsBeside lines) h.up _ _ (tt, tt) (tt, tt))) (hosts-beside faulty hs)
 
 pub clients-beside : (clients : List Client) → Each IsBeside (flat_map shown_client clients)
 clients-beside [] = tt
 clients-beside (c ∷ cs) =
     each_append IsBeside (shown_client c) (flat_map shown_client cs) (either (λ (lines : List OutLine). Each IsBeside lines) (nat_lt 0 c.last) (outs.Seen c.id c.seen ∷ []) [] (tt, tt) tt) (clients-beside cs)
 
-live-shows : {S : Type 0} (step : Node S → NodeEvent → Outcome S) (P : World S → Type 0) → KeepsLive step P → (w : World S) → P w → P (shows w)
-live-shows step P k w p =
-    live-telling_all step P k w (flat_map (shown_host w.faulty) w.hosts ++ flat_map shown_client w.clients)
+live-shows : {S : Type 0} (course : Course S) (P : World S → Type 0) → KeepsLive course P → (w : World S) → P w → P (shows w)
+live-shows course P k w p =
+    live-telling_all course P k w (flat_map (shown_host w.faulty) w.hosts ++ flat_map shown_client w.clients)
     (each_append IsBeside (flat_map (shown_host w.faulty) w.hosts) (flat_map shown_client w.clients) (hosts-beside w.faulty w.hosts) (clients-beside w.clients)) p
 
 -- who breaks the rules
@@ -705,9 +781,9 @@ ends w ending = record { more_faulty = λ member is. is; more_rogue = λ client 
     some_none same = cc
 
 -- a member is declared faulty, or too many are
-live-declares_faulty : {S : Type 0} (step : Node S → NodeEvent → Outcome S) (P : World S → Type 0) → KeepsLive step P → (member : ℕ) (w : World S) → P w → P (declares_faulty member w)
+live-declares_faulty : {S : Type 0} (course : Course S) (P : World S → Type 0) → KeepsLive course P → (member : ℕ) (w : World S) → P w → P (declares_faulty member w)
 unfolding declares_faulty
-live-declares_faulty step P k member w p =
+live-declares_faulty course P k member w p =
     let faulty : List ℕ = w.faulty ++ member ∷ [] in
     either_by P (is_some w.ending) w _ (λ over. p)
     (λ on. either P (is_gone w member) w _ p
@@ -717,9 +793,9 @@ live-declares_faulty step P k member w p =
     (record { more_faulty = among-end w.faulty member; more_rogue = λ client is. is; few = λ before. few; over = λ is. is }) p)))
 
 -- a client is declared rogue
-live-declares_rogue : {S : Type 0} (step : Node S → NodeEvent → Outcome S) (P : World S → Type 0) → KeepsLive step P → (client : ℕ) (w : World S) → P w → P (declares_rogue client w)
+live-declares_rogue : {S : Type 0} (course : Course S) (P : World S → Type 0) → KeepsLive course P → (client : ℕ) (w : World S) → P w → P (declares_rogue client w)
 unfolding declares_rogue
-live-declares_rogue step P k client w p =
+live-declares_rogue course P k client w p =
     either_by P (is_some w.ending) w _ (λ over. p)
     (λ on. either P (is_rogue w client) w _ p
     (k.declare w w.faulty (w.rogue ++ client ∷ []) w.ending (none_is w.ending on)
@@ -765,50 +841,99 @@ pub injected-read : (sent : List Sent) (form : Injection) (x : Content) → inje
 injected-read sent form x is = read-found (injected_bytes sent form) x is
 
 -- a content that is made is injected, unless it is forged
-live-injects_content : {S : Type 0} (step : Node S → NodeEvent → Outcome S) (P : World S → Type 0) → KeepsLive step P → (w : World S) (found : Option Content) → w.ending ≡ None
+live-injects_content : {S : Type 0} (course : Course S) (P : World S → Type 0) → KeepsLive course P → (w : World S) (found : Option Content) → w.ending ≡ None
     → ((x : Content) → found ≡ Some x → IsRead x) → P w → P (injects_content w found)
-live-injects_content step P k w None on read p = p
-live-injects_content step P k w (Some x) on read p =
+live-injects_content course P k w None on read p = p
+live-injects_content course P k w (Some x) on read p =
     either_by P (is_forged w.faulty w.rogue w.sent x) _ _ (λ forged. k.declare w w.faulty w.rogue (Some (Premise Forged)) on (ends w (Premise Forged)) p) (λ fine. k.inject w x on (read x refl) fine p)
 
-live-injects : {S : Type 0} (step : Node S → NodeEvent → Outcome S) (P : World S → Type 0) → KeepsLive step P → (form : Injection) (w : World S) → P w → P (injects form w)
+live-injects : {S : Type 0} (course : Course S) (P : World S → Type 0) → KeepsLive course P → (form : Injection) (w : World S) → P w → P (injects form w)
 unfolding injects
-live-injects step P k form w p =
-    either_by P (is_some w.ending) w _ (λ over. p) (λ on. live-injects_content step P k w (injected w.sent form) (none_is w.ending on) (injected-read w.sent form) p)
+live-injects course P k form w p =
+    either_by P (is_some w.ending) w _ (λ over. p) (λ on. live-injects_content course P k w (injected w.sent form) (none_is w.ending on) (injected-read w.sent form) p)
+
+-- crashes
+
+-- a node stops, or what is left is no image
+live-crashes_with : {S : Type 0} (course : Course S) (P : World S → Type 0) → KeepsLives course P → (i : ℕ) (w : World S) (h : Host S) (left : Images) (wrong : Option stores.NotAnImage) → wrong_images h.store left ≡ wrong
+    → w.ending ≡ None → IsUp w h → slice_get w.hosts i ≡ Some h → P w → P (crashes_with course i w h left wrong)
+live-crashes_with course P k i w h left None is on up at p = k.live.tell (with_host w i (host_crashed course h left)) (outs.Crashed h.node.id) tt (k.crash w i h left on up at (may_leave h.store left is) p)
+live-crashes_with course P k i w h left (Some wrong) is on up at p = k.live.declare w w.faulty w.rogue (Some (Premise (NotAnImage wrong))) on (ends w (Premise (NotAnImage wrong))) p
+
+live-host_crashes : {S : Type 0} (course : Course S) (P : World S → Type 0) → KeepsLives course P → (image : Image) (patches : List Patch) (i : ℕ) (w : World S) (found : Option (Host S)) → w.ending ≡ None
+    → slice_get w.hosts i ≡ found → P w → P (host_crashes course image patches i w found)
+live-host_crashes course P k image patches i w None on at p = p
+live-host_crashes course P k image patches i w (Some h) on at p =
+    let left : Images = images_left image patches h.store in
+    either_by P (is_up w h) _ w (λ up. live-crashes_with course P k i w h left (wrong_images h.store left) refl on (is-up w h up) at p) (λ not_up. p)
+
+live-crashes : {S : Type 0} (course : Course S) (P : World S → Type 0) → KeepsLives course P → (image : Image) (patches : List Patch) (i : ℕ) (w : World S) → P w → P (crashes course image patches i w)
+unfolding crashes
+live-crashes course P k image patches i w p =
+    either_by P (is_some w.ending) w _ (λ over. p) (λ on. live-host_crashes course P k image patches i w (slice_get w.hosts i) (none_is w.ending on) refl p)
+
+-- a node goes on, unless what its devices hold is damaged
+live-resumes_from : {S : Type 0} (course : Course S) (P : World S → Type 0) → KeepsLives course P → (i : ℕ) (w : World S) (h : Host S) (damage : Option ℕ) → w.ending ≡ None → IsDown w h
+    → slice_get w.hosts i ≡ Some h → P w → P (resumes_from course i w h (entries_left h) damage)
+live-resumes_from course P k i w h (Some entry) on down at p = p
+live-resumes_from course P k i w h None on down at p =
+    let n = node_resumed course w h in
+    k.live.tell (with_host w i (host_resumed h n)) (outs.Restarted h.node.id n.replica.place (length (entries_left h))) tt (k.resume w i h on down at p)
+
+live-host_resumes : {S : Type 0} (course : Course S) (P : World S → Type 0) → KeepsLives course P → (i : ℕ) (w : World S) (found : Option (Host S)) → w.ending ≡ None → slice_get w.hosts i ≡ found → P w
+    → P (host_resumes course i w found)
+live-host_resumes course P k i w None on at p = p
+live-host_resumes course P k i w (Some h) on at p =
+    either_by P (h.up || is_gone w h.node.id) w _ (λ up. p)
+    (λ down. live-resumes_from course P k i w h (damaged group_secret w.view (entries_left h)) on (or_false h.up (is_gone w h.node.id) down) at p)
+
+live-resumes : {S : Type 0} (course : Course S) (P : World S → Type 0) → KeepsLives course P → (i : ℕ) (w : World S) → P w → P (resumes course i w)
+unfolding resumes
+live-resumes course P k i w p = either_by P (is_some w.ending) w _ (λ over. p) (λ on. live-host_resumes course P k i w (slice_get w.hosts i) (none_is w.ending on) refl p)
+
+live-restart_at : {S : Type 0} (course : Course S) (P : World S → Type 0) → KeepsLives course P → (i : ℕ) (w : World S) (found : Option (Host S)) → P w → P (restart_at course i w found)
+live-restart_at course P k i w None p = p
+live-restart_at course P k i w (Some h) p =
+    either P (is_gone w h.node.id) _ _ (k.live.tell w (outs.Absent h.node.id) tt p) (either P h.up _ _ (k.live.tell w (outs.Idle h.node.id) tt p) (live-resumes course P k i w p))
 
 -- lines
 
 -- a line of a script
-pub live-line_played : {S : Type 0} (step : Node S → NodeEvent → Outcome S) (P : World S → Type 0) → KeepsLive step P → (w : World S) (line : Line) → P w → P (line_played step w line)
+pub live-line_played : {S : Type 0} (course : Course S) (P : World S → Type 0) → KeepsLives course P → (w : World S) (line : Line) → P w → P (line_played course w line)
 unfolding line_played
-live-line_played step P k w lines.Nothing p = p
-live-line_played step P k w (lines.Ask client op) p = live-asks step P k client op w p
-live-line_played step P k w (lines.Again client) p = live-repeats step P k client w p
-live-line_played step P k w (lines.Tell from to) p = live-tells step P k from to w p
-live-line_played step P k w (lines.Flow members) p = until_rest_keeps P (flow_once step members) (live-flow_once step P k members) (settle_all step members w) (live-settle_all step P k members w p)
-live-line_played step P k w (lines.Give number to) p = live-give_number step P k number to w p
-live-line_played step P k w (lines.Deliver members) p = live-tries_each step P k Deliver tt members w p
-live-line_played step P k w (lines.Tick members) p = live-tries_each step P k Tick tt members w p
-live-line_played step P k w (lines.Settle member) p = at_member-keeps P (settle step) (live-settle step P k) k.tell member w p
-live-line_played step P k w (lines.Disk member count) p =
-    at_member-keeps P (λ i v. repeated (calls_disk step i) count v) (λ i v q. repeated_keeps P (calls_disk step i) (live-calls_disk step P k i) count v q) k.tell member w p
-live-line_played step P k w lines.SettleAll p = live-settle_all step P k [] w p
-live-line_played step P k w lines.Show p = live-shows step P k w p
-live-line_played step P k w (lines.Faulty member) p = live-declares_faulty step P k member w p
-live-line_played step P k w (lines.Rogue client) p = live-declares_rogue step P k client w p
-live-line_played step P k w (lines.Inject form) p = live-injects step P k form w p
+live-line_played course P k w lines.Nothing p = p
+live-line_played course P k w (lines.Ask client op) p = live-asks course P k.live client op w p
+live-line_played course P k w (lines.Again client) p = live-repeats course P k.live client w p
+live-line_played course P k w (lines.Tell from to) p = live-tells course P k.live from to w p
+live-line_played course P k w (lines.Flow members) p = until_rest_keeps P (flow_once course members) (live-flow_once course P k.live members) (settle_all course members w) (live-settle_all course P k.live members w p)
+live-line_played course P k w (lines.Give number to) p = live-give_number course P k.live number to w p
+live-line_played course P k w (lines.Deliver members) p = live-tries_each course P k.live Deliver tt members w p
+live-line_played course P k w (lines.Tick members) p = live-tries_each course P k.live Tick tt members w p
+live-line_played course P k w (lines.Settle member) p = at_member-keeps P (settle course) (live-settle course P k.live) k.live.tell member w p
+live-line_played course P k w (lines.Disk member count) p =
+    at_member-keeps P (λ i v. repeated (calls_disk course i) count v) (λ i v q. repeated_keeps P (calls_disk course i) (live-calls_disk course P k.live i) count v q) k.live.tell member w p
+live-line_played course P k w (lines.Crash member image patches) p = at_member-keeps P (crashes course image patches) (live-crashes course P k image patches) k.live.tell member w p
+live-line_played course P k w (lines.CrashAll image) p = each_from_keeps P (crashes course image []) (live-crashes course P k image []) (length w.hosts) 0 w p
+live-line_played course P k w (lines.Restart member) p =
+    at_index-keeps P (λ i v. restart_at course i v (slice_get v.hosts i)) (λ i v q. live-restart_at course P k i v (slice_get v.hosts i) q) w (host_index w.hosts member) p
+live-line_played course P k w lines.RestartAll p = each_from_keeps P (resumes course) (live-resumes course P k) (length w.hosts) 0 w p
+live-line_played course P k w lines.SettleAll p = live-settle_all course P k.live [] w p
+live-line_played course P k w lines.Show p = live-shows course P k.live w p
+live-line_played course P k w (lines.Faulty member) p = live-declares_faulty course P k.live member w p
+live-line_played course P k w (lines.Rogue client) p = live-declares_rogue course P k.live client w p
+live-line_played course P k w (lines.Inject form) p = live-injects course P k.live form w p
 
 -- all lines of a script
-pub live-world_after : {S : Type 0} (step : Node S → NodeEvent → Outcome S) (P : World S → Type 0) → KeepsLive step P → ((w : World S) → P w → P (rested w)) → (w : World S) (ls : List Line) → P w → P (world_after step w ls)
-live-world_after step P k rests w [] p = p
-live-world_after step P k rests w (l ∷ ls) p =
-    live-world_after step P k rests (rested (line_played step w l)) ls (rests (line_played step w l) (live-line_played step P k w l p))
+pub live-world_after : {S : Type 0} (course : Course S) (P : World S → Type 0) → KeepsLives course P → ((w : World S) → P w → P (rested w)) → (w : World S) (ls : List Line) → P w → P (world_after course w ls)
+live-world_after course P k rests w [] p = p
+live-world_after course P k rests w (l ∷ ls) p =
+    live-world_after course P k rests (rested (line_played course w l)) ls (rests (line_played course w l) (live-line_played course P k w l p))
 
 -- the same of what is kept whatever was said of the ending
 
 -- all lines of a script
-pub keeps-world_after : {S : Type 0} (step : Node S → NodeEvent → Outcome S) (P : World S → Type 0) → Keeps step P → (w : World S) (ls : List Line) → P w → P (world_after step w ls)
-keeps-world_after step P k w ls p = live-world_after step P (live step P k) (λ v p. k.same v v.mark [] p) w ls p
+pub keeps-world_after : {S : Type 0} (course : Course S) (P : World S → Type 0) → KeepsAll course P → (w : World S) (ls : List Line) → P w → P (world_after course w ls)
+keeps-world_after course P k w ls p = live-world_after course P (lives course P k) (λ v p. k.kept.same v v.mark [] p) w ls p
 
 -- what holds where all that was sent is read
 

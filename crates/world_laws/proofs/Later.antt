@@ -56,7 +56,7 @@ use Rattle.world_rules.specs.declared.message.Sent.{Sent}
 use Rattle.world_rules.specs.declared.message.Ending.TheVariants.{Premise}
 use Rattle.world_rules.specs.declared.message.Premise.TheVariants.{Collision}
 use Rattle.world_laws.proofs.Keeps.{after_call, numbered, from_node}
-use Rattle.world_rules.specs.Worlds.{Host, World, host_after, chosen_with, told_drop, told_fired, sends_all, begun, clients_from, asks, stepped, host_takes, node_takes, disk_called, hears_firm, host_calls, calls_disk, takes_due, settle_once, settle, settle_all, gives, hearing, flow_sent, flow_once, where_listed, at_listed, at_index, host_index, tries_at, tick_each, posts, is_gone}
+use Rattle.world_rules.specs.Worlds.{Course, course_of, Host, World, host_after, chosen_with, told_drop, told_fired, sends_all, begun, clients_from, asks, stepped, host_takes, node_takes, disk_called, hears_firm, host_calls, calls_disk, takes_due, settle_once, settle, settle_all, gives, hearing, flow_sent, flow_once, where_listed, at_listed, at_index, host_index, tries_at, tick_each, posts, is_up}
 use Rattle.world_rules.specs.Plays.{line_played, rested}
 use Rattle.world_rules.specs.Promises.{world_at}
 use Rattle.world_rules.specs.declared.line.Line.TheVariants as lines
@@ -180,7 +180,7 @@ old_vote false is = absurd (cc)
 -- a message is given to the node, which drops it
 unfoldable turn_dropped : {S : Type 0} → Meaning S → AnyMessage → Why → World S → World S
 turn_dropped m x why w =
-    stepped (record w { mark = w.mark + 1 }) 0 (host_in m w.hosts) (record { node = noted (host_in m w.hosts).node x; fired = []; dropped = Some why })
+    stepped (course_of m) (record w { mark = w.mark + 1 }) 0 (host_in m w.hosts) (record { node = noted (host_in m w.hosts).node x; fired = []; dropped = Some why })
 
 dropped_step : {S : Type 0} (m : Meaning S) (n : Node S) (x : AnyMessage) (why : Why) → any_decoded (any_spelling x) ≡ Ok x → why_dropped n x ≡ Some why
     → step_of m n (Arrive (any_spelling x)) ≡ record { node = noted n x; fired = []; dropped = Some why }
@@ -189,38 +189,38 @@ dropped_step m n x why read drops = ap (reading_outcome n) read ∙ ap (arrival_
 
 given_dropped : {S : Type 0} (m : Meaning S) (x : AnyMessage) (why : Why) (origin : Origin) (w : World S) → is_some w.ending ≡ false
     → slice_get w.sent w.mark ≡ Some (record { origin = origin; to = Some targets.View; content = contents.Message x }) → length w.hosts ≡ 1
-    → is_gone w (host_in m w.hosts).node.id ≡ false → any_decoded (any_spelling x) ≡ Ok x → why_dropped (host_in m w.hosts).node x ≡ Some why
-    → is_due (slice_get (turn_dropped m x why w).hosts 0) ≡ false → flow_once (step_of m) [] w ≡ turn_dropped m x why w
+    → is_up w (host_in m w.hosts) ≡ true → any_decoded (any_spelling x) ≡ Ok x → why_dropped (host_in m w.hosts).node x ≡ Some why
+    → is_due (slice_get (turn_dropped m x why w).hosts 0) ≡ false → flow_once (course_of m) [] w ≡ turn_dropped m x why w
 unfolding flow_once turn_dropped gives each_from node_takes repeated
 given_dropped {S = S} m x why origin w on at one there read drops none =
     let next : World S = record w { mark = w.mark + 1 } in
-    ap (λ over. cond over w (flow_sent (step_of m) [] w (slice_get w.sent w.mark))) on
-    ∙ (ap (flow_sent (step_of m) [] w) at
-    ∙ (ap (λ hosts. each_from (at_listed [] (gives (step_of m) (any_spelling x))) hosts 0 next) one
-    ∙ (ap (λ found. where_listed [] (gives (step_of m) (any_spelling x)) 0 next found) (host_is m w.hosts one)
-    ∙ (ap (λ over. settle (step_of m) 0 (cond over next (host_takes (step_of m) 0 (Arrive (any_spelling x)) next (slice_get w.hosts 0)))) on
-    ∙ (ap (λ found. settle (step_of m) 0 (host_takes (step_of m) 0 (Arrive (any_spelling x)) next found)) (host_is m w.hosts one)
-    ∙ (ap (λ gone. settle (step_of m) 0 (cond gone next (stepped next 0 (host_in m w.hosts) (step_of m (host_in m w.hosts).node (Arrive (any_spelling x)))))) there
-    ∙ (ap (λ o. settle (step_of m) 0 (stepped next 0 (host_in m w.hosts) o)) (dropped_step m (host_in m w.hosts).node x why read drops)
-    ∙ settled (step_of m) 0 (stepped next 0 (host_in m w.hosts) (record { node = noted (host_in m w.hosts).node x; fired = []; dropped = Some why })) (omega arith) none)))))))
+    ap (λ over. cond over w (flow_sent (course_of m) [] w (slice_get w.sent w.mark))) on
+    ∙ (ap (flow_sent (course_of m) [] w) at
+    ∙ (ap (λ hosts. each_from (at_listed [] (gives (course_of m) (any_spelling x))) hosts 0 next) one
+    ∙ (ap (λ found. where_listed [] (gives (course_of m) (any_spelling x)) 0 next found) (host_is m w.hosts one)
+    ∙ (ap (λ over. settle (course_of m) 0 (cond over next (host_takes (course_of m) 0 (Arrive (any_spelling x)) next (slice_get w.hosts 0)))) on
+    ∙ (ap (λ found. settle (course_of m) 0 (host_takes (course_of m) 0 (Arrive (any_spelling x)) next found)) (host_is m w.hosts one)
+    ∙ (ap (λ up. settle (course_of m) 0 (cond (not up) next (stepped (course_of m) next 0 (host_in m w.hosts) (step_of m (host_in m w.hosts).node (Arrive (any_spelling x)))))) there
+    ∙ (ap (λ o. settle (course_of m) 0 (stepped (course_of m) next 0 (host_in m w.hosts) o)) (dropped_step m (host_in m w.hosts).node x why read drops)
+    ∙ settled (course_of m) 0 (stepped (course_of m) next 0 (host_in m w.hosts) (record { node = noted (host_in m w.hosts).node x; fired = []; dropped = Some why })) (omega arith) none)))))))
 
 -- a message that is for the one node is given to it
 given_one : {S : Type 0} (m : Meaning S) (k : ℕ) (x : AnyMessage) (accepted : Option Proposed) (decided : Option Decision) (origin : Origin) (member : ℕ) (w : World S) → k ≤ 9 → is_some w.ending ≡ false
     → slice_get w.sent w.mark ≡ Some (record { origin = origin; to = Some (targets.Node member); content = contents.Message x }) → host_index w.hosts member ≡ Some 0 → length w.hosts ≡ 1
-    → is_gone w (host_in m w.hosts).node.id ≡ false → Takes (host_in m w.hosts).node x accepted decided → is_due (slice_get (turn m k x accepted decided w).hosts 0) ≡ false
-    → flow_once (step_of m) [] w ≡ turn m k x accepted decided w
+    → is_up w (host_in m w.hosts) ≡ true → Takes (host_in m w.hosts).node x accepted decided → is_due (slice_get (turn m k x accepted decided w).hosts 0) ≡ false
+    → flow_once (course_of m) [] w ≡ turn m k x accepted decided w
 unfolding flow_once turn gives node_takes
 given_one {S = S} m k x accepted decided origin member w le on at found one there takes none =
     let next : World S = record w { mark = w.mark + 1 } in
-    ap (λ over. cond over w (flow_sent (step_of m) [] w (slice_get w.sent w.mark))) on
-    ∙ (ap (flow_sent (step_of m) [] w) at
-    ∙ (ap (λ index. at_index (at_listed [] (gives (step_of m) (any_spelling x))) next index) found
-    ∙ (ap (λ here. where_listed [] (gives (step_of m) (any_spelling x)) 0 next here) (host_is m w.hosts one)
-    ∙ (ap (λ over. settle (step_of m) 0 (cond over next (host_takes (step_of m) 0 (Arrive (any_spelling x)) next (slice_get w.hosts 0)))) on
-    ∙ (ap (λ here. settle (step_of m) 0 (host_takes (step_of m) 0 (Arrive (any_spelling x)) next here)) (host_is m w.hosts one)
-    ∙ (ap (λ gone. settle (step_of m) 0 (cond gone next (stepped next 0 (host_in m w.hosts) (step_of m (host_in m w.hosts).node (Arrive (any_spelling x)))))) there
-    ∙ (ap (λ o. settle (step_of m) 0 (stepped next 0 (host_in m w.hosts) o)) (step_is m (host_in m w.hosts).node x accepted decided takes)
-    ∙ settled (step_of m) k (stepped next 0 (host_in m w.hosts) (passed (kept (noted (host_in m w.hosts).node x) x) accepted decided)) le none)))))))
+    ap (λ over. cond over w (flow_sent (course_of m) [] w (slice_get w.sent w.mark))) on
+    ∙ (ap (flow_sent (course_of m) [] w) at
+    ∙ (ap (λ index. at_index (at_listed [] (gives (course_of m) (any_spelling x))) next index) found
+    ∙ (ap (λ here. where_listed [] (gives (course_of m) (any_spelling x)) 0 next here) (host_is m w.hosts one)
+    ∙ (ap (λ over. settle (course_of m) 0 (cond over next (host_takes (course_of m) 0 (Arrive (any_spelling x)) next (slice_get w.hosts 0)))) on
+    ∙ (ap (λ here. settle (course_of m) 0 (host_takes (course_of m) 0 (Arrive (any_spelling x)) next here)) (host_is m w.hosts one)
+    ∙ (ap (λ up. settle (course_of m) 0 (cond (not up) next (stepped (course_of m) next 0 (host_in m w.hosts) (step_of m (host_in m w.hosts).node (Arrive (any_spelling x)))))) there
+    ∙ (ap (λ o. settle (course_of m) 0 (stepped (course_of m) next 0 (host_in m w.hosts) o)) (step_is m (host_in m w.hosts).node x accepted decided takes)
+    ∙ settled (course_of m) k (stepped (course_of m) next 0 (host_in m w.hosts) (passed (kept (noted (host_in m w.hosts).node x) x) accepted decided)) le none)))))))
 
 -- the worlds of the play
 
@@ -230,15 +230,15 @@ asked m = rested (asks 1 (7 ∷ []) (begun m lone))
 
 -- the member has been given the request
 unfoldable gave : {S : Type 0} → Meaning S → World S
-gave m = rested (stepped (asked m) 0 (host_in m (asked m).hosts) (passed (kept (noted (host_in m (asked m).hosts).node first_ask) first_ask) None None))
+gave m = rested (stepped (course_of m) (asked m) 0 (host_in m (asked m).hosts) (passed (kept (noted (host_in m (asked m).hosts).node first_ask) first_ask) None None))
 
 -- time has passed twice
 unfoldable waited : {S : Type 0} → Meaning S → World S
-waited m = rested (tick_each (step_of m) (1 ∷ []) (rested (tick_each (step_of m) (1 ∷ []) (gave m))))
+waited m = rested (tick_each (course_of m) (1 ∷ []) (rested (tick_each (course_of m) (1 ∷ []) (gave m))))
 
 -- the node has settled, and no message was given
 unfoldable begins : {S : Type 0} → Meaning S → World S
-begins m = repeated (settle_once (step_of m) 0) 6 (waited m)
+begins m = repeated (settle_once (course_of m) 0) 6 (waited m)
 
 -- the request is there again
 unfoldable world1 : {S : Type 0} → Meaning S → World S
@@ -266,15 +266,15 @@ world6 m = turn m 0 first_report None None (world5 m)
 
 -- the regency has begun, and nothing is firm of it
 unfoldable adopted : {S : Type 0} → Meaning S → World S
-adopted m = stepped (record (world6 m) { mark = (world6 m).mark + 1 }) 0 (host_in m (world6 m).hosts) (passed (kept (noted (host_in m (world6 m).hosts).node first_sync) first_sync) None None)
+adopted m = stepped (course_of m) (record (world6 m) { mark = (world6 m).mark + 1 }) 0 (host_in m (world6 m).hosts) (passed (kept (noted (host_in m (world6 m).hosts).node first_sync) first_sync) None None)
 
 -- all calls but the last of its group have been made
 unfoldable written : {S : Type 0} → Meaning S → World S
-written m = repeated (settle_once (step_of m) 0) 3 (adopted m)
+written m = repeated (settle_once (course_of m) 0) 3 (adopted m)
 
 -- and the last
 unfoldable firm_host : {S : Type 0} → Meaning S → Host S
-firm_host m = after_call (host_in m (written m).hosts)
+firm_host m = after_call (course_of m) (host_in m (written m).hosts)
 
 -- it is firm
 unfoldable firm_outcome : {S : Type 0} → Meaning S → Outcome S
@@ -283,7 +283,7 @@ firm_outcome m = step_of m (firm_host m).node (Firm 4)
 -- and the proposal of the regency is to leave
 unfoldable leaves_next : {S : Type 0} → Meaning S → World S
 leaves_next m = record (written m) {
-  hosts = slice_set (written m).hosts 0 (host_after (firm_host m) (firm_outcome m));
+  hosts = slice_set (written m).hosts 0 (host_after (course_of m) (firm_host m) (firm_outcome m));
   chosen = chosen_with (written m).chosen (next_place (firm_outcome m).node) (firm_outcome m).node.waiting;
   told = (written m).told ++ (told_drop 1 (firm_outcome m).dropped ++ flat_map (told_fired 1) (firm_outcome m).fired);
 }
@@ -319,10 +319,10 @@ computed = tt
 -- the turns of the play
 
 -- the member is given the request
-turn_gave : {S : Type 0} (m : Meaning S) → rested (line_played (step_of m) (asked m) (lines.Give 1 (parties.Member 1 ∷ []))) ≡ gave m
+turn_gave : {S : Type 0} (m : Meaning S) → rested (line_played (course_of m) (asked m) (lines.Give 1 (parties.Member 1 ∷ []))) ≡ gave m
 unfolding computed line_played
 turn_gave {S = S} m =
-    ap (λ (o : Outcome S). rested (stepped (asked m) 0 (host_in m (asked m).hosts) o))
+    ap (λ (o : Outcome S). rested (stepped (course_of m) (asked m) 0 (host_in m (asked m).hosts) o))
     (step_is m (host_in m (asked m).hosts).node first_ask None None
     (record {
       read = (good-genuine group_secret first_ask good_ask).read;
@@ -333,12 +333,12 @@ turn_gave {S = S} m =
     }))
 
 -- the node settles before any message is given
-turn_begins : {S : Type 0} (m : Meaning S) → settle_all (step_of m) [] (waited m) ≡ begins m
+turn_begins : {S : Type 0} (m : Meaning S) → settle_all (course_of m) [] (waited m) ≡ begins m
 unfolding computed each_from
-turn_begins m = settled (step_of m) 6 (waited m) (omega arith) refl
+turn_begins m = settled (course_of m) 6 (waited m) (omega arith) refl
 
 -- the request is given
-turn1 : {S : Type 0} (m : Meaning S) → flow_once (step_of m) [] (begins m) ≡ world1 m
+turn1 : {S : Type 0} (m : Meaning S) → flow_once (course_of m) [] (begins m) ≡ world1 m
 unfolding computed
 turn1 m =
     given m 0 first_ask None None (origins.Client 1) (begins m) (omega arith) refl refl refl refl
@@ -351,7 +351,7 @@ turn1 m =
     }) refl
 
 -- the proposal is given
-turn2 : {S : Type 0} (m : Meaning S) → flow_once (step_of m) [] (world1 m) ≡ world2 m
+turn2 : {S : Type 0} (m : Meaning S) → flow_once (course_of m) [] (world1 m) ≡ world2 m
 unfolding computed
 turn2 m =
     given m 4 (proposal_in 0) None None (origins.Node 1) (world1 m) (omega arith) refl refl refl refl
@@ -365,7 +365,7 @@ turn2 m =
     }) refl
 
 -- the request that was passed on is given
-turn3 : {S : Type 0} (m : Meaning S) → flow_once (step_of m) [] (world2 m) ≡ world3 m
+turn3 : {S : Type 0} (m : Meaning S) → flow_once (course_of m) [] (world2 m) ≡ world3 m
 unfolding computed
 turn3 m =
     given_one m 0 first_ask None None (origins.Node 1) 1 (world2 m) (omega arith) refl refl refl refl refl
@@ -378,7 +378,7 @@ turn3 m =
     }) refl
 
 -- the wish for the next regency is given
-turn4 : {S : Type 0} (m : Meaning S) → flow_once (step_of m) [] (world3 m) ≡ world4 m
+turn4 : {S : Type 0} (m : Meaning S) → flow_once (course_of m) [] (world3 m) ≡ world4 m
 unfolding computed
 turn4 m =
     given m 4 first_stop None None (origins.Node 1) (world3 m) (omega arith) refl refl refl refl
@@ -391,7 +391,7 @@ turn4 m =
     }) refl
 
 -- the vote for the old proposal is given
-turn5 : {S : Type 0} (m : Meaning S) → flow_once (step_of m) [] (world4 m) ≡ world5 m
+turn5 : {S : Type 0} (m : Meaning S) → flow_once (course_of m) [] (world4 m) ≡ world5 m
 unfolding computed
 turn5 m =
     given_dropped m (vote_in 0 Write) OldRegency (origins.Node 1) (world4 m) refl refl refl refl
@@ -399,7 +399,7 @@ turn5 m =
     (old_vote (is_verified ballots group_secret (signed ballots group_secret 1 (ballot_in 0 Write))) (good_vote 0 Write (omega arith)).tagged) refl
 
 -- the report is given
-turn6 : {S : Type 0} (m : Meaning S) → flow_once (step_of m) [] (world5 m) ≡ world6 m
+turn6 : {S : Type 0} (m : Meaning S) → flow_once (course_of m) [] (world5 m) ≡ world6 m
 unfolding computed
 turn6 m =
     given_one m 0 first_report None None (origins.Node 1) 1 (world5 m) (omega arith) refl refl refl refl refl
@@ -432,7 +432,7 @@ one7 : {S : Type 0} (m : Meaning S) → length (written m).hosts ≡ 1
 unfolding computed
 one7 m = refl
 
-there7 : {S : Type 0} (m : Meaning S) → is_gone (written m) (host_in m (written m).hosts).node.id ≡ false
+there7 : {S : Type 0} (m : Meaning S) → is_up (written m) (host_in m (written m).hosts) ≡ true
 unfolding computed
 there7 m = refl
 
@@ -440,42 +440,42 @@ due7 : {S : Type 0} (m : Meaning S) → call_due (host_in m (written m).hosts).s
 unfolding computed
 due7 m = refl
 
-hears7 : {S : Type 0} (m : Meaning S) → nat_lt (host_in m (written m).hosts).node.firm (after_call (host_in m (written m).hosts)).store.firm ≡ true
+hears7 : {S : Type 0} (m : Meaning S) → nat_lt (host_in m (written m).hosts).node.firm (after_call (course_of m) (host_in m (written m).hosts)).store.firm ≡ true
 unfolding computed
 hears7 m = refl
 
-firm7 : {S : Type 0} (m : Meaning S) → (after_call (host_in m (written m).hosts)).store.firm - (host_in m (written m).hosts).node.restored ≡ 4
+firm7 : {S : Type 0} (m : Meaning S) → (after_call (course_of m) (host_in m (written m).hosts)).store.firm - (host_in m (written m).hosts).node.restored ≡ 4
 unfolding computed
 firm7 m = refl
 
 -- what has left a host whose store makes a call behind which more is firm
-firm_once : {S : Type 0} (m : Meaning S) (w : World S) (h : Host S) (count : ℕ) → is_some w.ending ≡ false → slice_get w.hosts 0 ≡ Some h → is_gone w h.node.id ≡ false → call_due h.store ≡ true
-    → nat_lt h.node.firm (after_call h).store.firm ≡ true → (after_call h).store.firm - h.node.restored ≡ count
-    → settle_once (step_of m) 0 w ≡ stepped w 0 (after_call h) (step_of m h.node (Firm count))
+firm_once : {S : Type 0} (m : Meaning S) (w : World S) (h : Host S) (count : ℕ) → is_some w.ending ≡ false → slice_get w.hosts 0 ≡ Some h → is_up w h ≡ true → call_due h.store ≡ true
+    → nat_lt h.node.firm (after_call (course_of m) h).store.firm ≡ true → (after_call (course_of m) h).store.firm - h.node.restored ≡ count
+    → settle_once (course_of m) 0 w ≡ stepped (course_of m) w 0 (after_call (course_of m) h) (step_of m h.node (Firm count))
 unfolding settle_once calls_disk disk_called
 firm_once {S = S} m w h count on at there due hears firm =
-    let g : Host S = after_call h in
+    let g : Host S = after_call (course_of m) h in
     let called : World S = record w { hosts = slice_set w.hosts 0 g } in
-    ap (λ (found : Option (Host S)). takes_due (step_of m) 0 w found) at
-    ∙ (ap (λ (b : Bool). cond b (calls_disk (step_of m) 0 w) (cond (is_some h.node.waiting) (node_takes (step_of m) 0 Deliver w) w)) due
-    ∙ (ap (λ over. cond over w (host_calls (step_of m) 0 w (slice_get w.hosts 0))) on
-    ∙ (ap (λ (found : Option (Host S)). host_calls (step_of m) 0 w found) at
-    ∙ (ap (λ gone. cond gone w (cond (call_due h.store) (hears_firm (step_of m) 0 w g) w)) there
-    ∙ (ap (λ (b : Bool). cond b (hears_firm (step_of m) 0 w g) w) due
-    ∙ (ap (λ more. cond more (stepped w 0 g (step_of m h.node (Firm (g.store.firm - h.node.restored)))) called) hears
-    ∙ ap (λ (k : ℕ). stepped w 0 g (step_of m h.node (Firm k))) firm))))))
+    ap (λ (found : Option (Host S)). takes_due (course_of m) 0 w found) at
+    ∙ (ap (λ (b : Bool). cond b (calls_disk (course_of m) 0 w) (cond (is_some h.node.waiting) (node_takes (course_of m) 0 Deliver w) w)) due
+    ∙ (ap (λ over. cond over w (host_calls (course_of m) 0 w (slice_get w.hosts 0))) on
+    ∙ (ap (λ (found : Option (Host S)). host_calls (course_of m) 0 w found) at
+    ∙ (ap (λ up. cond (not up) w (cond (call_due h.store) (hears_firm (course_of m) 0 w g) w)) there
+    ∙ (ap (λ (b : Bool). cond b (hears_firm (course_of m) 0 w g) w) due
+    ∙ (ap (λ more. cond more (stepped (course_of m) w 0 g (step_of m h.node (Firm (g.store.firm - h.node.restored)))) called) hears
+    ∙ ap (λ (k : ℕ). stepped (course_of m) w 0 g (step_of m h.node (Firm k))) firm))))))
 
 -- and what leaves it
-abbrev quiet : {S : Type 0} → World S → Host S → Outcome S → World S
-quiet w h o = record w {
-  hosts = slice_set w.hosts 0 (host_after h o);
+abbrev quiet : {S : Type 0} → Course S → World S → Host S → Outcome S → World S
+quiet course w h o = record w {
+  hosts = slice_set w.hosts 0 (host_after course h o);
   chosen = chosen_with w.chosen (next_place o.node) o.node.waiting;
   told = w.told ++ (told_drop h.node.id o.dropped ++ flat_map (told_fired h.node.id) o.fired);
 }
 
-one_leaves : {S : Type 0} (w : World S) (h : Host S) (o : Outcome S) (x : Held) → leaving o.node.firm o.node.held ≡ x ∷ [] → stepped w 0 h o ≡ posts (quiet w h o) (from_node h.node.id x)
+one_leaves : {S : Type 0} (course : Course S) (w : World S) (h : Host S) (o : Outcome S) (x : Held) → leaving o.node.firm o.node.held ≡ x ∷ [] → stepped course w 0 h o ≡ posts (quiet course w h o) (from_node h.node.id x)
 unfolding stepped
-one_leaves w h o x leaves = ap (sends_all h.node.id (quiet w h o)) leaves
+one_leaves course w h o x leaves = ap (sends_all h.node.id (quiet course w h o)) leaves
 
 next_leaves : {S : Type 0} (m : Meaning S) → leaving (firm_outcome m).node.firm (firm_outcome m).node.held ≡ record { to = targets.View; message = proposal_in 1; needs = 4 } ∷ []
 unfolding computed
@@ -485,17 +485,17 @@ named7 : {S : Type 0} (m : Meaning S) → (firm_host m).node.id ≡ 1
 unfolding computed
 named7 m = refl
 
-firm_leaves : {S : Type 0} (m : Meaning S) → stepped (written m) 0 (firm_host m) (firm_outcome m) ≡ posts (leaves_next m) next_sent
+firm_leaves : {S : Type 0} (m : Meaning S) → stepped (course_of m) (written m) 0 (firm_host m) (firm_outcome m) ≡ posts (leaves_next m) next_sent
 unfolding leaves_next
 firm_leaves {S = S} m =
     let h : Host S = firm_host m in
     let o : Outcome S = firm_outcome m in
     let made : ℕ → World S = λ id. posts (record (written m) {
-      hosts = slice_set (written m).hosts 0 (host_after h o);
+      hosts = slice_set (written m).hosts 0 (host_after (course_of m) h o);
       chosen = chosen_with (written m).chosen (next_place o.node) o.node.waiting;
       told = (written m).told ++ (told_drop id o.dropped ++ flat_map (told_fired id) o.fired);
     }) (record { origin = origins.Node id; to = Some targets.View; content = contents.Message (proposal_in 1) }) in
-    one_leaves (written m) h o (record { to = targets.View; message = proposal_in 1; needs = 4 }) (next_leaves m) ∙ ap made (named7 m)
+    one_leaves (course_of m) (written m) h o (record { to = targets.View; message = proposal_in 1; needs = 4 }) (next_leaves m) ∙ ap made (named7 m)
 
 turned7 : {S : Type 0} (m : Meaning S) → turn m 4 first_sync None None (world6 m) ≡ posts (leaves_next m) next_sent
 unfolding turn repeated adopted written firm_host firm_outcome
@@ -507,7 +507,7 @@ unfolding computed
 settled7 m = refl
 
 -- the beginning of the regency is given
-turn7 : {S : Type 0} (m : Meaning S) → flow_once (step_of m) [] (world6 m) ≡ world7 m
+turn7 : {S : Type 0} (m : Meaning S) → flow_once (course_of m) [] (world6 m) ≡ world7 m
 unfolding computed
 turn7 {S = S} m =
     given m 4 first_sync None None (origins.Node 1) (world6 m) (omega arith) refl refl refl refl
@@ -523,7 +523,7 @@ turn7 {S = S} m =
     ∙ (turned7 m ∙ posted7 m)
 
 -- the proposal of the regency is given
-turn8 : {S : Type 0} (m : Meaning S) → flow_once (step_of m) [] (world7 m) ≡ world8 m
+turn8 : {S : Type 0} (m : Meaning S) → flow_once (course_of m) [] (world7 m) ≡ world8 m
 unfolding computed
 turn8 m =
     given m 4 (proposal_in 1) None None (origins.Node 1) (world7 m) (omega arith) refl refl refl refl
@@ -537,7 +537,7 @@ turn8 m =
     }) refl
 
 -- the vote to write is given
-turn9 : {S : Type 0} (m : Meaning S) → flow_once (step_of m) [] (world8 m) ≡ world9 m
+turn9 : {S : Type 0} (m : Meaning S) → flow_once (course_of m) [] (world8 m) ≡ world9 m
 unfolding computed
 turn9 m =
     given m 4 (vote_in 1 Write) (Some (proposed_in 1)) None (origins.Node 1) (world8 m) (omega arith) refl refl refl refl
@@ -550,7 +550,7 @@ turn9 m =
     }) refl
 
 -- the vote to accept is given
-turn10 : {S : Type 0} (m : Meaning S) → flow_once (step_of m) [] (world9 m) ≡ world10 m
+turn10 : {S : Type 0} (m : Meaning S) → flow_once (course_of m) [] (world9 m) ≡ world10 m
 unfolding computed
 turn10 m =
     given m 5 (vote_in 1 Accept) None (Some later_decision) (origins.Node 1) (world9 m) (omega arith) refl refl refl refl
@@ -564,23 +564,23 @@ turn10 m =
     }) refl
 
 -- the reply is given
-turn11 : {S : Type 0} (m : Meaning S) → IsBrief m → flow_once (step_of m) [] (world10 m) ≡ world11 m
+turn11 : {S : Type 0} (m : Meaning S) → IsBrief m → flow_once (course_of m) [] (world10 m) ≡ world11 m
 unfolding computed
 turn11 m brief =
     given_back m (first_reply m) (origins.Node 1) 1 waiting_client (hears.Accepted (first_acceptance m)) (world10 m) refl refl refl (spelling_is (Reply (first_reply m)) (good_reply m brief).fits) (accepts_first m brief)
 
 -- no message is left
-turn_over : {S : Type 0} (m : Meaning S) → flow_once (step_of m) [] (world11 m) ≡ world11 m
+turn_over : {S : Type 0} (m : Meaning S) → flow_once (course_of m) [] (world11 m) ≡ world11 m
 unfolding computed
-turn_over m = idle (step_of m) (world11 m) refl refl
+turn_over m = idle (course_of m) (world11 m) refl refl
 
 -- the play
 
 -- the flow ends where the client has heard the reply
-flow_is : {S : Type 0} (m : Meaning S) → IsBrief m → until_rest (flow_once (step_of m) []) (begins m) ≡ world11 m
+flow_is : {S : Type 0} (m : Meaning S) → IsBrief m → until_rest (flow_once (course_of m) []) (begins m) ≡ world11 m
 unfolding repeated
 flow_is {S = S} m brief =
-    let f : World S → World S = flow_once (step_of m) [] in
+    let f : World S → World S = flow_once (course_of m) [] in
     let all : repeated f 11 (begins m) ≡ world11 m =
     ap (repeated f 10) (turn1 m)
     ∙ (ap (repeated f 9) (turn2 m)
@@ -595,8 +595,8 @@ flow_is {S = S} m brief =
 play_is : {S : Type 0} (m : Meaning S) → IsBrief m → world_at m lone ask_and_wait 5 ≡ rested (world11 m)
 unfolding line_played asked waited
 play_is {S = S} m brief =
-    let rest : World S → World S = λ w. rested (until_rest (flow_once (step_of m) []) (settle_all (step_of m) [] (rested (tick_each (step_of m) (1 ∷ []) (rested (tick_each (step_of m) (1 ∷ []) w)))))) in
-    ap rest (turn_gave m) ∙ ap rested (ap (until_rest (flow_once (step_of m) [])) (turn_begins m) ∙ flow_is m brief)
+    let rest : World S → World S = λ w. rested (until_rest (flow_once (course_of m) []) (settle_all (course_of m) [] (rested (tick_each (course_of m) (1 ∷ []) (rested (tick_each (course_of m) (1 ∷ []) w)))))) in
+    ap rest (turn_gave m) ∙ ap rested (ap (until_rest (flow_once (course_of m) [])) (turn_begins m) ∙ flow_is m brief)
 
 -- the batch of the request is chosen
 pub later_chosen : {S : Type 0} (m : Meaning S) → IsBrief m → (world_at m lone ask_and_wait 5).chosen ≡ (first_signed ∷ []) ∷ []

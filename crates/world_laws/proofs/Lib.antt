@@ -19,11 +19,15 @@ pub mod Stating
 pub mod Unforged
 pub mod Longer
 pub mod Stores
+pub mod Lives
+pub mod Reopens
 pub mod Witnessing
 pub mod Fitting
 pub mod Grounded
 pub mod Aligned
+pub mod Few
 pub mod Chosen
+pub mod ChosenLives
 pub mod ChosenKept
 pub mod Asked
 pub mod Borne
@@ -31,10 +35,10 @@ pub mod Replied
 pub mod Replies
 pub mod Accepted
 pub mod Told
+pub mod Kept
 pub mod OneListLaw
 pub mod Calls
 pub mod Supplied
 pub mod Settles
 pub mod Example
 pub mod Later
-pub mod Reopens

@@ -1,14 +1,17 @@
 -- One list holds throughout a script.
-use Rattle.std.proofs.Common.{◌≡◌, ℕ, true, List, take, refl}
+use Rattle.std.proofs.Common.{◌≡◌, ◌⊎◌, inl, inr, ⊎_elim, ℕ, true, List, take, refl}
 use Rattle.smart_base.specs.Lists.{Each}
 use Rattle.smart_base.specs.Views.{View, is_view}
 use Rattle.smart_service.specs.Services.{Meaning}
-use Rattle.node_rules.specs.Steps.{step_of}
-use Rattle.world_rules.specs.Worlds.{World, begun}
+use Rattle.world_rules.specs.Worlds.{course_of, World, begun}
 use Rattle.world_rules.specs.Plays.{lines_told}
-use Rattle.world_rules.specs.Promises.{IsAnswered, OneList, OneListThroughout, world_at}
+use Rattle.world_rules.specs.Promises.{IsAnswered, IsRogue, IsRight, IsKept, OneList, OneListThroughout, world_at}
 use Rattle.world_rules.specs.declared.line.Line.{Line}
-use Rattle.world_laws.proofs.Keeps.{Keeps, keeps-world_after}
+use Rattle.world_laws.proofs.Keeps.{KeepsAll, keeps-world_after}
+use Rattle.world_laws.proofs.Kept.{all_recover, replied_kept}
+use Rattle.world_laws.specs.Sending.{QuorumReplied}
+use Rattle.client_quorum.specs.declared.client.Acceptance.{Acceptance}
+use Rattle.world_laws.proofs.Lists.{each_weaker}
 use Rattle.replica_laws.proofs.FitNodes.{IsBrief}
 use Rattle.world_laws.proofs.Unforged.{member_states}
 use Rattle.world_laws.proofs.Replied.{RightBorne, right-borne-kept, reply_there, Replied, keeps-replied, replied-begun}
@@ -19,7 +22,7 @@ use Rattle.world_laws.proofs.Grows.{list-grows}
 use Rattle.world_laws.proofs.Replies.{RepliesRight, reply_stated, keeps-replies, replies-begun}
 use Rattle.world_laws.proofs.Asked.{asked-after}
 use Rattle.world_laws.proofs.Asking.{right-after}
-use Rattle.world_laws.proofs.Accepted.{AcceptedTold, AcceptedRight, Telling, keeps-told, told-begun, accepted-right}
+use Rattle.world_laws.proofs.Accepted.{AcceptedTold, AcceptedRight, RightUnlessRogue, Telling, keeps-told, told-begun, accepted-right}
 use Rattle.world_laws.proofs.Told.{lines-answered}
 use Rattle.world_laws.proofs.Past.{past-known}
 
@@ -44,7 +47,7 @@ telling m w is =
     }
 
 -- each event keeps that
-pub keeps-told_right : {S : Type 0} (m : Meaning S) → IsBrief m → Keeps (step_of m) (ToldRight m)
+pub keeps-told_right : {S : Type 0} (m : Meaning S) → IsBrief m → KeepsAll (course_of m) (ToldRight m)
 keeps-told_right m brief =
     keeps-told m (Heard m) (telling m)
     (keeps-replied m (λ w. RightBorne m w × RepliesRight m w) (λ w is. is.0) (keeps-replies m (RightBorne m) (right-borne-kept m brief) (λ w is. chosen-aligned m w is.0)))
@@ -52,26 +55,29 @@ keeps-told_right m brief =
 -- so it holds after each line of a script
 pub told_right-at : {S : Type 0} (m : Meaning S) → IsBrief m → (view : View) → is_view view ≡ true → (ls : List Line) (k : ℕ) → ToldRight m (world_at m view ls k)
 told_right-at m brief view is ls k =
-    keeps-world_after (step_of m) (ToldRight m) (keeps-told_right m brief) (begun m view) (take k ls)
+    keeps-world_after (course_of m) (ToldRight m) (keeps-told_right m brief) (begun m view) (take k ls)
     ((((chosen-begun m view is, borne-begun m view), replies-begun m view), replied-begun m view), told-begun m view)
 
 -- and all accepted replies are right
 pub accepted-at : {S : Type 0} (m : Meaning S) → IsBrief m → (view : View) → is_view view ≡ true → (ls : List Line) (k : ℕ) → AcceptedRight m (world_at m view ls k)
 accepted-at m brief view is ls k =
-    accepted-right m (world_at m view ls k) (asked-after m brief view (take k ls) is) (right-after m (step_of m) view (take k ls)) (told_right-at m brief view is ls k).1
+    accepted-right m (world_at m view ls k) (asked-after m brief view (take k ls) is) (right-after m (course_of m) view (take k ls)) (told_right-at m brief view is ls k).1
 
 -- one list holds after each line of a script
 pub one_list-at : {S : Type 0} (m : Meaning S) → IsBrief m → (view : View) → is_view view ≡ true → (ls : List Line) (k : ℕ) → OneList m (world_at m view ls k)
 one_list-at m brief view is ls k =
     record {
       hosts = chosen-prefix m (world_at m view ls k) (told_right-at m brief view is ls k).0.0.0.0;
+      recovers = all_recover m (world_at m view ls k) (told_right-at m brief view is ls k).0.0.0.0;
       accepted = (accepted-at m brief view is ls k).all;
-      rising = (right-after m (step_of m) view (take k ls)).all.rising;
+      kept = each_weaker (QuorumReplied (world_at m view ls k).view (world_at m view ls k).faulty (world_at m view ls k).sent) (λ (a : Acceptance). IsKept m (world_at m view ls k) a.place)
+          (λ a replied. replied_kept m (world_at m view ls k) a (told_right-at m brief view is ls k).0.0.0.0 replied) (world_at m view ls k).accepted (told_right-at m brief view is ls k).0.1.accepted;
+      rising = (right-after m (course_of m) view (take k ls)).all.rising;
     }
 
 -- each line that told of an accepted reply until then tells its answer
 pub told-at : {S : Type 0} (m : Meaning S) → IsBrief m → (view : View) → is_view view ≡ true → (ls : List Line) (k : ℕ)
-    → Each (IsAnswered m view (world_at m view ls k).rogue (world_at m view ls k).chosen) (lines_told (step_of m) (begun m view) (take k ls))
+    → Each (IsAnswered m view (world_at m view ls k).rogue (world_at m view ls k).chosen) (lines_told (course_of m) (begun m view) (take k ls))
 told-at m brief view is ls k = lines-answered m view (take k ls) (accepted-at m brief view is ls k)
 
 -- one list holds throughout a script and only grows, and the lines of accepted replies tell its answers

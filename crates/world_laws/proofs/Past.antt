@@ -6,10 +6,8 @@ use Rattle.smart_base.specs.Views.{View}
 use Rattle.smart_messages.specs.Forms.{SignedBy}
 use Rattle.smart_messages.specs.declared.statement.Request.{Request}
 use Rattle.smart_messages.specs.declared.statement.Answer.{Answer}
-use Rattle.smart_messages.specs.declared.entry.NodeEvent.{NodeEvent}
 use Rattle.smart_service.specs.Services.{Meaning}
-use Rattle.node_rules.specs.Nodes.{Node}
-use Rattle.node_rules.specs.Steps.{Outcome, step_of, leaving}
+use Rattle.node_rules.specs.Steps.{Outcome, leaving}
 use Rattle.client_quorum.specs.Clients.{request_of, asking, learning, after_heard}
 use Rattle.client_quorum.specs.declared.client.Client.{Client}
 use Rattle.client_quorum.specs.declared.client.Acceptance.{Acceptance}
@@ -18,7 +16,7 @@ use Rattle.client_quorum.specs.declared.client.Heard.TheVariants as hears
 use Rattle.world_rules.specs.Clients.{heard}
 use Rattle.world_rules.specs.Knowing.{known_by}
 use Rattle.world_rules.specs.Promises.{HasAsked, IsPast, world_at}
-use Rattle.world_rules.specs.Worlds.{Host, World, posts, stepped, acceptance_in, hearing, begun}
+use Rattle.world_rules.specs.Worlds.{Course, course_of, Host, World, posts, stepped, acceptance_in, hearing, begun}
 use Rattle.world_rules.specs.Plays.{rested, world_after, lines_told}
 use Rattle.world_rules.specs.declared.line.Line.{Line}
 use Rattle.world_rules.specs.declared.line.OutLine.{OutLine}
@@ -26,7 +24,7 @@ use Rattle.world_rules.specs.declared.message.Ending.{Ending}
 use Rattle.world_rules.specs.declared.message.Sent.{Sent}
 use Rattle.world_laws.proofs.Lists.{some-equal, each_end, each_weaker}
 use Rattle.world_laws.proofs.Numbered.{EachAt, each_at_get, each_at_weaker, each_at_set, each_at_both}
-use Rattle.world_laws.proofs.Keeps.{ask_of, asked_by, by-posts-ended, Keeps, KeepsLive, keeps-world_after, live-world_after, signed_by, from_node, from_client, from_script, keeps-sends_all}
+use Rattle.world_laws.proofs.Keeps.{ask_of, asked_by, by-posts-ended, KeepsAll, KeepsLives, keeps-world_after, live-world_after, signed_by, from_node, from_client, from_script, keeps-sends_all}
 use Rattle.world_laws.proofs.Hearing.{Accepts, accepts_waiting}
 use Rattle.world_laws.proofs.Asks.{asked_grows}
 use Rattle.world_laws.proofs.Asking.{ClientRight, ClientsRight, keeps-right, rested-right, right-after}
@@ -36,9 +34,9 @@ use Rattle.world_laws.proofs.Seen.{id_at, seen-told}
 -- what was sent stays
 
 -- a node takes an event
-asked-stepped : {S : Type 0} (w : World S) (i : ℕ) (h : Host S) (o : Outcome S) (q : Request) → HasAsked w.sent q → HasAsked (stepped w i h o).sent q
+asked-stepped : {S : Type 0} (course : Course S) (w : World S) (i : ℕ) (h : Host S) (o : Outcome S) (q : Request) → HasAsked w.sent q → HasAsked (stepped course w i h o).sent q
 unfolding stepped
-asked-stepped {S = S} w i h o q asked =
+asked-stepped {S = S} course w i h o q asked =
     keeps-sends_all (λ (v : World S). HasAsked v.sent q) h.node.id (λ v held asked. asked_grows v (from_node h.node.id held) q asked) _ (leaving o.node.firm o.node.held) asked
 
 -- a client hears
@@ -47,18 +45,22 @@ unfolding hearing
 asked-hearing w i c a h q asked = asked
 
 -- each event keeps that a request was sent
-keeps-sent : {S : Type 0} (step : Node S → NodeEvent → Outcome S) (q : Request) → Keeps step (λ w. HasAsked w.sent q)
-keeps-sent step q =
+keeps-sent : {S : Type 0} (course : Course S) (q : Request) → KeepsAll course (λ w. HasAsked w.sent q)
+keeps-sent course q =
     record {
-      event = λ w i h event there at may asked. asked-stepped w i h (step h.node event) q asked;
-      disk = λ w i h at asked. asked;
-      hear = λ w i c x a at has read asked. asked-hearing w i c a (heard w.view c a) q asked;
-      ask = λ w i c op at free few brief asked. asked_grows (asked_by w i c op) (from_client c (ask_of c op)) q asked;
-      again = λ w i c r at waits asked. asked_grows w (from_client c (signed_by c r)) q asked;
-      learn = λ w i j c d at other asked. asked;
-      inject = λ w x read fine asked. asked_grows w (from_script x) q asked;
-      declare = λ w faulty rogue ending how asked. asked;
-      same = λ w mark told asked. asked;
+      kept = record {
+        event = λ w i h event up at may asked. asked-stepped course w i h (course.step h.node event) q asked;
+        disk = λ w i h up at asked. asked;
+        crash = λ w i h left up at may asked. asked;
+        hear = λ w i c x a at has read asked. asked-hearing w i c a (heard w.view c a) q asked;
+        ask = λ w i c op at free few brief asked. asked_grows (asked_by w i c op) (from_client c (ask_of c op)) q asked;
+        again = λ w i c r at waits asked. asked_grows w (from_client c (signed_by c r)) q asked;
+        learn = λ w i j c d at other asked. asked;
+        inject = λ w x read fine asked. asked_grows w (from_script x) q asked;
+        declare = λ w faulty rogue ending how asked. asked;
+        same = λ w mark told asked. asked;
+      };
+      resume = λ w i h down at asked. asked;
     }
 
 -- what clients know
@@ -90,9 +92,9 @@ past-posts {S = S} before known w s is =
 
 -- a node's step
 
-past-stepped : {S : Type 0} (before : List Sent) (known : ℕ → ℕ) (w : World S) (i : ℕ) (h : Host S) (o : Outcome S) → AllPast before known w → AllPast before known (stepped w i h o)
+past-stepped : {S : Type 0} (course : Course S) (before : List Sent) (known : ℕ → ℕ) (w : World S) (i : ℕ) (h : Host S) (o : Outcome S) → AllPast before known w → AllPast before known (stepped course w i h o)
 unfolding stepped
-past-stepped {S = S} before known w i h o is =
+past-stepped {S = S} course before known w i h o is =
     keeps-sends_all (λ (v : World S). AllPast before known v) h.node.id (λ v held past. past-posts before known v (from_node h.node.id held) past) _ (leaving o.node.firm o.node.held) (record { each = is.each; accepted = is.accepted })
 
 -- one client changes
@@ -156,29 +158,33 @@ abbrev Stating : {S : Type 0} → List Sent → (ℕ → ℕ) → World S → Ty
 Stating before known w = ClientsRight w × AllPast before known w
 
 -- each event keeps that
-keeps-stating : {S : Type 0} (step : Node S → NodeEvent → Outcome S) (before : List Sent) (known : ℕ → ℕ) → KeepsLive step (Stating before known)
-keeps-stating step before known =
-    let k = keeps-right step in
+keeps-stating : {S : Type 0} (course : Course S) (before : List Sent) (known : ℕ → ℕ) → KeepsLives course (Stating before known)
+keeps-stating course before known =
+    let k = keeps-right course in
     record {
-      event = λ w i h event on there at may is. (k.event w i h event on there at may is.0, past-stepped before known w i h (step h.node event) is.1);
-      disk = λ w i h on there at is. (k.disk w i h on there at is.0, record { each = is.1.each; accepted = is.1.accepted });
-      hear = λ w i c x a on at has read is. (k.hear w i c x a on at has read is.0, past-hearing before known w i c a on at is.1);
-      ask = λ w i c op on at free few brief is. (
-        k.ask w i c op on at free few brief is.0,
-        past-posts before known (asked_by w i c op) (from_client c (ask_of c op)) (past-asked before known w i c op at (id_at w i c at is.0) is.1),
-      );
-      again = λ w i c q on at waits is. (k.again w i c q on at waits is.0, past-posts before known w (from_client c (signed_by c q)) is.1);
-      learn = λ w i j c d on at other is. (k.learn w i j c d on at other is.0, record { each = past-learned before known w i c d.seen at is.1; accepted = is.1.accepted });
-      inject = λ w x on read fine is. (k.inject w x on read fine is.0, past-posts before known w (from_script x) is.1);
-      declare = λ w faulty rogue ending on how is. (
-        k.declare w faulty rogue ending on how is.0,
-        record {
-          each = each_at_weaker (ClientPast before known w.ending) (ClientPast before known ending) (λ i c past. record { seen = past.seen; waits = λ q waits still. past.waits q waits (how.over still) }) w.clients is.1.each;
-          accepted = is.1.accepted;
-        },
-      );
-      mark = λ w s on at is. (k.mark w s on at is.0, record { each = is.1.each; accepted = is.1.accepted });
-      tell = λ w line beside is. (k.tell w line beside is.0, record { each = is.1.each; accepted = is.1.accepted });
+      live = record {
+        event = λ w i h event on up at may is. (k.live.event w i h event on up at may is.0, past-stepped course before known w i h (course.step h.node event) is.1);
+        disk = λ w i h on up at is. (k.live.disk w i h on up at is.0, record { each = is.1.each; accepted = is.1.accepted });
+        hear = λ w i c x a on at has read is. (k.live.hear w i c x a on at has read is.0, past-hearing before known w i c a on at is.1);
+        ask = λ w i c op on at free few brief is. (
+          k.live.ask w i c op on at free few brief is.0,
+          past-posts before known (asked_by w i c op) (from_client c (ask_of c op)) (past-asked before known w i c op at (id_at w i c at is.0) is.1),
+        );
+        again = λ w i c q on at waits is. (k.live.again w i c q on at waits is.0, past-posts before known w (from_client c (signed_by c q)) is.1);
+        learn = λ w i j c d on at other is. (k.live.learn w i j c d on at other is.0, record { each = past-learned before known w i c d.seen at is.1; accepted = is.1.accepted });
+        inject = λ w x on read fine is. (k.live.inject w x on read fine is.0, past-posts before known w (from_script x) is.1);
+        declare = λ w faulty rogue ending on how is. (
+          k.live.declare w faulty rogue ending on how is.0,
+          record {
+            each = each_at_weaker (ClientPast before known w.ending) (ClientPast before known ending) (λ i c past. record { seen = past.seen; waits = λ q waits still. past.waits q waits (how.over still) }) w.clients is.1.each;
+            accepted = is.1.accepted;
+          },
+        );
+        mark = λ w s on at is. (k.live.mark w s on at is.0, record { each = is.1.each; accepted = is.1.accepted });
+        tell = λ w line beside is. (k.live.tell w line beside is.0, record { each = is.1.each; accepted = is.1.accepted });
+      };
+      crash = λ w i h left on up at may is. (k.crash w i h left on up at may is.0, record { each = is.1.each; accepted = is.1.accepted });
+      resume = λ w i h on down at is. (k.resume w i h on down at is.0, record { each = is.1.each; accepted = is.1.accepted });
     }
 
 -- between two lines
@@ -210,10 +216,10 @@ front_more (l ∷ ls) (suc j) (suc k) le =
     (later.0, ap (λ (xs : List Line). l ∷ xs) later.1)
 
 -- the world after the longer is the one after more lines behind the shorter
-world-more : {S : Type 0} (m : Meaning S) (view : View) (ls : List Line) (j k : ℕ) → j ≤ k → (more : List Line) × (world_at m view ls k ≡ world_after (step_of m) (world_at m view ls j) more)
+world-more : {S : Type 0} (m : Meaning S) (view : View) (ls : List Line) (j k : ℕ) → j ≤ k → (more : List Line) × (world_at m view ls k ≡ world_after (course_of m) (world_at m view ls j) more)
 world-more m view ls j k le =
     let front = front_more ls j k le in
-    (front.0, ap (λ xs. world_after (step_of m) (begun m view) xs) front.1 ∙ world_after-append (step_of m) (begun m view) (take j ls) front.0)
+    (front.0, ap (λ xs. world_after (course_of m) (begun m view) xs) front.1 ∙ world_after-append (course_of m) (begun m view) (take j ls) front.0)
 
 -- all that was accepted in a world had been sent by then, or states what its client knew then
 abbrev AllAccepted : {S : Type 0} → List Sent → List OutLine → World S → Type 0
@@ -221,28 +227,28 @@ AllAccepted sent told w = Each (λ a. IsPast sent told a.request) w.accepted
 
 -- what is accepted later had been sent, or states what its client knew
 past-later : {S : Type 0} (m : Meaning S) (view : View) (ls : List Line) (j k : ℕ) → j ≤ k
-    → AllAccepted (world_at m view ls j).sent (lines_told (step_of m) (begun m view) (take j ls)) (world_at m view ls k)
+    → AllAccepted (world_at m view ls j).sent (lines_told (course_of m) (begun m view) (take j ls)) (world_at m view ls k)
 past-later {S = S} m view ls j k le =
     let before : World S = world_at m view ls j in
-    let told : List OutLine = lines_told (step_of m) (begun m view) (take j ls) in
+    let told : List OutLine = lines_told (course_of m) (begun m view) (take j ls) in
     let known : ℕ → ℕ = λ i. known_by i told in
     let later = world-more m view ls j k le in
-    let now : Stating before.sent known before = stating-now known before (seen-told m (step_of m) view (take j ls)) (right-after m (step_of m) view (take j ls)) in
-    let after : Stating before.sent known (world_after (step_of m) before later.0) =
-    live-world_after (step_of m) (Stating before.sent known) (keeps-stating (step_of m) before.sent known) (rested-stating before.sent known) before later.0 now in
+    let now : Stating before.sent known before = stating-now known before (seen-told m (course_of m) view (take j ls)) (right-after m (course_of m) view (take j ls)) in
+    let after : Stating before.sent known (world_after (course_of m) before later.0) =
+    live-world_after (course_of m) (Stating before.sent known) (keeps-stating (course_of m) before.sent known) (rested-stating before.sent known) before later.0 now in
     subst (AllAccepted before.sent told) (sym later.1) after.1.accepted
 
 -- what was accepted earlier had been sent
 past-earlier : {S : Type 0} (m : Meaning S) (view : View) (ls : List Line) (j k : ℕ) → k ≤ j
-    → AllAccepted (world_at m view ls j).sent (lines_told (step_of m) (begun m view) (take j ls)) (world_at m view ls k)
+    → AllAccepted (world_at m view ls j).sent (lines_told (course_of m) (begun m view) (take j ls)) (world_at m view ls k)
 past-earlier {S = S} m view ls j k le =
     let earlier : World S = world_at m view ls k in
-    let told : List OutLine = lines_told (step_of m) (begun m view) (take j ls) in
+    let told : List OutLine = lines_told (course_of m) (begun m view) (take j ls) in
     let later = world-more m view ls k j le in
     subst (λ (w : World S). AllAccepted w.sent told earlier) (sym later.1)
-    (each_weaker (λ (a : Acceptance). HasAsked earlier.sent a.request) (λ (a : Acceptance). IsPast (world_after (step_of m) earlier later.0).sent told a.request)
-    (λ a asked. inl (keeps-world_after (step_of m) (λ (w : World S). HasAsked w.sent a.request) (keeps-sent (step_of m) a.request) earlier later.0 asked))
-    earlier.accepted (right-after m (step_of m) view (take k ls)).all.asked)
+    (each_weaker (λ (a : Acceptance). HasAsked earlier.sent a.request) (λ (a : Acceptance). IsPast (world_after (course_of m) earlier later.0).sent told a.request)
+    (λ a asked. inl (keeps-world_after (course_of m) (λ (w : World S). HasAsked w.sent a.request) (keeps-sent (course_of m) a.request) earlier later.0 asked))
+    earlier.accepted (right-after m (course_of m) view (take k ls)).all.asked)
 
 -- of two numbers one is no more than the other
 in_order : (j k : ℕ) → (j ≤ k) ⊎ (k ≤ j)
@@ -252,5 +258,5 @@ in_order (suc j) (suc k) = elim (in_order j k) [ inl le ↦ inl (omega (arith, l
 
 -- whatever was accepted and whenever, its request had been sent by a line, or it states what its client knew then
 pub past-known : {S : Type 0} (m : Meaning S) (view : View) (ls : List Line) (j k : ℕ)
-    → Each (λ a. IsPast (world_at m view ls j).sent (lines_told (step_of m) (begun m view) (take j ls)) a.request) (world_at m view ls k).accepted
+    → Each (λ a. IsPast (world_at m view ls j).sent (lines_told (course_of m) (begun m view) (take j ls)) a.request) (world_at m view ls k).accepted
 past-known m view ls j k = elim (in_order j k) [ inl le ↦ past-later m view ls j k le | inr le ↦ past-earlier m view ls j k le ]

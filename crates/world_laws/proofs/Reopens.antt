@@ -1,4 +1,4 @@
--- A node that goes on after a crash: it delivers in order, what it holds has a spelling, its batches were met, and what it will send rests on its book.
+-- A node that goes on after a crash: it delivers in order, what it holds has a spelling, and what it will send rests on its book.
 use Rattle.std.proofs.Common.{◌≡◌, ℕ, ◌+◌, ◌^◌, ◌<◌, ◌==◌, true, false, List, [], ◌∷◌, length, arith, ap, subst, sym, refl}
 use Rattle.std.proofs.lemmas.List.{take_all}
 use Rattle.smart_base.specs.Lists.{Each}
@@ -27,7 +27,6 @@ use Rattle.replica_laws.proofs.Onward.{NodeRests}
 use Rattle.replica_laws.proofs.FitNodes.{FitNode, FitsLine, IsBrief, fit-as, lines_of-fit, view-low}
 use Rattle.replica_laws.proofs.FitNodes as nodes
 use Rattle.replica_laws.proofs.FitBooks.{FitBook, spelled-opened}
-use Rattle.world_laws.proofs.Grounded.{EntryMet, NodeMet}
 
 -- the node that goes on from some entries
 going : {S : Type 0} → Meaning S → List ℕ → ℕ → View → List LogEntry → Node S
@@ -129,15 +128,7 @@ fit_reopened {S = S} secret m brief id view period (e ∷ es) named viewed low k
     subst (λ (n : Node S). FitBook secret n) (sym (reopened_is m secret id view period e es))
     (record { node = going_fits secret m brief id view (e ∷ es) named viewed kept spelled few; book = spelled })
 
--- ---- what was met, and what is behind a reply
-
--- an opening has no batch
-pub met_reopened : {S : Type 0} (M : Batch → Type 0) (m : Meaning S) (secret : List ℕ) (id : ℕ) (view : View) (period : ℕ) (entries : List LogEntry) → Each (EntryMet M) entries
-    → NodeMet M (reopened m secret id view period entries)
-unfolding reopened
-met_reopened M m secret id view period [] met = record { arrivals = tt; entries = (tt, tt); waiting = tt }
-met_reopened {S = S} M m secret id view period (e ∷ es) met =
-    subst (λ (n : Node S). NodeMet M n) (sym (reopened_is m secret id view period e es)) (record { arrivals = tt; entries = met; waiting = tt })
+-- ---- what is behind a reply
 
 going_rests : {S : Type 0} (m : Meaning S) (secret : List ℕ) (id : ℕ) (stated : List Statement) (view : View) (es : List LogEntry) → IsSound stated view (going m secret id view es)
     → NodeRests (going m secret id view es)

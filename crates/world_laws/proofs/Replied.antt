@@ -17,7 +17,7 @@ use Rattle.world_rules.specs.Secrets.{group_secret}
 use Rattle.world_rules.specs.Premises.{is_among}
 use Rattle.client_quorum.specs.Clients.{learning, acceptance}
 use Rattle.world_rules.specs.Clients.{heard}
-use Rattle.world_rules.specs.Worlds.{Host, World, posts, stepped, acceptance_in, hearing, clients_from, begun}
+use Rattle.world_rules.specs.Worlds.{Course, course_of, Host, World, posts, stepped, acceptance_in, hearing, clients_from, begun}
 use Rattle.world_rules.specs.Plays.{world_after}
 use Rattle.client_quorum.specs.declared.client.Client.{Client}
 use Rattle.client_quorum.specs.declared.client.Acceptance.{Acceptance}
@@ -32,7 +32,7 @@ use Rattle.world_rules.specs.declared.message.Sent.{Sent}
 use Rattle.world_laws.specs.Sending.{IsOwnSent, is_reply, is_of, is_for, is_reply_of, has_replied, QuorumReplied, QuorumsReplied}
 use Rattle.world_laws.proofs.Lists.{and_true, each_end, each_weaker, each_set, each_get, or_left, or_right, or_true}
 use Rattle.world_laws.proofs.Equal.{and_intro}
-use Rattle.world_laws.proofs.Keeps.{HasContent, HasMessage, ask_of, asked_by, by-posts, keeps-sends_all, has_end, heard_has, Keeps, keeps-world_after, signed_by, from_node, from_client, from_script}
+use Rattle.world_laws.proofs.Keeps.{HasContent, HasMessage, ask_of, asked_by, by-posts, keeps-sends_all, has_end, heard_has, KeepsAll, keeps-world_after, signed_by, from_node, from_client, from_script}
 use Rattle.replica_laws.proofs.FitNodes.{IsBrief}
 use Rattle.agreement_laws.proofs.Lists.{each_among}
 use Rattle.world_laws.proofs.Hearing.{accepts_waiting}
@@ -43,10 +43,10 @@ use Rattle.vote_book.proofs.Tested.{among_any}
 use Rattle.world_laws.specs.Stated.{stated}
 use Rattle.world_laws.proofs.Stating.{says_message}
 use Rattle.world_laws.proofs.Witnessing.{content_stated}
-use Rattle.world_laws.proofs.Borne.{Borne, keeps-borne, borne-begun}
+use Rattle.world_laws.proofs.Borne.{Borne, right-borne, borne-begun}
 use Rattle.world_laws.proofs.Unforged.{any_more, NodeStates, member_states, reply_content}
 use Rattle.world_laws.proofs.Chosen.{ChosenRight}
-use Rattle.world_laws.proofs.ChosenKept.{keeps-both, right-reads, chosen-kept, chosen-begun}
+use Rattle.world_laws.proofs.ChosenKept.{right-reads, chosen-begun}
 
 -- the list is right, and what was sent is each one's own
 abbrev pub RightBorne : {S : Type 0} → Meaning S → World S → Type 0
@@ -113,9 +113,9 @@ replied-posts {S = S} w s is =
     })
 
 -- a node's step
-replied-stepped : {S : Type 0} (w : World S) (i : ℕ) (h : Host S) (o : Outcome S) → Replied w → Replied (stepped w i h o)
+replied-stepped : {S : Type 0} (course : Course S) (w : World S) (i : ℕ) (h : Host S) (o : Outcome S) → Replied w → Replied (stepped course w i h o)
 unfolding stepped
-replied-stepped w i h o is =
+replied-stepped course w i h o is =
     keeps-sends_all Replied h.node.id (λ v held right. replied-posts v (from_node h.node.id held) right) _ (leaving o.node.firm o.node.held) (record { clients = is.clients; accepted = is.accepted })
 
 -- a client hears
@@ -199,41 +199,45 @@ replied-hearing m w i c a at has right is =
     }
 
 -- each event keeps the list right, and what was sent each one's own
-pub right-borne-kept : {S : Type 0} (m : Meaning S) → IsBrief m → Keeps (step_of m) (RightBorne m)
-right-borne-kept m brief = keeps-both (step_of m) (ChosenRight m) Borne (chosen-kept m brief) (keeps-borne m)
+pub right-borne-kept : {S : Type 0} (m : Meaning S) → IsBrief m → KeepsAll (course_of m) (RightBorne m)
+right-borne-kept m brief = right-borne m brief
 
 -- where the list is right, each event keeps that
-pub keeps-replied : {S : Type 0} (m : Meaning S) (P : World S → Type 0) → ((w : World S) → P w → RightBorne m w) → Keeps (step_of m) P → Keeps (step_of m) (λ w. P w × Replied w)
+pub keeps-replied : {S : Type 0} (m : Meaning S) (P : World S → Type 0) → ((w : World S) → P w → RightBorne m w) → KeepsAll (course_of m) P → KeepsAll (course_of m) (λ w. P w × Replied w)
 keeps-replied m P right k =
     record {
-      event = λ w i h event there at may p. (k.event w i h event there at may p.0, replied-stepped w i h (step_of m h.node event) p.1);
-      disk = λ w i h at p. (k.disk w i h at p.0, record { clients = p.1.clients; accepted = p.1.accepted });
-      hear = λ w i c x a at has read p. (
-        k.hear w i c x a at has read p.0,
-        replied-hearing m w i c a at (heard_has w x (Reply a) (right-reads m w (right w p.0).0) has read) (right w p.0) p.1,
-      );
-      ask = λ w i c op at free low brief p. (
-        k.ask w i c op at free low brief p.0,
-        replied-posts (asked_by w i c op) (from_client c (ask_of c op))
-            (record { clients = each_set (ClientKeeps (WasSent w.sent)) w.clients i _ p.1.clients tt; accepted = p.1.accepted }),
-      );
-      again = λ w i c q at waits p. (k.again w i c q at waits p.0, replied-posts w (from_client c (signed_by c q)) p.1);
-      learn = λ w i j c d at other p. (
-        k.learn w i j c d at other p.0,
-        record {
-          clients = each_set (ClientKeeps (WasSent w.sent)) w.clients i (learning c d.seen) p.1.clients (each_get (ClientKeeps (WasSent w.sent)) w.clients i c p.1.clients at);
-          accepted = p.1.accepted;
-        },
-      );
-      inject = λ w x read fine p. (k.inject w x read fine p.0, replied-posts w (from_script x) p.1);
-      declare = λ w faulty rogue ending how p. (
-        k.declare w faulty rogue ending how p.0,
-        record {
-          clients = p.1.clients;
-          accepted = each_weaker (QuorumReplied w.view w.faulty w.sent) (QuorumReplied w.view faulty w.sent) (quorum_faulty w.view w.faulty faulty w.sent how.more_faulty) w.accepted p.1.accepted;
-        },
-      );
-      same = λ w mark told p. (k.same w mark told p.0, record { clients = p.1.clients; accepted = p.1.accepted });
+      kept = record {
+        event = λ w i h event up at may p. (k.kept.event w i h event up at may p.0, replied-stepped (course_of m) w i h (step_of m h.node event) p.1);
+        disk = λ w i h up at p. (k.kept.disk w i h up at p.0, record { clients = p.1.clients; accepted = p.1.accepted });
+        crash = λ w i h left up at may p. (k.kept.crash w i h left up at may p.0, record { clients = p.1.clients; accepted = p.1.accepted });
+        hear = λ w i c x a at has read p. (
+          k.kept.hear w i c x a at has read p.0,
+          replied-hearing m w i c a at (heard_has w x (Reply a) (right-reads m w (right w p.0).0) has read) (right w p.0) p.1,
+        );
+        ask = λ w i c op at free low brief p. (
+          k.kept.ask w i c op at free low brief p.0,
+          replied-posts (asked_by w i c op) (from_client c (ask_of c op))
+              (record { clients = each_set (ClientKeeps (WasSent w.sent)) w.clients i _ p.1.clients tt; accepted = p.1.accepted }),
+        );
+        again = λ w i c q at waits p. (k.kept.again w i c q at waits p.0, replied-posts w (from_client c (signed_by c q)) p.1);
+        learn = λ w i j c d at other p. (
+          k.kept.learn w i j c d at other p.0,
+          record {
+            clients = each_set (ClientKeeps (WasSent w.sent)) w.clients i (learning c d.seen) p.1.clients (each_get (ClientKeeps (WasSent w.sent)) w.clients i c p.1.clients at);
+            accepted = p.1.accepted;
+          },
+        );
+        inject = λ w x read fine p. (k.kept.inject w x read fine p.0, replied-posts w (from_script x) p.1);
+        declare = λ w faulty rogue ending how p. (
+          k.kept.declare w faulty rogue ending how p.0,
+          record {
+            clients = p.1.clients;
+            accepted = each_weaker (QuorumReplied w.view w.faulty w.sent) (QuorumReplied w.view faulty w.sent) (quorum_faulty w.view w.faulty faulty w.sent how.more_faulty) w.accepted p.1.accepted;
+          },
+        );
+        same = λ w mark told p. (k.kept.same w mark told p.0, record { clients = p.1.clients; accepted = p.1.accepted });
+      };
+      resume = λ w i h down at p. (k.resume w i h down at p.0, record { clients = p.1.clients; accepted = p.1.accepted });
     }
 
 -- the beginning
@@ -248,9 +252,9 @@ pub replied-begun : {S : Type 0} (m : Meaning S) (view : View) → Replied (begu
 replied-begun m view = record { clients = fresh_keep [] 1025 0; accepted = tt }
 
 -- after the lines of any script, of each reply that a client accepted a quorum has sent it, but for those that are faulty
-pub quorums_replied : {S : Type 0} (m : Meaning S) → IsBrief m → (view : View) (ls : List Line) → is_view view ≡ true → QuorumsReplied (world_after (step_of m) (begun m view) ls)
+pub quorums_replied : {S : Type 0} (m : Meaning S) → IsBrief m → (view : View) (ls : List Line) → is_view view ≡ true → QuorumsReplied (world_after (course_of m) (begun m view) ls)
 quorums_replied {S = S} m brief view ls is =
     record {
-      each = (keeps-world_after (step_of m) (λ (w : World S). RightBorne m w × Replied w) (keeps-replied m (RightBorne m) (λ w right. right) (right-borne-kept m brief)) (begun m view) ls
+      each = (keeps-world_after (course_of m) (λ (w : World S). RightBorne m w × Replied w) (keeps-replied m (RightBorne m) (λ w right. right) (right-borne-kept m brief)) (begun m view) ls
           ((chosen-begun m view is, borne-begun m view), replied-begun m view)).1.accepted;
     }

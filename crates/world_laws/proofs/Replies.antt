@@ -1,5 +1,6 @@
 -- Each reply that a node holds, or has sent, tells an execution of the chosen list.
 use Rattle.std.proofs.Common.{◌≡◌, ℕ, ◌+◌, ◌++◌, ◌==◌, ◌∙◌, true, false, List, [], ◌∷◌, length, sym, subst, refl, inl, inr, Option, Some, None, Result, Ok, Err, take, drop}
+use Rattle.std.specs.Prelude.{slice_get}
 use Rattle.std.proofs.lemmas.List.{take-append-drop}
 use Rattle.smart_base.specs.Lists.{Each}
 use Rattle.smart_base.specs.Views.{View, is_member}
@@ -21,6 +22,7 @@ use Rattle.smart_service.specs.Services.{Meaning}
 use Rattle.smart_service.specs.declared.replica.Replica.{Replica}
 use Rattle.smart_service.specs.declared.table.TableLine.{TableLine}
 use Rattle.vote_book.specs.declared.entry.Decision.{Decision}
+use Rattle.vote_book.specs.declared.entry.LogEntry.{LogEntry}
 use Rattle.replica_rules.specs.Replicas.{is_next, delivered, executed_lines, executions, empty}
 use Rattle.replica_rules.specs.Pools.{offered, settled}
 use Rattle.node_rules.specs.Rules.{reply_of, replying, lines_to_answer, deliver_batch, delivers, proposing, propose_batch, proposes, writing, write_batch, writes, accepting, accept_batch, accepts, deciding, decide_batch, decides, answering, answer_line, answers_again}
@@ -28,11 +30,14 @@ use Rattle.node_rules.specs.Nodes.{Node, view_of, next_place, holding}
 use Rattle.node_rules.specs.Arrivals.{why_dropped, noted, kept_plain, kept_change, kept}
 use Rattle.node_rules.specs.Changes.{adopts_by, adoption, adopts, asks_next, joining, joins, promising, promise_next, promises, leading, lead_with, leads, timing, passes_on, presses, times}
 use Rattle.node_rules.specs.Steps.{Outcome, made_firm, passes, arrival_outcome, reading_outcome, step_of, leaving}
+use Rattle.node_rules.specs.Reopening.{reopened, entries_in}
 use Rattle.node_rules.specs.declared.node.Why.{Why}
 use Rattle.node_rules.specs.declared.node.Held.{Held}
 use Rattle.node_rules.specs.declared.node.Target.TheVariants as targets
+use Rattle.node_laws.proofs.Reopened.{reopened_is}
+use Rattle.world_rules.specs.Secrets.{group_secret}
 use Rattle.world_rules.specs.Clients.{heard}
-use Rattle.world_rules.specs.Worlds.{Host, World, posts, sends_all, chosen_with, host_after, stepped, hearing, hosts_from, begun}
+use Rattle.world_rules.specs.Worlds.{Course, course_of, Host, World, posts, sends_all, chosen_with, host_after, host_crashed, host_resumed, stepped, hearing, hosts_from, begun}
 use Rattle.client_quorum.specs.declared.client.Client.{Client}
 use Rattle.client_quorum.specs.declared.client.Heard.{Heard}
 use Rattle.world_rules.specs.declared.message.Origin.{Origin}
@@ -49,7 +54,7 @@ use Rattle.replica_laws.proofs.Leaves.{leaves-adopts, leaves-joins, leaves-promi
 use Rattle.replica_laws.proofs.Waiting.{each-leaving, each-staying}
 use Rattle.replica_laws.proofs.Rulewise.{KeptByRules, keeps_passes}
 use Rattle.world_laws.proofs.Lists.{either, each_end, each_weaker, each_set, each_get}
-use Rattle.world_laws.proofs.Keeps.{after_call, ask_of, asked_by, by-posts, Keeps, signed_by, from_node, from_client, from_script}
+use Rattle.world_laws.proofs.Keeps.{after_call, with_host, entries_left, node_resumed, ask_of, asked_by, by-posts, KeepsAll, signed_by, from_node, from_client, from_script}
 use Rattle.world_laws.proofs.Unforged.{NodeStates, reply_content}
 use Rattle.world_laws.proofs.Aligned.{Aligned, AllAligned, line_told, IsExecuted}
 
@@ -332,9 +337,9 @@ right-sends_all {S = S} m id w (h ∷ hs) each r =
 -- events of a world
 
 -- a node's step, whose held replies are right
-right-stepped : {S : Type 0} (m : Meaning S) (w : World S) (i : ℕ) (h : Host S) (o : Outcome S) → HeldRight m w.view w.chosen o.node → RepliesRight m w → RepliesRight m (stepped w i h o)
+right-stepped : {S : Type 0} (course : Course S) (m : Meaning S) (w : World S) (i : ℕ) (h : Host S) (o : Outcome S) → HeldRight m w.view w.chosen o.node → RepliesRight m w → RepliesRight m (stepped course w i h o)
 unfolding stepped
-right-stepped {S = S} m w i h o held r =
+right-stepped {S = S} course m w i h o held r =
     let chosen : List Batch = chosen_with w.chosen (next_place o.node) o.node.waiting in
     let more : (x : AnyMessage) → ReplyRight m w.view w.chosen x → ReplyRight m w.view chosen x = right-chosen m w.view w.chosen (next_place o.node) o.node.waiting in
     let all : Each (λ (x : Held). ReplyRight m w.view chosen x.message) o.node.held =
@@ -343,7 +348,7 @@ right-stepped {S = S} m w i h o held r =
     (record {
       sent = each_weaker (λ (s : Sent). RightFrom m w.view w.chosen s.origin s.content) (λ (s : Sent). RightFrom m w.view chosen s.origin s.content)
           (λ s. from-chosen m w.view w.chosen (next_place o.node) o.node.waiting s.origin s.content) w.sent r.sent;
-      held = each_set (λ (g : Host S). HeldRight m w.view chosen g.node) w.hosts i (host_after h o)
+      held = each_set (λ (g : Host S). HeldRight m w.view chosen g.node) w.hosts i (host_after course h o)
           (each_weaker (λ (g : Host S). HeldRight m w.view w.chosen g.node) (λ (g : Host S). HeldRight m w.view chosen g.node)
           (λ g. each_weaker (λ (x : Held). ReplyRight m w.view w.chosen x.message) (λ (x : Held). ReplyRight m w.view chosen x.message) (λ x. more x.message) g.node.held) w.hosts r.held)
           (each-staying (λ x. ReplyRight m w.view chosen x.message) o.node.firm o.node.held all);
@@ -354,34 +359,51 @@ right-hearing : {S : Type 0} (m : Meaning S) (w : World S) (i : ℕ) (c : Client
 unfolding hearing
 right-hearing m w i c a h r = record { sent = r.sent; held = r.held }
 
+-- what the node of a host holds
+held-at : {S : Type 0} (m : Meaning S) (w : World S) (i : ℕ) (h : Host S) → slice_get w.hosts i ≡ Some h → RepliesRight m w → HeldRight m w.view w.chosen h.node
+held-at {S = S} m w i h at r = each_get (λ (g : Host S). HeldRight m w.view w.chosen g.node) w.hosts i h r.held at
+
+-- another host in its place, whose node holds right replies
+right-host : {S : Type 0} (m : Meaning S) (w : World S) (i : ℕ) (h : Host S) → HeldRight m w.view w.chosen h.node → RepliesRight m w → RepliesRight m (with_host w i h)
+right-host {S = S} m w i h held r = record { sent = r.sent; held = each_set (λ (g : Host S). HeldRight m w.view w.chosen g.node) w.hosts i h r.held held }
+
+-- a node that goes on after a crash holds nothing
+held-reopened : {S : Type 0} (m : Meaning S) (v : View) (chosen : List Batch) (secret : List ℕ) (id : ℕ) (view : View) (period : ℕ) (entries : List LogEntry)
+    → HeldRight m v chosen (reopened m secret id view period entries)
+unfolding reopened
+held-reopened m v chosen secret id view period [] = tt
+held-reopened {S = S} m v chosen secret id view period (e ∷ es) = subst (λ (n : Node S). HeldRight m v chosen n) (sym (reopened_is m secret id view period e es)) tt
+
 -- where hosts stand along the chosen list, each event keeps all replies right
-pub keeps-replies : {S : Type 0} (m : Meaning S) (P : World S → Type 0) → Keeps (step_of m) P → ((w : World S) → P w → AllAligned m w) → Keeps (step_of m) (λ w. P w × RepliesRight m w)
+pub keeps-replies : {S : Type 0} (m : Meaning S) (P : World S → Type 0) → KeepsAll (course_of m) P → ((w : World S) → P w → AllAligned m w) → KeepsAll (course_of m) (λ w. P w × RepliesRight m w)
 keeps-replies {S = S} m P k aligned =
     record {
-      event = λ w i h event there at may p. (
-        k.event w i h event there at may p.0,
-        right-stepped m w i h (step_of m h.node event)
-            (held-step m w.view w.chosen h event (each_get (Aligned m w.view w.chosen) w.hosts i h (aligned w p.0).hosts at)
-            (each_get (λ (g : Host S). HeldRight m w.view w.chosen g.node) w.hosts i h p.1.held at)) p.1,
+      kept = record {
+        event = λ w i h event up at may p. (
+          k.kept.event w i h event up at may p.0,
+          right-stepped (course_of m) m w i h (step_of m h.node event)
+              (held-step m w.view w.chosen h event (each_get (Aligned m w.view w.chosen) w.hosts i h (aligned w p.0).hosts at)
+              (each_get (λ (g : Host S). HeldRight m w.view w.chosen g.node) w.hosts i h p.1.held at)) p.1,
+        );
+        disk = λ w i h up at p. (k.kept.disk w i h up at p.0, right-host m w i (after_call (course_of m) h) (held-at m w i h at p.1) p.1);
+        crash = λ w i h left up at may p. (k.kept.crash w i h left up at may p.0, right-host m w i (host_crashed (course_of m) h left) (held-at m w i h at p.1) p.1);
+        hear = λ w i c x a at has read p. (k.kept.hear w i c x a at has read p.0, right-hearing m w i c a (heard w.view c a) p.1);
+        ask = λ w i c op at free few brief p. (
+          k.kept.ask w i c op at free few brief p.0,
+          right-posts m (asked_by w i c op) (from_client c (ask_of c op)) tt
+              (record { sent = p.1.sent; held = p.1.held }),
+        );
+        again = λ w i c q at waits p. (k.kept.again w i c q at waits p.0, right-posts m w (from_client c (signed_by c q)) tt p.1);
+        learn = λ w i j c d at other p. (k.kept.learn w i j c d at other p.0, record { sent = p.1.sent; held = p.1.held });
+        inject = λ w x read fine p. (k.kept.inject w x read fine p.0, right-posts m w (from_script x) tt p.1);
+        declare = λ w faulty rogue ending how p. (k.kept.declare w faulty rogue ending how p.0, record { sent = p.1.sent; held = p.1.held });
+        same = λ w mark told p. (k.kept.same w mark told p.0, record { sent = p.1.sent; held = p.1.held });
+      };
+      resume = λ w i h down at p. (
+        k.resume w i h down at p.0,
+        right-host m w i (host_resumed h (node_resumed (course_of m) w h))
+            (held-reopened m w.view w.chosen group_secret h.node.id w.view 1024 (entries_in (entries_left h))) p.1,
       );
-      disk = λ w i h at p. (
-        k.disk w i h at p.0,
-        record {
-          sent = p.1.sent;
-          held = each_set (λ (g : Host S). HeldRight m w.view w.chosen g.node) w.hosts i (after_call h) p.1.held (each_get (λ (g : Host S). HeldRight m w.view w.chosen g.node) w.hosts i h p.1.held at);
-        },
-      );
-      hear = λ w i c x a at has read p. (k.hear w i c x a at has read p.0, right-hearing m w i c a (heard w.view c a) p.1);
-      ask = λ w i c op at free few brief p. (
-        k.ask w i c op at free few brief p.0,
-        right-posts m (asked_by w i c op) (from_client c (ask_of c op)) tt
-            (record { sent = p.1.sent; held = p.1.held }),
-      );
-      again = λ w i c q at waits p. (k.again w i c q at waits p.0, right-posts m w (from_client c (signed_by c q)) tt p.1);
-      learn = λ w i j c d at other p. (k.learn w i j c d at other p.0, record { sent = p.1.sent; held = p.1.held });
-      inject = λ w x read fine p. (k.inject w x read fine p.0, right-posts m w (from_script x) tt p.1);
-      declare = λ w faulty rogue ending how p. (k.declare w faulty rogue ending how p.0, record { sent = p.1.sent; held = p.1.held });
-      same = λ w mark told p. (k.same w mark told p.0, record { sent = p.1.sent; held = p.1.held });
     }
 
 -- opened nodes hold nothing

@@ -6,9 +6,7 @@ use Rattle.smart_base.specs.Lists.{Each}
 use Rattle.smart_base.specs.Views.{View}
 use Rattle.smart_messages.specs.Forms.{SignedBy}
 use Rattle.smart_messages.specs.declared.statement.Answer.{Answer}
-use Rattle.smart_messages.specs.declared.entry.NodeEvent.{NodeEvent}
 use Rattle.smart_service.specs.Services.{Meaning}
-use Rattle.node_rules.specs.Nodes.{Node}
 use Rattle.node_rules.specs.Steps.{Outcome, leaving}
 use Rattle.client_quorum.specs.Clients.{request_of, asking, learning, after_heard}
 use Rattle.client_quorum.specs.declared.client.Client.{Client}
@@ -16,14 +14,14 @@ use Rattle.client_quorum.specs.declared.client.Acceptance.{Acceptance}
 use Rattle.client_quorum.specs.declared.client.Heard.{Heard}
 use Rattle.client_quorum.specs.declared.client.Heard.TheVariants as hears
 use Rattle.world_rules.specs.Clients.{heard}
-use Rattle.world_rules.specs.Worlds.{Host, World, posts, told_drop, told_fired, stepped, told_heard, hearing, clients_from, begun}
+use Rattle.world_rules.specs.Worlds.{Course, Host, World, posts, told_drop, told_fired, stepped, told_heard, hearing, clients_from, begun}
 use Rattle.world_rules.specs.Plays.{line_played, rested, world_after, lines_told}
 use Rattle.world_rules.specs.declared.line.Line.{Line}
 use Rattle.world_rules.specs.declared.line.OutLine.{OutLine}
 use Rattle.world_rules.specs.declared.line.OutLine.TheVariants as outs
 use Rattle.world_rules.specs.Knowing.{place_told, known_by, seen_by}
 use Rattle.world_laws.proofs.Numbered.{EachAt, each_at_get, each_at_weaker, each_at_set}
-use Rattle.world_laws.proofs.Keeps.{IsBeside, outcome-beside, signed_by, ask_of, asked_by, learned_line, by-posts, KeepsLive, live-line_played, from_node, from_client, from_script, keeps-sends_all}
+use Rattle.world_laws.proofs.Keeps.{IsBeside, outcome-beside, signed_by, ask_of, asked_by, learned_line, by-posts, KeepsLives, live-line_played, from_node, from_client, from_script, keeps-sends_all}
 use Rattle.world_laws.proofs.Hearing.{Accepts, accepts_waiting}
 use Rattle.world_laws.proofs.Asking.{ClientRight, ClientsRight, keeps-right, rested-right, each_fresh, right-begun}
 use Rattle.world_rules.specs.declared.message.Sent.{Sent}
@@ -49,6 +47,9 @@ none_told i (outs.Accepted client seq place index reply) beside = absurd beside
 none_told i (outs.Ignored client why) beside = refl
 none_told i (outs.Busy client seq) beside = refl
 none_told i (outs.Absent member) beside = refl
+none_told i (outs.Crashed member) beside = refl
+none_told i (outs.Restarted member place entries) beside = refl
+none_told i (outs.Down member) beside = refl
 none_told i (outs.Idle member) beside = refl
 none_told i (outs.IdleClient client) beside = refl
 none_told i (outs.Learned client place) beside = absurd beside
@@ -114,9 +115,9 @@ know-posts {S = S} before count w s is =
 
 -- a node's step
 
-know-stepped : {S : Type 0} (before : ℕ → ℕ) (count : ℕ) (w : World S) (i : ℕ) (h : Host S) (o : Outcome S) → AllKnow before count w → AllKnow before count (stepped w i h o)
+know-stepped : {S : Type 0} (course : Course S) (before : ℕ → ℕ) (count : ℕ) (w : World S) (i : ℕ) (h : Host S) (o : Outcome S) → AllKnow before count w → AllKnow before count (stepped course w i h o)
 unfolding stepped
-know-stepped {S = S} before count w i h o is =
+know-stepped {S = S} course before count w i h o is =
     keeps-sends_all (λ (v : World S). AllKnow before count v) h.node.id (λ v held knows. know-posts before count v (from_node h.node.id held) knows) _ (leaving o.node.firm o.node.held)
     (record {
       each = know-beside before w.clients w.told (told_drop h.node.id o.dropped ++ flat_map (told_fired h.node.id) o.fired)
@@ -161,30 +162,34 @@ pub id_at : {S : Type 0} (w : World S) (i : ℕ) (c : Client) → slice_get w.cl
 id_at w i c at right = (each_at_get (ClientRight w.sent w.ending w.accepted) w.clients i c right.all.each at).id
 
 -- each event keeps that
-keeps-knowing : {S : Type 0} (step : Node S → NodeEvent → Outcome S) (before : ℕ → ℕ) (count : ℕ) → KeepsLive step (Knowing before count)
-keeps-knowing step before count =
-    let k = keeps-right step in
+keeps-knowing : {S : Type 0} (course : Course S) (before : ℕ → ℕ) (count : ℕ) → KeepsLives course (Knowing before count)
+keeps-knowing course before count =
+    let k = keeps-right course in
     record {
-      event = λ w i h event on there at may is. (k.event w i h event on there at may is.0, know-stepped before count w i h (step h.node event) is.1);
-      disk = λ w i h on there at is. (k.disk w i h on there at is.0, record { each = is.1.each; there = is.1.there });
-      hear = λ w i c x a on at has read is. (k.hear w i c x a on at has read is.0, know-hearing before count w i c a at (id_at w i c at is.0) is.1);
-      ask = λ w i c op on at free few brief is. (
-        k.ask w i c op on at free few brief is.0,
-        know-posts before count (asked_by w i c op) (from_client c (ask_of c op)) (know-asked before count w i c op at is.1),
-      );
-      again = λ w i c q on at waits is. (k.again w i c q on at waits is.0, know-posts before count w (from_client c (signed_by c q)) is.1);
-      learn = λ w i j c d on at other is. (
-        k.learn w i j c d on at other is.0,
-        record {
-          each = know-told before w.clients w.told i c (learning c d.seen) (learned_line c d.seen) (max c.seen d.seen) at (omega arith) (place_own c.id i (max c.seen d.seen) (id_at w i c at is.0))
-              (λ n not_i. place_other c.id n (max c.seen d.seen) (λ same. not_i (sym same ∙ id_at w i c at is.0))) is.1.each;
-          there = count-set w.clients i _ ∙ is.1.there;
-        },
-      );
-      inject = λ w x on read fine is. (k.inject w x on read fine is.0, know-posts before count w (from_script x) is.1);
-      declare = λ w faulty rogue ending on how is. (k.declare w faulty rogue ending on how is.0, record { each = is.1.each; there = is.1.there });
-      mark = λ w s on at is. (k.mark w s on at is.0, record { each = is.1.each; there = is.1.there });
-      tell = λ w line beside is. (k.tell w line beside is.0, record { each = know-beside before w.clients w.told (line ∷ []) (beside, tt) is.1.each; there = is.1.there });
+      live = record {
+        event = λ w i h event on up at may is. (k.live.event w i h event on up at may is.0, know-stepped course before count w i h (course.step h.node event) is.1);
+        disk = λ w i h on up at is. (k.live.disk w i h on up at is.0, record { each = is.1.each; there = is.1.there });
+        hear = λ w i c x a on at has read is. (k.live.hear w i c x a on at has read is.0, know-hearing before count w i c a at (id_at w i c at is.0) is.1);
+        ask = λ w i c op on at free few brief is. (
+          k.live.ask w i c op on at free few brief is.0,
+          know-posts before count (asked_by w i c op) (from_client c (ask_of c op)) (know-asked before count w i c op at is.1),
+        );
+        again = λ w i c q on at waits is. (k.live.again w i c q on at waits is.0, know-posts before count w (from_client c (signed_by c q)) is.1);
+        learn = λ w i j c d on at other is. (
+          k.live.learn w i j c d on at other is.0,
+          record {
+            each = know-told before w.clients w.told i c (learning c d.seen) (learned_line c d.seen) (max c.seen d.seen) at (omega arith) (place_own c.id i (max c.seen d.seen) (id_at w i c at is.0))
+                (λ n not_i. place_other c.id n (max c.seen d.seen) (λ same. not_i (sym same ∙ id_at w i c at is.0))) is.1.each;
+            there = count-set w.clients i _ ∙ is.1.there;
+          },
+        );
+        inject = λ w x on read fine is. (k.live.inject w x on read fine is.0, know-posts before count w (from_script x) is.1);
+        declare = λ w faulty rogue ending on how is. (k.live.declare w faulty rogue ending on how is.0, record { each = is.1.each; there = is.1.there });
+        mark = λ w s on at is. (k.live.mark w s on at is.0, record { each = is.1.each; there = is.1.there });
+        tell = λ w line beside is. (k.live.tell w line beside is.0, record { each = know-beside before w.clients w.told (line ∷ []) (beside, tt) is.1.each; there = is.1.there });
+      };
+      crash = λ w i h left on up at may is. (k.crash w i h left on up at may is.0, record { each = is.1.each; there = is.1.there });
+      resume = λ w i h on down at is. (k.resume w i h on down at is.0, record { each = is.1.each; there = is.1.there });
     }
 
 -- what each client has seen, and how many there are
@@ -201,17 +206,17 @@ none-told known count w none is =
     }
 
 -- behind lines each client has seen what it knew before them, and what they tell it
-seen-after : {S : Type 0} (step : Node S → NodeEvent → Outcome S) (known : ℕ → ℕ) (count : ℕ) (w : World S) (ls : List Line) → ClientsRight w → w.told ≡ [] → Seen known count w
-    → Seen (λ i. max (known i) (known_by i (lines_told step w ls))) count (world_after step w ls)
-seen-after step known count w [] right none is =
+seen-after : {S : Type 0} (course : Course S) (known : ℕ → ℕ) (count : ℕ) (w : World S) (ls : List Line) → ClientsRight w → w.told ≡ [] → Seen known count w
+    → Seen (λ i. max (known i) (known_by i (lines_told course w ls))) count (world_after course w ls)
+seen-after course known count w [] right none is =
     record { each = each_at_weaker (λ i c. c.seen ≡ known i) (λ i c. c.seen ≡ max (known i) 0) (λ i c seen. omega (arith, seen)) w.clients is.each; there = is.there }
-seen-after {S = S} step known count w (l ∷ ls) right none is =
-    let played : World S = line_played step w l in
-    let after : World S = world_after step (rested played) ls in
-    let later : List OutLine = lines_told step (rested played) ls in
-    let k : Knowing known count played = live-line_played step (Knowing known count) (keeps-knowing step known count) w l (right, none-told known count w none is) in
+seen-after {S = S} course known count w (l ∷ ls) right none is =
+    let played : World S = line_played course w l in
+    let after : World S = world_after course (rested played) ls in
+    let later : List OutLine = lines_told course (rested played) ls in
+    let k : Knowing known count played = live-line_played course (Knowing known count) (keeps-knowing course known count) w l (right, none-told known count w none is) in
     let rest : Seen (λ i. max (max (known i) (known_by i played.told)) (known_by i later)) count after =
-    seen-after step (λ i. max (known i) (known_by i played.told)) count (rested played) ls (rested-right played k.0) refl (record { each = k.1.each; there = k.1.there }) in
+    seen-after course (λ i. max (known i) (known_by i played.told)) count (rested played) ls (rested-right played k.0) refl (record { each = k.1.each; there = k.1.there }) in
     record {
       each = each_at_weaker (λ i c. c.seen ≡ max (max (known i) (known_by i played.told)) (known_by i later)) (λ i c. c.seen ≡ max (known i) (known_by i (played.told ++ later)))
           (λ i c seen. omega (arith, seen, known-append i played.told later)) after.clients rest.each;
@@ -235,17 +240,17 @@ seen-at known (c ∷ cs) zero each within = ap (λ (n : ℕ). Some n) each.0
 seen-at known (c ∷ cs) (suc i) each within = seen-at (λ j. known (suc j)) cs i each.1 (omega (arith, within))
 
 -- after any lines of any script, each client has seen what the transcript tells that it knows
-pub seen-told : {S : Type 0} (m : Meaning S) (step : Node S → NodeEvent → Outcome S) (view : View) (ls : List Line)
-    → EachAt (λ i c. c.seen ≡ known_by i (lines_told step (begun m view) ls)) (world_after step (begun m view) ls).clients
-seen-told {S = S} m step view ls =
-    let after : World S = world_after step (begun m view) ls in
-    each_at_weaker (λ i c. c.seen ≡ max 0 (known_by i (lines_told step (begun m view) ls))) (λ i c. c.seen ≡ known_by i (lines_told step (begun m view) ls))
-    (λ i c seen. omega (arith, seen)) after.clients (seen-after step (λ i. 0) 1025 (begun m view) ls (right-begun m view) refl (seen-begun m view)).each
+pub seen-told : {S : Type 0} (m : Meaning S) (course : Course S) (view : View) (ls : List Line)
+    → EachAt (λ i c. c.seen ≡ known_by i (lines_told course (begun m view) ls)) (world_after course (begun m view) ls).clients
+seen-told {S = S} m course view ls =
+    let after : World S = world_after course (begun m view) ls in
+    each_at_weaker (λ i c. c.seen ≡ max 0 (known_by i (lines_told course (begun m view) ls))) (λ i c. c.seen ≡ known_by i (lines_told course (begun m view) ls))
+    (λ i c seen. omega (arith, seen)) after.clients (seen-after course (λ i. 0) 1025 (begun m view) ls (right-begun m view) refl (seen-begun m view)).each
 
 -- and so has the client of a number
-pub clients_know : {S : Type 0} (m : Meaning S) (step : Node S → NodeEvent → Outcome S) (view : View) (ls : List Line) (client : ℕ) → client ≤ 1024
-    → seen_by (world_after step (begun m view) ls) client ≡ Some (known_by client (lines_told step (begun m view) ls))
-clients_know {S = S} m step view ls client low =
-    let after : World S = world_after step (begun m view) ls in
-    let is : Seen (λ i. max 0 (known_by i (lines_told step (begun m view) ls))) 1025 after = seen-after step (λ i. 0) 1025 (begun m view) ls (right-begun m view) refl (seen-begun m view) in
-    seen-at (λ i. max 0 (known_by i (lines_told step (begun m view) ls))) after.clients client is.each (omega (arith, low, is.there)) ∙ ap (λ (n : ℕ). Some n) (omega arith)
+pub clients_know : {S : Type 0} (m : Meaning S) (course : Course S) (view : View) (ls : List Line) (client : ℕ) → client ≤ 1024
+    → seen_by (world_after course (begun m view) ls) client ≡ Some (known_by client (lines_told course (begun m view) ls))
+clients_know {S = S} m course view ls client low =
+    let after : World S = world_after course (begun m view) ls in
+    let is : Seen (λ i. max 0 (known_by i (lines_told course (begun m view) ls))) 1025 after = seen-after course (λ i. 0) 1025 (begun m view) ls (right-begun m view) refl (seen-begun m view) in
+    seen-at (λ i. max 0 (known_by i (lines_told course (begun m view) ls))) after.clients client is.each (omega (arith, low, is.there)) ∙ ap (λ (n : ℕ). Some n) (omega arith)

@@ -17,7 +17,7 @@ use Rattle.durable_store.specs.Standing.{some}
 use Rattle.durable_store.specs.Turns.{closing, adds, rests, ends_group}
 use Rattle.node_rules.specs.Nodes.{Node}
 use Rattle.node_rules.specs.Steps.{made_firm, step_of, opened}
-use Rattle.world_rules.specs.Worlds.{Host, World, spelled_behind, host_after, host_of_node}
+use Rattle.world_rules.specs.Worlds.{course_of, Host, World, spelled_behind, host_after, host_of_node}
 use Rattle.world_laws.proofs.Lists.{either, map_length}
 use Rattle.world_laws.proofs.Keeps.{Hears, MayCome}
 use Rattle.world_laws.proofs.Longer.{told_firm, longer-step}
@@ -113,7 +113,7 @@ told-kept n (Firm count) = (refl, refl)
 
 -- a host that takes an event
 pub fits-stepped : {S : Type 0} (m : Meaning S) (h : Host S) (event : NodeEvent) → Fits h.node h.store
-    → Fits (host_after h (step_of m h.node event)).node (host_after h (step_of m h.node event)).store
+    → Fits (host_after (course_of m) h (step_of m h.node event)).node (host_after (course_of m) h (step_of m h.node event)).store
 fits-stepped {S = S} m h event f =
     let n' : Node S = (step_of m h.node event).node in
     let l = longer-step m h.node event in
@@ -149,7 +149,7 @@ firm-grows {S = S} h count told f =
 
 -- ---- the beginning
 
-coming_none : (job : Job) → coming job 0 ≡ 0
+pub coming_none : (job : Job) → coming job 0 ≡ 0
 coming_none job = either (λ k. k ≡ 0) (adds job) 0 0 refl refl
 
 -- a host that has just opened

@@ -1,5 +1,5 @@
 -- Whence the votes that a node has kept come, and how many places they decide.
-use Rattle.std.proofs.Common.{◌≡◌, ◌⊎◌, inl, inr, ℕ, ◌+◌, ◌≤◌, ◌==◌, ◌&&◌, ◌||◌, Bool, true, false, cond, List, [], ◌∷◌, length, filter, refl, ap, ◌∙◌, sym, arith, Option, Some, None, is_some, nat_lt, subst, Result, Ok, Err}
+use Rattle.std.proofs.Common.{◌≡◌, inl, inr, ℕ, ◌+◌, ◌≤◌, ◌==◌, ◌&&◌, ◌||◌, Bool, true, false, cond, List, [], ◌∷◌, length, filter, refl, ap, ◌∙◌, sym, arith, Option, Some, None, is_some, nat_lt, subst, Result, Ok, Err}
 use Rattle.std.proofs.lemmas.Bool.{leb-true, eqb-true, ltb-true, lt-ltb}
 use Rattle.smart_base.specs.Lists.{Each, same_bytes}
 use Rattle.smart_base.specs.Views.{View, quorum}
@@ -23,36 +23,34 @@ use Rattle.smart_messages.specs.declared.entry.NodeEvent.TheVariants.{Deliver, F
 use Rattle.smart_service.specs.Services.{Meaning}
 use Rattle.smart_service.specs.declared.table.TableLine.{TableLine}
 use Rattle.vote_book.specs.declared.entry.Decision.{Decision}
+use Rattle.vote_book.specs.declared.entry.LogEntry.{LogEntry}
 use Rattle.replica_rules.specs.Pools.{offered, settled}
-use Rattle.replica_rules.specs.Replicas.{is_next, delivered}
+use Rattle.replica_rules.specs.Replicas.{is_next, delivered, state}
 use Rattle.node_rules.specs.Votes.{is_vote, has_vote, has_quorum}
 use Rattle.node_rules.specs.Arrivals.{kept_plain, kept_change, kept, noted}
 use Rattle.node_rules.specs.Rules.{reply_of, replying, lines_to_answer, deliver_batch, delivers, proposing, propose_batch, proposes, writing, write_batch, writes, accepting, accept_batch, accepts, slot_in, deciding, decide_batch, decides, answering, answer_line, answers_again}
 use Rattle.node_rules.specs.Changes.{adopts_by, adoption, adopts, asks_next, joining, joins, promising, promise_next, promises, leading, lead_with, leads, timing, passes_on, presses, times}
 use Rattle.node_rules.specs.Nodes.{Node, next_place, decided_place, view_of, holding}
+use Rattle.node_rules.specs.Reopening.{decided_of, stopped, reopened}
 use Rattle.node_rules.specs.Steps.{turns, votes, passes, step_of}
 use Rattle.node_rules.specs.declared.node.Target.TheVariants as targets
 use Rattle.node_laws.proofs.Deciding.{due_is}
+use Rattle.node_laws.proofs.Reopened.{reopened_is}
 use Rattle.replica_laws.proofs.Leaves.{Leaves, leaves-adopts, leaves-joins, leaves-promises, leaves-leads, leaves-proposes, leaves-writes, leaves-accepts}
+use Rattle.replica_laws.proofs.Sources.{HasSource}
 use Rattle.replica_laws.proofs.Rulewise.{KeptByRules, KeptInSteps, keeps_turns, keeps_votes}
 use Rattle.replica_laws.proofs.Steady.{Steady, leaves-firm, place-deliver_batch}
 use Rattle.world_laws.proofs.Lists.{and_true, either, either_by, each_end}
 
 -- ---- sources
 
--- some bytes are read as a message
-abbrev pub HasSource : List (List ℕ) → Message → Type 0
-HasSource [] m = ⊥
-HasSource (bytes ∷ more) m = (any_decoded bytes ≡ Ok (Plain m)) ⊎ HasSource more m
-
--- of a message that changes the regency nothing is said
-abbrev pub SourceOf : List (List ℕ) → AnyMessage → Type 0
-SourceOf sources (Plain m) = HasSource sources m
-SourceOf sources (Change m) = Unit {0}
+-- some bytes are read as a proposal or a vote
+abbrev pub HasCome : List (List ℕ) → Message → Type 0
+HasCome sources m = HasSource sources (Plain m)
 
 -- each proposal and each vote that a node has kept has a source
 abbrev pub Sourced : {S : Type 0} → List (List ℕ) → Node S → Type 0
-Sourced sources n = Each (HasSource sources) n.arrivals
+Sourced sources n = Each (HasCome sources) n.arrivals
 
 -- ---- what the rules leave of them
 
@@ -158,14 +156,14 @@ unfolding delivers
 arrivals-delivers m n = arrivals-deliver_batch m n n.waiting
 
 sourced-as : {S : Type 0} (sources : List (List ℕ)) (n n' : Node S) → n'.arrivals ≡ n.arrivals → Sourced sources n → Sourced sources n'
-sourced-as sources n n' same is = subst (λ (ms : List Message). Each (HasSource sources) ms) (sym same) is
+sourced-as sources n n' same is = subst (λ (ms : List Message). Each (HasCome sources) ms) (sym same) is
 
 -- what is kept has one
-sourced-kept : {S : Type 0} (sources : List (List ℕ)) (n : Node S) (message : AnyMessage) → SourceOf sources message → Sourced sources n → Sourced sources (kept n message)
+sourced-kept : {S : Type 0} (sources : List (List ℕ)) (n : Node S) (message : AnyMessage) → HasSource sources message → Sourced sources n → Sourced sources (kept n message)
 unfolding kept_plain kept_change
 sourced-kept {S = S} sources n (Plain (Ask q)) from is = either (λ (x : Node S). Sourced sources x) (is_next n.replica.table q.statement) (record n { pool = offered n.pool q }) n is is
-sourced-kept sources n (Plain (Propose p)) from is = each_end (HasSource sources) n.arrivals (Propose p) is from
-sourced-kept sources n (Plain (Vote b)) from is = each_end (HasSource sources) n.arrivals (Vote b) is from
+sourced-kept sources n (Plain (Propose p)) from is = each_end (HasCome sources) n.arrivals (Propose p) is from
+sourced-kept sources n (Plain (Vote b)) from is = each_end (HasCome sources) n.arrivals (Vote b) is from
 sourced-kept sources n (Plain (Reply a)) from is = is
 sourced-kept sources n (Change (changes.Stop s)) from is = is
 sourced-kept sources n (Change (changes.StopData r)) from is = is
@@ -184,7 +182,7 @@ sourced-rules sources = record {
 }
 
 -- so each step leaves a source for what is kept
-pub sourced-steps : {S : Type 0} (m : Meaning S) (sources : List (List ℕ)) → KeptInSteps m (λ n. Sourced sources n) (SourceOf sources)
+pub sourced-steps : {S : Type 0} (m : Meaning S) (sources : List (List ℕ)) → KeptInSteps m (λ n. Sourced sources n) (λ message. HasSource sources message)
 sourced-steps m sources = record {
   by_rules = sourced-rules sources;
   by_times = λ n is. sourced-as sources n (times n) (arrivals-times n) is;
@@ -193,6 +191,15 @@ sourced-steps m sources = record {
   by_kept = λ n message fine from is. sourced-kept sources n message from is;
   by_delivers = λ n is. sourced-as sources n (delivers m n) (arrivals-delivers m n) is;
 }
+
+-- a node that goes on after a crash has kept nothing
+pub sourced-reopened : {S : Type 0} (sources : List (List ℕ)) (m : Meaning S) (secret : List ℕ) (id : ℕ) (view : View) (period : ℕ) (entries : List LogEntry)
+    → Sourced sources (reopened m secret id view period entries)
+unfolding reopened
+sourced-reopened sources m secret id view period [] = tt
+sourced-reopened {S = S} sources m secret id view period (e ∷ es) =
+    let n : Node S = record (stopped m secret id view) { entries = e ∷ es; replica = state m view (decided_of (e ∷ es)); restored = length (e ∷ es); firm = length (e ∷ es) } in
+    sourced-as sources n (reopened m secret id view period (e ∷ es)) (ap (λ (x : Node S). x.arrivals) (reopened_is m secret id view period e es)) tt
 
 -- ---- how many votes are ahead
 
@@ -237,7 +244,7 @@ past_here : (p : ℕ) → past (p + 1) (p + 1) + 1 ≤ past p (p + 1)
 past_here p = grind arith
 
 -- a vote for the next place is past a place, and not past the next
-ahead-next : (sources : List (List ℕ)) (m : Message) (p : ℕ) → HasSource sources m → vote_place m ≡ p + 1 → ahead sources (p + 1) + 1 ≤ ahead sources p
+ahead-next : (sources : List (List ℕ)) (m : Message) (p : ℕ) → HasCome sources m → vote_place m ≡ p + 1 → ahead sources (p + 1) + 1 ≤ ahead sources p
 ahead-next [] m p has at = absurd has
 ahead-next (bytes ∷ more) m p (inl read) at =
     let here : place_read (any_decoded bytes) ≡ p + 1 = ap place_read read ∙ at in
@@ -254,7 +261,7 @@ ahead-next (bytes ∷ more) m p (inr later) at =
 
 record VoteAt (sources : List (List ℕ)) (place : ℕ) : Type 0 where
   message : Message
-  source : HasSource sources message
+  source : HasCome sources message
   place_is : vote_place message ≡ place
 
 -- a member that passes
@@ -280,7 +287,7 @@ vote_is kind member slot digest (Vote b) is =
     let outer = and_true (same_kind b.statement.kind kind && (b.signer == member) && same_slot b.statement.slot slot) (same_bytes b.statement.digest digest) is in
     slot_place b.statement.slot slot (and_true (same_kind b.statement.kind kind && (b.signer == member)) (same_slot b.statement.slot slot) outer.0).1
 
-vote_among : (sources : List (List ℕ)) (kind : VoteKind) (member : ℕ) (slot : Slot) (digest : List ℕ) (arrivals : List Message) → Each (HasSource sources) arrivals
+vote_among : (sources : List (List ℕ)) (kind : VoteKind) (member : ℕ) (slot : Slot) (digest : List ℕ) (arrivals : List Message) → Each (HasCome sources) arrivals
     → has_vote arrivals kind slot digest member ≡ true → VoteAt sources slot.place
 vote_among sources kind member slot digest [] each some = absurd (cc)
 vote_among sources kind member slot digest (m ∷ ms) each some =
@@ -291,7 +298,7 @@ vote_among sources kind member slot digest (m ∷ ms) each some =
     by false is some rest = rest some
 
 -- a quorum is not empty
-vote_of : (sources : List (List ℕ)) (view : View) (kind : VoteKind) (slot : Slot) (digest : List ℕ) (arrivals : List Message) → Each (HasSource sources) arrivals
+vote_of : (sources : List (List ℕ)) (view : View) (kind : VoteKind) (slot : Slot) (digest : List ℕ) (arrivals : List Message) → Each (HasCome sources) arrivals
     → has_quorum arrivals view kind slot digest ≡ true → VoteAt sources slot.place
 vote_of sources view kind slot digest arrivals each enough =
     let p : ℕ → Bool = has_vote arrivals kind slot digest in

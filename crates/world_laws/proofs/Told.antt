@@ -8,14 +8,12 @@ use Rattle.smart_messages.specs.Forms.{SignedBy}
 use Rattle.smart_messages.specs.Messages.{Batch}
 use Rattle.smart_messages.specs.declared.statement.Request.{Request}
 use Rattle.smart_messages.specs.declared.statement.Answer.{Answer}
-use Rattle.smart_messages.specs.declared.entry.NodeEvent.{NodeEvent}
 use Rattle.smart_service.specs.Services.{Meaning}
-use Rattle.node_rules.specs.Nodes.{Node}
-use Rattle.node_rules.specs.Steps.{Outcome, step_of, leaving}
+use Rattle.node_rules.specs.Steps.{Outcome, leaving}
 use Rattle.client_quorum.specs.Clients.{learning}
 use Rattle.world_rules.specs.Clients.{heard}
 use Rattle.world_rules.specs.Promises.{IsAnswered}
-use Rattle.world_rules.specs.Worlds.{Host, World, posts, told_drop, told_fired, stepped, told_heard, acceptance_in, hearing, begun}
+use Rattle.world_rules.specs.Worlds.{Course, course_of, Host, World, posts, told_drop, told_fired, stepped, told_heard, acceptance_in, hearing, begun}
 use Rattle.world_rules.specs.Plays.{line_played, rested, world_after, lines_told}
 use Rattle.client_quorum.specs.declared.client.Client.{Client}
 use Rattle.client_quorum.specs.declared.client.Acceptance.{Acceptance}
@@ -27,7 +25,7 @@ use Rattle.world_rules.specs.declared.line.OutLine.TheVariants as outs
 use Rattle.world_rules.specs.declared.message.Sent.{Sent}
 use Rattle.world_laws.proofs.Lists.{each_end, each_append, each_weaker}
 use Rattle.world_laws.proofs.Numbered.{each_at_get}
-use Rattle.world_laws.proofs.Keeps.{IsBeside, outcome-beside, ask_of, asked_by, by-posts, Keeps, KeepsLive, live-line_played, keeps-world_after, signed_by, learned_line, from_node, from_client, from_script, keeps-sends_all}
+use Rattle.world_laws.proofs.Keeps.{IsBeside, outcome-beside, ask_of, asked_by, by-posts, KeepsAll, KeepsLives, live-line_played, keeps-world_after, signed_by, learned_line, from_node, from_client, from_script, keeps-sends_all}
 use Rattle.world_laws.proofs.Hearing.{Accepts, accepts_waiting}
 use Rattle.world_laws.proofs.Asking.{ClientRight, ClientsRight, keeps-right, rested-right, right-begun}
 use Rattle.world_laws.proofs.Accepted.{AcceptedRight, RightUnlessRogue}
@@ -82,9 +80,9 @@ stems-posts {S = S} w s is =
 -- a node's step
 
 -- a host's node steps
-stems-stepped : {S : Type 0} (w : World S) (i : ℕ) (h : Host S) (o : Outcome S) → ToldStems w → ToldStems (stepped w i h o)
+stems-stepped : {S : Type 0} (course : Course S) (w : World S) (i : ℕ) (h : Host S) (o : Outcome S) → ToldStems w → ToldStems (stepped course w i h o)
 unfolding stepped
-stems-stepped w i h o is =
+stems-stepped course w i h o is =
     keeps-sends_all ToldStems h.node.id (λ v held stems. stems-posts v (from_node h.node.id held) stems) _ (leaving o.node.firm o.node.held)
     (record {
       all = each_append (Stems w.accepted) w.told _ is.all
@@ -125,26 +123,30 @@ abbrev Stemming : {S : Type 0} → World S → Type 0
 Stemming w = ClientsRight w × ToldStems w
 
 -- each event keeps that
-keeps-stemming : {S : Type 0} (step : Node S → NodeEvent → Outcome S) → KeepsLive step Stemming
-keeps-stemming step =
-    let k = keeps-right step in
+keeps-stemming : {S : Type 0} (course : Course S) → KeepsLives course Stemming
+keeps-stemming course =
+    let k = keeps-right course in
     record {
-      event = λ w i h event on there at may is. (k.event w i h event on there at may is.0, stems-stepped w i h (step h.node event) is.1);
-      disk = λ w i h on there at is. (k.disk w i h on there at is.0, record { all = is.1.all });
-      hear = λ w i c x a on at has read is. (k.hear w i c x a on at has read is.0, stems-hearing w i c a (waits_own w i c at is.0) is.1);
-      ask = λ w i c op on at free few brief is. (
-        k.ask w i c op on at free few brief is.0,
-        stems-posts (asked_by w i c op) (from_client c (ask_of c op)) (record { all = is.1.all }),
-      );
-      again = λ w i c q on at waits is. (k.again w i c q on at waits is.0, stems-posts w (from_client c (signed_by c q)) is.1);
-      learn = λ w i j c d on at other is. (
-        k.learn w i j c d on at other is.0,
-        record { all = each_end (Stems w.accepted) w.told (learned_line c d.seen) is.1.all (inr (inl (record { client = c.id; place = (learning c d.seen).seen; is = refl }))) },
-      );
-      inject = λ w x on read fine is. (k.inject w x on read fine is.0, stems-posts w (from_script x) is.1);
-      declare = λ w faulty rogue ending on how is. (k.declare w faulty rogue ending on how is.0, record { all = is.1.all });
-      mark = λ w s on at is. (k.mark w s on at is.0, record { all = is.1.all });
-      tell = λ w line beside is. (k.tell w line beside is.0, record { all = each_end (Stems w.accepted) w.told line is.1.all (inl beside) });
+      live = record {
+        event = λ w i h event on up at may is. (k.live.event w i h event on up at may is.0, stems-stepped course w i h (course.step h.node event) is.1);
+        disk = λ w i h on up at is. (k.live.disk w i h on up at is.0, record { all = is.1.all });
+        hear = λ w i c x a on at has read is. (k.live.hear w i c x a on at has read is.0, stems-hearing w i c a (waits_own w i c at is.0) is.1);
+        ask = λ w i c op on at free few brief is. (
+          k.live.ask w i c op on at free few brief is.0,
+          stems-posts (asked_by w i c op) (from_client c (ask_of c op)) (record { all = is.1.all }),
+        );
+        again = λ w i c q on at waits is. (k.live.again w i c q on at waits is.0, stems-posts w (from_client c (signed_by c q)) is.1);
+        learn = λ w i j c d on at other is. (
+          k.live.learn w i j c d on at other is.0,
+          record { all = each_end (Stems w.accepted) w.told (learned_line c d.seen) is.1.all (inr (inl (record { client = c.id; place = (learning c d.seen).seen; is = refl }))) },
+        );
+        inject = λ w x on read fine is. (k.live.inject w x on read fine is.0, stems-posts w (from_script x) is.1);
+        declare = λ w faulty rogue ending on how is. (k.live.declare w faulty rogue ending on how is.0, record { all = is.1.all });
+        mark = λ w s on at is. (k.live.mark w s on at is.0, record { all = is.1.all });
+        tell = λ w line beside is. (k.live.tell w line beside is.0, record { all = each_end (Stems w.accepted) w.told line is.1.all (inl beside) });
+      };
+      crash = λ w i h left on up at may is. (k.crash w i h left on up at may is.0, record { all = is.1.all });
+      resume = λ w i h on down at is. (k.resume w i h on down at is.0, record { all = is.1.all });
     }
 
 -- between two lines
@@ -158,9 +160,9 @@ accepted-posts : {S : Type 0} (w : World S) (s : Sent) → (posts w s).accepted 
 accepted-posts {S = S} w s = by-posts (λ (v : World S). v.accepted ≡ w.accepted) w s (λ ending. refl) (λ free room. refl)
 
 -- where a node steps
-accepted-stepped : {S : Type 0} (w : World S) (i : ℕ) (h : Host S) (o : Outcome S) → (stepped w i h o).accepted ≡ w.accepted
+accepted-stepped : {S : Type 0} (course : Course S) (w : World S) (i : ℕ) (h : Host S) (o : Outcome S) → (stepped course w i h o).accepted ≡ w.accepted
 unfolding stepped
-accepted-stepped {S = S} w i h o =
+accepted-stepped {S = S} course w i h o =
     keeps-sends_all (λ (v : World S). v.accepted ≡ w.accepted) h.node.id (λ v held is. accepted-posts v (from_node h.node.id held) ∙ is) _ (leaving o.node.firm o.node.held) refl
 
 -- where a client hears, more is accepted
@@ -169,32 +171,36 @@ unfolding hearing
 accepted-hearing w i c a h = refl
 
 -- so a line goes on to stem from what was accepted
-keeps-stems : {S : Type 0} (step : Node S → NodeEvent → Outcome S) (line : OutLine) → Keeps step (λ w. Stems w.accepted line)
-keeps-stems step line =
+keeps-stems : {S : Type 0} (course : Course S) (line : OutLine) → KeepsAll course (λ w. Stems w.accepted line)
+keeps-stems course line =
     record {
-      event = λ w i h event there at may stems. rw accepted-stepped stems;
-      disk = λ w i h at stems. stems;
-      hear = λ w i c x a at has read stems. rw accepted-hearing (stems_more w.accepted (acceptance_in (heard w.view c a)) line stems);
-      ask = λ w i c op at free few brief stems. rw accepted-posts stems;
-      again = λ w i c q at waits stems. rw accepted-posts stems;
-      learn = λ w i j c d at other stems. stems;
-      inject = λ w x read fine stems. rw accepted-posts stems;
-      declare = λ w faulty rogue ending how stems. stems;
-      same = λ w mark told stems. stems;
+      kept = record {
+        event = λ w i h event up at may stems. rw accepted-stepped stems;
+        disk = λ w i h up at stems. stems;
+        crash = λ w i h left up at may stems. stems;
+        hear = λ w i c x a at has read stems. rw accepted-hearing (stems_more w.accepted (acceptance_in (heard w.view c a)) line stems);
+        ask = λ w i c op at free few brief stems. rw accepted-posts stems;
+        again = λ w i c q at waits stems. rw accepted-posts stems;
+        learn = λ w i j c d at other stems. stems;
+        inject = λ w x read fine stems. rw accepted-posts stems;
+        declare = λ w faulty rogue ending how stems. stems;
+        same = λ w mark told stems. stems;
+      };
+      resume = λ w i h down at stems. stems;
     }
 
 -- lines
 
 -- what lines tell stems from what was accepted until after them
-lines-stem : {S : Type 0} (step : Node S → NodeEvent → Outcome S) (w : World S) (ls : List Line) → Stemming w → Each (Stems (world_after step w ls).accepted) (lines_told step w ls)
-lines-stem step w [] is = tt
-lines-stem {S = S} step w (l ∷ ls) is =
-    let played : World S = line_played step w l in
-    let after : World S = world_after step (rested played) ls in
-    let stemming : Stemming played = live-line_played step Stemming (keeps-stemming step) w l is in
-    each_append (Stems after.accepted) played.told (lines_told step (rested played) ls)
-    (each_weaker (Stems played.accepted) (Stems after.accepted) (λ line stems. keeps-world_after step (λ (v : World S). Stems v.accepted line) (keeps-stems step line) (rested played) ls stems) played.told stemming.1.all)
-    (lines-stem step (rested played) ls (rested-stemming played stemming))
+lines-stem : {S : Type 0} (course : Course S) (w : World S) (ls : List Line) → Stemming w → Each (Stems (world_after course w ls).accepted) (lines_told course w ls)
+lines-stem course w [] is = tt
+lines-stem {S = S} course w (l ∷ ls) is =
+    let played : World S = line_played course w l in
+    let after : World S = world_after course (rested played) ls in
+    let stemming : Stemming played = live-line_played course Stemming (keeps-stemming course) w l is in
+    each_append (Stems after.accepted) played.told (lines_told course (rested played) ls)
+    (each_weaker (Stems played.accepted) (Stems after.accepted) (λ line stems. keeps-world_after course (λ (v : World S). Stems v.accepted line) (keeps-stems course line) (rested played) ls stems) played.told stemming.1.all)
+    (lines-stem course (rested played) ls (rested-stemming played stemming))
 
 -- a line that tells of no accepted reply
 beside-answered : {S : Type 0} (m : Meaning S) (view : View) (rogue : List ℕ) (chosen : List Batch) (line : OutLine) → IsBeside line → IsAnswered m view rogue chosen line
@@ -210,6 +216,9 @@ beside-answered m view rogue chosen (outs.Accepted client seq place index reply)
 beside-answered m view rogue chosen (outs.Ignored client why) beside = tt
 beside-answered m view rogue chosen (outs.Busy client seq) beside = tt
 beside-answered m view rogue chosen (outs.Absent member) beside = tt
+beside-answered m view rogue chosen (outs.Crashed member) beside = tt
+beside-answered m view rogue chosen (outs.Restarted member place entries) beside = tt
+beside-answered m view rogue chosen (outs.Down member) beside = tt
 beside-answered m view rogue chosen (outs.Idle member) beside = tt
 beside-answered m view rogue chosen (outs.IdleClient client) beside = tt
 beside-answered m view rogue chosen (outs.Learned client place) beside = absurd beside
@@ -240,11 +249,11 @@ stems-answered m view rogue sent chosen accepted right line stems =
     ]
 
 -- where all accepted replies are right, each line that tells of one tells the service's answer
-pub lines-answered : {S : Type 0} (m : Meaning S) (view : View) (ls : List Line) → AcceptedRight m (world_after (step_of m) (begun m view) ls)
-    → Each (IsAnswered m view (world_after (step_of m) (begun m view) ls).rogue (world_after (step_of m) (begun m view) ls).chosen) (lines_told (step_of m) (begun m view) ls)
+pub lines-answered : {S : Type 0} (m : Meaning S) (view : View) (ls : List Line) → AcceptedRight m (world_after (course_of m) (begun m view) ls)
+    → Each (IsAnswered m view (world_after (course_of m) (begun m view) ls).rogue (world_after (course_of m) (begun m view) ls).chosen) (lines_told (course_of m) (begun m view) ls)
 lines-answered {S = S} m view ls right =
-    let after : World S = world_after (step_of m) (begun m view) ls in
+    let after : World S = world_after (course_of m) (begun m view) ls in
     let same : after.view ≡ view = view-stays m (begun m view) ls in
     each_weaker (Stems after.accepted) (IsAnswered m view after.rogue after.chosen)
     (stems-answered m view after.rogue after.sent after.chosen after.accepted (subst (λ (v : View). Each (RightUnlessRogue m v after.rogue after.sent after.chosen) after.accepted) same right.all))
-    (lines_told (step_of m) (begun m view) ls) (lines-stem (step_of m) (begun m view) ls (right-begun m view, record { all = tt }))
+    (lines_told (course_of m) (begun m view) ls) (lines-stem (course_of m) (begun m view) ls (right-begun m view, record { all = tt }))

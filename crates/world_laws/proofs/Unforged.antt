@@ -19,16 +19,14 @@ use Rattle.smart_messages.specs.declared.regency.RegencyMessage.TheVariants as c
 use Rattle.smart_messages.specs.declared.message.Message.TheVariants.{Ask, Propose, Vote, Reply}
 use Rattle.smart_messages.specs.declared.any.AnyMessage.{AnyMessage}
 use Rattle.smart_messages.specs.declared.any.AnyMessage.TheVariants.{Plain, Change}
-use Rattle.smart_messages.specs.declared.entry.NodeEvent.{NodeEvent}
 use Rattle.vote_book.specs.Books.{Among}
 use Rattle.vote_book.proofs.Tested.{passing}
-use Rattle.node_rules.specs.Nodes.{Node}
 use Rattle.node_rules.specs.Steps.{Outcome, leaving}
 use Rattle.node_rules.specs.declared.node.Target.{Target}
 use Rattle.agreement_laws.specs.Statements.{Statement, Asked, Proposed, Voted, Stopped, Reported, Synced, Marked, Replied, Informed, signer_of, within, in_report, parts_of_evidence, parts_of_lock, requests_of, said}
 use Rattle.agreement_laws.proofs.Lists.{among_either, each_among, given, within_one}
 use Rattle.world_rules.specs.Premises.{Claim, claim_of, claims, same_claim, is_among, is_from, is_stated, is_excused, is_forgery, is_forged}
-use Rattle.world_rules.specs.Worlds.{Host, World, posts, stepped, hearing}
+use Rattle.world_rules.specs.Worlds.{Course, Host, World, posts, stepped, hearing}
 use Rattle.world_rules.specs.declared.message.Content.{Content}
 use Rattle.world_rules.specs.declared.message.Content.TheVariants as contents
 use Rattle.world_rules.specs.declared.message.Origin.{Origin}
@@ -37,7 +35,7 @@ use Rattle.world_rules.specs.declared.message.Sent.{Sent}
 use Rattle.world_laws.specs.Sending.{IsNodes, IsClients, IsOwnSent}
 use Rattle.world_laws.specs.Stated.{stated_in, stated}
 use Rattle.world_laws.proofs.Lists.{and_true, or_false, each_end, each_weaker}
-use Rattle.world_laws.proofs.Keeps.{IsRead, ask_of, asked_by, by-posts, Keeps, keeps-sends_all, signed_by, from_node, from_client, from_script}
+use Rattle.world_laws.proofs.Keeps.{IsRead, ask_of, asked_by, by-posts, KeepsAll, keeps-sends_all, signed_by, from_node, from_client, from_script}
 use Rattle.world_laws.proofs.Stating.{Proper, claims_stated, same_claim-one, message_proper, IsSaid, message_says}
 
 -- what is injected
@@ -128,30 +126,34 @@ unforged-posts {S = S} w s fine is =
     })
 
 -- a node's step
-unforged-stepped : {S : Type 0} (w : World S) (i : ℕ) (h : Host S) (o : Outcome S) → Unforged w → Unforged (stepped w i h o)
+unforged-stepped : {S : Type 0} (course : Course S) (w : World S) (i : ℕ) (h : Host S) (o : Outcome S) → Unforged w → Unforged (stepped course w i h o)
 unfolding stepped
-unforged-stepped {S = S} w i h o is =
+unforged-stepped {S = S} course w i h o is =
     keeps-sends_all (λ (v : World S). Unforged v) h.node.id (λ v held. unforged-posts v (from_node h.node.id held) tt) _ (leaving o.node.firm o.node.held) (record { each = is.each })
 
 -- whatever happens, nothing is forged
-pub keeps-unforged : {S : Type 0} (step : Node S → NodeEvent → Outcome S) → Keeps step Unforged
+pub keeps-unforged : {S : Type 0} (course : Course S) → KeepsAll course Unforged
 unfolding hearing
-keeps-unforged step =
+keeps-unforged course =
     record {
-      event = λ w i h event there at may is. unforged-stepped w i h (step h.node event) is;
-      disk = λ w i h at is. record { each = is.each };
-      hear = λ w i c x a at has read is. record { each = is.each };
-      ask = λ w i c op at free few brief is. unforged-posts (asked_by w i c op) (from_client c (ask_of c op)) tt (record { each = is.each });
-      again = λ w i c q at waits is. unforged-posts w (from_client c (signed_by c q)) tt is;
-      learn = λ w i j c d at other is. record { each = is.each };
-      inject = λ w x read fine is. unforged-posts w (from_script x) fine is;
-      declare = λ w faulty rogue ending how is.
-          record {
-            each = each_weaker (λ (s : Sent). IsFine w.faulty w.rogue w.sent s.origin s.content) (λ (s : Sent). IsFine faulty rogue w.sent s.origin s.content)
-                (λ s. fine_more w.faulty w.rogue faulty rogue w.sent w.sent (excused_more w.faulty w.rogue faulty rogue how.more_faulty how.more_rogue) (λ c is. is) s.origin s.content)
-                w.sent is.each;
-          };
-      same = λ w mark told is. record { each = is.each };
+      kept = record {
+        event = λ w i h event up at may is. unforged-stepped course w i h (course.step h.node event) is;
+        disk = λ w i h up at is. record { each = is.each };
+        crash = λ w i h left up at may is. record { each = is.each };
+        hear = λ w i c x a at has read is. record { each = is.each };
+        ask = λ w i c op at free few brief is. unforged-posts (asked_by w i c op) (from_client c (ask_of c op)) tt (record { each = is.each });
+        again = λ w i c q at waits is. unforged-posts w (from_client c (signed_by c q)) tt is;
+        learn = λ w i j c d at other is. record { each = is.each };
+        inject = λ w x read fine is. unforged-posts w (from_script x) fine is;
+        declare = λ w faulty rogue ending how is.
+            record {
+              each = each_weaker (λ (s : Sent). IsFine w.faulty w.rogue w.sent s.origin s.content) (λ (s : Sent). IsFine faulty rogue w.sent s.origin s.content)
+                  (λ s. fine_more w.faulty w.rogue faulty rogue w.sent w.sent (excused_more w.faulty w.rogue faulty rogue how.more_faulty how.more_rogue) (λ c is. is) s.origin s.content)
+                  w.sent is.each;
+            };
+        same = λ w mark told is. record { each = is.each };
+      };
+      resume = λ w i h down at is. record { each = is.each };
     }
 
 -- what has been stated

@@ -1,4 +1,4 @@
--- What members have stated is witnessed by what is firm at their nodes.
+-- What members have stated is witnessed by what became firm at them.
 use Rattle.std.proofs.Common.{◌≡◌, ⊎_elim, ◌⊎◌, ℕ, zero, suc, ◌+◌, ◌*◌, ◌^◌, ◌≤◌, ◌==◌, ◌&&◌, ◌||◌, Bool, true, false, List, [], ◌∷◌, ◌++◌, take, length, filter, refl, ap, sym, ◌∙◌, subst, inl, inr, Option, Some, eqb-true, eq-eqb, nat_le, append-nil}
 use Rattle.std.proofs.lemmas.Bool.{ltb-false, leb-true}
 use Rattle.std.proofs.lemmas.Grind.{flat_map-append}
@@ -21,9 +21,9 @@ use Rattle.agreement_laws.specs.Diaries.{IsShown}
 use Rattle.agreement_laws.specs.Certificates.{IsBacked}
 use Rattle.agreement_laws.specs.Law.{FewFaulty, Witnessed}
 use Rattle.agreement_laws.proofs.Lists.{among_left, among_right, among_either, each_from}
-use Rattle.agreement_laws.proofs.Growing.{take-longer, Lawful-prefix, each-prefix, IsShown-front}
+use Rattle.agreement_laws.proofs.Growing.{take-longer, IsShown-front}
 use Rattle.agreement_laws.proofs.Closed.{closed}
-use Rattle.node_laws.specs.Sound.{AreAmong, IsStated, IsStatedEvent, IsHeld, IsSound}
+use Rattle.node_laws.specs.Sound.{AreAmong, IsStated, IsStatedEvent, IsHeld}
 use Rattle.world_rules.specs.Secrets.{group_secret}
 use Rattle.world_rules.specs.Premises.{is_among, too_many}
 use Rattle.world_rules.specs.Worlds.{Host, World, host_of}
@@ -93,9 +93,9 @@ stated_closed sent = subst (λ (xs : List Statement). IsClosed group_secret xs) 
 
 -- what is firm
 
--- what is firm at a host
+-- what became firm at a host, in all lives
 abbrev pub firm_of : {S : Type 0} → Host S → List LogEntry
-firm_of h = take h.node.firm h.node.entries
+firm_of h = h.life.diary
 
 -- what is firm at a host shows a statement, where it is its member's and that is not faulty
 abbrev pub ShowsOwn : {S : Type 0} → List ℕ → Statement → Host S → Type 0
@@ -202,11 +202,12 @@ shown_own {S = S} faulty x (g ∷ hs) (suc i) h once at who shown = (
 
 -- what is held and leaves states what has been stated, or what is shown
 leaving_shows : {S : Type 0} (faulty : List ℕ) (stated : List Statement) (hosts : List (Host S)) (i : ℕ) (h : Host S) (held : Held) → Distinct (map (λ g. g.node.id) hosts) → slice_get hosts i ≡ Some h
-    → held.needs ≤ h.node.firm → IsHeld group_secret h.node.id stated h.node.entries held → StatesShown faulty stated hosts (contents.Message held.message)
-leaving_shows {S = S} faulty T hosts i h held once at low is x there =
+    → h.life.diary ≡ take h.node.firm h.node.entries → held.needs ≤ h.node.firm → IsHeld group_secret h.node.id stated h.node.entries held → StatesShown faulty stated hosts (contents.Message held.message)
+leaving_shows {S = S} faulty T hosts i h held once at diary low is x there =
     ⊎_elim {C = Among x T ⊎ Each (ShowsOwn faulty x) hosts} (λ old. inl old)
     (λ own. inr (shown_own faulty x hosts i h once at own.0
-    (IsShown-front digest_of (take held.needs h.node.entries) (firm_of h) x (shorter held.needs h.node.firm h.node.entries low) own.1)))
+    (subst (λ (es : List LogEntry). IsShown digest_of es x) (sym diary)
+    (IsShown-front digest_of (take held.needs h.node.entries) (take h.node.firm h.node.entries) x (shorter held.needs h.node.firm h.node.entries low) own.1))))
     (one (statements group_secret held.message) is.shown there)
   where
     one : (xs : List Statement) → Each (λ s. Among s T ⊎ ((signer_of s ≡ Member h.node.id) × IsShown digest_of (take held.needs h.node.entries) s)) xs → Among x xs
@@ -220,11 +221,11 @@ leaving_shows {S = S} faulty T hosts i h held once at low is x there =
 
 -- so it is with all that leave
 pub leave_shown : {S : Type 0} (faulty : List ℕ) (stated : List Statement) (hosts : List (Host S)) (i : ℕ) (h : Host S) (held : List Held) → Distinct (map (λ g. g.node.id) hosts) → slice_get hosts i ≡ Some h
-    → Each (IsHeld group_secret h.node.id stated h.node.entries) held → Each (λ x. StatesShown faulty stated hosts (contents.Message x.message)) (leaving h.node.firm held)
-leave_shown faulty T hosts i h [] once at each = tt
-leave_shown {S = S} faulty T hosts i h (x ∷ xs) once at each =
+    → h.life.diary ≡ take h.node.firm h.node.entries → Each (IsHeld group_secret h.node.id stated h.node.entries) held → Each (λ x. StatesShown faulty stated hosts (contents.Message x.message)) (leaving h.node.firm held)
+leave_shown faulty T hosts i h [] once at diary each = tt
+leave_shown {S = S} faulty T hosts i h (x ∷ xs) once at diary each =
     either_by (λ (hs : List Held). Each (λ y. StatesShown faulty T hosts (contents.Message y.message)) hs) (nat_le x.needs h.node.firm) (x ∷ leaving h.node.firm xs) []
-    (λ is. (leaving_shows faulty T hosts i h x once at (leb-true x.needs h.node.firm is) each.0, leave_shown faulty T hosts i h xs once at each.1)) (λ waits. tt)
+    (λ is. (leaving_shows faulty T hosts i h x once at diary (leb-true x.needs h.node.firm is) each.0, leave_shown faulty T hosts i h xs once at diary each.1)) (λ waits. tt)
 
 -- witnessed
 
@@ -237,10 +238,10 @@ few_faulty v faulty is few =
     let c = and_true (nat_le v.number 1023 && nat_le 1 v.start && nat_le v.start (2 ^ 63) && nat_le v.f 10) (nat_le (3 * v.f + 1) (length v.members)) b.0 in
     record { room = leb-true (3 * v.f + 1) (length v.members) c.1; few = ltb-false v.f (length (filter (is_among faulty) v.members)) few }
 
--- a host of the group whose node is sound
+-- a host of the group whose diary is sound
 pub record HostStands {S : Type 0} (stated : List Statement) (view : View) (h : Host S) : Type 0 where
-  pub sound : IsSound stated view h.node
-  pub shared : h.node.secret ≡ group_secret
+  pub lawful : Lawful 0 0 h.life.diary
+  pub backed : Each (IsBacked group_secret digest_of view stated) h.life.diary
 
 -- what holds of each host's firm entries, holds of a member's diary
 by_host : {S : Type 0} (P : List LogEntry → Type 0) → P [] → (hosts : List (Host S)) → Each (λ h. P (firm_of h)) hosts → (member : ℕ) → P (diary_of (host_of hosts member))
@@ -277,12 +278,10 @@ witnessing {S = S} w viewed few hosts ids all =
       few = few_faulty w.view w.faulty viewed few;
       lawful = λ member correct.
           by_host (λ (es : List LogEntry). Lawful 0 0 es) none_lawful w.hosts
-          (each_weaker (HostStands (stated w.sent) w.view) (λ (h : Host S). Lawful 0 0 (firm_of h)) (λ h is. Lawful-prefix 0 0 h.node.firm h.node.entries is.sound.lawful) w.hosts hosts) member;
+          (each_weaker (HostStands (stated w.sent) w.view) (λ (h : Host S). Lawful 0 0 (firm_of h)) (λ h is. is.lawful) w.hosts hosts) member;
       backed = λ member correct.
           by_host (Each (IsBacked group_secret digest_of w.view (stated w.sent))) tt w.hosts
-          (each_weaker (HostStands (stated w.sent) w.view) (λ (h : Host S). Each (IsBacked group_secret digest_of w.view (stated w.sent)) (firm_of h))
-          (λ h is. each-prefix (IsBacked group_secret digest_of w.view (stated w.sent)) h.node.firm h.node.entries
-          (subst (λ (k : List ℕ). Each (IsBacked k digest_of w.view (stated w.sent)) h.node.entries) is.shared is.sound.backed)) w.hosts hosts) member;
+          (each_weaker (HostStands (stated w.sent) w.view) (λ (h : Host S). Each (IsBacked group_secret digest_of w.view (stated w.sent)) (firm_of h)) (λ h is. is.backed) w.hosts hosts) member;
       shown = λ member correct x there who.
           shown_at w.faulty x w.hosts member (all x there) (subst (λ (ms : List ℕ). list_any (λ y. y == member) ms ≡ true) (sym ids) correct.within) who correct.correct;
       closed = stated_closed w.sent;

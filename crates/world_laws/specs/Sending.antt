@@ -1,5 +1,5 @@
 -- Who sends a message, and the entries on which it rests.
-use Rattle.std.specs.Prelude.{ℕ, ◌≡◌, ◌<◌, ◌≤◌, ◌⊎◌, ◌==◌, Bool, false, ◌&&◌, ◌||◌, List, [], ◌∷◌, length, filter, take, Option, Some, None, Ok, Err}
+use Rattle.std.specs.Prelude.{ℕ, ◌≡◌, ◌<◌, ◌≤◌, ◌⊎◌, ◌==◌, Bool, false, ◌&&◌, ◌||◌, List, [], ◌∷◌, length, filter, Option, Some, None, Ok, Err}
 use Rattle.std.specs.List.{list_any}
 use Rattle.smart_base.specs.Lists.{Each, same_bytes}
 use Rattle.smart_base.specs.Views.{View, weight_of, quorum}
@@ -158,24 +158,23 @@ abbrev pub IsRested : List LogEntry → Content → Type 0
 IsRested entries (contents.Message message) = RestsOn entries message
 IsRested entries (contents.Raw bytes) = ⊥
 
--- the entries that are firm at a member's host bear a content
+-- what became firm at a member, in whichever life, bears a content
 pub record Bears {S : Type 0} (id : ℕ) (content : Content) (h : Host S) : Type 0 where
   pub member : h.node.id ≡ id
-  pub rested : IsRested (take h.node.firm h.node.entries) content
+  pub rested : IsRested h.life.diary content
 
 -- so it is at one of some hosts
 abbrev pub IsBorneAt : {S : Type 0} → List (Host S) → ℕ → Content → Type 0
 IsBorneAt [] id content = ⊥
 IsBorneAt (h ∷ hosts) id content = Bears id content h ⊎ IsBorneAt hosts id content
 
--- what a member sends rests on entries that are firm at that member's node
+-- what a member sends rests on entries that became firm there
 abbrev pub IsBorne : {S : Type 0} → List (Host S) → Origin → Content → Type 0
 IsBorne hosts (origins.Node id) content = IsBorneAt hosts id content
 IsBorne hosts (origins.Client id) content = Unit {0}
 IsBorne hosts origins.Script content = Unit {0}
 
--- each message that was sent is its sender's own, unless a script injected it, and a member's vote, reply or report rests on entries that are firm at its
--- node
+-- each message that was sent is its sender's own, unless a script injected it, and a member's vote, reply or report rests on entries that became firm there
 pub record SentFirm {S : Type 0} (w : World S) : Type 0 where
   pub own : Each (λ s. IsOwnSent s.origin s.to s.content) w.sent
   pub borne : Each (λ s. IsBorne w.hosts s.origin s.content) w.sent

@@ -3,32 +3,31 @@ use Rattle.std.specs.Prelude.{ℕ, ◌+◌, ◌≡◌, List, slice_get}
 use Rattle.smart_base.specs.Views.{View}
 use Rattle.smart_messages.specs.declared.entry.NodeEvent.TheVariants.{Arrive}
 use Rattle.smart_service.specs.Services.{Meaning}
-use Rattle.node_rules.specs.Steps.{step_of}
 use Rattle.world_rules.specs.Repeats.{repeated, each_from}
-use Rattle.world_rules.specs.Worlds.{World, node_takes, settle_once, at_listed, settle_present, settle_all, gives, flow_once, begun}
+use Rattle.world_rules.specs.Worlds.{course_of, World, node_takes, settle_once, at_listed, settle_present, settle_all, gives, flow_once, begun}
 use Rattle.world_rules.specs.Plays.{world_after}
 use Rattle.world_rules.specs.declared.line.Line.{Line}
 
 -- the node at an index has settled: to take what is due changes nothing
 abbrev pub HasSettled : {S : Type 0} → Meaning S → ℕ → World S → Type 0
-HasSettled m i w = settle_once (step_of m) i w ≡ w
+HasSettled m i w = settle_once (course_of m) i w ≡ w
 
--- the node at an index settles, unless it is gone
+-- the node at an index settles, if it runs
 abbrev pub settles_present : {S : Type 0} → Meaning S → List ℕ → ℕ → World S → World S
-settles_present m members i w = settle_present (step_of m) members i w (slice_get w.hosts i)
+settles_present m members i w = settle_present (course_of m) members i w (slice_get w.hosts i)
 
 -- a flow over listed members begins, and the first of these nodes have settled
 abbrev pub flow_begins : {S : Type 0} → Meaning S → View → List Line → List ℕ → ℕ → World S
-flow_begins m view ls members nodes = each_from (at_listed members (settles_present m members)) nodes 0 (world_after (step_of m) (begun m view) ls)
+flow_begins m view ls members nodes = each_from (at_listed members (settles_present m members)) nodes 0 (world_after (course_of m) (begun m view) ls)
 
 -- a flow over listed members has had so many turns
 abbrev pub flow_goes : {S : Type 0} → Meaning S → View → List Line → List ℕ → ℕ → World S
-flow_goes m view ls members k = repeated (flow_once (step_of m) members) k (settle_all (step_of m) members (world_after (step_of m) (begun m view) ls))
+flow_goes m view ls members k = repeated (flow_once (course_of m) members) k (settle_all (course_of m) members (world_after (course_of m) (begun m view) ls))
 
 -- bytes are given to listed members, and the first of these nodes have taken them and settled
 abbrev pub message_goes : {S : Type 0} → Meaning S → List ℕ → List ℕ → ℕ → World S → World S
-message_goes m members bytes nodes w = each_from (at_listed members (gives (step_of m) bytes)) nodes 0 (record w { mark = w.mark + 1 })
+message_goes m members bytes nodes w = each_from (at_listed members (gives (course_of m) bytes)) nodes 0 (record w { mark = w.mark + 1 })
 
 -- a node has taken bytes, and for so many turns what was due
 abbrev pub node_goes : {S : Type 0} → Meaning S → List ℕ → ℕ → ℕ → World S → World S
-node_goes m bytes i k w = repeated (settle_once (step_of m) i) k (node_takes (step_of m) i (Arrive bytes) w)
+node_goes m bytes i k w = repeated (settle_once (course_of m) i) k (node_takes (course_of m) i (Arrive bytes) w)

@@ -1,5 +1,9 @@
--- What has been stated in a world, what its nodes' books have that is firm, and the decisions among what has been stated.
-use Rattle.std.specs.Prelude.{ℕ, suc, ◌⊎◌, List, [], ◌∷◌, take, Option, Some, None}
+-- What has been stated in a world, what became firm at its members, and the decisions among what has been stated.
+use Rattle.std.specs.Prelude.{ℕ, suc, ◌≡◌, ◌⊎◌, true, false, List, [], ◌∷◌, take, map, Option, Some, None}
+use Rattle.smart_base.specs.Lists.{Each}
+use Rattle.vote_book.specs.Entries.{entry_text}
+use Rattle.durable_store.specs.Restored.{restores}
+use Rattle.member_store.specs.Crashes.{bytes_held}
 use Rattle.smart_messages.specs.declared.statement.Ballot.{Ballot}
 use Rattle.std.specs.List.{flat_map}
 use Rattle.smart_base.specs.Views.{View}
@@ -29,10 +33,10 @@ stated_in (contents.Raw bytes) = []
 abbrev pub stated : List Sent → List Statement
 stated sent = flat_map (λ s. stated_in s.content) sent
 
--- the entries of a host's book that are firm
+-- what became firm at a host, through all lives of its member
 abbrev pub diary_of : {S : Type 0} → Option (Host S) → List LogEntry
 diary_of None = []
-diary_of (Some h) = take h.node.firm h.node.entries
+diary_of (Some h) = h.life.diary
 
 -- a member's diary
 abbrev pub diary : {S : Type 0} → World S → ℕ → List LogEntry
@@ -49,8 +53,14 @@ abbrev pub AllCertified : List Statement → View → ℕ → List Batch → Typ
 AllCertified stated view place [] = Unit {0}
 AllCertified stated view place (batch ∷ batches) = Certified stated view place (digest_of batch) × AllCertified stated view (suc place) batches
 
--- what members have stated is witnessed by what is firm at their nodes, and each chosen batch has a decision among what has been stated
+-- While a node runs, its member's diary is what is firm of its book. What the devices of a member that has crashed restore is its diary, no more and no less.
+pub record HasDiary {S : Type 0} (h : Host S) : Type 0 where
+  pub up : h.up ≡ true → h.life.diary ≡ take h.node.firm h.node.entries
+  pub down : h.up ≡ false → (restores (bytes_held h.store)).entries ≡ map entry_text h.life.diary
+
+-- what members have stated is witnessed by what became firm at them, and each chosen batch has a decision among what has been stated
 pub record IsWitnessed {S : Type 0} (w : World S) : Type 0 where
+  pub diaries : Each HasDiary w.hosts
   pub witnessed : Witnessed group_secret digest_of w.view (is_among w.faulty) (diary w) (stated w.sent)
   pub chosen : AllCertified (stated w.sent) w.view 1 w.chosen
 

@@ -1,8 +1,7 @@
 //! What clients know.
 ghost use Rattle.std.specs.Prelude.{◌≡◌, ◌≤◌, ℕ, List, Some};
 ghost use Rattle.smart_base.specs.Views.{View};
-ghost use Rattle.node_rules.specs.Steps.{step_of};
-ghost use Rattle.world_rules.specs.Worlds.{begun};
+ghost use Rattle.world_rules.specs.Worlds.{course_of, begun};
 ghost use Rattle.world_rules.specs.Plays.{world_after, lines_told};
 ghost use Rattle.world_rules.specs.declared.line.Line.{Line};
 ghost use Rattle.world_rules.specs.Knowing.{known_by, seen_by};
@@ -14,5 +13,5 @@ use smart_service::service::Service;
 /// transcript tells it none, it knows none.
 pub fn clients_know<S: Service>()
     ensures { (view : View) (ls : List Line) (client : ℕ) → client ≤ 1024 →
-        seen_by (world_after (step_of S.meaning) (begun S.meaning view) ls) client ≡ Some (known_by client (lines_told (step_of S.meaning) (begun S.meaning view) ls)) }
+        seen_by (world_after (course_of S.meaning) (begun S.meaning view) ls) client ≡ Some (known_by client (lines_told (course_of S.meaning) (begun S.meaning view) ls)) }
 {}

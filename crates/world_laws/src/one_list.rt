@@ -9,19 +9,25 @@ ghost use Rattle.world_laws.specs.Examples.{lone, ask_and_flow, ask_and_wait, fi
 use smart_service::service::Service;
 
 /// In every play, over any group and for any lines, one list of batches holds after each line,
-/// whatever a script injects in the names of up to f faulty members and of rogue clients. Each node,
-/// also one that is gone since its member was declared faulty, has delivered a front of it: its
-/// service, its table and its views are those after that front, and it has delivered one batch at
-/// each place of that front, in order: the list's there. A batch that it has decided and not
-/// delivered is the list's at the next place. Each reply that a client accepted is the service's
-/// answer at the one place where its request stands in the list, the request there is the one that
-/// the client asked, the reply states the view in force there, and that place is past the one that
-/// the request states; of a client that was declared rogue none of this is said. The place that a
-/// request states is no less than any that the client knew before it asked: after no line before its
-/// request was sent had the transcript told it a greater place, be it of a reply that it accepted or
-/// one that it was told. The list only grows: what it holds after one line, it begins with after
-/// every later one. Each line of the transcript that tells of a reply that a client accepted, unless
-/// it is rogue, names the one place of its request in the list, and tells the service's answer there.
+/// whatever a script injects in the names of up to f faulty members and of rogue clients, and whatever
+/// members crash, with whatever their devices may then hold. Each node, also one that is gone since its
+/// member was declared faulty and one that has stopped, has delivered a front of it: its service, its
+/// table and its views are those after that front. Since it last went on it has delivered one batch at
+/// each further place of that front, in order: the list's there, as is each batch that it delivered in
+/// earlier lives. A batch that it has decided and not delivered is the list's at the next place.
+/// Whatever a crash now leaves of a member's devices, they restore all that became firm there, none of
+/// the entries that they restore is damaged, and the replica that goes on from them is the state of a
+/// front of the list; nor is what a member that has crashed goes on from. Each reply that a client
+/// accepted is the service's answer at the one place where its request stands in the list, the request
+/// there is the one that the client asked, the reply states the view in force there, and that place is
+/// past the one that the request states; of a client that was declared rogue none of this is said. The
+/// place of each accepted reply is kept: whatever crashes leave of the devices of all members that are
+/// not faulty, more than f of them go on from it or a later one. The place that a request states is no
+/// less than any that the client knew before it asked: after no line before its request was sent had
+/// the transcript told it a greater place, be it of a reply that it accepted or one that it was told.
+/// The list only grows: what it holds after one line, it begins with after every later one. Each line
+/// of the transcript that tells of a reply that a client accepted, unless it is rogue, names the one
+/// place of its request in the list, and tells the service's answer there.
 pub fn one_list_throughout<S: Service>()
     ensures { (view : View) (ls : List Line) → is_view view ≡ true → OneListThroughout S.meaning view ls }
 {}

@@ -5,12 +5,12 @@ ghost use Rattle.smart_messages.specs.Forms.{SignedBy};
 ghost use Rattle.smart_messages.specs.declared.statement.Request.{Request};
 ghost use Rattle.smart_messages.specs.declared.statement.Answer.{Answer};
 ghost use Rattle.smart_messages.specs.declared.entry.NodeEvent.{NodeEvent};
-ghost use Rattle.node_rules.specs.Steps.{step_of, opened};
+ghost use Rattle.node_rules.specs.Steps.{opened};
 ghost use Rattle.node_rules.specs.Kept.{node_after};
 ghost use Rattle.world_rules.specs.Repeats.{repeated};
 ghost use Rattle.client_quorum.specs.Clients.{asking};
 ghost use Rattle.world_rules.specs.Clients.{heard};
-ghost use Rattle.world_rules.specs.Worlds.{settle_once, begun};
+ghost use Rattle.world_rules.specs.Worlds.{course_of, settle_once, begun};
 ghost use Rattle.world_rules.specs.Plays.{world_after};
 ghost use Rattle.client_quorum.specs.declared.client.Client.{Client};
 ghost use Rattle.client_quorum.specs.declared.client.Acceptance.{Acceptance};
@@ -31,7 +31,7 @@ use smart_service::service::Service;
 pub fn a_quorum_replied<S: Service>()
     ensures client { (view : View) (c : Client) (q : Request) (replies : List (SignedBy Answer)) (a : SignedBy Answer) (accepted : Acceptance) →
         heard view (hears_all view (asking c q) replies) a ≡ hears.Accepted accepted → IsGiven view q (replies ++ a ∷ []) accepted }
-    ensures world { (view : View) (ls : List Line) → is_view view ≡ true → QuorumsReplied (world_after (step_of S.meaning) (begun S.meaning view) ls) }
+    ensures world { (view : View) (ls : List Line) → is_view view ≡ true → QuorumsReplied (world_after (course_of S.meaning) (begun S.meaning view) ls) }
 {}
 
 /// A vote leaves only when its entry is firm, a reply only when the decision of its request is, and a
@@ -40,12 +40,13 @@ pub fn a_quorum_replied<S: Service>()
 /// leave it now rests on firm entries. And in each world of a play, as a flow begins and in each turn of
 /// it, while a node settles and while one takes bytes, what a node or a client has sent is a message
 /// that names it as its signer, unless it is a client's request that a node has passed on to one
-/// member, and a vote, a reply or a report that a node has sent rests on entries that are firm there.
+/// member, and a vote, a reply or a report that a node has sent rests on what became firm there, in
+/// whichever life.
 /// What a script injects is for nobody.
 pub fn votes_leave_when_firm<S: Service>()
     ensures node { (secret : List ℕ) (id : ℕ) (view : View) (period : ℕ) (events : List NodeEvent) → LeavesFirm (node_after S.meaning (opened S.meaning secret id view period) events) }
-    ensures first { (view : View) (ls : List Line) (members : List ℕ) (nodes i k : ℕ) → SentFirm (repeated (settle_once (step_of S.meaning) i) k (flow_begins S.meaning view ls members nodes)) }
-    ensures given { (view : View) (ls : List Line) (members : List ℕ) (turn : ℕ) (bytes : List ℕ) (nodes i k : ℕ) →
+    ensures first { (view : View) (ls : List Line) (members : List ℕ) (nodes i k : ℕ) → is_view view ≡ true → SentFirm (repeated (settle_once (course_of S.meaning) i) k (flow_begins S.meaning view ls members nodes)) }
+    ensures given { (view : View) (ls : List Line) (members : List ℕ) (turn : ℕ) (bytes : List ℕ) (nodes i k : ℕ) → is_view view ≡ true →
         SentFirm (node_goes S.meaning bytes i k (message_goes S.meaning members bytes nodes (flow_goes S.meaning view ls members turn))) }
 {}
 
@@ -57,5 +58,5 @@ pub fn votes_leave_when_firm<S: Service>()
 /// place that it does not state. It bears the tag of its signer over its statement. So does each
 /// request of a batch in it, and each report in a beginning of a regency.
 pub fn what_is_sent_is_read<S: Service>()
-    ensures { (view : View) (ls : List Line) → is_view view ≡ true → AllGenuine (world_after (step_of S.meaning) (begun S.meaning view) ls) }
+    ensures { (view : View) (ls : List Line) → is_view view ≡ true → AllGenuine (world_after (course_of S.meaning) (begun S.meaning view) ls) }
 {}

@@ -1,9 +1,8 @@
 //! Laws of rest: what is repeated until it changes nothing.
-ghost use Rattle.std.specs.Prelude.{◌≡◌, ◌≤◌, ℕ, List};
-ghost use Rattle.smart_base.specs.Views.{View};
-ghost use Rattle.node_rules.specs.Steps.{step_of};
+ghost use Rattle.std.specs.Prelude.{◌≡◌, ◌≤◌, ℕ, List, true};
+ghost use Rattle.smart_base.specs.Views.{View, is_view};
 ghost use Rattle.world_rules.specs.Repeats.{repeated, turns, until_rest};
-ghost use Rattle.world_rules.specs.Worlds.{World, settle, gives, flow_once, begun};
+ghost use Rattle.world_rules.specs.Worlds.{course_of, World, settle, gives, flow_once, begun};
 ghost use Rattle.world_rules.specs.Plays.{line_played, world_after};
 ghost use Rattle.world_rules.specs.declared.line.Line.{Line};
 ghost use Rattle.world_rules.specs.declared.line.Line.TheVariants as lines;
@@ -15,18 +14,18 @@ use smart_service::service::Service;
 /// nothing.
 pub fn flow_rests<S: Service>()
     ensures { (view : View) (ls : List Line) (members : List ℕ) →
-        flow_once (step_of S.meaning) members (line_played (step_of S.meaning) (world_after (step_of S.meaning) (begun S.meaning view) ls) (lines.Flow members))
-        ≡ line_played (step_of S.meaning) (world_after (step_of S.meaning) (begun S.meaning view) ls) (lines.Flow members) }
+        flow_once (course_of S.meaning) members (line_played (course_of S.meaning) (world_after (course_of S.meaning) (begun S.meaning view) ls) (lines.Flow members))
+        ≡ line_played (course_of S.meaning) (world_after (course_of S.meaning) (begun S.meaning view) ls) (lines.Flow members) }
 {}
 
-/// A node that settles comes to rest, whenever a play has it settle: in a line of its own, as a flow begins, behind the
-/// nodes that settle before it, and in each turn of a flow, whatever bytes the nodes are given.
-/// One more turn changes nothing.
+/// A node that settles comes to rest, whenever a play over a view has it settle, also where it has gone on after
+/// crashes: in a line of its own, as a flow begins, behind the nodes that settle before it, and in each turn of a
+/// flow, whatever bytes the nodes are given. One more turn changes nothing.
 pub fn settling_rests<S: Service>()
-    ensures line { (view : View) (ls : List Line) (i : ℕ) → HasSettled S.meaning i (settle (step_of S.meaning) i (world_after (step_of S.meaning) (begun S.meaning view) ls)) }
-    ensures first { (view : View) (ls : List Line) (members : List ℕ) (nodes i : ℕ) → HasSettled S.meaning i (settle (step_of S.meaning) i (flow_begins S.meaning view ls members nodes)) }
-    ensures given { (view : View) (ls : List Line) (members : List ℕ) (k : ℕ) (bytes : List ℕ) (nodes i : ℕ) →
-        HasSettled S.meaning i (gives (step_of S.meaning) bytes i (message_goes S.meaning members bytes nodes (flow_goes S.meaning view ls members k))) }
+    ensures line { (view : View) (ls : List Line) (i : ℕ) → is_view view ≡ true → HasSettled S.meaning i (settle (course_of S.meaning) i (world_after (course_of S.meaning) (begun S.meaning view) ls)) }
+    ensures first { (view : View) (ls : List Line) (members : List ℕ) (nodes i : ℕ) → is_view view ≡ true → HasSettled S.meaning i (settle (course_of S.meaning) i (flow_begins S.meaning view ls members nodes)) }
+    ensures given { (view : View) (ls : List Line) (members : List ℕ) (k : ℕ) (bytes : List ℕ) (nodes i : ℕ) → is_view view ≡ true →
+        HasSettled S.meaning i (gives (course_of S.meaning) bytes i (message_goes S.meaning members bytes nodes (flow_goes S.meaning view ls members k))) }
 {}
 
 /// What changes nothing in a world is the end of its repetition there.

@@ -3,12 +3,9 @@ use Rattle.std.specs.Prelude.{ℕ, ◌≡◌, nat_le, Bool, true, false, ◌&&�
 use Rattle.std.specs.List.{list_all}
 use Rattle.smart_base.specs.Views.{View}
 use Rattle.smart_service.specs.Services.{Meaning}
-use Rattle.smart_messages.specs.declared.entry.NodeEvent.{NodeEvent}
-use Rattle.node_rules.specs.Nodes.{Node}
-use Rattle.node_rules.specs.Steps.{Outcome}
 use Rattle.smart_base.specs.declared.party.Party.{Party}
 use Rattle.smart_base.specs.declared.party.Party.TheVariants as parties
-use Rattle.world_rules.specs.Worlds.{World, asks, repeats, tells, calls_disk, settle, settle_all, flows, host_index, at_member, give_number, deliver_each, tick_each, shows, declares_faulty, declares_rogue, injects, begun}
+use Rattle.world_rules.specs.Worlds.{World, Course, asks, repeats, tells, calls_disk, crashes, crash_all, restart_member, restart_all, settle, settle_all, flows, host_index, at_member, give_number, deliver_each, tick_each, shows, declares_faulty, declares_rogue, injects, begun}
 use Rattle.world_rules.specs.Repeats.{repeated}
 use Rattle.world_rules.specs.Injections.{injected_bytes}
 use Rattle.world_rules.specs.declared.line.Line.{Line}
@@ -36,6 +33,10 @@ is_there w (lines.Deliver members) = list_all (has_member w) members
 is_there w (lines.Tick members) = list_all (has_member w) members
 is_there w (lines.Settle member) = has_member w member
 is_there w (lines.Disk member count) = has_member w member
+is_there w (lines.Crash member image patches) = has_member w member
+is_there w (lines.CrashAll image) = true
+is_there w (lines.Restart member) = has_member w member
+is_there w lines.RestartAll = true
 is_there w lines.SettleAll = true
 is_there w lines.Show = true
 is_there w (lines.Faulty member) = has_member w member
@@ -43,36 +44,40 @@ is_there w (lines.Rogue client) = true
 is_there w (lines.Inject form) = is_some (injected_bytes w.sent form)
 
 -- the world after a line, with what the line told
-unfoldable pub line_played : {S : Type 0} → (Node S → NodeEvent → Outcome S) → World S → Line → World S
-line_played step w lines.Nothing = w
-line_played step w (lines.Ask client op) = asks client op w
-line_played step w (lines.Again client) = repeats client w
-line_played step w (lines.Tell from to) = tells from to w
-line_played step w (lines.Flow members) = flows step members w
-line_played step w (lines.Give number to) = give_number step number to w
-line_played step w (lines.Deliver members) = deliver_each step members w
-line_played step w (lines.Tick members) = tick_each step members w
-line_played step w (lines.Settle member) = at_member (settle step) member w
-line_played step w (lines.Disk member count) = at_member (λ i v. repeated (calls_disk step i) count v) member w
-line_played step w lines.SettleAll = settle_all step [] w
-line_played step w lines.Show = shows w
-line_played step w (lines.Faulty member) = declares_faulty member w
-line_played step w (lines.Rogue client) = declares_rogue client w
-line_played step w (lines.Inject form) = injects form w
+unfoldable pub line_played : {S : Type 0} → Course S → World S → Line → World S
+line_played course w lines.Nothing = w
+line_played course w (lines.Ask client op) = asks client op w
+line_played course w (lines.Again client) = repeats client w
+line_played course w (lines.Tell from to) = tells from to w
+line_played course w (lines.Flow members) = flows course members w
+line_played course w (lines.Give number to) = give_number course number to w
+line_played course w (lines.Deliver members) = deliver_each course members w
+line_played course w (lines.Tick members) = tick_each course members w
+line_played course w (lines.Settle member) = at_member (settle course) member w
+line_played course w (lines.Disk member count) = at_member (λ i v. repeated (calls_disk course i) count v) member w
+line_played course w (lines.Crash member image patches) = at_member (crashes course image patches) member w
+line_played course w (lines.CrashAll image) = crash_all course image w
+line_played course w (lines.Restart member) = restart_member course member w
+line_played course w lines.RestartAll = restart_all course w
+line_played course w lines.SettleAll = settle_all course [] w
+line_played course w lines.Show = shows w
+line_played course w (lines.Faulty member) = declares_faulty member w
+line_played course w (lines.Rogue client) = declares_rogue client w
+line_played course w (lines.Inject form) = injects form w
 
 -- the world between two lines
 abbrev pub rested : {S : Type 0} → World S → World S
 rested w = record w { told = [] }
 
 -- the world after lines
-abbrev pub world_after : {S : Type 0} → (Node S → NodeEvent → Outcome S) → World S → List Line → World S
-world_after step w [] = w
-world_after step w (l ∷ ls) = world_after step (rested (line_played step w l)) ls
+abbrev pub world_after : {S : Type 0} → Course S → World S → List Line → World S
+world_after course w [] = w
+world_after course w (l ∷ ls) = world_after course (rested (line_played course w l)) ls
 
 -- what lines tell, one after the other
-abbrev pub lines_told : {S : Type 0} → (Node S → NodeEvent → Outcome S) → World S → List Line → List OutLine
-lines_told step w [] = []
-lines_told step w (l ∷ ls) = (line_played step w l).told ++ lines_told step (rested (line_played step w l)) ls
+abbrev pub lines_told : {S : Type 0} → Course S → World S → List Line → List OutLine
+lines_told course w [] = []
+lines_told course w (l ∷ ls) = (line_played course w l).told ++ lines_told course (rested (line_played course w l)) ls
 
 -- a play: the group's first view, the lines that were played, the world behind them, and whether it is over
 pub record Play (S : Type 0) : Type 0 where
@@ -82,6 +87,6 @@ pub record Play (S : Type 0) : Type 0 where
   pub over : Bool
 
 -- until it is over, a play stands for its lines: its world is the one behind them, and nothing has ended it
-pub record IsPlay {S : Type 0} (step : Node S → NodeEvent → Outcome S) (m : Meaning S) (p : Play S) : Type 0 where
-  pub stands : p.over ≡ false → p.world ≡ world_after step (begun m p.group) p.lines
+pub record IsPlay {S : Type 0} (course : Course S) (m : Meaning S) (p : Play S) : Type 0 where
+  pub stands : p.over ≡ false → p.world ≡ world_after course (begun m p.group) p.lines
   pub going : p.over ≡ false → p.world.ending ≡ None

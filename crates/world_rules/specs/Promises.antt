@@ -1,5 +1,5 @@
 -- What is promised of a play: one list.
-use Rattle.std.specs.Prelude.{ℕ, true, ◌+◌, ◌≡◌, ◌<◌, ◌≤◌, ◌⊎◌, List, [], ◌∷◌, length, take, Option, Some, None}
+use Rattle.std.specs.Prelude.{ℕ, true, ◌+◌, ◌≡◌, ◌<◌, ◌≤◌, ◌⊎◌, List, [], ◌∷◌, length, take, filter, map, nat_le, not, ◌&&◌, Bool, false, Option, Some, None}
 use Rattle.smart_base.specs.Lists.{Each}
 use Rattle.smart_base.specs.Views.{View}
 use Rattle.smart_messages.specs.Kinds.{requests}
@@ -11,13 +11,19 @@ use Rattle.smart_service.specs.Services.{Meaning}
 use Rattle.replica_rules.specs.Replicas.{state, answer, place_of, batch_at, request_at, view_at}
 use Rattle.replica_rules.specs.Seals.{signed}
 use Rattle.node_rules.specs.Nodes.{next_place}
-use Rattle.node_rules.specs.Steps.{step_of}
+use Rattle.node_rules.specs.Deliveries.{AtPlaces}
+use Rattle.node_rules.specs.Reopening.{reopened, damaged, entries_in}
+use Rattle.smart_service.specs.declared.replica.Replica.{Replica}
+use Rattle.vote_book.specs.Entries.{entry_text}
+use Rattle.durable_store.specs.Restored.{Images, restores}
+use Rattle.member_store.specs.Crashes.{bytes_held}
+use Rattle.durable_store.specs.Standing.{MayLeave}
 use Rattle.node_rules.specs.declared.node.Target.TheVariants as targets
 use Rattle.node_rules.specs.declared.node.Delivery.{Delivery}
 use Rattle.world_rules.specs.Secrets.{group_secret}
 use Rattle.world_rules.specs.Premises.{is_among}
 use Rattle.world_rules.specs.declared.message.Content.TheVariants as contents
-use Rattle.world_rules.specs.Worlds.{Host, World, begun}
+use Rattle.world_rules.specs.Worlds.{Host, World, course_of, is_gone, begun}
 use Rattle.world_rules.specs.Plays.{world_after, lines_told}
 use Rattle.world_rules.specs.Knowing.{known_by}
 use Rattle.client_quorum.specs.declared.client.Acceptance.{Acceptance}
@@ -27,25 +33,54 @@ use Rattle.world_rules.specs.declared.line.OutLine.TheVariants as outs
 use Rattle.world_rules.specs.declared.message.Sent.{Sent}
 use Rattle.world_rules.specs.declared.message.Origin.TheVariants as origins
 
--- deliveries at one place after the other, from a place on
-abbrev pub AtPlaces : ℕ → List Delivery → Type 0
-AtPlaces place [] = Unit {0}
-AtPlaces place (d ∷ ds) = (d.place ≡ place) × AtPlaces (place + 1) ds
-
 -- a batch that waits for its delivery is the list's at its place
 abbrev pub IsNext : List Batch → ℕ → Option Batch → Type 0
 IsNext chosen place None = Unit {0}
 IsNext chosen place (Some batch) = batch_at chosen place ≡ Some batch
 
--- a host has delivered a front of the list: its replica is the state of that front, it has delivered one batch at each place of it, in
--- order, and that batch is the list's there. So is the batch that it has decided and not delivered
+-- a batch was delivered where the list has it
+abbrev pub IsChosenAt : List Batch → Delivery → Type 0
+IsChosenAt chosen d = batch_at chosen d.place ≡ Some d.batch
+
+-- A host has delivered a front of the list: its replica is the state of that front. In this life it has delivered one batch at each place of it behind the
+-- one from which it went on, in order, and each batch that it ever delivered is the list's at its place. So is the batch that it has decided and not
+-- delivered.
 pub record IsPrefix {S : Type 0} (m : Meaning S) (view : View) (chosen : List Batch) (h : Host S) : Type 0 where
   pub within : h.node.replica.place ≤ length chosen
   pub replica : h.node.replica ≡ state m view (take h.node.replica.place chosen)
-  pub count : length h.delivered ≡ h.node.replica.place
-  pub places : AtPlaces 1 h.delivered
-  pub delivered : Each (λ d. batch_at chosen d.place ≡ Some d.batch) h.delivered
+  pub count : h.resumed + length h.delivered ≡ h.node.replica.place
+  pub places : AtPlaces (h.resumed + 1) h.delivered
+  pub delivered : Each (IsChosenAt chosen) h.delivered
+  pub earlier : Each (IsChosenAt chosen) h.earlier
   pub waiting : IsNext chosen (next_place h.node) h.node.waiting
+
+-- ---- kept places
+
+-- the replica that a member's devices restore, where a crash leaves this of them
+abbrev pub restored_replica : {S : Type 0} → Meaning S → View → Host S → Images → Replica S
+restored_replica m view h left = (reopened m group_secret h.node.id view 1024 (entries_in (restores left).entries)).replica
+
+-- a member that is not faulty, whose devices restore a place or a later one
+abbrev pub has_place : {S : Type 0} → Meaning S → World S → (ℕ → Images) → ℕ → Host S → Bool
+has_place m w left place h = not (is_gone w h.node.id) && nat_le place (restored_replica m w.view h (left h.node.id)).place
+
+-- a crash now may leave this of the devices of all members that are not faulty, of those that run and of those that have stopped
+abbrev pub MayBeLeft : {S : Type 0} → World S → (ℕ → Images) → Type 0
+MayBeLeft w left = Each (λ h. is_gone w h.node.id ≡ false → MayLeave h.store (left h.node.id)) w.hosts
+
+-- A place is kept: whatever crashes leave of the devices of all members that are not faulty, more of them than may be faulty restore that place or a later
+-- one.
+pub record IsKept {S : Type 0} (m : Meaning S) (w : World S) (place : ℕ) : Type 0 where
+  pub enough : (left : ℕ → Images) → MayBeLeft w left → w.view.f < length (filter (has_place m w left place) w.hosts)
+
+-- Whatever a crash now leaves of a member's devices, they restore its diary and, behind it, at most what was not firm yet. No entry that they restore is
+-- damaged, and the replica that they restore is the state of a front of the list. What a member that has crashed goes on from is not damaged either.
+pub record Recovers {S : Type 0} (m : Meaning S) (w : World S) (h : Host S) : Type 0 where
+  pub diary : (left : Images) → MayLeave h.store left → take (length h.life.diary) (restores left).entries ≡ map entry_text h.life.diary
+  pub undamaged : (left : Images) → MayLeave h.store left → damaged group_secret w.view (restores left).entries ≡ None
+  pub restarts : h.up ≡ false → damaged group_secret w.view (restores (bytes_held h.store)).entries ≡ None
+  pub within : (left : Images) → MayLeave h.store left → (restored_replica m w.view h left).place ≤ length w.chosen
+  pub right : (left : Images) → MayLeave h.store left → restored_replica m w.view h left ≡ state m w.view (take (restored_replica m w.view h left).place w.chosen)
 
 -- the client that a request names has signed and sent it
 abbrev pub HasAsked : List Sent → Request → Type 0
@@ -73,11 +108,14 @@ Rises (a ∷ later) = Each (λ b. b.request.client ≡ a.request.client → a.pl
 abbrev pub IsRogue : List ℕ → ℕ → Type 0
 IsRogue rogue client = is_among rogue client ≡ true
 
--- all nodes, those that are gone too, have delivered fronts of one list, and each reply that was accepted by a client that is not rogue is
--- the service's answer at its request's one place there, past the place that its request states
+-- All nodes, those that are gone or have stopped too, have delivered fronts of one list, and go on from such fronts whatever crashes leave of their devices.
+-- Each reply that was accepted by a client that is not rogue is the service's answer at its request's one place there, past the place that its request
+-- states. The place of each accepted reply is kept.
 pub record OneList {S : Type 0} (m : Meaning S) (w : World S) : Type 0 where
   pub hosts : Each (IsPrefix m w.view w.chosen) w.hosts
+  pub recovers : Each (Recovers m w) w.hosts
   pub accepted : Each (λ a. IsRogue w.rogue a.request.client ⊎ IsRight m w.view w.sent w.chosen a) w.accepted
+  pub kept : Each (λ a. IsKept m w a.place) w.accepted
   pub rising : Rises w.accepted
 
 -- a transcript line that tells of a reply that was accepted by a client that is not rogue names the one place of its request in the list,
@@ -96,6 +134,9 @@ IsAnswered m view rogue chosen (outs.Counted client have need) = Unit {0}
 IsAnswered m view rogue chosen (outs.Ignored client why) = Unit {0}
 IsAnswered m view rogue chosen (outs.Busy client seq) = Unit {0}
 IsAnswered m view rogue chosen (outs.Absent member) = Unit {0}
+IsAnswered m view rogue chosen (outs.Crashed member) = Unit {0}
+IsAnswered m view rogue chosen (outs.Restarted member place entries) = Unit {0}
+IsAnswered m view rogue chosen (outs.Down member) = Unit {0}
 IsAnswered m view rogue chosen (outs.Idle member) = Unit {0}
 IsAnswered m view rogue chosen (outs.IdleClient client) = Unit {0}
 IsAnswered m view rogue chosen (outs.Learned client place) = Unit {0}
@@ -109,7 +150,7 @@ IsPast sent told q = HasAsked sent q ⊎ (known_by q.client told ≤ q.after)
 
 -- the world after the first lines of a script over a group
 abbrev pub world_at : {S : Type 0} → Meaning S → View → List Line → ℕ → World S
-world_at m view ls k = world_after (step_of m) (begun m view) (take k ls)
+world_at m view ls k = world_after (course_of m) (begun m view) (take k ls)
 
 -- one list holds after each line, the list only grows, and each transcript line that tells of an accepted reply tells its answer there.
 -- Each request whose reply is accepted, be it when it may, states what its client knew: of each line after which it had not been sent
@@ -118,5 +159,5 @@ world_at m view ls k = world_after (step_of m) (begun m view) (take k ls)
 pub record OneListThroughout {S : Type 0} (m : Meaning S) (view : View) (ls : List Line) : Type 0 where
   pub one_list : (k : ℕ) → OneList m (world_at m view ls k)
   pub grows : (j k : ℕ) → j ≤ k → take (length (world_at m view ls j).chosen) (world_at m view ls k).chosen ≡ (world_at m view ls j).chosen
-  pub told : (k : ℕ) → Each (IsAnswered m view (world_at m view ls k).rogue (world_at m view ls k).chosen) (lines_told (step_of m) (begun m view) (take k ls))
-  pub past_known : (j k : ℕ) → Each (λ a. IsPast (world_at m view ls j).sent (lines_told (step_of m) (begun m view) (take j ls)) a.request) (world_at m view ls k).accepted
+  pub told : (k : ℕ) → Each (IsAnswered m view (world_at m view ls k).rogue (world_at m view ls k).chosen) (lines_told (course_of m) (begun m view) (take k ls))
+  pub past_known : (j k : ℕ) → Each (λ a. IsPast (world_at m view ls j).sent (lines_told (course_of m) (begun m view) (take j ls)) a.request) (world_at m view ls k).accepted

@@ -12,6 +12,9 @@ use Rattle.smart_messages.specs.declared.statement.Slot.{Slot}
 use Rattle.smart_messages.specs.declared.statement.Answer.{Answer}
 use Rattle.smart_messages.specs.declared.statement.VoteKind.{VoteKind}
 use Rattle.smart_messages.specs.declared.statement.VoteKind.TheVariants.{Write, Accept}
+use Rattle.member_store.specs.declared.crash.Image.{Image}
+use Rattle.member_store.specs.declared.crash.Image.TheVariants as images
+use Rattle.member_store.specs.declared.crash.Patch.{Patch}
 use Rattle.world_rules.specs.declared.line.Injection.{Injection}
 use Rattle.world_rules.specs.declared.line.Injection.TheVariants as forms
 use Rattle.world_rules.specs.declared.line.Line.{Line}
@@ -158,6 +161,107 @@ disk_line [] = Err kinds.Count
 disk_line (member ∷ []) = disk_with (member_of member) (Some 1)
 disk_line (member ∷ count ∷ []) = disk_with (member_of member) (number_in 1 1000 count)
 disk_line (member ∷ count ∷ next ∷ more) = Err kinds.Count
+
+-- the number of a digit from 0 to 9 or from a to f
+abbrev pub hex_value : ℕ → Option ℕ
+hex_value b =
+    if nat_le 48 b && nat_le b 57 then Some (b - 48)
+    else if nat_le 97 b && nat_le b 102 then Some (b - 87)
+    else None
+
+abbrev pub byte_by : Option ℕ → Option ℕ → Option ℕ
+byte_by None low = None
+byte_by (Some high) None = None
+byte_by (Some high) (Some low) = Some (16 * high + low)
+
+-- the bytes that pairs of digits are
+abbrev pub hex_bytes : List ℕ → Option (List ℕ)
+hex_bytes [] = Some []
+hex_bytes (high ∷ []) = None
+hex_bytes (high ∷ low ∷ digits) = with_value (byte_by (hex_value high) (hex_value low)) (hex_bytes digits)
+
+-- what a crash leaves: `old` or `new`
+abbrev pub image_of : List ℕ → Option Image
+image_of word =
+    if same_bytes word (codes "old") then Some images.Old
+    else if same_bytes word (codes "new") then Some images.New
+    else None
+
+-- the parts of a word in front of the first byte of some kind, and behind it
+abbrev pub parted_at : ℕ → List ℕ → Option (List ℕ × List ℕ)
+parted_at sign [] = None
+parted_at sign (b ∷ bs) = if b == sign then Some ([], bs) else option_map (λ parts. (b ∷ parts.0, parts.1)) (parted_at sign bs)
+
+abbrev pub patch_with : Option ℕ → Option ℕ → Option (List ℕ) → Result Patch Kind
+patch_with None at hex = Err kinds.Number
+patch_with (Some device) None hex = Err kinds.Number
+patch_with (Some device) (Some at) None = Err kinds.Form
+patch_with (Some device) (Some at) (Some []) = Err kinds.Form
+patch_with (Some device) (Some at) (Some (b ∷ bs)) = Ok (record { device = device; at = at; bytes = b ∷ bs })
+
+-- D@AT=HEX
+abbrev pub patch_at : List ℕ → Option (List ℕ × List ℕ) → Result Patch Kind
+patch_at device None = Err kinds.Form
+patch_at device (Some (at, hex)) = patch_with (number_in 0 3 device) (number_in 0 (2 ^ 64 - 1) at) (hex_bytes hex)
+
+abbrev pub patch_in : Option (List ℕ × List ℕ) → Result Patch Kind
+patch_in None = Err kinds.Form
+patch_in (Some (device, rest)) = patch_at device (parted_at 61 rest)
+
+abbrev pub patch_of : List ℕ → Result Patch Kind
+patch_of word = patch_in (parted_at 64 word)
+
+-- of two kinds of what is wrong with patches the first: a number, or else a form
+abbrev pub before : Kind → Kind → Kind
+before kinds.Number other = kinds.Number
+before kinds.Form other = other
+before kinds.Empty other = other
+before kinds.Byte other = other
+before kinds.Long other = other
+before kinds.Header other = other
+before kinds.Word other = other
+before kinds.Count other = other
+before kinds.Refer other = other
+
+-- all patches, or what is wrong with them
+abbrev pub with_patch : Result Patch Kind → Result (List Patch) Kind → Result (List Patch) Kind
+with_patch (Ok p) (Ok ps) = Ok (p ∷ ps)
+with_patch (Ok p) (Err kind) = Err kind
+with_patch (Err kind) (Ok ps) = Err kind
+with_patch (Err kind) (Err other) = Err (before kind other)
+
+abbrev pub patches_of : List (List ℕ) → Result (List Patch) Kind
+patches_of [] = Ok []
+patches_of (word ∷ words) = with_patch (patch_of word) (patches_of words)
+
+-- what is wrong with numbers comes first
+abbrev pub crash_by : Option ℕ → Option Image → Result (List Patch) Kind → Result Line Kind
+crash_by None image patches = Err kinds.Number
+crash_by (Some member) None (Ok patches) = Err kinds.Form
+crash_by (Some member) None (Err kind) = Err kind
+crash_by (Some member) (Some image) (Ok patches) = Ok (lines.Crash member image patches)
+crash_by (Some member) (Some image) (Err kind) = Err kind
+
+abbrev pub crash_all_by : Option Image → Result Line Kind
+crash_all_by None = Err kinds.Form
+crash_all_by (Some image) = Ok (lines.CrashAll image)
+
+-- M or all, and what is left; patches of one member's devices
+abbrev pub crash_all_line : List ℕ → List (List ℕ) → Result Line Kind
+crash_all_line image [] = crash_all_by (image_of image)
+crash_all_line image (patch ∷ more) = Err kinds.Count
+
+abbrev pub crash_line : List (List ℕ) → Result Line Kind
+crash_line [] = Err kinds.Count
+crash_line (member ∷ []) = Err kinds.Count
+crash_line (member ∷ image ∷ patches) =
+    if same_bytes member (codes "all") then crash_all_line image patches
+    else crash_by (member_of member) (image_of image) (patches_of patches)
+
+abbrev pub restart_line : List (List ℕ) → Result Line Kind
+restart_line [] = Err kinds.Count
+restart_line (word ∷ []) = if same_bytes word (codes "all") then Ok lines.RestartAll else or_number lines.Restart (member_of word)
+restart_line (word ∷ next ∷ more) = Err kinds.Count
 
 abbrev pub show_line : List (List ℕ) → Result Line Kind
 show_line [] = Ok lines.Show
@@ -310,24 +414,6 @@ reply_form bytes words =
     (numbers_in (members ∷ small_numbers ∷ places ∷ range 0 65535 ∷ range 1 1024 ∷ places ∷ []) words)
     else Err kinds.Count
 
--- the number of a digit from 0 to 9 or from a to f
-abbrev pub hex_value : ℕ → Option ℕ
-hex_value b =
-    if nat_le 48 b && nat_le b 57 then Some (b - 48)
-    else if nat_le 97 b && nat_le b 102 then Some (b - 87)
-    else None
-
-abbrev pub byte_by : Option ℕ → Option ℕ → Option ℕ
-byte_by None low = None
-byte_by (Some high) None = None
-byte_by (Some high) (Some low) = Some (16 * high + low)
-
--- the bytes that pairs of digits are
-abbrev pub hex_bytes : List ℕ → Option (List ℕ)
-hex_bytes [] = Some []
-hex_bytes (high ∷ []) = None
-hex_bytes (high ∷ low ∷ digits) = with_value (byte_by (hex_value high) (hex_value low)) (hex_bytes digits)
-
 -- raw HEX: one byte or more
 abbrev pub raw_by : Option (List ℕ) → Result Injection Kind
 raw_by None = Err kinds.Form
@@ -370,6 +456,8 @@ line_by bytes (word ∷ words) =
     else if same_bytes word (codes "tick") then tick_line words
     else if same_bytes word (codes "settle") then settle_line words
     else if same_bytes word (codes "disk") then disk_line words
+    else if same_bytes word (codes "crash") then crash_line words
+    else if same_bytes word (codes "restart") then restart_line words
     else if same_bytes word (codes "show") then show_line words
     else if same_bytes word (codes "faulty") then faulty_line words
     else if same_bytes word (codes "rogue") then rogue_line words

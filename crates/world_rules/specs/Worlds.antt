@@ -1,8 +1,7 @@
 -- The world: all hosts and clients, each message that was ever sent, and the list of batches that was chosen. What happens in it is a
--- function from world to world. The step of a node is an argument.
-use Rattle.std.specs.Prelude.{ℕ, zero, suc, ◌+◌, ◌^◌, ◌==◌, nat_lt, List, [], ◌∷◌, ◌++◌, length, map, drop, if◌then◌else◌, Option, Some, None, is_some, slice_get, slice_set, Result, Ok, Err, nat_le, ◌&&◌, ◌-◌, Bool, true}
+-- function from world to world. What happens at a node is an argument.
+use Rattle.std.specs.Prelude.{ℕ, zero, suc, ◌+◌, ◌^◌, ◌==◌, nat_lt, take, not, ◌||◌, false, List, [], ◌∷◌, ◌++◌, length, map, drop, if◌then◌else◌, Option, Some, None, is_some, slice_get, slice_set, Result, Ok, Err, nat_le, ◌&&◌, ◌-◌, Bool, true}
 use Rattle.std.specs.List.{flat_map, list_any, position}
-use Rattle.std.specs.Option.{option_and_then}
 use Rattle.smart_base.specs.Lists.{or_else}
 use Rattle.smart_base.specs.Views.{View}
 use Rattle.smart_messages.specs.Forms.{SignedBy}
@@ -28,7 +27,9 @@ use Rattle.smart_base.specs.declared.party.Party.TheVariants as parties
 use Rattle.smart_service.specs.Services.{Meaning}
 use Rattle.replica_rules.specs.Seals.{signed}
 use Rattle.node_rules.specs.Nodes.{Node, next_place, view_of, regency_of}
-use Rattle.node_rules.specs.Steps.{Outcome, leaving, released, opened}
+use Rattle.node_rules.specs.Deliveries.{delivery_in}
+use Rattle.node_rules.specs.Steps.{Outcome, step_of, leaving, released, opened}
+use Rattle.node_rules.specs.Kept.{core_step}
 use Rattle.node_rules.specs.declared.node.Why.{Why}
 use Rattle.node_rules.specs.declared.node.Held.{Held}
 use Rattle.node_rules.specs.declared.node.Target.{Target}
@@ -41,6 +42,13 @@ use Rattle.vote_book.specs.declared.entry.LogEntry.{LogEntry}
 use Rattle.durable_store.specs.States.{StoreState}
 use Rattle.durable_store.specs.Exact.{call_due, store_called, started, store_opened}
 use Rattle.durable_store.specs.Lives.{no_bytes}
+use Rattle.durable_store.specs.Restored.{Images, restores}
+use Rattle.member_store.specs.Crashes.{images_left, wrong_images, bytes_held}
+use Rattle.member_store.specs.Books.{written_book, still_aside}
+use Rattle.member_store.specs.declared.crash.Image.{Image}
+use Rattle.member_store.specs.declared.crash.Patch.{Patch}
+use Rattle.member_store.specs.declared.crash.NotAnImage as stores
+use Rattle.node_rules.specs.Reopening.{reopened, damaged, entries_in}
 use Rattle.world_rules.specs.Repeats.{until_rest, each_from}
 use Rattle.world_rules.specs.Secrets.{group_secret}
 use Rattle.world_rules.specs.Premises.{is_among, too_many, is_forged, collides, bytes_of}
@@ -57,7 +65,7 @@ use Rattle.world_rules.specs.declared.message.Origin.TheVariants as origins
 use Rattle.world_rules.specs.declared.message.Sent.{Sent}
 use Rattle.world_rules.specs.declared.message.Ending.{Ending}
 use Rattle.world_rules.specs.declared.message.Ending.TheVariants.{Limit, Premise}
-use Rattle.world_rules.specs.declared.message.Premise.TheVariants.{TooManyFaulty, Forged, Collision}
+use Rattle.world_rules.specs.declared.message.Premise.TheVariants.{TooManyFaulty, Forged, Collision, NotAnImage}
 use Rattle.world_rules.specs.declared.message.Content.{Content}
 use Rattle.world_rules.specs.declared.message.Content.TheVariants as contents
 use Rattle.world_rules.specs.declared.line.Injection.{Injection}
@@ -66,11 +74,41 @@ use Rattle.world_rules.specs.declared.line.Summary.TheVariants as summaries
 use Rattle.world_rules.specs.declared.line.OutLine.{OutLine}
 use Rattle.world_rules.specs.declared.line.OutLine.TheVariants as outs
 
--- a member's host: its node, the store of what its node writes down, and the batches that the node ever delivered
+-- How a world goes on: what an event makes of a node, which service the nodes run, and whether what no node keeps of its member's lives is written down.
+-- A program need not write it down.
+pub record Course (S : Type 0) : Type 0 where
+  pub step : Node S → NodeEvent → Outcome S
+  pub meaning : Meaning S
+  pub remembers : Bool
+
+-- as the definitions say it
+abbrev pub course_of : {S : Type 0} → Meaning S → Course S
+course_of m = record { step = step_of m; meaning = m; remembers = true }
+
+-- as cores do it, which keep only what still matters
+abbrev pub core_course : {S : Type 0} → Meaning S → Course S
+core_course m = record { step = core_step m; meaning = m; remembers = false }
+
+-- what no node keeps of its member's lives
+pub record Life : Type 0 where
+  -- all entries that became firm, in all lives, and those that crashes brought back
+  pub diary : List LogEntry
+  -- where a crash has left a gate torn: the book of the life that wrote behind it
+  pub aside : List LogEntry
+
+-- a member's host
 pub record Host (S : Type 0) : Type 0 where
+  -- its node; that of a member that has crashed is as it stopped
   pub node : Node S
+  -- its node runs
+  pub up : Bool
+  -- the store of what its node writes down
   pub store : StoreState
+  pub life : Life
+  -- the place from which its node went on in this life, the batches that it delivered since, and those that it delivered in earlier lives
+  pub resumed : ℕ
   pub delivered : List Delivery
+  pub earlier : List Delivery
 
 pub record World (S : Type 0) : Type 0 where
   -- the view that the group begins with
@@ -165,19 +203,6 @@ told_fired id (fires.Decided place) = outs.Decided id place ∷ []
 told_fired id fires.Timed = []
 told_fired id fires.Answered = []
 
-abbrev pub delivery_in : Fired → List Delivery
-delivery_in (fires.Delivered d) = d ∷ []
-delivery_in (fires.Adopted s) = []
-delivery_in fires.Joined = []
-delivery_in (fires.Promised p) = []
-delivery_in fires.Led = []
-delivery_in fires.Proposed = []
-delivery_in fires.Wrote = []
-delivery_in fires.Accepted = []
-delivery_in (fires.Decided place) = []
-delivery_in fires.Timed = []
-delivery_in fires.Answered = []
-
 -- the list of chosen batches with the one that waits at a node: the first node that decides a place has chosen its batch
 abbrev pub chosen_with : List Batch → ℕ → Option Batch → List Batch
 chosen_with chosen place None = chosen
@@ -187,20 +212,33 @@ chosen_with chosen place (Some batch) = if place == length chosen + 1 then chose
 abbrev pub spelled_behind : ℕ → List LogEntry → List (List ℕ)
 spelled_behind count entries = map entry_text (drop count entries)
 
+-- entries that a book has up to a number, and a list lacks, are added to it
+abbrev pub with_front : List LogEntry → ℕ → List LogEntry → List LogEntry
+with_front diary count book = diary ++ drop (length diary) (take count book)
+
+-- a life with the entries of its book that are firm
+abbrev pub life_firm : {S : Type 0} → Life → Node S → Life
+life_firm l n = record { diary = with_front l.diary n.firm n.entries; aside = l.aside }
+
+-- lives change where they are written down
+abbrev pub remembered : {S : Type 0} → Course S → Life → Life → Life
+remembered course old new = if course.remembers then new else old
+
 -- what the node has written down waits in the store
-abbrev pub host_after : {S : Type 0} → Host S → Outcome S → Host S
-host_after h o = record {
+abbrev pub host_after : {S : Type 0} → Course S → Host S → Outcome S → Host S
+host_after course h o = record h {
   node = released o.node;
   store = started h.store (spelled_behind (length h.node.entries) o.node.entries);
+  life = remembered course h.life (life_firm h.life o.node);
   delivered = h.delivered ++ flat_map delivery_in o.fired;
 }
 
 -- a node's step: what it tells comes first, then what leaves
-unfoldable pub stepped : {S : Type 0} → World S → ℕ → Host S → Outcome S → World S
-stepped w i h o =
+unfoldable pub stepped : {S : Type 0} → Course S → World S → ℕ → Host S → Outcome S → World S
+stepped course w i h o =
     sends_all h.node.id
     (record w {
-      hosts = slice_set w.hosts i (host_after h o);
+      hosts = slice_set w.hosts i (host_after course h o);
       chosen = chosen_with w.chosen (next_place o.node) o.node.waiting;
       told = w.told ++ (told_drop h.node.id o.dropped ++ flat_map (told_fired h.node.id) o.fired);
     })
@@ -213,51 +251,59 @@ is_gone w member = is_among w.faulty member
 abbrev pub is_rogue : {S : Type 0} → World S → ℕ → Bool
 is_rogue w client = is_among w.rogue client
 
--- nothing happens any more at a node that is gone
-abbrev pub host_takes : {S : Type 0} → (Node S → NodeEvent → Outcome S) → ℕ → NodeEvent → World S → Option (Host S) → World S
-host_takes step i event w None = w
-host_takes step i event w (Some h) = if is_gone w h.node.id then w else stepped w i h (step h.node event)
+-- a node that runs: its member has not crashed, and is not faulty
+abbrev pub is_up : {S : Type 0} → World S → Host S → Bool
+is_up w h = h.up && not (is_gone w h.node.id)
+
+-- nothing happens at a node that does not run
+abbrev pub host_takes : {S : Type 0} → Course S → ℕ → NodeEvent → World S → Option (Host S) → World S
+host_takes course i event w None = w
+host_takes course i event w (Some h) = if not (is_up w h) then w else stepped course w i h (course.step h.node event)
 
 -- the node at an index takes an event; nothing happens any more in a world that has ended
-unfoldable pub node_takes : {S : Type 0} → (Node S → NodeEvent → Outcome S) → ℕ → NodeEvent → World S → World S
-node_takes step i event w = if is_some w.ending then w else host_takes step i event w (slice_get w.hosts i)
+unfoldable pub node_takes : {S : Type 0} → Course S → ℕ → NodeEvent → World S → World S
+node_takes course i event w = if is_some w.ending then w else host_takes course i event w (slice_get w.hosts i)
+
+-- what was written behind a torn gate is lost once the gate is closed
+abbrev pub life_called : Life → StoreState → Life
+life_called l s = record { diary = l.diary; aside = still_aside s l.aside }
 
 -- the next call of a host's store
-unfoldable pub disk_called : {S : Type 0} → Host S → Host S
-disk_called h = record h { store = store_called h.store }
+unfoldable pub disk_called : {S : Type 0} → Course S → Host S → Host S
+disk_called course h = record h { store = store_called h.store; life = remembered course h.life (life_called h.life (store_called h.store)) }
 
 -- a node hears how many entries of its life are firm, where more are than it knows
-abbrev pub hears_firm : {S : Type 0} → (Node S → NodeEvent → Outcome S) → ℕ → World S → Host S → World S
-hears_firm step i w h =
+abbrev pub hears_firm : {S : Type 0} → Course S → ℕ → World S → Host S → World S
+hears_firm course i w h =
     if nat_lt h.node.firm h.store.firm
-    then stepped w i h (step h.node (Firm (h.store.firm - h.node.restored)))
+    then stepped course w i h (course.step h.node (Firm (h.store.firm - h.node.restored)))
     else record w { hosts = slice_set w.hosts i h }
 
-abbrev pub host_calls : {S : Type 0} → (Node S → NodeEvent → Outcome S) → ℕ → World S → Option (Host S) → World S
-host_calls step i w None = w
-host_calls step i w (Some h) =
-    if is_gone w h.node.id then w
-    else if call_due h.store then hears_firm step i w (disk_called h)
+abbrev pub host_calls : {S : Type 0} → Course S → ℕ → World S → Option (Host S) → World S
+host_calls course i w None = w
+host_calls course i w (Some h) =
+    if not (is_up w h) then w
+    else if call_due h.store then hears_firm course i w (disk_called course h)
     else w
 
 -- the store at an index makes its next device call, if there is one, and its node hears what is firm then
-unfoldable pub calls_disk : {S : Type 0} → (Node S → NodeEvent → Outcome S) → ℕ → World S → World S
-calls_disk step i w = if is_some w.ending then w else host_calls step i w (slice_get w.hosts i)
+unfoldable pub calls_disk : {S : Type 0} → Course S → ℕ → World S → World S
+calls_disk course i w = if is_some w.ending then w else host_calls course i w (slice_get w.hosts i)
 
 -- what is due at a host without another message: the next call of its store, or else the delivery of the batch that waits
-abbrev pub takes_due : {S : Type 0} → (Node S → NodeEvent → Outcome S) → ℕ → World S → Option (Host S) → World S
-takes_due step i w None = w
-takes_due step i w (Some h) =
-    if call_due h.store then calls_disk step i w
-    else if is_some h.node.waiting then node_takes step i Deliver w
+abbrev pub takes_due : {S : Type 0} → Course S → ℕ → World S → Option (Host S) → World S
+takes_due course i w None = w
+takes_due course i w (Some h) =
+    if call_due h.store then calls_disk course i w
+    else if is_some h.node.waiting then node_takes course i Deliver w
     else w
 
-unfoldable pub settle_once : {S : Type 0} → (Node S → NodeEvent → Outcome S) → ℕ → World S → World S
-settle_once step i w = takes_due step i w (slice_get w.hosts i)
+unfoldable pub settle_once : {S : Type 0} → Course S → ℕ → World S → World S
+settle_once course i w = takes_due course i w (slice_get w.hosts i)
 
 -- the node at an index takes what is due until nothing is
-abbrev pub settle : {S : Type 0} → (Node S → NodeEvent → Outcome S) → ℕ → World S → World S
-settle step i w = until_rest (settle_once step i) w
+abbrev pub settle : {S : Type 0} → Course S → ℕ → World S → World S
+settle course i w = until_rest (settle_once course i) w
 
 -- the members that a line lists: all where it lists none
 abbrev pub is_listed : List ℕ → ℕ → Bool
@@ -276,7 +322,7 @@ at_listed members f i w = where_listed members f i w (slice_get w.hosts i)
 abbrev pub each_listed : {S : Type 0} → List ℕ → (ℕ → World S → World S) → World S → World S
 each_listed members f w = each_from (at_listed members f) (length w.hosts) 0 w
 
--- what a line tells of a member whose node is gone: that it is absent, if it names the member
+-- what a line tells of a member whose node does not run: that it is absent, if it names the member
 abbrev pub told_absent : List ℕ → ℕ → List OutLine
 told_absent [] member = []
 told_absent (m ∷ ms) member = outs.Absent member ∷ []
@@ -284,21 +330,21 @@ told_absent (m ∷ ms) member = outs.Absent member ∷ []
 abbrev pub telling_all : {S : Type 0} → World S → List OutLine → World S
 telling_all w lines = record w { told = w.told ++ lines }
 
-abbrev pub settle_present : {S : Type 0} → (Node S → NodeEvent → Outcome S) → List ℕ → ℕ → World S → Option (Host S) → World S
-settle_present step members i w None = w
-settle_present step members i w (Some h) =
-    if is_gone w h.node.id then telling_all w (told_absent members h.node.id) else settle step i w
+abbrev pub settle_present : {S : Type 0} → Course S → List ℕ → ℕ → World S → Option (Host S) → World S
+settle_present course members i w None = w
+settle_present course members i w (Some h) =
+    if is_up w h then settle course i w else telling_all w (told_absent members h.node.id)
 
 -- each listed node settles, ascending
-abbrev pub settle_all : {S : Type 0} → (Node S → NodeEvent → Outcome S) → List ℕ → World S → World S
-settle_all step members w = each_listed members (λ i v. settle_present step members i v (slice_get v.hosts i)) w
+abbrev pub settle_all : {S : Type 0} → Course S → List ℕ → World S → World S
+settle_all course members w = each_listed members (λ i v. settle_present course members i v (slice_get v.hosts i)) w
 
 -- the node at an index takes the bytes of a message and settles
-unfoldable pub gives : {S : Type 0} → (Node S → NodeEvent → Outcome S) → List ℕ → ℕ → World S → World S
-gives step bytes i w = settle step i (node_takes step i (Arrive bytes) w)
+unfoldable pub gives : {S : Type 0} → Course S → List ℕ → ℕ → World S → World S
+gives course bytes i w = settle course i (node_takes course i (Arrive bytes) w)
 
-abbrev pub give_all : {S : Type 0} → (Node S → NodeEvent → Outcome S) → List ℕ → List ℕ → World S → World S
-give_all step members bytes w = each_listed members (gives step bytes) w
+abbrev pub give_all : {S : Type 0} → Course S → List ℕ → List ℕ → World S → World S
+give_all course members bytes w = each_listed members (gives course bytes) w
 
 -- the index at which a member's host stands
 abbrev pub host_index : {S : Type 0} → List (Host S) → ℕ → Option ℕ
@@ -309,8 +355,8 @@ at_index f w None = w
 at_index f w (Some i) = f i w
 
 -- the node of a member takes bytes and settles, if the member is listed
-abbrev pub give_one : {S : Type 0} → (Node S → NodeEvent → Outcome S) → List ℕ → List ℕ → ℕ → World S → World S
-give_one step members bytes member w = at_index (at_listed members (gives step bytes)) w (host_index w.hosts member)
+abbrev pub give_one : {S : Type 0} → Course S → List ℕ → List ℕ → ℕ → World S → World S
+give_one course members bytes member w = at_index (at_listed members (gives course bytes)) w (host_index w.hosts member)
 
 -- clients
 
@@ -394,78 +440,160 @@ tells from to w = if is_some w.ending then w else learns_from w (slice_get w.cli
 -- flow
 
 -- what is for nobody is passed over
-abbrev pub goes : {S : Type 0} → (Node S → NodeEvent → Outcome S) → List ℕ → World S → List ℕ → Option Target → World S
-goes step members w bytes None = w
-goes step members w bytes (Some targets.View) = give_all step members bytes w
-goes step members w bytes (Some (targets.Node id)) = give_one step members bytes id w
-goes step members w bytes (Some (targets.Client id)) = client_takes id bytes w
+abbrev pub goes : {S : Type 0} → Course S → List ℕ → World S → List ℕ → Option Target → World S
+goes course members w bytes None = w
+goes course members w bytes (Some targets.View) = give_all course members bytes w
+goes course members w bytes (Some (targets.Node id)) = give_one course members bytes id w
+goes course members w bytes (Some (targets.Client id)) = client_takes id bytes w
 
-abbrev pub flow_sent : {S : Type 0} → (Node S → NodeEvent → Outcome S) → List ℕ → World S → Option Sent → World S
-flow_sent step members w None = w
-flow_sent step members w (Some s) = goes step members (record w { mark = w.mark + 1 }) (bytes_of s.content) s.to
+abbrev pub flow_sent : {S : Type 0} → Course S → List ℕ → World S → Option Sent → World S
+flow_sent course members w None = w
+flow_sent course members w (Some s) = goes course members (record w { mark = w.mark + 1 }) (bytes_of s.content) s.to
 
 -- the next message behind the mark is given to those of the listed that it is for, or to its client
-unfoldable pub flow_once : {S : Type 0} → (Node S → NodeEvent → Outcome S) → List ℕ → World S → World S
-flow_once step members w = if is_some w.ending then w else flow_sent step members w (slice_get w.sent w.mark)
+unfoldable pub flow_once : {S : Type 0} → Course S → List ℕ → World S → World S
+flow_once course members w = if is_some w.ending then w else flow_sent course members w (slice_get w.sent w.mark)
 
 -- the listed nodes settle, and then each message behind the mark is given, until none is left
-abbrev pub flows : {S : Type 0} → (Node S → NodeEvent → Outcome S) → List ℕ → World S → World S
-flows step members w = until_rest (flow_once step members) (settle_all step members w)
+abbrev pub flows : {S : Type 0} → Course S → List ℕ → World S → World S
+flows course members w = until_rest (flow_once course members) (settle_all course members w)
 
 -- deliveries one by one
 
--- what happens at a member's host, unless its node is gone
+-- what happens at a host, if its node runs
+abbrev pub at_host : {S : Type 0} → (ℕ → World S → World S) → ℕ → World S → Option (Host S) → World S
+at_host f i w None = w
+at_host f i w (Some h) = if is_up w h then f i w else telling w (outs.Absent h.node.id)
+
+-- what happens at a member's host, if its node runs
 abbrev pub at_member : {S : Type 0} → (ℕ → World S → World S) → ℕ → World S → World S
-at_member f member w = if is_gone w member then telling w (outs.Absent member) else at_index f w (host_index w.hosts member)
+at_member f member w = at_index (λ i v. at_host f i v (slice_get v.hosts i)) w (host_index w.hosts member)
 
 -- bytes arrive at a member's node or at a client
-abbrev pub arrives : {S : Type 0} → (Node S → NodeEvent → Outcome S) → List ℕ → Party → World S → World S
-arrives step bytes (parties.Member id) w = at_member (λ i v. node_takes step i (Arrive bytes) v) id w
-arrives step bytes (parties.Client id) w = client_takes id bytes w
+abbrev pub arrives : {S : Type 0} → Course S → List ℕ → Party → World S → World S
+arrives course bytes (parties.Member id) w = at_member (λ i v. node_takes course i (Arrive bytes) v) id w
+arrives course bytes (parties.Client id) w = client_takes id bytes w
 
-abbrev pub arrives_at : {S : Type 0} → (Node S → NodeEvent → Outcome S) → List ℕ → List Party → World S → World S
-arrives_at step bytes [] w = w
-arrives_at step bytes (to ∷ tos) w = arrives_at step bytes tos (arrives step bytes to w)
+abbrev pub arrives_at : {S : Type 0} → Course S → List ℕ → List Party → World S → World S
+arrives_at course bytes [] w = w
+arrives_at course bytes (to ∷ tos) w = arrives_at course bytes tos (arrives course bytes to w)
 
-abbrev pub sent_arrives : {S : Type 0} → (Node S → NodeEvent → Outcome S) → List Party → World S → Option Sent → World S
-sent_arrives step to w None = w
-sent_arrives step to w (Some s) = arrives_at step (bytes_of s.content) to w
+abbrev pub sent_arrives : {S : Type 0} → Course S → List Party → World S → Option Sent → World S
+sent_arrives course to w None = w
+sent_arrives course to w (Some s) = arrives_at course (bytes_of s.content) to w
 
 -- the message of a number arrives at each of some, in order
-abbrev pub give_number : {S : Type 0} → (Node S → NodeEvent → Outcome S) → ℕ → List Party → World S → World S
-give_number step number to w = sent_arrives step to w (slice_get w.sent (number - 1))
+abbrev pub give_number : {S : Type 0} → Course S → ℕ → List Party → World S → World S
+give_number course number to w = sent_arrives course to w (slice_get w.sent (number - 1))
 
 -- a node that is to deliver, or where time passes, is idle where no rule fires
 abbrev pub told_idle : ℕ → List Fired → List OutLine
 told_idle id [] = outs.Idle id ∷ []
 told_idle id (rule ∷ rules) = []
 
-abbrev pub host_tries : {S : Type 0} → (Node S → NodeEvent → Outcome S) → NodeEvent → ℕ → World S → Option (Host S) → World S
-host_tries step event i w None = w
-host_tries step event i w (Some h) =
-    if is_gone w h.node.id then w else telling_all (stepped w i h (step h.node event)) (told_idle h.node.id (step h.node event).fired)
+abbrev pub host_tries : {S : Type 0} → Course S → NodeEvent → ℕ → World S → Option (Host S) → World S
+host_tries course event i w None = w
+host_tries course event i w (Some h) =
+    if not (is_up w h) then w else telling_all (stepped course w i h (course.step h.node event)) (told_idle h.node.id (course.step h.node event).fired)
 
 -- the node at an index is to deliver the batch that waits, or time passes there
-unfoldable pub tries_at : {S : Type 0} → (Node S → NodeEvent → Outcome S) → NodeEvent → ℕ → World S → World S
-tries_at step event i w = if is_some w.ending then w else host_tries step event i w (slice_get w.hosts i)
+unfoldable pub tries_at : {S : Type 0} → Course S → NodeEvent → ℕ → World S → World S
+tries_at course event i w = if is_some w.ending then w else host_tries course event i w (slice_get w.hosts i)
 
 -- so it is at each of some members, in order
-abbrev pub tries_each : {S : Type 0} → (Node S → NodeEvent → Outcome S) → NodeEvent → List ℕ → World S → World S
-tries_each step event [] w = w
-tries_each step event (m ∷ ms) w = tries_each step event ms (at_member (tries_at step event) m w)
+abbrev pub tries_each : {S : Type 0} → Course S → NodeEvent → List ℕ → World S → World S
+tries_each course event [] w = w
+tries_each course event (m ∷ ms) w = tries_each course event ms (at_member (tries_at course event) m w)
 
-abbrev pub deliver_each : {S : Type 0} → (Node S → NodeEvent → Outcome S) → List ℕ → World S → World S
-deliver_each step members w = tries_each step Deliver members w
+abbrev pub deliver_each : {S : Type 0} → Course S → List ℕ → World S → World S
+deliver_each course members w = tries_each course Deliver members w
 
-abbrev pub tick_each : {S : Type 0} → (Node S → NodeEvent → Outcome S) → List ℕ → World S → World S
-tick_each step members w = tries_each step Tick members w
+abbrev pub tick_each : {S : Type 0} → Course S → List ℕ → World S → World S
+tick_each course members w = tries_each course Tick members w
+
+-- crashes
+
+-- The life of a member that crashes: what is left restores what one book had written, that of the life that ends or, while a gate that an earlier crash
+-- left torn is not closed, that of the life that wrote behind it. The diary takes what it lacks of that. Where a gate is torn now, that book is put aside.
+abbrev pub life_left : Life → List LogEntry → Images → Life
+life_left l book left = record { diary = with_front l.diary (length (restores left).entries) book; aside = still_aside (store_opened left) book }
+
+abbrev pub life_crashed : {S : Type 0} → Host S → Images → Life
+life_crashed h left = life_left h.life (written_book h.store h.node.entries h.life.aside) left
+
+abbrev pub host_crashed : {S : Type 0} → Course S → Host S → Images → Host S
+host_crashed course h left = record h { up = false; store = store_opened left; life = remembered course h.life (life_crashed h left) }
+
+abbrev pub crashes_with : {S : Type 0} → Course S → ℕ → World S → Host S → Images → Option stores.NotAnImage → World S
+crashes_with course i w h left None = telling (record w { hosts = slice_set w.hosts i (host_crashed course h left) }) (outs.Crashed h.node.id)
+crashes_with course i w h left (Some wrong) = record w { ending = Some (Premise (NotAnImage wrong)) }
+
+abbrev pub host_crashes : {S : Type 0} → Course S → Image → List Patch → ℕ → World S → Option (Host S) → World S
+host_crashes course image patches i w None = w
+host_crashes course image patches i w (Some h) =
+    if is_up w h
+    then crashes_with course i w h (images_left image patches h.store) (wrong_images h.store (images_left image patches h.store))
+    else w
+
+-- the node at an index stops, and this is left of its devices
+unfoldable pub crashes : {S : Type 0} → Course S → Image → List Patch → ℕ → World S → World S
+crashes course image patches i w = if is_some w.ending then w else host_crashes course image patches i w (slice_get w.hosts i)
+
+-- each node that runs stops
+abbrev pub crash_all : {S : Type 0} → Course S → Image → World S → World S
+crash_all course image w = each_from (crashes course image []) (length w.hosts) 0 w
+
+-- a node goes on from what its devices hold
+
+-- it opens its book anew where nothing was restored
+abbrev pub host_resumed : {S : Type 0} → Host S → Node S → Host S
+host_resumed h n = record h {
+  node = n;
+  up = true;
+  store = started h.store (spelled_behind n.restored n.entries);
+  resumed = n.replica.place;
+  delivered = [];
+  earlier = h.earlier ++ h.delivered;
+}
+
+-- what is damaged stays as it is: a member's own store never is
+abbrev pub resumes_from : {S : Type 0} → Course S → ℕ → World S → Host S → List (List ℕ) → Option ℕ → World S
+resumes_from course i w h restored (Some entry) = w
+resumes_from course i w h restored None =
+    let n : Node _ = reopened course.meaning group_secret h.node.id w.view 1024 (entries_in restored) in
+    telling (record w { hosts = slice_set w.hosts i (host_resumed h n) }) (outs.Restarted h.node.id n.replica.place (length restored))
+
+abbrev pub host_resumes : {S : Type 0} → Course S → ℕ → World S → Option (Host S) → World S
+host_resumes course i w None = w
+host_resumes course i w (Some h) =
+    if h.up || is_gone w h.node.id then w
+    else resumes_from course i w h (restores (bytes_held h.store)).entries (damaged group_secret w.view (restores (bytes_held h.store)).entries)
+
+unfoldable pub resumes : {S : Type 0} → Course S → ℕ → World S → World S
+resumes course i w = if is_some w.ending then w else host_resumes course i w (slice_get w.hosts i)
+
+abbrev pub restart_all : {S : Type 0} → Course S → World S → World S
+restart_all course w = each_from (resumes course) (length w.hosts) 0 w
+
+-- a line that restarts one member tells of one that runs that it is idle, and of one that is gone that it is absent
+abbrev pub restart_at : {S : Type 0} → Course S → ℕ → World S → Option (Host S) → World S
+restart_at course i w None = w
+restart_at course i w (Some h) =
+    if is_gone w h.node.id then telling w (outs.Absent h.node.id)
+    else if h.up then telling w (outs.Idle h.node.id)
+    else resumes course i w
+
+abbrev pub restart_member : {S : Type 0} → Course S → ℕ → World S → World S
+restart_member course member w = at_index (λ i v. restart_at course i v (slice_get v.hosts i)) w (host_index w.hosts member)
 
 -- what is shown
 
 -- a node that is not gone
 abbrev pub shown_host : {S : Type 0} → List ℕ → Host S → List OutLine
 shown_host faulty h =
-    if is_among faulty h.node.id then [] else outs.Stands h.node.id h.node.replica.place (view_of h.node).number (regency_of h.node) ∷ []
+    if is_among faulty h.node.id then []
+    else if h.up then outs.Stands h.node.id h.node.replica.place (view_of h.node).number (regency_of h.node) ∷ []
+    else outs.Down h.node.id ∷ []
 
 -- a client that has asked
 abbrev pub shown_client : Client → List OutLine
@@ -512,7 +640,15 @@ host_of (h ∷ hs) id = if h.node.id == id then Some h else host_of hs id
 
 -- a host whose node has opened its book, over empty devices
 abbrev pub host_of_node : {S : Type 0} → Node S → Host S
-host_of_node n = record { node = n; store = started (store_opened no_bytes) (spelled_behind 0 n.entries); delivered = [] }
+host_of_node n = record {
+  node = n;
+  up = true;
+  store = started (store_opened no_bytes) (spelled_behind 0 n.entries);
+  life = record { diary = []; aside = [] };
+  resumed = 0;
+  delivered = [];
+  earlier = [];
+}
 
 abbrev pub hosts_from : {S : Type 0} → Meaning S → View → List ℕ → List (Host S)
 hosts_from m view [] = []

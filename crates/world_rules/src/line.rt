@@ -1,6 +1,7 @@
 //! The lines of a script and of its transcript.
 use crate::message::Origin;
 use client_quorum::client::Ignored;
+use member_store::crash::{Image, Patch};
 use node_rules::node::Why;
 use smart_base::bytes::Payload;
 use smart_base::name::{ClientId, MemberId};
@@ -24,33 +25,75 @@ pub enum Line {
     /// An empty line or a comment.
     Nothing,
     /// `ask C OP`: client C asks for the operation.
-    Ask { client: ClientId, op: Payload },
+    Ask {
+        client: ClientId,
+        op: Payload,
+    },
     /// `again C`: client C sends its request that waits once more.
-    Again { client: ClientId },
+    Again {
+        client: ClientId,
+    },
     /// `told C D`: client D is told the greatest place that client C knows.
-    Tell { from: ClientId, to: ClientId },
+    Tell {
+        from: ClientId,
+        to: ClientId,
+    },
     /// `flow M..`: every message that was sent is given to those of these members that it is for, or to its client, until nothing
     /// is due. Where none is listed, all members are.
-    Flow { members: Sequence<MemberId> },
+    Flow {
+        members: Sequence<MemberId>,
+    },
     /// `give NUM X..`: the message of this number arrives at each of these, in order.
-    Give { number: u64, to: Sequence<Party> },
+    Give {
+        number: u64,
+        to: Sequence<Party>,
+    },
     /// `deliver M..`: each of these members delivers the batch that waits, in order.
-    Deliver { members: Sequence<MemberId> },
+    Deliver {
+        members: Sequence<MemberId>,
+    },
     /// `tick M..`: time passes at each of these members, in order.
-    Tick { members: Sequence<MemberId> },
+    Tick {
+        members: Sequence<MemberId>,
+    },
     /// `disk M [COUNT]`: the member's store makes so many device calls, one where no number is named,
     /// or fewer where no more are due.
-    Disk { member: MemberId, count: u64 },
+    Disk {
+        member: MemberId,
+        count: u64,
+    },
+    /// `crash M old` or `new`, and patches: the member's node stops, and this is left of its devices.
+    Crash {
+        member: MemberId,
+        image: Image,
+        patches: Sequence<Patch>,
+    },
+    /// `crash all old` or `new`: each node that runs stops.
+    CrashAll {
+        image: Image,
+    },
+    /// `restart M`: the member's node, which has stopped, goes on from what its devices hold.
+    Restart {
+        member: MemberId,
+    },
+    /// `restart all`: each node that has stopped does.
+    RestartAll,
     /// `settle M`: the member takes what is due until nothing is.
-    Settle { member: MemberId },
+    Settle {
+        member: MemberId,
+    },
     /// `settle all`: each member does, ascending.
     SettleAll,
     /// `show`: where all members stand, and what all clients that asked have seen.
     Show,
     /// `faulty M`: the member is faulty from now on, and its node is gone.
-    Faulty { member: MemberId },
+    Faulty {
+        member: MemberId,
+    },
     /// `rogue C`: the client is rogue from now on.
-    Rogue { client: ClientId },
+    Rogue {
+        client: ClientId,
+    },
     /// `inject FORM`: a numbered message that is for nobody.
     Inject(Injection),
 }
@@ -258,6 +301,20 @@ pub enum OutLine {
     },
     /// A line names a member whose node is gone.
     Absent {
+        member: MemberId,
+    },
+    /// A node has stopped.
+    Crashed {
+        member: MemberId,
+    },
+    /// A node goes on: the last place that it delivered, and how many entries were restored.
+    Restarted {
+        member: MemberId,
+        place: Place,
+        entries: u64,
+    },
+    /// A node that has stopped.
+    Down {
         member: MemberId,
     },
     /// A node had nothing to do.

@@ -1,4 +1,5 @@
 //! Messages that were sent.
+use member_store::crash::NotAnImage;
 use node_rules::node::Target;
 use smart_base::name::{ClientId, MemberId};
 use smart_base::sequence::Bytes;
@@ -40,6 +41,8 @@ pub enum Premise {
     Forged,
     /// No two different batches that are met have one digest.
     Collision,
+    /// A crash leaves what the model of disks allows.
+    NotAnImage(NotAnImage),
 }
 
 /// What ends a play before its script does.

@@ -1,84 +1,57 @@
 -- Where the first space of a line stands.
-use Rattle.std.proofs.Common.{◌≡◌, ℕ, ◌+◌, ◌-◌, ◌<◌, ◌≤◌, suc, List, [], ◌∷◌, take, drop, length, Bool, true, false, Option, Some, None, cond, refl, ◌∙◌, ap, add-one, arith}
-use Rattle.std.specs.Prelude.{◌==◌, not, nat_lt, position}
-use Rattle.std.specs.List.{prefix_len, count_by}
+use Rattle.std.proofs.Common.{◌≡◌, ℕ, ◌+◌, ◌-◌, ◌<◌, ◌≤◌, suc, List, [], ◌∷◌, take, drop, length, Bool, true, false, Some, None, cond, refl, ◌∙◌, ap, add-one, arith}
+use Rattle.std.specs.Prelude.{◌==◌}
+use Rattle.std.specs.List.{count_by}
 use Rattle.std.proofs.lemmas.List.{drop_all}
 use Rattle.std.proofs.lemmas.List.Sums.{sum_by-cons}
-use Rattle.std.proofs.lemmas.Bool.Decides.{nat_tests}
 use Rattle.world_rules.specs.Scripts.{words_in, with_byte, behind_space, behind_spaces}
+use Rattle.world_script.proofs.Signs.{gap, place, gap_here, gap_later, found_at, found_nowhere}
 
--- how many bytes stand in front of it
-abbrev gap : List ℕ → ℕ
-gap bytes = prefix_len (λ b. not (b == 32)) bytes
-
-abbrev place : List ℕ → Option ℕ
-place bytes = position (λ b. b == 32) bytes
-
-gap_here : (b : ℕ) (bs : List ℕ) → (b == 32) ≡ true → gap (b ∷ bs) ≡ 0
-gap_here b bs e = rw e refl
-
-gap_later : (b : ℕ) (bs : List ℕ) → (b == 32) ≡ false → gap (b ∷ bs) ≡ suc (gap bs)
-gap_later b bs e = rw e (omega arith)
-
-words_step : (b : ℕ) (bs : List ℕ) (t : Bool) → (b == 32) ≡ t → (gap bs < length bs → words_in bs ≡ take (gap bs) bs ∷ words_in (drop (suc (gap bs)) bs))
-    → gap (b ∷ bs) < length (b ∷ bs) → words_in (b ∷ bs) ≡ take (gap (b ∷ bs)) (b ∷ bs) ∷ words_in (drop (suc (gap (b ∷ bs))) (b ∷ bs))
-words_step b bs true e more lt = rw (gap_here b bs e, e) refl
-words_step b bs false e more lt = rw (gap_later b bs e, e, more (omega (arith, gap_later b bs e))) refl
+words_step : (b : ℕ) (bs : List ℕ) (t : Bool) → (b == 32) ≡ t → (gap 32 bs < length bs → words_in bs ≡ take (gap 32 bs) bs ∷ words_in (drop (suc (gap 32 bs)) bs))
+    → gap 32 (b ∷ bs) < length (b ∷ bs) → words_in (b ∷ bs) ≡ take (gap 32 (b ∷ bs)) (b ∷ bs) ∷ words_in (drop (suc (gap 32 (b ∷ bs))) (b ∷ bs))
+words_step b bs true e more lt = rw (gap_here 32 b bs e, e) refl
+words_step b bs false e more lt = rw (gap_later 32 b bs e, e, more (omega (arith, gap_later 32 b bs e))) refl
 
 -- a space parts the first word from others
-words_at : (bytes : List ℕ) → gap bytes < length bytes → words_in bytes ≡ take (gap bytes) bytes ∷ words_in (drop (suc (gap bytes)) bytes)
+words_at : (bytes : List ℕ) → gap 32 bytes < length bytes → words_in bytes ≡ take (gap 32 bytes) bytes ∷ words_in (drop (suc (gap 32 bytes)) bytes)
 words_at [] lt = absurd (omega arith)
 words_at (b ∷ bs) lt = words_step b bs (b == 32) refl (words_at bs) lt
 
-alone_step : (b : ℕ) (bs : List ℕ) (t : Bool) → (b == 32) ≡ t → (length bs ≤ gap bs → words_in bs ≡ bs ∷ [])
-    → length (b ∷ bs) ≤ gap (b ∷ bs) → words_in (b ∷ bs) ≡ (b ∷ bs) ∷ []
-alone_step b bs true e more le = absurd (omega (arith, gap_here b bs e))
-alone_step b bs false e more le = rw (e, more (omega (arith, gap_later b bs e))) refl
+alone_step : (b : ℕ) (bs : List ℕ) (t : Bool) → (b == 32) ≡ t → (length bs ≤ gap 32 bs → words_in bs ≡ bs ∷ [])
+    → length (b ∷ bs) ≤ gap 32 (b ∷ bs) → words_in (b ∷ bs) ≡ (b ∷ bs) ∷ []
+alone_step b bs true e more le = absurd (omega (arith, gap_here 32 b bs e))
+alone_step b bs false e more le = rw (e, more (omega (arith, gap_later 32 b bs e))) refl
 
 -- with no space there is one word
-alone_at : (bytes : List ℕ) → length bytes ≤ gap bytes → words_in bytes ≡ bytes ∷ []
+alone_at : (bytes : List ℕ) → length bytes ≤ gap 32 bytes → words_in bytes ≡ bytes ∷ []
 alone_at [] le = refl
 alone_at (b ∷ bs) le = alone_step b bs (b == 32) refl (alone_at bs) le
 
-behind_step : (b : ℕ) (bs : List ℕ) (t : Bool) → (b == 32) ≡ t → behind_space bs ≡ drop (suc (gap bs)) bs → behind_space (b ∷ bs) ≡ drop (suc (gap (b ∷ bs))) (b ∷ bs)
-behind_step b bs true e more = rw (gap_here b bs e, e) refl
-behind_step b bs false e more = rw (gap_later b bs e, e, more) refl
+behind_step : (b : ℕ) (bs : List ℕ) (t : Bool) → (b == 32) ≡ t → behind_space bs ≡ drop (suc (gap 32 bs)) bs → behind_space (b ∷ bs) ≡ drop (suc (gap 32 (b ∷ bs))) (b ∷ bs)
+behind_step b bs true e more = rw (gap_here 32 b bs e, e) refl
+behind_step b bs false e more = rw (gap_later 32 b bs e, e, more) refl
 
-behind_at : (bytes : List ℕ) → behind_space bytes ≡ drop (suc (gap bytes)) bytes
+behind_at : (bytes : List ℕ) → behind_space bytes ≡ drop (suc (gap 32 bytes)) bytes
 behind_at [] = refl
 behind_at (b ∷ bs) = behind_step b bs (b == 32) refl (behind_at bs)
 
-found_some : (t : Bool) (n i : ℕ) → cond t (Some n) None ≡ Some i → (t ≡ true) × (n ≡ i)
-found_some true n i e = (refl, cc)
-found_some false n i e = absurd (cc)
-
-found_none : (t : Bool) (n : ℕ) → cond t (Some n) None ≡ None → t ≡ false
-found_none true n e = absurd (cc)
-found_none false n e = refl
-
-before : (a b : ℕ) → nat_lt a b ≡ true → a < b
-before a b e = grind (arith, nat_tests)
-
-not_before : (a b : ℕ) → nat_lt a b ≡ false → b ≤ a
-not_before a b e = grind (arith, nat_tests)
-
-pub first_word : (bytes : List ℕ) (i : ℕ) → place bytes ≡ Some i → words_in bytes ≡ take i bytes ∷ words_in (drop (i + 1) bytes)
+pub first_word : (bytes : List ℕ) (i : ℕ) → place 32 bytes ≡ Some i → words_in bytes ≡ take i bytes ∷ words_in (drop (i + 1) bytes)
 first_word bytes i e =
-    let f = found_some (nat_lt (gap bytes) (length bytes)) (gap bytes) i e in
-    rw (add-one, ← f.1) (words_at bytes (before (gap bytes) (length bytes) f.0))
+    let f = found_at 32 bytes i e in
+    rw (add-one, ← f.1) (words_at bytes f.0)
 
-pub only_word : (bytes : List ℕ) → place bytes ≡ None → words_in bytes ≡ bytes ∷ []
-only_word bytes e = alone_at bytes (not_before (gap bytes) (length bytes) (found_none (nat_lt (gap bytes) (length bytes)) (gap bytes) e))
+pub only_word : (bytes : List ℕ) → place 32 bytes ≡ None → words_in bytes ≡ bytes ∷ []
+only_word bytes e = alone_at bytes (found_nowhere 32 bytes e)
 
-pub behind_first : (bytes : List ℕ) (i : ℕ) → place bytes ≡ Some i → behind_space bytes ≡ drop (i + 1) bytes
+pub behind_first : (bytes : List ℕ) (i : ℕ) → place 32 bytes ≡ Some i → behind_space bytes ≡ drop (i + 1) bytes
 behind_first bytes i e =
-    let f = found_some (nat_lt (gap bytes) (length bytes)) (gap bytes) i e in
+    let f = found_at 32 bytes i e in
     rw (add-one, ← f.1) (behind_at bytes)
 
-pub behind_none : (bytes : List ℕ) → place bytes ≡ None → behind_space bytes ≡ []
+pub behind_none : (bytes : List ℕ) → place 32 bytes ≡ None → behind_space bytes ≡ []
 behind_none bytes e =
-    let le : length bytes ≤ suc (gap bytes) = omega (arith, not_before (gap bytes) (length bytes) (found_none (nat_lt (gap bytes) (length bytes)) (gap bytes) e)) in
-    behind_at bytes ∙ drop_all (suc (gap bytes)) bytes le
+    let le : length bytes ≤ suc (gap 32 bytes) = omega (arith, found_nowhere 32 bytes e) in
+    behind_at bytes ∙ drop_all (suc (gap 32 bytes)) bytes le
 
 abbrev spaces : List ℕ → ℕ
 spaces bytes = count_by (λ b. b == 32) bytes

@@ -1,7 +1,8 @@
 //! The forms of what a script injects.
-ghost use Rattle.std.specs.Prelude.{◌≡◌, ◌<◌, ◌^◌, IfOk, IfSome};
-ghost use Rattle.world_rules.specs.Scripts.{ask_form, propose_form, vote_form, stop_form, message_or_none, stopdata_by, stopdata_form, sync_form, reply_form, hex_value, byte_by, hex_bytes, raw_form, form_by};
+ghost use Rattle.std.specs.Prelude.{◌≡◌, ◌<◌, ◌^◌, IfOk};
+ghost use Rattle.world_rules.specs.Scripts.{ask_form, propose_form, vote_form, stop_form, message_or_none, stopdata_by, stopdata_form, sync_form, reply_form, raw_form, form_by};
 
+use crate::hex::hex_bytes;
 use crate::numbers::{
     CLIENTS, INDICES, MEMBERS, MESSAGES, NUMBERS, PLACES, SMALL_NUMBERS, messages_in, number_in,
     numbers_in,
@@ -10,7 +11,6 @@ use crate::words::{Words, behind_spaces, payload_of};
 use smart_base::equality::same_bytes;
 use smart_base::name::{ClientId, MemberId};
 use smart_base::number::{Place, Regency, ViewNo};
-use smart_base::sequence::Bytes;
 use smart_messages::batch::BATCH_REQUESTS;
 use smart_messages::statement::{Answer, Slot, VoteKind};
 use std::alloc::{AllocError, Global};
@@ -214,44 +214,6 @@ fn reply_form(
         reply,
     };
     Ok(Ok(Injection::Reply { signer, answer }))
-}
-
-/// The number of a digit from 0 to 9 or from a to f.
-fn hex_value(digit: u8) -> Option<u8>
-    ensures value { result ≡ hex_value digit }
-    ensures small { IfSome result (λ n. n < 16) }
-{
-    match digit {
-        b'0'..=b'9' => Some(digit - b'0'),
-        b'a'..=b'f' => Some(digit - b'a' + 10),
-        _ => None,
-    }
-}
-
-fn byte_by(high: u8, low: u8) -> Option<u8>
-    ensures { result ≡ byte_by (hex_value high) (hex_value low) }
-{
-    let high = hex_value(high)?;
-    let low = hex_value(low)?;
-    Some(16 * high + low)
-}
-
-/// The bytes that pairs of digits are.
-fn hex_bytes(alloc: Global, mut digits: &[u8]) -> Result<Option<Bytes>, AllocError>
-    ensures { IfOk result (λ bytes. bytes ≡ hex_bytes digits.entry.now) }
-{
-    let mut bytes = Bytes::new(alloc);
-    while let Some((high, rest)) = digits.split_first() {
-        let Some((low, rest)) = rest.split_first() else {
-            return Ok(None);
-        };
-        let Some(byte) = byte_by(*high, *low) else {
-            return Ok(None);
-        };
-        bytes.push(byte)?;
-        digits = rest;
-    }
-    Ok(Some(bytes))
 }
 
 /// `HEX`: one byte or more.

@@ -1,10 +1,11 @@
 //! Words that are numbers.
 ghost use Rattle.std.specs.Prelude.{◌≡◌, ◌≤◌, ◌^◌, ℕ, IfSome, IfOk, OnSome, drop};
-ghost use Rattle.world_rules.specs.Scripts.{number_in, numbers_in, each_word};
+ghost use Rattle.world_rules.specs.Scripts.{number_in, member_of, client_of, numbers_in, each_word};
 ghost use Rattle.world_script.specs.Words.{Within};
 
 use crate::words::Words;
 use smart_base::decimal::number_of;
+use smart_base::name::{ClientId, MemberId};
 use smart_base::sequence::Sequence;
 use std::alloc::{AllocError, Global};
 use std::marker::Model;
@@ -39,6 +40,8 @@ pub const CALLS: Range = Range {
     least: 1,
     most: 1000,
 };
+/// The numbers of a member's devices.
+pub const DEVICES: Range = Range { least: 0, most: 3 };
 /// The numbers of messages in lines.
 pub const MESSAGES: Range = Range {
     least: 1,
@@ -76,6 +79,22 @@ pub fn number_in(range: &Range, word: &[u8]) -> Option<u64>
     } else {
         None
     }
+}
+
+/// The member whose number a word is.
+pub fn member_of(word: &[u8]) -> Option<MemberId>
+    ensures { result ≡ member_of word.now }
+{
+    let n = number_in(&MEMBERS, word)?;
+    Some(MemberId::new(n as u16))
+}
+
+/// The client whose number a word is.
+pub fn client_of(word: &[u8]) -> Option<ClientId>
+    ensures { result ≡ client_of word.now }
+{
+    let n = number_in(&CLIENTS, word)?;
+    Some(ClientId::new(n as u16))
 }
 
 /// A number for each range, in order. Their words are taken. There are none where a word is missing

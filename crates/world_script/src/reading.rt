@@ -3,12 +3,13 @@ ghost use Rattle.std.specs.Prelude.{◌≡◌, ◌&&◌, ◌<◌, ◌≤◌, nat
 ghost use Rattle.std.specs.List.{list_all};
 ghost use Rattle.world_rules.specs.Scripts.{is_printed, is_short, is_nothing, number_in, member_of, client_of, each_word, party_of_word, ask_line, again_line, told_line, flow_line, give_line, deliver_line, tick_line, settle_line, disk_with, disk_line, show_line, faulty_line, rogue_line, form_by, injecting, line_by, line_of, members_from, view_for, group_words, group_line, app_line};
 
+use crate::crash::{crash_line, restart_line};
 use crate::forms::form_by;
-use crate::numbers::{CALLS, CLIENTS, MEMBERS, MESSAGES, number_in};
+use crate::numbers::{CALLS, MESSAGES, client_of, member_of, number_in};
 use crate::words::{Words, behind_spaces, payload_of, words_in};
 use smart_base::decimal::number_of;
 use smart_base::equality::same_bytes;
-use smart_base::name::{ClientId, MemberId};
+use smart_base::name::MemberId;
 use smart_base::party::Party;
 use smart_base::sequence::Sequence;
 use smart_base::view::View;
@@ -71,20 +72,6 @@ pub fn app_line(bytes: &[u8]) -> Option<App>
     } else {
         None
     }
-}
-
-fn member_of(word: &[u8]) -> Option<MemberId>
-    ensures { result ≡ member_of word.now }
-{
-    let n = number_in(&MEMBERS, word)?;
-    Some(MemberId::new(n as u16))
-}
-
-fn client_of(word: &[u8]) -> Option<ClientId>
-    ensures { result ≡ client_of word.now }
-{
-    let n = number_in(&CLIENTS, word)?;
-    Some(ClientId::new(n as u16))
 }
 
 /// A member by its number, or a client by c and its number.
@@ -320,6 +307,10 @@ fn line_by(alloc: Global, bytes: &[u8], words: Words<'_>) -> Result<Result<Line,
         Ok(settle_line(words))
     } else if same_bytes(word, b"disk") {
         Ok(disk_line(words))
+    } else if same_bytes(word, b"crash") {
+        crash_line(alloc, words)
+    } else if same_bytes(word, b"restart") {
+        Ok(restart_line(words))
     } else if same_bytes(word, b"show") {
         Ok(show_line(words))
     } else if same_bytes(word, b"faulty") {

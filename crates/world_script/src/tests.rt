@@ -1,7 +1,8 @@
 use crate::reading::{app_line, line_of};
 use crate::text::{app_text, text_of};
+use member_store::crash::{Image, Patch};
 use smart_base::name::{ClientId, MemberId};
-use smart_base::number::{Regency, ViewNo};
+use smart_base::number::{Place, Regency, ViewNo};
 use smart_messages::statement::{Slot, VoteKind};
 use std::alloc::{AllocError, Global};
 use std::fmt::Write;
@@ -35,6 +36,10 @@ fn line_name(line: &Line) -> &'static str {
         Line::Deliver { .. } => "deliver",
         Line::Tick { .. } => "tick",
         Line::Disk { .. } => "disk",
+        Line::Crash { .. } => "crash",
+        Line::CrashAll { .. } => "crash all",
+        Line::Restart { .. } => "restart",
+        Line::RestartAll => "restart all",
         Line::Settle { .. } => "settle",
         Line::SettleAll => "settle all",
         Line::Show => "show",
@@ -235,7 +240,23 @@ fn push_form(out: &mut String, form: &Injection) -> Result<(), AllocError> {
     }
 }
 
-/// What a line tells: all of it where it is a breaker's.
+fn image_name(image: Image) -> &'static str {
+    match image {
+        Image::Old => "old",
+        Image::New => "new",
+    }
+}
+
+fn push_patch(out: &mut String, patch: &Patch) -> Result<(), AllocError> {
+    let (device, at) = (patch.device, patch.at);
+    write!(out, ", of {device} from {at}:")?;
+    for byte in patch.bytes.as_slice() {
+        write!(out, " {byte}")?;
+    }
+    Ok(())
+}
+
+/// What a line tells: all of it where it is a breaker's, or one that stops nodes.
 fn push_line(out: &mut String, line: &Line) -> Result<(), AllocError> {
     match line {
         Line::Faulty { member } => {
@@ -249,6 +270,26 @@ fn push_line(out: &mut String, line: &Line) -> Result<(), AllocError> {
         Line::Disk { member, count } => {
             let member = member.get();
             write!(out, "{count} calls of n{member}")
+        }
+        Line::Crash {
+            member,
+            image,
+            patches,
+        } => {
+            let (member, image) = (member.get(), image_name(*image));
+            write!(out, "n{member} stops: {image}")?;
+            for patch in patches.as_slice() {
+                push_patch(out, patch)?;
+            }
+            Ok(())
+        }
+        Line::CrashAll { image } => {
+            let image = image_name(*image);
+            write!(out, "all stop: {image}")
+        }
+        Line::Restart { member } => {
+            let member = member.get();
+            write!(out, "n{member} goes on")
         }
         Line::Inject(form) => push_form(out, form),
         _ => out.push_str(line_name(line)),
@@ -312,6 +353,73 @@ disk 0 => Number\n\
 disk 1 0 => Number\n\
 disk 1 1001 => Number\n\
 disk 1  => Number\n\
+crash => Count\n\
+crash x => Count\n\
+crash 1 old => n1 stops: old\n\
+crash 65535 new => n65535 stops: new\n\
+crash all old => all stop: old\n\
+crash all new => all stop: new\n\
+crash 0 old => Number\n\
+crash 65536 new => Number\n\
+crash all  => Form\n\
+crash all olds => Form\n\
+crash all NEW => Form\n\
+crash all old 0@0=00 => Count\n\
+crash all old  => Count\n\
+crash all x x => Count\n\
+crash ALL old => Number\n\
+crash x old => Number\n\
+crash x x => Number\n\
+crash x x x => Number\n\
+crash 1  => Form\n\
+crash 1 x => Form\n\
+crash 1 ol => Form\n\
+crash 1 old 0@0=00 => n1 stops: old, of 0 from 0: 0\n\
+crash 4 new 3@18446744073709551615=00ff1a => n4 stops: new, of 3 from 18446744073709551615: 0 255 26\n\
+crash 2 new 1@7=9f 1@7=0a 0@10=c0de => n2 stops: new, of 1 from 7: 159, of 1 from 7: 10, of 0 from 10: 192 222\n\
+crash 1 old 4@0=00 => Number\n\
+crash 1 old 4@0=zz => Number\n\
+crash 1 old 00@0=00 => Number\n\
+crash 1 old @0=00 => Number\n\
+crash 1 old 0@18446744073709551616=00 => Number\n\
+crash 1 old 0@-1=00 => Number\n\
+crash 1 old 0@=00 => Number\n\
+crash 1 old 0@0@0=00 => Number\n\
+crash 1 old 0@0=0 => Form\n\
+crash 1 old 0@0=000 => Form\n\
+crash 1 old 0@0= => Form\n\
+crash 1 old 0@0=0A => Form\n\
+crash 1 old 0@0=0g => Form\n\
+crash 1 old 0@0=0x00 => Form\n\
+crash 1 old 0@0==00 => Form\n\
+crash 1 old 0@0=00= => Form\n\
+crash 1 old 0@0 => Form\n\
+crash 1 old 0=00 => Form\n\
+crash 1 old 0=0@00 => Form\n\
+crash 1 old 0@0=00  => Form\n\
+crash 1 old  0@0=00 => Form\n\
+crash 1 old 0@0=00, => Form\n\
+crash 1 x 0@0=00 => Form\n\
+crash 1 x 4@0=00 => Number\n\
+crash 1 x 0@0=0 => Form\n\
+crash 0 old 0@0=0 => Number\n\
+crash 1 old x 4@0=00 => Number\n\
+crash 1 old 4@0=00 x => Number\n\
+crash 1 old 0@0=00 x 0@0=00 => Form\n\
+crash 1 old 0@0=00 x 0@0=00 4@0=00 0@0=00 => Number\n\
+crash 1 old 0@0=00 new => Form\n\
+crashes 1 old => Word\n\
+restart => Count\n\
+restart 1 => n1 goes on\n\
+restart 65535 => n65535 goes on\n\
+restart all => restart all\n\
+restart 0 => Number\n\
+restart 65536 => Number\n\
+restart alls => Number\n\
+restart  => Number\n\
+restart 1 2 => Count\n\
+restart all 1 => Count\n\
+restart x old => Count\n\
 settle => Count\n\
 settle all => settle all\n\
 settle 2 => settle\n\
@@ -489,6 +597,34 @@ fn breakers_are_written(rt: HostRuntime) -> Result<(), Fail> {
     assert_eq!(rt;
         text.as_str(),
         "absent n4\nsent 12 x raw\nsent 13 x ask 5 6 7\n"
+    );
+    Ok(())
+}
+
+#[test]
+fn stopped_nodes_are_written(rt: HostRuntime) -> Result<(), Fail> {
+    let lines = [
+        OutLine::Crashed {
+            member: MemberId::new(4),
+        },
+        OutLine::Down {
+            member: MemberId::new(65535),
+        },
+        OutLine::Restarted {
+            member: MemberId::new(4),
+            place: Place::new(0),
+            entries: 0,
+        },
+        OutLine::Restarted {
+            member: MemberId::new(31),
+            place: Place::new(9223372036854775807),
+            entries: 18446744073709551615,
+        },
+    ];
+    let text = text_of(rt.alloc(), lines.as_slice())?;
+    assert_eq!(rt;
+        text.as_str(),
+        "crashed n4\ndown n65535\nrestarted n4 0 0\nrestarted n31 9223372036854775807 18446744073709551615\n"
     );
     Ok(())
 }

@@ -215,6 +215,14 @@ fn push_delivered(out: &mut String, id: u16, place: u64, count: u64) -> Result<(
     Ok(())
 }
 
+fn push_restarted(out: &mut String, id: u16, place: u64, entries: u64) -> Result<(), AllocError>
+    ensures { OnOk result (string_bytes out.new ≡ string_bytes out.old ++ words_of (OutLine.Restarted id place entries)) }
+{
+    out.push_str("restarted n")?;
+    write!(out, "{id} {place} {entries}")?;
+    Ok(())
+}
+
 fn push_words(out: &mut String, line: &OutLine) -> Result<(), AllocError>
     ensures { OnOk result (string_bytes out.new ≡ string_bytes out.old ++ words_of line.now) }
 {
@@ -294,6 +302,19 @@ fn push_words(out: &mut String, line: &OutLine) -> Result<(), AllocError>
         OutLine::Absent { member } => {
             let id = member.get();
             write!(out, "absent n{id}")
+        }
+        OutLine::Crashed { member } => {
+            let id = member.get();
+            write!(out, "crashed n{id}")
+        }
+        OutLine::Restarted {
+            member,
+            place,
+            entries,
+        } => { push_restarted(out, member.get(), place.get(), *entries) }
+        OutLine::Down { member } => {
+            let id = member.get();
+            write!(out, "down n{id}")
         }
         OutLine::Idle { member } => {
             let id = member.get();

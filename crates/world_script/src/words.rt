@@ -1,7 +1,7 @@
 //! The words of a line.
 ghost use Rattle.std.specs.Prelude.{◌≡◌, ◌==◌, ◌∷◌, ◌⊎◌, ◌<◌, ◌≤◌, [], IfOk, IfSome, if◌then◌else◌, nat_le, count_by, length, position};
 ghost use Rattle.std.specs.Option.{MatchOption};
-ghost use Rattle.world_rules.specs.Scripts.{words_in, behind_space, behind_spaces};
+ghost use Rattle.world_rules.specs.Scripts.{words_in, behind_space, behind_spaces, parted_at};
 ghost use Rattle.world_script.specs.Words.{Several};
 
 use smart_base::bytes::{PAYLOAD_BYTES, Payload};
@@ -24,11 +24,11 @@ impl<'a> Model for Words<'a> {
     ghost view = { λ w. words_left w.more w.left.now };
 }
 
-fn space_in(bytes: &[u8]) -> Option<usize>
-    ensures place { result ≡ position (λ b. b == 32) bytes.now }
+fn place_in(sign: u8, bytes: &[u8]) -> Option<usize>
+    ensures place { result ≡ position (λ b. b == sign) bytes.now }
     ensures within { IfSome result (λ i. i < length bytes.now) }
 {
-    bytes.iter().position(|b| *b == b' ')
+    bytes.iter().position(|b| *b == sign)
 }
 
 fn spaces_in(bytes: &[u8]) -> usize
@@ -43,11 +43,24 @@ fn parts(bytes: &[u8]) -> Option<(&[u8], &[u8])>
     ensures words { MatchOption result (words_in bytes.now ≡ bytes.now ∷ []) (λ parts. words_in bytes.now ≡ parts.0.now ∷ words_in parts.1.now) }
     ensures behind { MatchOption result (behind_space bytes.now ≡ []) (λ parts. behind_space bytes.now ≡ parts.1.now) }
 {
-    let Some(i) = space_in(bytes) else {
+    let Some(i) = place_in(b' ', bytes) else {
         return None;
     };
     let (front, _) = bytes.split_at(i);
     let (_, rest) = bytes.split_at(i + 1);
+    Some((front, rest))
+}
+
+/// What stands in front of the first byte of some kind, and what behind it, where there is one.
+#[tactic(auto, using(crate::proofs::Signs::parted_where, crate::proofs::Signs::parted_nowhere))]
+pub fn parted_at(sign: u8, word: &[u8]) -> Option<(&[u8], &[u8])>
+    ensures { MatchOption result (parted_at sign word.now ≡ None) (λ parts. parted_at sign word.now ≡ Some (parts.0.now, parts.1.now)) }
+{
+    let Some(i) = place_in(sign, word) else {
+        return None;
+    };
+    let (front, _) = word.split_at(i);
+    let (_, rest) = word.split_at(i + 1);
     Some((front, rest))
 }
 

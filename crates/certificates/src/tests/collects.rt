@@ -8,9 +8,20 @@ use smart_base::view::View;
 use smart_keys::ring::Ring;
 use smart_messages::report::{DecisionProof, Evidence, LockCertificate, MarkCertificate, Report};
 use smart_messages::signed::Signed;
-use smart_messages::statement::VoteKind;
+use smart_messages::signed_list::SignedList;
+use smart_messages::statement::{Ballot, VoteKind};
 use std::alloc::Global;
 use std::test::Fail;
+
+/// The votes of a text, for a ballot.
+fn voted(
+    alloc: Global,
+    ring: &Ring,
+    wanted: Ballot,
+    text: &str,
+) -> Result<SignedList<Ballot>, Fail> {
+    list_of(votes(alloc, ring, &wanted, text)?)
+}
 
 /// A decision proof of a place, said to be of a view.
 fn decided(
@@ -21,11 +32,12 @@ fn decided(
     text: &str,
 ) -> Result<Evidence, Fail> {
     let wanted = ballot(VoteKind::Accept, view, last, 1);
+    let accepts = voted(alloc, ring, wanted, text)?;
     Ok(Evidence::Decided(DecisionProof {
         view: ViewNo::new(view),
         regency: Regency::new(1),
         digest: wanted_digest(),
-        accepts: list_of(votes(alloc, ring, &wanted, text)?)?,
+        accepts,
     }))
 }
 
@@ -37,10 +49,11 @@ fn marked(
     last: Place,
     text: &str,
 ) -> Result<Evidence, Fail> {
+    let marks = list_of(marks(alloc, ring, last, text)?)?;
     Ok(Evidence::Marked(MarkCertificate {
         view: ViewNo::new(view),
         digest: wanted_digest(),
-        marks: list_of(marks(alloc, ring, last, text)?)?,
+        marks,
     }))
 }
 
@@ -53,16 +66,13 @@ fn lock(
     regency: u32,
     text: &str,
 ) -> Result<LockCertificate, Fail> {
-    let wanted = ballot(
-        VoteKind::Write,
-        view,
-        place(last.get().saturating_add(1)),
-        regency,
-    );
+    let next = place(last.get().saturating_add(1));
+    let wanted = ballot(VoteKind::Write, view, next, regency);
+    let writes = voted(alloc, ring, wanted, text)?;
     Ok(LockCertificate {
         regency: Regency::new(regency),
         digest: wanted_digest(),
-        writes: list_of(votes(alloc, ring, &wanted, text)?)?,
+        writes,
     })
 }
 
@@ -76,16 +86,44 @@ fn three_views(alloc: Global, count: u16) -> Result<Vec<View>, Fail> {
     Ok(views)
 }
 
+/// Evidence for a place: nothing, or votes or marks that are said to be of a view.
+fn evidence(
+    alloc: Global,
+    ring: &Ring,
+    kind: u8,
+    view: u32,
+    last: Place,
+    text: &str,
+) -> Result<Evidence, Fail> {
+    match kind {
+        b'n' => Ok(Evidence::Nothing),
+        b'd' => decided(alloc, ring, view, last, text),
+        _ => marked(alloc, ring, view, last, text),
+    }
+}
+
+fn is_shown(ring: &Ring, views: &[View], last: Place, evidence: &Evidence) -> bool {
+    check_evidence(ring, views, last, evidence)
+}
+
+/// Whether evidence for a place holds.
+fn shows_at(
+    alloc: Global,
+    views: &[View],
+    last: Place,
+    kind: u8,
+    view: u32,
+    text: &str,
+) -> Result<bool, Fail> {
+    let ring = ring(alloc)?;
+    let evidence = evidence(alloc, &ring, kind, view, last, text)?;
+    Ok(is_shown(&ring, views, last, &evidence))
+}
+
 /// Whether evidence for place 4 holds: votes or marks that are said to be of a view.
 fn shows(alloc: Global, kind: u8, view: u32, text: &str) -> Result<bool, Fail> {
-    let ring = ring(alloc)?;
     let views = three_views(alloc, 5)?;
-    let last = Place::new(4);
-    let evidence = match kind {
-        b'd' => decided(alloc, &ring, view, last, text)?,
-        _ => marked(alloc, &ring, view, last, text)?,
-    };
-    Ok(check_evidence(&ring, views.as_slice(), last, &evidence))
+    shows_at(alloc, views.as_slice(), Place::new(4), kind, view, text)
 }
 
 #[test]
@@ -132,9 +170,7 @@ fn marks_in_evidence_are_checked(rt: HostRuntime) -> Result<(), Fail> {
 /// A decision proof is one of the view that holds the place.
 #[test]
 fn a_proof_is_of_the_view_that_holds_its_place(rt: HostRuntime) -> Result<(), Fail> {
-    let alloc = rt.alloc();
-    let ring = ring(alloc)?;
-    let views = three_views(alloc, 5)?;
+    let views = three_views(rt.alloc(), 5)?;
     for (number, holder) in [
         (1, 0),
         (4, 0),
@@ -145,8 +181,7 @@ fn a_proof_is_of_the_view_that_holds_its_place(rt: HostRuntime) -> Result<(), Fa
     ] {
         let last = place(number);
         for (view, text) in [(0, "w1w2w3w4"), (1, "w3w4w5w6"), (2, "w1w2w3w4")] {
-            let evidence = decided(alloc, &ring, view, last, text)?;
-            let holds = check_evidence(&ring, views.as_slice(), last, &evidence);
+            let holds = shows_at(rt.alloc(), views.as_slice(), last, b'd', view, text)?;
             assert_eq!(rt; holds, view == holder, "place {number}, view {view}");
         }
     }
@@ -156,49 +191,90 @@ fn a_proof_is_of_the_view_that_holds_its_place(rt: HostRuntime) -> Result<(), Fa
 /// The place before the first needs no evidence, and what comes with it is not looked at.
 #[test]
 fn only_the_place_before_the_first_needs_none(rt: HostRuntime) -> Result<(), Fail> {
-    let alloc = rt.alloc();
-    let ring = ring(alloc)?;
-    let views = three_views(alloc, 4)?;
+    let views = three_views(rt.alloc(), 4)?;
     for (number, want) in [(0, true), (1, false)] {
         let last = place(number);
-        for evidence in [
-            Evidence::Nothing,
-            decided(alloc, &ring, 7, last, "")?,
-            marked(alloc, &ring, 7, last, "t1")?,
-        ] {
-            let holds = check_evidence(&ring, views.as_slice(), last, &evidence);
+        for (kind, text) in [(b'n', ""), (b'd', ""), (b'm', "t1")] {
+            let holds = shows_at(rt.alloc(), views.as_slice(), last, kind, 7, text)?;
             assert_eq!(rt; holds, want, "place {number}");
         }
     }
     Ok(())
 }
 
-/// A place before the start of all views is held by none.
-#[test]
-fn a_place_before_all_views_is_not_shown(rt: HostRuntime) -> Result<(), Fail> {
-    let alloc = rt.alloc();
-    let ring = ring(alloc)?;
+/// The views of `three_views` behind the first.
+fn two_views(alloc: Global) -> Result<Vec<View>, Fail> {
     let mut views = Vec::new(alloc);
     views.push(view_from(alloc, 1, 5, 3, 4, 1)?)?;
     views.push(view_from(alloc, 2, 9, 1, 4, 1)?)?;
-    let last = Place::new(4);
-    for (view, text) in [(0, "w1w2w3"), (1, "w3w4w5"), (2, "w1w2w3")] {
-        let evidence = decided(alloc, &ring, view, last, text)?;
-        assert!(rt;
-            !check_evidence(&ring, views.as_slice(), last, &evidence),
-            "view {view}"
-        );
+    Ok(views)
+}
+
+/// A place before the start of all views is held by none.
+#[test]
+fn a_place_before_all_views_is_not_shown(rt: HostRuntime) -> Result<(), Fail> {
+    let views = two_views(rt.alloc())?;
+    for (kind, view, text, want) in [
+        (b'd', 0, "w1w2w3", false),
+        (b'd', 1, "w3w4w5", false),
+        (b'd', 2, "w1w2w3", false),
+        (b'm', 1, "m3m4", true),
+    ] {
+        let holds = shows_at(
+            rt.alloc(),
+            views.as_slice(),
+            Place::new(4),
+            kind,
+            view,
+            text,
+        )?;
+        assert_eq!(rt; holds, want, "view {view}");
     }
-    let evidence = marked(alloc, &ring, 1, last, "m3m4")?;
-    assert!(rt; check_evidence(&ring, views.as_slice(), last, &evidence));
     Ok(())
+}
+
+fn is_locked(
+    ring: &Ring,
+    view: &View,
+    last: Place,
+    reported: Regency,
+    lock: &LockCertificate,
+) -> bool {
+    check_lock(ring, view, last, reported, lock)
+}
+
+/// What a lock says of itself: the view and the place behind which its votes are, and its regency.
+#[derive(Clone, Copy)]
+struct Locked {
+    view: u32,
+    behind: u64,
+    regency: u32,
+}
+
+/// Whether the view 2 of so many members holds a lock that is reported in a regency behind a place.
+fn locks(
+    alloc: Global,
+    count: u16,
+    last: u64,
+    reported: u32,
+    locked: Locked,
+    text: &str,
+) -> Result<bool, Fail> {
+    let ring = ring(alloc)?;
+    let view = view_from(alloc, 2, 9, 1, count, 1)?;
+    let behind = place(locked.behind);
+    let lock = lock(alloc, &ring, locked.view, behind, locked.regency, text)?;
+    let reported = Regency::new(reported);
+    Ok(is_locked(&ring, &view, place(last), reported, &lock))
 }
 
 #[test]
 fn the_votes_of_a_lock_are_checked(rt: HostRuntime) -> Result<(), Fail> {
-    let alloc = rt.alloc();
-    let ring = ring(alloc)?;
-    let last = Place::new(9);
+    let locked = Locked {
+        view: 2,
+        behind: 9,
+        regency: 2,
+    };
     for (count, text, want) in [
         (4, "w1w2w3", true),
         (5, "w1w2w3w5", true),
@@ -213,9 +289,7 @@ fn the_votes_of_a_lock_are_checked(rt: HostRuntime) -> Result<(), Fail> {
         (4, "w1w2d3", false),
         (4, "w1w2t3", false),
     ] {
-        let view = view_from(alloc, 2, 9, 1, count, 1)?;
-        let lock = lock(alloc, &ring, 2, last, 2, text)?;
-        let holds = check_lock(&ring, &view, last, Regency::new(3), &lock);
+        let holds = locks(rt.alloc(), count, 9, 3, locked, text)?;
         assert_eq!(rt; holds, want, "{text} of {count}");
     }
     Ok(())
@@ -224,10 +298,7 @@ fn the_votes_of_a_lock_are_checked(rt: HostRuntime) -> Result<(), Fail> {
 /// A lock is of a regency below the reported one, and there is no place behind the greatest.
 #[test]
 fn locks_are_of_earlier_regencies(rt: HostRuntime) -> Result<(), Fail> {
-    let alloc = rt.alloc();
-    let ring = ring(alloc)?;
-    let view = view_from(alloc, 2, 9, 1, 4, 1)?;
-    for (number, regency, reported, want) in [
+    for (behind, regency, reported, want) in [
         (0, 2, 3, true),
         (0, 0, 3, true),
         (0, 3, 3, false),
@@ -236,10 +307,13 @@ fn locks_are_of_earlier_regencies(rt: HostRuntime) -> Result<(), Fail> {
         (9223372036854775806, 2, 3, true),
         (9223372036854775807, 2, 3, false),
     ] {
-        let last = place(number);
-        let lock = lock(alloc, &ring, 2, last, regency, "w1w2w3")?;
-        let holds = check_lock(&ring, &view, last, Regency::new(reported), &lock);
-        assert_eq!(rt; holds, want, "{regency} in {reported} behind {number}");
+        let locked = Locked {
+            view: 2,
+            behind,
+            regency,
+        };
+        let holds = locks(rt.alloc(), 4, behind, reported, locked, "w1w2w3")?;
+        assert_eq!(rt; holds, want, "{regency} in {reported} behind {behind}");
     }
     Ok(())
 }
@@ -247,16 +321,75 @@ fn locks_are_of_earlier_regencies(rt: HostRuntime) -> Result<(), Fail> {
 /// The votes of a lock are of the view, and for the place behind the last one.
 #[test]
 fn locks_are_of_the_view_and_the_next_place(rt: HostRuntime) -> Result<(), Fail> {
-    let alloc = rt.alloc();
-    let ring = ring(alloc)?;
-    let view = view_from(alloc, 2, 9, 1, 4, 1)?;
-    let regency = Regency::new(3);
-    for (number, behind, want) in [(2, 9, true), (1, 9, false), (2, 8, false), (2, 10, false)] {
-        let lock = lock(alloc, &ring, number, place(behind), 2, "w1w2w3")?;
-        let holds = check_lock(&ring, &view, Place::new(9), regency, &lock);
-        assert_eq!(rt; holds, want, "of view {number} behind {behind}");
+    for (view, behind, want) in [(2, 9, true), (1, 9, false), (2, 8, false), (2, 10, false)] {
+        let locked = Locked {
+            view,
+            behind,
+            regency: 2,
+        };
+        let holds = locks(rt.alloc(), 4, 9, 3, locked, "w1w2w3")?;
+        assert_eq!(rt; holds, want, "of view {view} behind {behind}");
     }
     Ok(())
+}
+
+/// The last place of a report.
+fn last_of(letter: u8) -> Place {
+    match letter {
+        b'd' | b'm' | b'a' | b'b' | b'u' => Place::new(4),
+        b'p' => Place::new(9),
+        _ => Place::zero(),
+    }
+}
+
+/// The evidence of a report.
+fn evidence_of(alloc: Global, ring: &Ring, letter: u8, last: Place) -> Result<Evidence, Fail> {
+    let (kind, view, text) = match letter {
+        b'd' => (b'd', 0, "w1w2w3"),
+        b'p' => (b'd', 2, "w1w2w3w4"),
+        b'a' => (b'd', 0, "w1w2t3"),
+        b'm' => (b'm', 1, "m5m6"),
+        b'b' => (b'm', 1, "m5t6"),
+        b'u' => (b'm', 3, "m1m2"),
+        _ => (b'n', 0, ""),
+    };
+    evidence(alloc, ring, kind, view, last, text)
+}
+
+/// The lock of a report.
+fn lock_of(
+    alloc: Global,
+    ring: &Ring,
+    letter: u8,
+    last: Place,
+) -> Result<Option<LockCertificate>, Fail> {
+    let (regency, text) = match letter {
+        b'l' => (2, "w1w2w3w4"),
+        b'e' => (3, "w1w2w3w4"),
+        b'c' | b'y' => (2, "w1w2w3t4"),
+        _ => return Ok(None),
+    };
+    Ok(Some(lock(alloc, ring, 2, last, regency, text)?))
+}
+
+/// Who seals a report.
+fn sealer_of(letter: u8, signer: u16) -> u16 {
+    match letter {
+        b't' | b'x' | b'y' => signer.wrapping_add(1),
+        _ => signer,
+    }
+}
+
+fn view_of(letter: u8) -> ViewNo {
+    ViewNo::new(if letter == b'v' { 1 } else { 2 })
+}
+
+fn regency_of(letter: u8) -> Regency {
+    Regency::new(if letter == b'r' || letter == b'x' {
+        2
+    } else {
+        3
+    })
 }
 
 /// A member's report of regency 3 of view 2. Good ones: `n` has decided nothing, `d` and `p` a place
@@ -265,42 +398,17 @@ fn locks_are_of_the_view_and_the_next_place(rt: HostRuntime) -> Result<(), Fail>
 /// (`a`), in marks (`b`) or in a lock (`c`); a tag in a lock and its own (`y`); the lock's regency
 /// (`e`); or the view of marks (`u`).
 fn report(alloc: Global, ring: &Ring, letter: u8, signer: u16) -> Result<Signed<Report>, Fail> {
-    let last = match letter {
-        b'd' | b'm' | b'a' | b'b' | b'u' => Place::new(4),
-        b'p' => Place::new(9),
-        _ => Place::zero(),
-    };
-    let evidence = match letter {
-        b'd' => decided(alloc, ring, 0, last, "w1w2w3")?,
-        b'p' => decided(alloc, ring, 2, last, "w1w2w3w4")?,
-        b'a' => decided(alloc, ring, 0, last, "w1w2t3")?,
-        b'm' => marked(alloc, ring, 1, last, "m5m6")?,
-        b'b' => marked(alloc, ring, 1, last, "m5t6")?,
-        b'u' => marked(alloc, ring, 3, last, "m1m2")?,
-        _ => Evidence::Nothing,
-    };
-    let lock = match letter {
-        b'l' => Some(lock(alloc, ring, 2, last, 2, "w1w2w3w4")?),
-        b'e' => Some(lock(alloc, ring, 2, last, 3, "w1w2w3w4")?),
-        b'c' | b'y' => Some(lock(alloc, ring, 2, last, 2, "w1w2w3t4")?),
-        _ => None,
-    };
-    let sealer = match letter {
-        b't' | b'x' | b'y' => signer.wrapping_add(1),
-        _ => signer,
-    };
+    let last = last_of(letter);
+    let evidence = evidence_of(alloc, ring, letter, last)?;
+    let lock = lock_of(alloc, ring, letter, last)?;
     let report = Report {
-        view: ViewNo::new(if letter == b'v' { 1 } else { 2 }),
-        regency: Regency::new(if letter == b'r' || letter == b'x' {
-            2
-        } else {
-            3
-        }),
+        view: view_of(letter),
+        regency: regency_of(letter),
         last,
         evidence,
         lock,
     };
-    sealed(alloc, ring, signer, sealer, report)
+    sealed(alloc, ring, signer, sealer_of(letter, signer), report)
 }
 
 /// The reports of a text such as `n1l2`, each a letter before its signer.
@@ -318,10 +426,27 @@ fn reports(alloc: Global, ring: &Ring, text: &str) -> Result<Vec<Signed<Report>>
     Ok(list)
 }
 
+fn fault_of(
+    ring: &Ring,
+    views: &[View],
+    reports: &[Signed<Report>],
+) -> Result<Option<CertFault>, Fail> {
+    if views.is_empty() {
+        return Err(Fail::from("no view"));
+    }
+    Ok(check_collect(ring, views, Regency::new(3), reports).err())
+}
+
+/// The fault of the reports of a text, for views of which the present one has so many members.
+fn fault_of_text(alloc: Global, count: u16, text: &str) -> Result<Option<CertFault>, Fail> {
+    let ring = ring(alloc)?;
+    let views = three_views(alloc, count)?;
+    let reports = reports(alloc, &ring, text)?;
+    fault_of(&ring, views.as_slice(), reports.as_slice())
+}
+
 #[test]
 fn the_first_fault_of_reports_is_told(rt: HostRuntime) -> Result<(), Fail> {
-    let alloc = rt.alloc();
-    let ring = ring(alloc)?;
     for (count, text, want) in [
         // Three of four answer for sure, and four of five.
         (4, "n1n2n3", None),
@@ -352,21 +477,8 @@ fn the_first_fault_of_reports_is_told(rt: HostRuntime) -> Result<(), Fail> {
         (4, "n1e2t3", Some(CertFault::Unequal)),
         (4, "n5a1t2", Some(CertFault::Stranger)),
     ] {
-        let views = three_views(alloc, count)?;
-        let reports = reports(alloc, &ring, text)?;
-        let fault = fault_of(&ring, views.as_slice(), reports.as_slice())?;
+        let fault = fault_of_text(rt.alloc(), count, text)?;
         assert_eq!(rt; fault, want, "{text} of {count}");
     }
     Ok(())
-}
-
-fn fault_of(
-    ring: &Ring,
-    views: &[View],
-    reports: &[Signed<Report>],
-) -> Result<Option<CertFault>, Fail> {
-    if views.is_empty() {
-        return Err(Fail::from("no view"));
-    }
-    Ok(check_collect(ring, views, Regency::new(3), reports).err())
 }

@@ -2,6 +2,7 @@ use super::{other_digest, ring, sealed, view, wanted_digest};
 use crate::check::check_marks;
 use crate::fault::CertFault;
 use smart_base::number::Place;
+use smart_base::view::View;
 use smart_keys::ring::Ring;
 use smart_messages::report::Mark;
 use smart_messages::signed::Signed;
@@ -52,11 +53,21 @@ pub fn marks(
     Ok(list)
 }
 
+/// The fault of marks of place 3.
+fn fault_of(ring: &Ring, view: &View, marks: &[Signed<Mark>]) -> Option<CertFault> {
+    check_marks(ring, view, Place::new(3), wanted_digest(), marks).err()
+}
+
+/// The fault of the marks of a text, in a view of so many members.
+fn fault_of_text(alloc: Global, count: u16, text: &str) -> Result<Option<CertFault>, Fail> {
+    let ring = ring(alloc)?;
+    let view = view(alloc, count, 1)?;
+    let marks = marks(alloc, &ring, Place::new(3), text)?;
+    Ok(fault_of(&ring, &view, marks.as_slice()))
+}
+
 #[test]
 fn the_first_fault_of_marks_is_told(rt: HostRuntime) -> Result<(), Fail> {
-    let alloc = rt.alloc();
-    let ring = ring(alloc)?;
-    let place = Place::new(3);
     for (count, text, want) in [
         // Two are more than the one that may be faulty, whoever they are, and so are more.
         (4, "m1m2", None),
@@ -80,9 +91,7 @@ fn the_first_fault_of_marks_is_told(rt: HostRuntime) -> Result<(), Fail> {
         (4, "m1m1p2m5", Some(CertFault::Twice)),
         (4, "d1m1", Some(CertFault::Unequal)),
     ] {
-        let view = view(alloc, count, 1)?;
-        let marks = marks(alloc, &ring, place, text)?;
-        let fault = check_marks(&ring, &view, place, wanted_digest(), marks.as_slice()).err();
+        let fault = fault_of_text(rt.alloc(), count, text)?;
         assert_eq!(rt; fault, want, "{text} of {count}");
     }
     Ok(())
@@ -93,17 +102,16 @@ fn the_first_fault_of_marks_is_told(rt: HostRuntime) -> Result<(), Fail> {
 fn marks_are_more_than_may_be_faulty(rt: HostRuntime) -> Result<(), Fail> {
     let alloc = rt.alloc();
     let ring = ring(alloc)?;
-    let place = Place::new(3);
     for (count, f, enough) in [(1, 0, 1), (31, 10, 11)] {
         let view = view(alloc, count, f)?;
         let mut marks = Vec::new(alloc);
         for index in 0..enough {
-            let fault = check_marks(&ring, &view, place, wanted_digest(), marks.as_slice()).err();
+            let fault = fault_of(&ring, &view, marks.as_slice());
             assert_eq!(rt; fault, Some(CertFault::TooFew), "{index} of {count}");
             let signer = count.saturating_sub(index);
-            marks.push(mark(alloc, &ring, place, b'm', signer)?)?;
+            marks.push(mark(alloc, &ring, Place::new(3), b'm', signer)?)?;
         }
-        let fault = check_marks(&ring, &view, place, wanted_digest(), marks.as_slice()).err();
+        let fault = fault_of(&ring, &view, marks.as_slice());
         assert_eq!(rt; fault, None, "{enough} of {count}");
     }
     Ok(())

@@ -98,10 +98,21 @@ fn fault_of(
     }
 }
 
+/// The fault of the votes of a text, in a view of so many members.
+fn fault_of_text(
+    alloc: Global,
+    kind: VoteKind,
+    count: u16,
+    text: &str,
+) -> Result<Option<CertFault>, Fail> {
+    let ring = ring(alloc)?;
+    let view = view(alloc, count, 1)?;
+    let votes = votes(alloc, &ring, &wanted(kind), text)?;
+    Ok(fault_of(&ring, &view, kind, votes.as_slice()))
+}
+
 #[test]
 fn the_first_fault_of_votes_is_told(rt: HostRuntime) -> Result<(), Fail> {
-    let alloc = rt.alloc();
-    let ring = ring(alloc)?;
     for (count, text, want) in [
         // Three of four are a quorum, whoever they are, and so are more.
         (4, "w1w2w3", None),
@@ -136,10 +147,8 @@ fn the_first_fault_of_votes_is_told(rt: HostRuntime) -> Result<(), Fail> {
         (4, "w1w1k2w5", Some(CertFault::Twice)),
         (4, "t1", Some(CertFault::BadTag)),
     ] {
-        let view = view(alloc, count, 1)?;
         for kind in [VoteKind::Write, VoteKind::Accept] {
-            let votes = votes(alloc, &ring, &wanted(kind), text)?;
-            let fault = fault_of(&ring, &view, kind, votes.as_slice());
+            let fault = fault_of_text(rt.alloc(), kind, count, text)?;
             assert_eq!(rt; fault, want, "{text} of {count}");
         }
     }

@@ -12,7 +12,8 @@ ghost use Rattle.node_core.specs.Arriving.{kept_unless, passed};
 ghost use Rattle.node_core.specs.Broken.{IsPartly};
 
 use crate::node::{NodeState, Outcome};
-use crate::seal::{is_batch_for, is_verified};
+use crate::seal::is_verified;
+use node_restart::batch::is_batch_for;
 use node_rules::node::Why;
 use smart_base::name::MemberId;
 use smart_base::number::{Place, Regency, ViewNo};

@@ -6,7 +6,9 @@ ghost use Rattle.smart_messages.specs.declared.any.AnyMessage.TheVariants as mes
 ghost use Rattle.smart_messages.specs.declared.regency.RegencyMessage.TheVariants as changes;
 ghost use Rattle.replica_rules.specs.Seals.{signed, digest_of};
 ghost use Rattle.vote_book.specs.BookReports.{last_maker, evidence_of, evidence_by, lock_of, certificate_of};
+ghost use Rattle.vote_book.specs.Standing.{first_start};
 ghost use Rattle.regency_sync.specs.Choices.{choice};
+ghost use Rattle.consensus_instance.specs.Nodes.{start_by};
 ghost use Rattle.node_rules.specs.Nodes.{view_of, regency_of, is_synced, holding, recording};
 ghost use Rattle.node_rules.specs.declared.node.Fired.TheVariants as fires;
 ghost use Rattle.node_rules.specs.Rules.{fired_if};
@@ -15,9 +17,10 @@ ghost use Rattle.node_rules.specs.Steps.{turns, fired_turns};
 ghost use Rattle.node_core.specs.Following.{is_unbegun, promised_by, reached, begun_at};
 ghost use Rattle.node_core.specs.Broken.{IsPartly};
 
+use crate::find::first_beginning;
 use crate::node::NodeState;
-use crate::seal::digest_of;
 use consensus_instance::start::Start as Beginning;
+use node_restart::batch::digest_of;
 use node_rules::node::{Fired, Target};
 use regency_sync::choosing::choice;
 use smart_base::duplicate::Duplicate;
@@ -149,7 +152,6 @@ impl<S: Service> NodeState<S> {
         requires later { is_unbegun self.old promise.regency ≡ true }
         ensures node { OnOk result (self.new ≡ reached self.old promise) }
         ensures regency { OnOk result (regency_of self.new ≡ promise.regency) }
-        ensures unbegun { OnOk result (is_synced self.new ≡ false) }
         ensures err { OnErr result (self.new.entries ≡ self.old.entries) }
     {
         if self.regency() < promise.regency {
@@ -158,27 +160,35 @@ impl<S: Service> NodeState<S> {
         Ok(())
     }
 
+    /// Where a regency of the view in force first began, by the book.
+    fn start_in(&self, regency: Regency) -> Option<Beginning>
+        ensures { result ≡ option_map start_by (first_start (view_of self.now).number regency self.now.entries) }
+    {
+        first_beginning(&self.book, self.view().number(), regency)
+    }
+
     /// Promises a later regency.
     fn promise_to(&mut self, promise: Promise) -> Result<(), AllocError>
         requires view { promise.view ≡ (view_of self.old).number }
         requires later { regency_of self.old < promise.regency }
         ensures node { OnOk result (self.new ≡ promised_by self.old promise) }
         ensures regency { OnOk result (regency_of self.new ≡ promise.regency) }
-        ensures unbegun { OnOk result (is_synced self.new ≡ false) }
         ensures err { OnErr result (self.new.entries ≡ self.old.entries) }
     {
         let regency = promise.regency;
+        let start = self.start_in(regency);
+        let votes = self.votes_at(self.place().get() + 1, regency);
         self.book.push(LogEntry::Promised(promise))?;
-        self.instance.promised(regency);
-        self.synchronizer.promised_to(regency);
+        self.instance.promised(regency, start, votes);
+        self.synchronizer.promised_to(regency, start.is_some());
         Ok(())
     }
 
-    /// Takes part in the regency in force from where it begins.
+    /// Takes part in the regency in force from where it begins, unless the book has a beginning of it
+    /// already.
     fn begin_at(&mut self, start: Start) -> Result<(), AllocError>
         requires view { start.view ≡ (view_of self.old).number }
         requires regency { regency_of self.old ≡ start.regency }
-        requires unbegun { is_synced self.old ≡ false }
         ensures node { OnOk result (self.new ≡ begun_at self.old start) }
         ensures err { OnErr result (self.new.entries ≡ self.old.entries) }
     {
@@ -188,7 +198,7 @@ impl<S: Service> NodeState<S> {
             bound: start.bound,
         };
         self.book.push(LogEntry::Synced(start))?;
-        self.instance.synced(regency, beginning);
+        self.instance.synced(beginning);
         self.synchronizer.adopted(regency);
         self.impatient = false;
         Ok(())

@@ -12,8 +12,8 @@ ghost use Rattle.node_core.specs.Arriving.{kept_unless};
 ghost use Rattle.node_core.specs.Broken.{IsPartly};
 
 use crate::node::{NodeState, Outcome};
-use crate::seal::is_batch_for;
 use certificates::collect::{check_collect, check_evidence, has_no_false_lock};
+use node_restart::batch::is_batch_for;
 use node_rules::node::Why;
 use regency_sync::choosing::choice;
 use smart_base::number::{Place, Regency, ViewNo};

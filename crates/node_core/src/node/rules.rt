@@ -24,9 +24,9 @@ ghost use Rattle.node_core.specs.Broken.{IsPartly};
 
 use crate::find::{accept_by_quorum, accept_under, has_proposed};
 use crate::node::NodeState;
-use crate::seal::digest_of;
 use consensus_instance::rule::Rule;
 use delivery::replica::deliver;
+use node_restart::batch::digest_of;
 use node_rules::node::{Delivery, Fired, Target};
 use smart_base::bytes::Digest32;
 use smart_base::duplicate::Duplicate;
@@ -109,10 +109,11 @@ impl<S: Service> NodeState<S> {
         }
         let mut fired = Sequence::new(self.alloc);
         let answers = self.view().is_member(self.id());
+        let votes = self.votes_at(self.place().get() + 2, self.regency());
         match self.waiting.take() {
             None => Ok(fired),
             Some(batch) => {
-                self.instance.delivered();
+                self.instance.delivered(votes);
                 let lines = deliver(self.alloc, &mut self.replica, &batch)?;
                 self.pool.settle(&self.replica.replica().table);
                 self.impatient = false;

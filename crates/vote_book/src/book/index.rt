@@ -9,6 +9,7 @@ ghost use Rattle.vote_book.specs.declared.entry.LogEntry.{LogEntry};
 
 use crate::book::accepts::OpenAccepts;
 use crate::book::sets::{PlaceSet, SlotSet};
+use crate::book::starts::FirstStarts;
 use crate::entry::{Accept, LogEntry, Promise, Start};
 use smart_base::bytes::Digest32;
 use smart_base::equality::same_bytes;
@@ -34,6 +35,8 @@ pub struct BookIndex {
     pub promised: Option<Promise>,
     /// The regencies that have begun, in their order.
     pub begun: Sequence<Start>,
+    /// The first of them of each regency.
+    pub starts: FirstStarts,
     /// The index of the entry that made the greatest place, the first that did.
     pub maker: Option<usize>,
     /// The accepts of places past the greatest.
@@ -108,6 +111,7 @@ impl BookIndex {
             last: Place::zero(),
             promised: None,
             begun: Sequence::new(alloc),
+            starts: FirstStarts::new(alloc),
             maker: None,
             pending: OpenAccepts::new(alloc),
         }
@@ -157,12 +161,18 @@ impl BookIndex {
         ensures ok { OnOk result ((index : ℕ) → Adds index (Synced start.now) self.old self.new) }
         ensures err { OnErr result (self.new ≡ self.old) }
     {
+        let count = self.begun.len();
         self.begun.push(Start {
             view: start.view,
             regency: start.regency,
             base: start.base,
             bound: start.bound,
-        })
+        })?;
+        let added = self.starts.add(start);
+        if added.is_err() {
+            self.begun.truncate(count);
+        }
+        added
     }
 
     /// Adds an accept. It is open where its place is past the greatest that is made.

@@ -5,6 +5,7 @@ ghost use Rattle.vote_book.specs.BookIndex.{has_slot, has_place};
 ghost use Rattle.smart_messages.specs.declared.statement.Slot.{Slot};
 
 use indexmap::IndexSet;
+use smart_base::number::{Regency, ViewNo};
 use smart_messages::statement::Slot;
 use std::alloc::{AllocError, Global};
 use std::marker::Model;
@@ -43,6 +44,13 @@ impl SlotSet {
         ensures { result ≡ has_slot self.now slot.now }
     {
         self.slots.contains(&key(slot))
+    }
+
+    /// Whether the slot of a view, a place and a regency is there. The place may be one past the last.
+    pub fn has_at(&self, view: ViewNo, place: u64, regency: Regency) -> bool
+        ensures { result ≡ has_slot self.now (record { view = view; place = place; regency = regency }) }
+    {
+        self.slots.contains(&(view.get(), place, regency.get()))
     }
 
     pub fn add(&mut self, slot: &Slot) -> Result<(), AllocError>

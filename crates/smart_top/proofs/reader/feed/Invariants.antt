@@ -1,5 +1,5 @@
 use Rattle.std.proofs.Common.{◌≡◌, ◌≤◌, ◌++◌, List, ℕ, Option, None, take}
-use Rattle.smart_top.specs.Apps.{core_steps}
+use Rattle.smart_top.specs.Apps.{core_courses}
 use Rattle.smart_top.specs.Feeds.{HasTaken}
 use Rattle.smart_top.proofs.reader.feed.Given as goal
 
@@ -8,8 +8,8 @@ abbrev pub invariant-loop-byte : goal.invariant-loop-byte
 invariant-loop-byte g l =
     record {
       going : l.reader.script.refused ≡ None;
-      taken : (bytes : List ℕ) (written : Option (List ℕ)) → HasTaken core_steps bytes written (g.O.Sink.written l.fn.output) l.fn.reader.line l.fn.reader.script
-          → HasTaken core_steps (bytes ++ take l.byte-index l.piece) written (g.O.Sink.written l.output) l.reader.line l.reader.script;
+      taken : (bytes : List ℕ) (written : Option (List ℕ)) → HasTaken core_courses bytes written (g.O.Sink.written l.fn.output) l.fn.reader.line l.fn.reader.script
+          → HasTaken core_courses (bytes ++ take l.byte-index l.piece) written (g.O.Sink.written l.output) l.reader.line l.reader.script;
       faults : g.O.Sink.faults l.fn.output ≤ g.O.Sink.faults l.output;
       wants : g.O.Sink.wants l.fn.output ≤ g.O.Sink.wants l.output;
     }

@@ -1,6 +1,6 @@
 use Rattle.std.proofs.Common.{◌≡◌, ◌++◌}
 use Rattle.std.specs.List.{flat_map}
-use Rattle.world_rules.specs.Worlds.{delivery_in}
+use Rattle.node_rules.specs.Deliveries.{delivery_in}
 use Rattle.world_core.proofs.host.keep_deliveries.Given as goal
 
 -- keeping what is left keeps all

@@ -5,6 +5,6 @@ use Rattle.world_laws.proofs.promises.votes_leave_when_firm.Goals as goal
 pub returns : goal.returns
 returns g c = record {
   node = λ secret id view period events. leaves_firm g.S.Service.meaning secret id view period events;
-  first = λ view ls members nodes i k. firm-first g.S.Service.meaning view ls members nodes i k;
-  given = λ view ls members turn bytes nodes i k. firm-given g.S.Service.meaning view ls members turn bytes nodes i k;
+  first = λ view ls members nodes i k is. firm-first g.S.Service.meaning g.met.S.Service.brief view is ls members nodes i k;
+  given = λ view ls members turn bytes nodes i k is. firm-given g.S.Service.meaning g.met.S.Service.brief view is ls members turn bytes nodes i k;
 }

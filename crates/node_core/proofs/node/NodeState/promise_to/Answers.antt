@@ -1,6 +1,6 @@
 use Rattle.std.proofs.Common.{ap, sym, subst, ◌∙◌, ℕ, ◌<◌}
 use Rattle.node_rules.specs.Nodes.{Node, view_of}
-use Rattle.node_core.proofs.Following.{regency_after, promised_after, promised_regency, promised_unsynced}
+use Rattle.node_core.proofs.Following.{regency_after, promised_after, promised_regency, start_where, votes_where}
 use Rattle.node_core.proofs.node.NodeState.promise_to.Goals as goal
 
 pub promised-requires : goal.promised-requires
@@ -9,25 +9,15 @@ promised-requires g c =
 
 pub invariant_of-self-2 : goal.invariant_of-self-2
 invariant_of-self-2 g c =
-    promised_after _ _ _ _ c.self.inside.book c.push.new.self c.self.inside.instance c.promised.new.self c.self.inside.synchronizer c.promised_to.new.self c.args.promise c.self.invariant
+    promised_after _ _ _ _ c.self.inside.book c.push.new.self c.self.inside.instance c.promised.new.self c.self.inside.synchronizer c.promised_to.new.self c.args.promise c.start_in-start.result c.is_some.result c.votes_at-votes.result
+    c.self.invariant
     (c.requires.view ∙ ap (λ (n : Node g.row.S.Denot). (view_of n).number) (sym c.self.view_is))
     (subst (λ (r : ℕ). r < c.args.promise.regency) (sym (regency_after c.args.self.now _ c.self.inside.instance c.self.view_is c.self.invariant.instance)) c.requires.later)
+    (start_where c.args.self.now _ c.start_in-start.result c.args.promise.regency c.self.view_is c.start_in-start.ensures)
+    c.is_some.ensures
+    (votes_where c.args.self.now _ c.votes_at-votes.result c.get.result c.args.promise.regency c.self.view_is (c.get.ensures.value ∙ c.place.ensures) c.votes_at-votes.ensures)
     c.in_ok-push.ensures.ok c.promised.ensures c.promised_to.ensures
 
 pub returns-clause-regency : goal.returns-clause-regency
 returns-clause-regency g c =
-    promised_regency _ c.promised.new.self c.self.inside.instance c.args.promise.regency
-    (promised_after _ _ _ _ c.self.inside.book c.push.new.self c.self.inside.instance c.promised.new.self c.self.inside.synchronizer c.promised_to.new.self c.args.promise c.self.invariant
-    (c.requires.view ∙ ap (λ (n : Node g.row.S.Denot). (view_of n).number) (sym c.self.view_is))
-    (subst (λ (r : ℕ). r < c.args.promise.regency) (sym (regency_after c.args.self.now _ c.self.inside.instance c.self.view_is c.self.invariant.instance)) c.requires.later)
-    c.in_ok-push.ensures.ok c.promised.ensures c.promised_to.ensures).instance
-    c.promised.ensures
-
-pub returns-clause-unbegun : goal.returns-clause-unbegun
-returns-clause-unbegun g c =
-    promised_unsynced _ c.promised.new.self c.self.inside.instance c.args.promise.regency
-    (promised_after _ _ _ _ c.self.inside.book c.push.new.self c.self.inside.instance c.promised.new.self c.self.inside.synchronizer c.promised_to.new.self c.args.promise c.self.invariant
-    (c.requires.view ∙ ap (λ (n : Node g.row.S.Denot). (view_of n).number) (sym c.self.view_is))
-    (subst (λ (r : ℕ). r < c.args.promise.regency) (sym (regency_after c.args.self.now _ c.self.inside.instance c.self.view_is c.self.invariant.instance)) c.requires.later)
-    c.in_ok-push.ensures.ok c.promised.ensures c.promised_to.ensures).instance
-    c.promised.ensures
+    promised_regency _ c.promised.new.self c.self.inside.instance c.args.promise.regency c.start_in-start.result c.votes_at-votes.result (invariant_of-self-2 g c).instance c.promised.ensures

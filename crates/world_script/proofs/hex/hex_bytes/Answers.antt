@@ -1,6 +1,6 @@
 use Rattle.std.proofs.Common.{◌∙◌, sym}
 use Rattle.world_script.proofs.Values.{next_byte}
-use Rattle.world_script.proofs.forms.hex_bytes.Goals as goal
+use Rattle.world_script.proofs.hex.hex_bytes.Goals as goal
 
 pub loop-high-preserved : goal.loop-high-preserved
 loop-high-preserved c =

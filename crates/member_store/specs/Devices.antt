@@ -1,0 +1,20 @@
+-- What a member's store has: a store that runs, or the devices of one that has crashed.
+use Rattle.std.specs.Prelude.{◌≡◌, true, false}
+use Rattle.disk_model.specs.Memory.{plain_cells}
+use Rattle.batch_log.specs.declared.log.State.TheVariants.{Open}
+use Rattle.durable_store.specs.Disks.{contents, AreSettled}
+use Rattle.durable_store.specs.Standing.{IsUnderWay}
+use Rattle.durable_store.specs.States.{state_of}
+use Rattle.durable_store.specs.Exact.{store_opened}
+use Rattle.member_store.specs.Members.{MemberState}
+use Rattle.member_store.specs.declared.store.Devices.{Devices}
+use Rattle.member_store.specs.declared.store.Devices.TheVariants.{Running, Stopped}
+
+abbrev pub state_in : Devices → MemberState
+state_in (Running store) = record { runs = true; state = state_of store }
+state_in (Stopped disks) = record { runs = false; state = store_opened (contents plain_cells disks) }
+
+-- of a crashed store nothing is pending on the devices
+abbrev pub AreSound : Devices → Type 0
+AreSound (Running store) = store.state ≡ Open → IsUnderWay store
+AreSound (Stopped disks) = AreSettled plain_cells disks

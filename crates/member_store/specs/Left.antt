@@ -1,0 +1,16 @@
+-- What is left of a device, and why a store was not crashed.
+use Rattle.std.specs.Prelude.{◌≡◌, ℕ, List, length, take, Option, Some}
+use Rattle.member_store.specs.declared.left.Left.{Left}
+use Rattle.member_store.specs.declared.crash.NotAnImage.{NotAnImage as Wrong}
+use Rattle.member_store.specs.declared.crash.CrashFault.{CrashFault}
+use Rattle.member_store.specs.declared.crash.CrashFault.TheVariants.{NotAnImage, NoMemory}
+
+-- the first bytes of all that is left, and how many they are
+pub record IsLeft (greatest : ℕ) (whole : List ℕ) (l : Left) : Type 0 where
+  pub bytes : l.bytes.items ≡ take greatest whole
+  pub length : l.length ≡ length whole
+
+-- a fault names what is wrong, unless memory ran out
+abbrev pub Tells : CrashFault → Option Wrong → Type 0
+Tells (NotAnImage fault) wrong = wrong ≡ Some fault
+Tells NoMemory wrong = Unit {0}

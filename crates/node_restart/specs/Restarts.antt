@@ -1,0 +1,66 @@
+-- What a node is given back by restored entries, one by one: its replica and its book.
+use Rattle.std.specs.Prelude.{ℕ, ◌≡◌, ◌+◌, Bool, false, List, [], ◌∷◌, ◌++◌, Option, Some, None, Result, Ok, Err, if◌then◌else◌}
+use Rattle.smart_base.specs.Views.{View, present}
+use Rattle.smart_service.specs.Services.{Meaning}
+use Rattle.smart_service.specs.declared.replica.Replica.{Replica}
+use Rattle.vote_book.specs.Books.{Book, number_or, place_made, latest_made, last_made}
+use Rattle.vote_book.specs.declared.entry.LogEntry.{LogEntry}
+use Rattle.vote_book.specs.declared.entry.LogEntry.TheVariants.{Opened, Wrote, Accepted, Promised, Synced, Decided, Installed, Marked}
+use Rattle.replica_rules.specs.Replicas.{empty, delivered}
+use Rattle.node_rules.specs.Reopening.{may_restore}
+
+-- the replica that takes back an entry
+abbrev pub replayed : {S : Type 0} → Meaning S → Replica S → LogEntry → Replica S
+replayed m r (Opened o) = r
+replayed m r (Wrote w) = r
+replayed m r (Accepted a) = r
+replayed m r (Promised p) = r
+replayed m r (Synced s) = r
+replayed m r (Decided d) = delivered m r d.batch
+replayed m r (Installed i) = r
+replayed m r (Marked k) = r
+
+abbrev pub all_replayed : {S : Type 0} → Meaning S → Replica S → List LogEntry → Replica S
+all_replayed m r [] = r
+all_replayed m r (e ∷ es) = all_replayed m (replayed m r e) es
+
+-- what is taken back so far
+pub record Restart (S : Type 0) : Type 0 where
+  pub replica : Replica S
+  pub entries : List LogEntry
+
+abbrev pub begun : {S : Type 0} → Meaning S → View → Restart S
+begun m view = record { replica = empty m view; entries = [] }
+
+abbrev pub took : {S : Type 0} → Meaning S → Restart S → LogEntry → Restart S
+took m r e = record { replica = replayed m r.replica e; entries = r.entries ++ e ∷ [] }
+
+-- with the entry that was read, where one was and it may be restored behind the others
+abbrev pub taken : {S : Type 0} → Meaning S → List ℕ → Restart S → Result LogEntry ℕ → Option (Restart S)
+taken m secret r (Err at) = None
+taken m secret r (Ok e) = if may_restore secret (present r.replica.views) r.entries e then Some (took m r e) else None
+
+-- ---- where the replica stands
+
+-- the place behind an entry that is taken back
+abbrev pub place_behind : ℕ → LogEntry → ℕ
+place_behind place (Opened o) = place
+place_behind place (Wrote w) = place
+place_behind place (Accepted a) = place
+place_behind place (Promised p) = place
+place_behind place (Synced s) = place
+place_behind place (Decided d) = place + 1
+place_behind place (Installed i) = place
+place_behind place (Marked k) = place
+
+-- an entry that makes a place makes the one at which the replica then stands
+abbrev pub IsInTurn : ℕ → LogEntry → Type 0
+IsInTurn place e = number_or (place_made e) place ≡ place_behind place e
+
+-- a replica and the book of what it took back
+pub record IsReplayed {S : Type 0} (replica : Replica S) (spent : Bool) (book : Book) : Type 0 where
+  pub whole : spent ≡ false
+  pub opening : book.opening ≡ 0
+  pub restored : book.restored ≡ None
+  pub latest : number_or (latest_made book.entries) 0 ≡ replica.place
+  pub last : last_made book.entries ≡ replica.place

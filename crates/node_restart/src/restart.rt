@@ -1,0 +1,208 @@
+//! A replica and a book that restored entries give back.
+ghost use Rattle.std.specs.Prelude.{◌≡◌, ◌+◌, ◌<◌, ◌^◌, ℕ, ◌++◌, length, Some, None, false, IfOk, OnOk, IsErrOf};
+ghost use Rattle.std.specs.Result.{is_err};
+ghost use Rattle.smart_base.specs.Views.{present};
+ghost use Rattle.vote_book.specs.Admission.{admits};
+ghost use Rattle.vote_book.specs.Books.{last_made};
+ghost use Rattle.vote_book.specs.Entries.{entry_decoded};
+ghost use Rattle.node_rules.specs.Nodes.{Node};
+ghost use Rattle.node_rules.specs.Reopening.{opens_first, may_restore, damaged, entries_in, takes_all_back};
+ghost use Rattle.replica_rules.specs.Replicas.{empty};
+ghost use Rattle.node_restart.specs.Restarts.{Restart, replayed, begun, took, taken, IsInTurn, place_behind};
+ghost use Rattle.node_restart.specs.declared.fault.ReopenFault.TheVariants.{Damaged};
+
+use crate::fault::ReopenFault;
+use crate::rests::{is_opening, rests};
+use delivery::replica::{KeptReplica, deliver};
+use smart_base::fault::ReadError;
+use smart_base::number::Place;
+use smart_base::sequence::Bytes;
+use smart_base::view::View;
+use smart_keys::ring::Ring;
+use smart_service::service::Service;
+use std::alloc::{AllocError, Global};
+use std::marker::Model;
+use vote_book::book::Book;
+use vote_book::codec::decode_entry;
+use vote_book::entry::LogEntry;
+
+/// A replica and a book that are given back by restored entries, one by one: each is read, checked
+/// behind those before it, and written into the book again, and what it decided is delivered. It is
+/// answered to nobody.
+#[derive(Drop)]
+pub struct Restart<S> {
+    alloc: Global,
+    replica: KeptReplica<S>,
+    book: Book,
+}
+
+impl<S> Model for Restart<S> {
+    ghost use Rattle.node_restart.specs.Restarts.{Restart as Restarts, IsReplayed};
+
+    ghost Value = { Restarts S };
+
+    ghost view = { λ r. record { replica = r.replica.replica; entries = r.book.entries } };
+
+    ghost invariant = { λ r. IsReplayed r.replica.replica r.replica.spent r.book };
+}
+
+/// Delivers to a replica what an entry decided.
+fn replay<S: Service>(
+    alloc: Global,
+    replica: &mut KeptReplica<S>,
+    entry: &LogEntry,
+) -> Result<(), AllocError>
+    requires ready { replica.old.spent ≡ false }
+    requires turn { IsInTurn replica.old.replica.place entry.now }
+    ensures state { OnOk result (replica.new.replica ≡ replayed S.meaning replica.old.replica entry.now) }
+    ensures spent { replica.new.spent ≡ is_err result }
+    ensures place { replica.new.replica.place ≡ place_behind replica.old.replica.place entry.now }
+    ensures views { replica.new.replica.views ≡ replica.old.replica.views }
+{
+    match entry {
+        LogEntry::Decided(decision) => {
+            let _place = decision.slot.place.get();
+            deliver(alloc, replica, &decision.batch)?;
+            Ok(())
+        }
+        LogEntry::Opened(_)
+        | LogEntry::Wrote(_)
+        | LogEntry::Accepted(_)
+        | LogEntry::Promised(_)
+        | LogEntry::Synced(_)
+        | LogEntry::Installed(_)
+        | LogEntry::Marked(_) => Ok(()),
+    }
+}
+
+impl<S: Service> Restart<S> {
+    /// Nothing is given back yet: the replica before any batch, in a first view, and an empty book.
+    pub fn begin(alloc: Global, view: View) -> Result<Self, AllocError>
+        ensures { IfOk result (λ restart. restart ≡ begun S.meaning view) }
+    {
+        Ok(Restart {
+            alloc,
+            replica: KeptReplica::empty(alloc, view)?,
+            book: Book::begin(alloc, Place::zero()),
+        })
+    }
+
+    /// How many entries are given back.
+    fn made(&self) -> u64
+        ensures value { result ≡ length self.now.entries }
+        ensures small { result < 2 ^ 63 }
+    {
+        self.book.pushed().len() as u64
+    }
+
+    /// The view in force.
+    fn view(&self) -> &View
+        ensures { result.now ≡ present self.now.replica.views }
+    {
+        self.replica.replica().views.present()
+    }
+
+    /// Whether the book admits an entry as a restored one.
+    fn admits(&self, entry: &LogEntry) -> bool
+        ensures { result ≡ admits 0 (length self.now.entries + 1) self.now.entries entry.now }
+    {
+        self.book.admits(entry)
+    }
+
+    /// Whether an entry opens the book, where it is the first.
+    fn opens_first(&self, entry: &LogEntry) -> bool
+        ensures { result ≡ opens_first self.now.entries entry.now }
+    {
+        !self.book.pushed().is_empty() || is_opening(entry)
+    }
+
+    /// Whether an entry may be restored behind the others.
+    fn may_restore(&self, ring: &Ring, entry: &LogEntry) -> Result<bool, AllocError>
+        ensures { IfOk result (λ may. may ≡ may_restore ring.now (present self.now.replica.views) self.now.entries entry.now) }
+    {
+        if !self.opens_first(entry) || !self.admits(entry) {
+            return Ok(false);
+        }
+        rests(self.alloc, ring, self.view(), entry)
+    }
+
+    /// Writes an entry into the book, and delivers what it decided.
+    fn push(self, entry: LogEntry) -> Result<Self, AllocError>
+        requires { IsInTurn self.replica.place entry }
+        ensures later { IfOk result (λ later. later ≡ took S.meaning self entry) }
+        ensures views { IfOk result (λ later. later.replica.views ≡ self.replica.views) }
+    {
+        let Restart {
+            alloc,
+            mut replica,
+            mut book,
+        } = self;
+        replay(alloc, &mut replica, &entry)?;
+        book.push(entry)?;
+        Ok(Restart {
+            alloc,
+            replica,
+            book,
+        })
+    }
+
+    /// Takes the next entry back, unless it is damaged.
+    pub fn take(self, ring: &Ring, bytes: &[u8]) -> Result<Self, ReopenFault>
+        ensures taken { IfOk result (λ later. taken S.meaning ring.now self (entry_decoded bytes.now) ≡ Some later) }
+        ensures views { IfOk result (λ later. later.replica.views ≡ self.replica.views) }
+        ensures cause { (entry : ℕ) → IsErrOf result (Damaged entry) → (taken S.meaning ring.now self (entry_decoded bytes.now) ≡ None) × (entry ≡ length self.entries + 1) }
+    {
+        let number = self.made() + 1;
+        match decode_entry(self.alloc, bytes) {
+            Ok(entry) => {
+                if !self.may_restore(ring, &entry)? {
+                    return Err(ReopenFault::Damaged { entry: number });
+                }
+                let later = self.push(entry)?;
+                Ok(later)
+            }
+            Err(ReadError::NoMemory) => Err(ReopenFault::NoMemory),
+            Err(ReadError::Unread { .. }) => Err(ReopenFault::Damaged { entry: number }),
+        }
+    }
+
+    /// The replica and the book, in which what is pushed from now on is not restored. The book's last
+    /// place is the replica's.
+    pub fn finish(self) -> (KeptReplica<S>, Book)
+        ensures replica { result.0 ≡ record { replica = self.replica; spent = false } }
+        ensures book { result.1 ≡ record { opening = 0; restored = Some (length self.entries); entries = self.entries } }
+        ensures made { last_made self.entries ≡ self.replica.place }
+    {
+        let Restart {
+            alloc: _,
+            replica,
+            mut book,
+        } = self;
+        book.end_restored();
+        (replica, book)
+    }
+}
+
+/// What restored entries give back to a node of a group that begins with a view, or the number of
+/// the first that is damaged.
+pub fn restarted<S: Service>(
+    alloc: Global,
+    ring: &Ring,
+    view: View,
+    restored: &[Bytes],
+) -> Result<Restart<S>, ReopenFault>
+    ensures whole { OnOk result (damaged ring.now view restored.now ≡ None) }
+    ensures entries { IfOk result (λ r. r.entries ≡ entries_in restored.now) }
+    // A node before any batch that takes the entries back has them behind its own, and this replica.
+    ensures replica { IfOk result (λ r. (n : Node S) → n.replica ≡ empty S.meaning view → takes_all_back S.meaning n (entries_in restored.now) ≡ record n { replica = r.replica; entries = n.entries ++ r.entries }) }
+    ensures cause { (entry : ℕ) → IsErrOf result (Damaged entry) → damaged ring.now view restored.now ≡ Some entry }
+{
+    let mut restart = Restart::begin(alloc, view)?;
+    for bytes in restored {
+        match restart.take(ring, bytes.as_slice()) {
+            Ok(later) => restart = later,
+            Err(fault) => return Err(fault),
+        }
+    }
+    Ok(restart)
+}

@@ -1,0 +1,270 @@
+//! What restored entries give back, and which of them is damaged.
+use crate::fault::ReopenFault;
+use crate::restart::restarted;
+use smart_base::bytes::{Digest32, Payload};
+use smart_base::keys::Digester;
+use smart_base::name::{ClientId, MemberId};
+use smart_base::number::{Place, Regency, ViewNo};
+use smart_base::party::Party;
+use smart_base::sequence::Bytes;
+use smart_base::view::View;
+use smart_keys::hash::Sha;
+use smart_keys::ring::Ring;
+use smart_messages::batch::Batch;
+use smart_messages::signed::{Signed, Statement};
+use smart_messages::signed_list::SignedList;
+use smart_messages::statement::{Ballot, Request, Slot, VoteKind};
+use smart_service::fault::RestoreError;
+use smart_service::service::Service;
+use std::alloc::{AllocError, Global};
+use std::test::Fail;
+use vote_book::codec::encode_entry;
+use vote_book::entry::{Decision, LogEntry, Opening, Start, Write};
+
+/// A service that counts its runs, and replies with the last digit of how many were before. The
+/// operation `full` always wants memory.
+#[derive(Drop)]
+struct Runs {
+    count: u64,
+}
+
+impl Service for Runs {
+    ghost use Rattle.std.specs.Prelude.{◌≡◌, ℕ, ◌+◌, ◌-◌, ◌^◌, ◌<◌, ◌%◌, ◌==◌, true, false, min, [], ◌∷◌, length, if◌then◌else◌, Some, None};
+    ghost use Rattle.std.specs.Int.{w64, from_be_bytes};
+    ghost use Rattle.std.proofs.Common.{refl, ap, sym, subst, arith};
+    ghost use Rattle.std.proofs.lemmas.Bool.{eqb-true};
+    ghost use Rattle.smart_base.specs.Spelling.{u64 as spelling};
+    ghost use Rattle.smart_base.specs.Laws.{wide64};
+    ghost use Rattle.node_restart.specs.declared.tests.Runs.{Runs as Counted};
+
+    ghost meaning = { record {
+      first = record { count = 0 };
+      next = λ s op. record { count = min (s.count + 1) (2 ^ 64 - 1) };
+      reply = λ s op. (48 + s.count % 10) ∷ [];
+      snapshot = λ s. spelling s.count;
+      restore = λ bytes. if length bytes == 8 then Some (record { count = from_be_bytes w64 bytes }) else None;
+    } };
+
+    ghost valid = { λ s. s.count < 2 ^ 64 };
+
+    ghost brief = { λ s op. omega arith };
+
+    ghost printable = { λ s op. ((omega arith, omega arith), tt) };
+
+    ghost valid_first = { omega arith };
+
+    ghost valid_next = { λ s op small. omega arith };
+
+    ghost small = { λ s small. omega arith };
+
+    ghost restores = { λ s small. ap (λ (count : ℕ). Some (record { count = count })) (wide64.again s.count small) };
+
+    ghost valid_restored = { λ s bytes each. elim (length bytes == 8) as (λ long. (if long then Some (record { count = from_be_bytes w64 bytes }) else None) ≡ Some s → s.count < 2 ^ 64) [
+      | true ↦ λ e. subst (λ (t : Counted). t.count < 2 ^ 64) (cc) (wide64.below bytes each)
+      | false ↦ λ e. absurd cc
+    ] };
+
+    ghost spelled = { λ s bytes each e.
+        (elim (length bytes == 8) as (λ long. (length bytes == 8) ≡ long → (if long then Some (record { count = from_be_bytes w64 bytes }) else None) ≡ Some s → bytes ≡ spelling s.count) [
+          | true ↦ λ is e. subst (λ (t : Counted). bytes ≡ spelling t.count) (cc) (sym (wide64.back bytes (eqb-true _ _ is) each))
+          | false ↦ λ is e. absurd cc
+        ]) refl e };
+
+    fn first(_alloc: Global) -> Result<Runs, AllocError> {
+        Ok(Runs { count: 0 })
+    }
+
+    fn run(&mut self, alloc: Global, op: &[u8]) -> Result<Payload, AllocError> {
+        if op == b"full".as_slice() {
+            return Err(AllocError);
+        }
+        let digit = 48 + (self.count % 10) as u8;
+        self.count = self.count.saturating_add(1);
+        Payload::from_slice(alloc, &[digit])
+    }
+
+    fn snapshot(&self, alloc: Global) -> Result<Bytes, AllocError> {
+        Bytes::from_slice(alloc, &self.count.to_be_bytes())
+    }
+
+    fn restore(_alloc: Global, bytes: &[u8]) -> Result<Runs, RestoreError> {
+        if bytes.len() != 8 {
+            return Err(RestoreError::BadSnapshot);
+        }
+        let mut number = [0; 8];
+        number.copy_from_slice(bytes);
+        Ok(Runs {
+            count: u64::from_be_bytes(number),
+        })
+    }
+}
+
+fn view(alloc: Global) -> Result<View, Fail> {
+    let mut members = Vec::new(alloc);
+    for number in 1..5 {
+        members.push(MemberId::new(number))?;
+    }
+    Ok(View::checked(0, 1, 1, members).ok_or("no view")?)
+}
+
+fn signed<S: Statement>(
+    alloc: Global,
+    who: Party,
+    signer: u16,
+    statement: S,
+) -> Result<Signed<S>, Fail> {
+    let ring = Ring::from_secret(Bytes::from_slice(alloc, b"world")?);
+    let mut key = ring.sealer(who);
+    Ok(
+        Signed::seal(alloc, &mut key, signer, statement)
+            .ok()
+            .ok_or("not signed")?,
+    )
+}
+
+/// The batch of the first request of client 1.
+fn batch(alloc: Global) -> Result<Batch, Fail> {
+    let client = ClientId::new(1);
+    let request = Request {
+        client,
+        seq: 1,
+        after: 0,
+        op: Payload::new(Bytes::from_slice(alloc, b"5")?),
+    };
+    let request = signed(alloc, Party::Client(client), 1, request)?;
+    Ok(Batch::single(alloc, request)?)
+}
+
+/// A slot of the first place.
+fn slot(regency: u32) -> Slot {
+    Slot {
+        view: ViewNo::new(0),
+        place: Place::new(1),
+        regency: Regency::new(regency),
+    }
+}
+
+fn opened(alloc: Global) -> Result<LogEntry, Fail> {
+    Ok(LogEntry::Opened(Opening {
+        member: MemberId::new(1),
+        period: 4,
+        view: view(alloc)?,
+    }))
+}
+
+fn wrote(regency: u32) -> LogEntry {
+    LogEntry::Wrote(Write {
+        slot: slot(regency),
+        digest: Digest32::new([7; 32]),
+    })
+}
+
+/// The beginning of regency 7, without its promise.
+fn synced() -> LogEntry {
+    LogEntry::Synced(Start {
+        view: ViewNo::new(0),
+        regency: Regency::new(7),
+        base: 1,
+        bound: None,
+    })
+}
+
+/// The decision of the first place, with the accepts of so many members.
+fn decided(alloc: Global, count: u16) -> Result<LogEntry, Fail> {
+    let batch = batch(alloc)?;
+    let digest = Sha::digest(batch.text(alloc)?.as_slice());
+    let mut accepts = SignedList::new(alloc);
+    for number in 0..count {
+        let member = number.saturating_add(1);
+        let ballot = Ballot {
+            kind: VoteKind::Accept,
+            slot: slot(0),
+            digest,
+        };
+        let party = Party::Member(MemberId::new(member));
+        accepts.push(signed(alloc, party, member, ballot)?)?;
+    }
+    Ok(LogEntry::Decided(Decision {
+        slot: slot(0),
+        batch,
+        accepts,
+    }))
+}
+
+/// The entry of a letter: `o` the opening, `w` a write in regency 0, `s` the beginning of regency 7,
+/// `v` a write there, `d` a decision, `e` one with too few accepts.
+fn entry(alloc: Global, letter: u8) -> Result<LogEntry, Fail> {
+    match letter {
+        b'o' => opened(alloc),
+        b'w' => Ok(wrote(0)),
+        b's' => Ok(synced()),
+        b'v' => Ok(wrote(7)),
+        b'd' => decided(alloc, 3),
+        _ => decided(alloc, 2),
+    }
+}
+
+/// The bytes of an entry, or two that are none.
+fn bytes(alloc: Global, letter: u8) -> Result<Bytes, Fail> {
+    if letter == b'?' {
+        return Ok(Bytes::from_slice(alloc, &[9, 9])?);
+    }
+    let text = encode_entry(alloc, &entry(alloc, letter)?)?;
+    Ok(Bytes::from_vec(text))
+}
+
+/// Rows of restored entries (`-` for none) and of what becomes of them: `=` with the place at which the replica then
+/// stands, or `!` with the number of the first that is damaged.
+const ROWS: &str = "\
+- =0
+o =0
+ow =0
+owd =1
+od =1
+osv =0
+osvd =1
+w !1
+d !1
+o? !2
+? !1
+oww !3
+odd !3
+ov !2
+oe !2
+odov !4";
+
+/// What becomes of restored entries, as a row says it.
+fn outcome(alloc: Global, letters: &str) -> Result<(u8, u64), Fail> {
+    let mut restored = Vec::new(alloc);
+    for letter in letters.bytes() {
+        if letter != b'-' {
+            restored.push(bytes(alloc, letter)?)?;
+        }
+    }
+    let ring = Ring::from_secret(Bytes::from_slice(alloc, b"world")?);
+    match restarted::<Runs>(alloc, &ring, view(alloc)?, restored.as_slice()) {
+        Ok(back) => {
+            let (replica, _book) = back.finish();
+            Ok((b'=', replica.replica().place.get()))
+        }
+        Err(ReopenFault::Damaged { entry }) => Ok((b'!', entry)),
+        Err(ReopenFault::NoMemory) => Err(Fail::from("no memory")),
+    }
+}
+
+#[test]
+fn entries_are_taken_back_up_to_the_first_damaged(rt: HostRuntime) -> Result<(), Fail> {
+    let alloc = rt.alloc();
+    for row in ROWS.lines() {
+        let (letters, wanted) = row.rsplit_once(' ').ok_or("no outcome")?;
+        let (kind, number) = outcome(alloc, letters)?;
+        let wanted = wanted.as_bytes();
+        assert_eq!(rt; wanted.first(), Some(&kind), "{row}");
+        assert_eq!(rt;
+            wanted.get(1),
+            Some(&(number as u8).wrapping_add(b'0')),
+            "{row}"
+        );
+    }
+    Ok(())
+}

@@ -1,0 +1,828 @@
+-- A node's book has few entries: behind its opening each has a source among the bytes that may have come, and entries of a kind have different ones.
+use Rattle.std.proofs.Common.{◌≡◌, ◌⊎◌, inl, inr, ⊎_elim, ℕ, ◌+◌, ◌*◌, ◌^◌, ◌<◌, ◌≤◌, ◌==◌, ◌&&◌, ◌||◌, Bool, true, false, cond, List, [], ◌∷◌, ◌++◌, length, take, drop, filter, refl, ap, ◌∙◌, sym, arith, Option, Some, None, nat_lt, nat_le, subst, append-nil, append_assoc, length-append, Result, Ok}
+use Rattle.std.proofs.lemmas.Bool.{ltb-true, leb-true, eqb-true, eq-eqb}
+use Rattle.std.proofs.lemmas.List.{take-append-drop}
+use Rattle.std.specs.List.{filter_map, cons_option, list_any}
+use Rattle.std.specs.Prelude.{IfSome, find}
+use Rattle.smart_base.specs.Lists.{Each, same_bytes}
+use Rattle.smart_base.specs.Views.{View, quorum}
+use Rattle.smart_messages.specs.Equality.{same_slot, same_kind}
+use Rattle.smart_messages.specs.Forms.{SignedBy}
+use Rattle.smart_messages.specs.Messages.{Batch}
+use Rattle.smart_messages.specs.RegencyMessages.{any_decoded}
+use Rattle.smart_messages.specs.declared.any.AnyMessage.{AnyMessage}
+use Rattle.smart_messages.specs.declared.any.AnyMessage.TheVariants.{Plain, Change}
+use Rattle.smart_messages.specs.declared.message.Message.{Message}
+use Rattle.smart_messages.specs.declared.message.Message.TheVariants.{Ask, Propose, Vote, Reply}
+use Rattle.smart_messages.specs.declared.message.Proposed.{Proposed}
+use Rattle.smart_messages.specs.declared.regency.RegencyMessage.TheVariants as changes
+use Rattle.smart_messages.specs.declared.regency.Stop.{Stop}
+use Rattle.smart_messages.specs.declared.regency.Sync.{Sync}
+use Rattle.smart_messages.specs.declared.statement.Slot.{Slot}
+use Rattle.smart_messages.specs.declared.statement.VoteKind.{VoteKind}
+use Rattle.smart_messages.specs.declared.statement.VoteKind.TheVariants as kinds
+use Rattle.smart_messages.specs.declared.entry.NodeEvent.{NodeEvent}
+use Rattle.smart_service.specs.Services.{Meaning}
+use Rattle.smart_service.specs.declared.replica.Replica.{Replica}
+use Rattle.vote_book.specs.Books.{Among, Admits}
+use Rattle.vote_book.specs.Tidy.{IsTidyAfter}
+use Rattle.vote_book.specs.declared.entry.Decision.{Decision}
+use Rattle.vote_book.specs.declared.entry.Promise.{Promise}
+use Rattle.vote_book.specs.declared.entry.LogEntry.{LogEntry}
+use Rattle.vote_book.specs.declared.entry.LogEntry.TheVariants.{Opened, Wrote, Accepted, Promised, Synced, Decided, Installed, Marked}
+use Rattle.vote_book.proofs.Growth.{last_or_earlier}
+use Rattle.vote_book.proofs.Locks.{made_most}
+use Rattle.regency_sync.specs.Synchronizers.{Synchronizer, is_needed, is_adoptable, adopting, is_stop, is_promising}
+use Rattle.replica_rules.specs.Pools.{offered, settled}
+use Rattle.replica_rules.specs.Replicas.{is_next, delivered, state}
+use Rattle.agreement_laws.specs.Statements.{Statement}
+use Rattle.node_rules.specs.Votes.{is_vote, has_vote, has_quorum, proposed_in, proposed_for}
+use Rattle.node_rules.specs.Nodes.{Node, view_of, regency_of, regency_in, greatest_regency, open_slot, bound_at, is_within, start_of, next_place, synchronizer_of}
+use Rattle.node_rules.specs.Arrivals.{kept_plain, kept_change, kept, noted}
+use Rattle.node_rules.specs.Rules.{lines_to_answer, replying, deliver_batch, delivers, proposes, votable, writing, write_batch, writes, written, accepting, accept_batch, accepts, slot_in, deciding, decide_batch, decides, answers_again}
+use Rattle.node_rules.specs.Changes.{start_by_sync, promised_for, adopts_by, adoption, adopts, joins, next_promise, promising, promise_next, promises, leads, times}
+use Rattle.node_rules.specs.Steps.{step_of, released, opened}
+use Rattle.node_rules.specs.Reopening.{decided_of, stopped, reopened}
+use Rattle.node_laws.specs.Restored.{IsSoundBook}
+use Rattle.node_laws.specs.Sound.{IsBegun}
+use Rattle.node_laws.proofs.Deciding.{due_is}
+use Rattle.node_laws.proofs.Lists.{each_filter_map_in}
+use Rattle.node_laws.proofs.Reopened.{reopened_is, in_turn, count_is}
+use Rattle.node_laws.proofs.Restored.{front_of}
+use Rattle.replica_laws.specs.Sending.{ForEvent}
+use Rattle.replica_laws.proofs.Equal.{same_slot-equal}
+use Rattle.replica_laws.proofs.Lists.{and_true, some-equal, either, either_by, each_end, each_weaker, each_both, each_given, if_or, if_cond, if_found}
+use Rattle.replica_laws.proofs.Entered.{Aside, aside-joins, aside-leads, aside-proposes, aside-times, aside-answers_again, aside-noted}
+use Rattle.replica_laws.proofs.Rulewise.{KeptByRules, KeptInSteps, keeps_step}
+use Rattle.replica_laws.proofs.Steady.{aside-replying}
+
+-- ---- sources
+
+-- some bytes are read as a message
+abbrev pub HasSource : List (List ℕ) → AnyMessage → Type 0
+HasSource [] m = ⊥
+HasSource (bytes ∷ more) m = (any_decoded bytes ≡ Ok m) ⊎ HasSource more m
+
+-- what a message is for: the slot of a proposal
+abbrev pub slot_proposed : AnyMessage → Option Slot
+slot_proposed (Plain (Ask q)) = None
+slot_proposed (Plain (Propose p)) = Some p.head.statement.slot
+slot_proposed (Plain (Vote b)) = None
+slot_proposed (Plain (Reply a)) = None
+slot_proposed (Change m) = None
+
+-- the place of a vote
+abbrev pub place_voted : AnyMessage → Option ℕ
+place_voted (Plain (Ask q)) = None
+place_voted (Plain (Propose p)) = None
+place_voted (Plain (Vote b)) = Some b.statement.slot.place
+place_voted (Plain (Reply a)) = None
+place_voted (Change m) = None
+
+-- the regency that is begun
+abbrev pub regency_begun : AnyMessage → Option Promise
+regency_begun (Plain m) = None
+regency_begun (Change (changes.Stop s)) = None
+regency_begun (Change (changes.StopData r)) = None
+regency_begun (Change (changes.Sync s)) = Some (record { view = s.statement.view; regency = s.statement.regency })
+
+-- or asked for
+abbrev pub regency_asked : AnyMessage → Option Promise
+regency_asked (Plain m) = None
+regency_asked (Change (changes.Stop s)) = Some (record { view = s.statement.view; regency = s.statement.regency })
+regency_asked (Change (changes.StopData r)) = None
+regency_asked (Change (changes.Sync s)) = Some (record { view = s.statement.view; regency = s.statement.regency })
+
+-- a message for this has a source
+pub record FromMessage {K : Type 0} (sources : List (List ℕ)) (key : AnyMessage → Option K) (k : K) : Type 0 where
+  pub message : AnyMessage
+  pub source : HasSource sources message
+  pub key_is : key message ≡ Some k
+
+-- so has what made a node write down an entry: a proposal for the slot, a wish or a beginning of the regency, or a vote for the place
+abbrev pub EntryFrom : List (List ℕ) → LogEntry → Type 0
+EntryFrom sources (Opened o) = ⊥
+EntryFrom sources (Wrote w) = FromMessage sources slot_proposed w.slot
+EntryFrom sources (Accepted a) = FromMessage sources slot_proposed a.slot
+EntryFrom sources (Promised p) = FromMessage sources regency_asked p
+EntryFrom sources (Synced s) = FromMessage sources regency_begun (record { view = s.view; regency = s.regency })
+EntryFrom sources (Decided d) = FromMessage sources place_voted d.slot.place
+EntryFrom sources (Installed i) = ⊥
+EntryFrom sources (Marked m) = ⊥
+
+-- a promise is of a later regency than each before it in its view
+abbrev pub IsLast : List LogEntry → LogEntry → Type 0
+IsLast before (Opened o) = Unit {0}
+IsLast before (Wrote w) = Unit {0}
+IsLast before (Accepted a) = Unit {0}
+IsLast before (Promised p) = greatest_regency p.view before < p.regency
+IsLast before (Synced s) = Unit {0}
+IsLast before (Decided d) = Unit {0}
+IsLast before (Installed i) = Unit {0}
+IsLast before (Marked m) = Unit {0}
+
+abbrev pub Rising : List LogEntry → Type 0
+Rising entries = (before : List LogEntry) (entry : LogEntry) (after : List LogEntry) → entries ≡ before ++ entry ∷ after → IsLast before entry
+
+-- what holds of each entry behind the first
+abbrev pub EachBehind : (LogEntry → Type 0) → List LogEntry → Type 0
+EachBehind P [] = Unit {0}
+EachBehind P (e ∷ es) = Each P es
+
+pub record FromBook (sources : List (List ℕ)) (entries : List LogEntry) : Type 0 where
+  pub behind : EachBehind (EntryFrom sources) entries
+  pub rising : Rising entries
+
+-- what a node has kept has a source, and so has its book
+pub record FromSources {S : Type 0} (sources : List (List ℕ)) (n : Node S) : Type 0 where
+  pub arrivals : Each (λ (m : Message). HasSource sources (Plain m)) n.arrivals
+  pub stops : Each (λ (s : SignedBy Stop). HasSource sources (Change (changes.Stop s))) n.stops
+  pub syncs : Each (λ (s : SignedBy Sync). HasSource sources (Change (changes.Sync s))) n.syncs
+  pub book : FromBook sources n.entries
+
+-- ---- books
+
+none_rising : Rising []
+none_rising before entry after split = absurd (none before split)
+  where
+    none : (xs : List LogEntry) → [] ≡ xs ++ entry ∷ after → ⊥
+    none [] same = cc
+    none (x ∷ xs) same = cc
+
+rising_end : (es : List LogEntry) (e : LogEntry) → Rising es → IsLast es e → Rising (es ++ e ∷ [])
+rising_end es e rising is before entry after split =
+    ⊎_elim
+    (λ last. subst (λ (b : List LogEntry). IsLast b entry) last.0 (subst (λ (x : LogEntry). IsLast es x) last.1 is))
+    (λ earlier. rising before entry earlier.after earlier.split)
+    (last_or_earlier es e before entry after split)
+
+rising_front : (front rest : List LogEntry) → Rising (front ++ rest) → Rising front
+rising_front front rest rising before entry after split =
+    rising before entry (after ++ rest) (ap (λ (es : List LogEntry). es ++ rest) split ∙ append_assoc before (entry ∷ after) rest)
+
+behind_end : (P : LogEntry → Type 0) (es : List LogEntry) (e : LogEntry) → 0 < length es → EachBehind P es → P e → EachBehind P (es ++ e ∷ [])
+behind_end P [] e some each is = absurd (omega (arith, some))
+behind_end P (x ∷ xs) e some each is = each_end P xs e each is
+
+behind_front : (P : LogEntry → Type 0) (front rest : List LogEntry) → EachBehind P (front ++ rest) → EachBehind P front
+behind_front P [] rest each = tt
+behind_front P (e ∷ es) rest each = each_front es each
+  where
+    each_front : (xs : List LogEntry) → Each P (xs ++ rest) → Each P xs
+    each_front [] all = tt
+    each_front (x ∷ xs) all = (all.0, each_front xs all.1)
+
+behind_weaker : (P Q : LogEntry → Type 0) → ((e : LogEntry) → P e → Q e) → (es : List LogEntry) → EachBehind P es → EachBehind Q es
+behind_weaker P Q weaker [] each = tt
+behind_weaker P Q weaker (e ∷ es) each = each_weaker P Q weaker es each
+
+-- a book that has been opened
+pub from-opening : (sources : List (List ℕ)) (e : LogEntry) → IsLast [] e → FromBook sources (e ∷ [])
+from-opening sources e is = record { behind = tt; rising = rising_end [] e none_rising is }
+
+pub from-end : (sources : List (List ℕ)) (es : List LogEntry) (e : LogEntry) → 0 < length es → FromBook sources es → EntryFrom sources e → IsLast es e → FromBook sources (es ++ e ∷ [])
+from-end sources es e some book from is = record { behind = behind_end (EntryFrom sources) es e some book.behind from; rising = rising_end es e book.rising is }
+
+-- each front of a book
+pub from-front : (sources : List (List ℕ)) (front rest : List LogEntry) → FromBook sources (front ++ rest) → FromBook sources front
+from-front sources front rest book = record { behind = behind_front (EntryFrom sources) front rest book.behind; rising = rising_front front rest book.rising }
+
+pub from-take : (sources : List (List ℕ)) (entries : List LogEntry) (k : ℕ) → FromBook sources entries → FromBook sources (take k entries)
+from-take sources entries k book =
+    from-front sources (take k entries) (drop k entries) (subst (λ (es : List LogEntry). FromBook sources es) (sym (take-append-drop k entries)) book)
+
+-- ---- more sources
+
+message-more : {K : Type 0} (sources more : List (List ℕ)) → ((m : AnyMessage) → HasSource sources m → HasSource more m) → (key : AnyMessage → Option K) (k : K) → FromMessage sources key k
+    → FromMessage more key k
+message-more sources more all key k from = record { message = from.message; source = all from.message from.source; key_is = from.key_is }
+
+entry-more : (sources more : List (List ℕ)) → ((m : AnyMessage) → HasSource sources m → HasSource more m) → (e : LogEntry) → EntryFrom sources e → EntryFrom more e
+entry-more sources more all (Opened o) from = from
+entry-more sources more all (Wrote w) from = message-more sources more all slot_proposed w.slot from
+entry-more sources more all (Accepted a) from = message-more sources more all slot_proposed a.slot from
+entry-more sources more all (Promised p) from = message-more sources more all regency_asked p from
+entry-more sources more all (Synced s) from = message-more sources more all regency_begun (record { view = s.view; regency = s.regency }) from
+entry-more sources more all (Decided d) from = message-more sources more all place_voted d.slot.place from
+entry-more sources more all (Installed i) from = from
+entry-more sources more all (Marked m) from = from
+
+pub book-more : (sources more : List (List ℕ)) → ((m : AnyMessage) → HasSource sources m → HasSource more m) → (entries : List LogEntry) → FromBook sources entries → FromBook more entries
+book-more sources more all entries book =
+    record { behind = behind_weaker (EntryFrom sources) (EntryFrom more) (entry-more sources more all) entries book.behind; rising = book.rising }
+
+pub from-more : {S : Type 0} (sources more : List (List ℕ)) → ((m : AnyMessage) → HasSource sources m → HasSource more m) → (n : Node S) → FromSources sources n → FromSources more n
+from-more sources more all n from = record {
+  arrivals = each_weaker (λ (m : Message). HasSource sources (Plain m)) (λ (m : Message). HasSource more (Plain m)) (λ m has. all (Plain m) has) n.arrivals from.arrivals;
+  stops = each_weaker (λ (s : SignedBy Stop). HasSource sources (Change (changes.Stop s))) (λ (s : SignedBy Stop). HasSource more (Change (changes.Stop s)))
+      (λ s has. all (Change (changes.Stop s)) has) n.stops from.stops;
+  syncs = each_weaker (λ (s : SignedBy Sync). HasSource sources (Change (changes.Sync s))) (λ (s : SignedBy Sync). HasSource more (Change (changes.Sync s)))
+      (λ s has. all (Change (changes.Sync s)) has) n.syncs from.syncs;
+  book = book-more sources more all n.entries from.book;
+}
+
+-- ---- what is due has a source
+
+-- one that passes, of some or of those of which something holds
+
+one_passes : {A : Type 0} (p : A → Bool) (xs : List A) → 1 ≤ length (filter p xs) → (x : A) × (p x ≡ true)
+one_passes p [] some = absurd (omega (arith, some))
+one_passes {A = A} p (x ∷ xs) some = by (p x) refl some (λ more. one_passes p xs more)
+  where
+    by : (t : Bool) → p x ≡ t → 1 ≤ length (cond t (x ∷ filter p xs) (filter p xs)) → (1 ≤ length (filter p xs) → (y : A) × (p y ≡ true)) → (y : A) × (p y ≡ true)
+    by true is some rest = (x, is)
+    by false is some rest = rest some
+
+one_of : {A : Type 0} (P : A → Type 0) (p : A → Bool) (xs : List A) → Each P xs → list_any p xs ≡ true → (x : A) × P x × (p x ≡ true)
+one_of P p [] each some = absurd (cc)
+one_of {A = A} P p (x ∷ xs) each some = by (p x) refl some (λ later. one_of P p xs each.1 later)
+  where
+    by : (t : Bool) → p x ≡ t → (t || list_any p xs) ≡ true → (list_any p xs ≡ true → (y : A) × P y × (p y ≡ true)) → (y : A) × P y × (p y ≡ true)
+    by true is some rest = (x, each.0, is)
+    by false is some rest = rest some
+
+-- a proposal for the slot
+
+proposed_in-from : (sources : List (List ℕ)) (slot : Slot) (m : Message) → HasSource sources (Plain m) → IfSome (proposed_in slot m) (λ (p : Proposed). FromMessage sources slot_proposed slot)
+proposed_in-from sources slot (Ask q) has = tt
+proposed_in-from sources slot (Propose p) has =
+    if_cond (λ (x : Proposed). FromMessage sources slot_proposed slot) (same_slot p.head.statement.slot slot) (Some p)
+    (λ is. record { message = Plain (Propose p); source = has; key_is = ap (λ (s : Slot). Some s) (same_slot-equal p.head.statement.slot slot is) })
+proposed_in-from sources slot (Vote b) has = tt
+proposed_in-from sources slot (Reply a) has = tt
+
+proposed_for-from : (sources : List (List ℕ)) (slot : Slot) (arrivals : List Message) → Each (λ (m : Message). HasSource sources (Plain m)) arrivals
+    → IfSome (proposed_for arrivals slot) (λ (p : Proposed). FromMessage sources slot_proposed slot)
+proposed_for-from sources slot [] each = tt
+proposed_for-from sources slot (m ∷ ms) each =
+    if_or (λ (p : Proposed). FromMessage sources slot_proposed slot) (proposed_in slot m) (proposed_for ms slot) (proposed_in-from sources slot m each.0)
+    (proposed_for-from sources slot ms each.1)
+
+votable-from : {S : Type 0} (P : Proposed → Type 0) (n : Node S) (found : Option Proposed) → IfSome found P → IfSome (votable n found) P
+votable-from P n None from = tt
+votable-from P n (Some p) from = if_cond P (is_within (bound_at (next_place n) (start_of n)) p.head.statement.digest) (Some p) (λ within. from)
+
+written-from : {S : Type 0} (P : Proposed → Type 0) (n : Node S) (found : Option Proposed) → IfSome found P → IfSome (written n found) P
+written-from P n None from = tt
+written-from P n (Some p) from = if_cond P (has_quorum n.arrivals (view_of n) kinds.Write (open_slot n) p.head.statement.digest) (Some p) (λ enough. from)
+
+writing-from : {S : Type 0} (sources : List (List ℕ)) (n : Node S) → FromSources sources n → IfSome (writing n) (λ (p : Proposed). FromMessage sources slot_proposed (open_slot n))
+unfolding writing
+writing-from sources n from =
+    let P : Proposed → Type 0 = λ p. FromMessage sources slot_proposed (open_slot n) in
+    if_cond P _ (votable n (proposed_for n.arrivals (open_slot n)))
+    (λ may. votable-from P n (proposed_for n.arrivals (open_slot n)) (proposed_for-from sources (open_slot n) n.arrivals from.arrivals))
+
+accepting-from : {S : Type 0} (sources : List (List ℕ)) (n : Node S) → FromSources sources n → IfSome (accepting n) (λ (p : Proposed). FromMessage sources slot_proposed (open_slot n))
+unfolding accepting
+accepting-from sources n from =
+    let P : Proposed → Type 0 = λ p. FromMessage sources slot_proposed (open_slot n) in
+    if_cond P _ (written n (votable n (proposed_for n.arrivals (open_slot n))))
+    (λ may. written-from P n (votable n (proposed_for n.arrivals (open_slot n)))
+    (votable-from P n (proposed_for n.arrivals (open_slot n)) (proposed_for-from sources (open_slot n) n.arrivals from.arrivals)))
+
+-- a vote for the place
+
+vote_place : (kind : VoteKind) (member : ℕ) (slot : Slot) (digest : List ℕ) (m : Message) → is_vote kind member slot digest m ≡ true → place_voted (Plain m) ≡ Some slot.place
+vote_place kind member slot digest (Ask q) is = absurd (cc)
+vote_place kind member slot digest (Propose p) is = absurd (cc)
+vote_place kind member slot digest (Reply a) is = absurd (cc)
+vote_place kind member slot digest (Vote b) is =
+    let outer = and_true (same_kind b.statement.kind kind && (b.signer == member) && same_slot b.statement.slot slot) (same_bytes b.statement.digest digest) is in
+    let same = and_true (same_kind b.statement.kind kind && (b.signer == member)) (same_slot b.statement.slot slot) outer.0 in
+    ap (λ (s : Slot). Some s.place) (same_slot-equal b.statement.slot slot same.1)
+
+-- a quorum is not empty
+vote-from : (sources : List (List ℕ)) (view : View) (kind : VoteKind) (slot : Slot) (digest : List ℕ) (arrivals : List Message) → Each (λ (m : Message). HasSource sources (Plain m)) arrivals
+    → has_quorum arrivals view kind slot digest ≡ true → FromMessage sources place_voted slot.place
+vote-from sources view kind slot digest arrivals each enough =
+    let p : ℕ → Bool = has_vote arrivals kind slot digest in
+    let le = leb-true (quorum view) (length (filter p view.members)) enough in
+    let member = one_passes p view.members (omega (arith, le)) in
+    let vote = one_of (λ (m : Message). HasSource sources (Plain m)) (is_vote kind member.0 slot digest) arrivals each member.1 in
+    record { message = Plain vote.0; source = vote.1; key_is = vote_place kind member.0 slot digest vote.0 vote.2 }
+
+deciding-from : {S : Type 0} (sources : List (List ℕ)) (n : Node S) (d : Decision) → deciding n ≡ Some d → FromSources sources n → FromMessage sources place_voted d.slot.place
+deciding-from sources n d is from =
+    let due = due_is n d is in
+    let vote = vote-from sources (view_of n) kinds.Accept (slot_in n due.regency) due.decides.named.digest n.arrivals from.arrivals due.decides.accepted in
+    subst (λ (x : Decision). FromMessage sources place_voted x.slot.place) (sym due.decides.decision_is) vote
+
+-- a wish for the next regency
+
+same_promise : (v r view regency : ℕ) → v ≡ view → r ≡ regency → ◌≡◌ {A = Option Promise} (Some (record { view = v; regency = r })) (Some (record { view = view; regency = regency }))
+same_promise v r view regency ev er = rw (ev, er) refl
+
+promising-from : (sources : List (List ℕ)) (view : View) (s : Synchronizer) → Each (λ (x : SignedBy Stop). HasSource sources (Change (changes.Stop x))) s.stops → is_promising view s ≡ true
+    → FromMessage sources regency_asked (record { view = view.number; regency = s.regency + 1 })
+unfolding is_promising
+promising-from sources view s each is =
+    let p : ℕ → Bool = λ member. list_any (is_stop view.number (s.regency + 1) member) s.stops in
+    let parts = and_true (nat_lt (s.regency + 1) (2 ^ 32)) (nat_le (2 * view.f + 1) (length (filter p view.members))) is in
+    let le = leb-true (2 * view.f + 1) (length (filter p view.members)) parts.1 in
+    let member = one_passes p view.members (omega (arith, le)) in
+    let stop = one_of (λ (x : SignedBy Stop). HasSource sources (Change (changes.Stop x))) (is_stop view.number (s.regency + 1) member.0) s.stops each member.1 in
+    let w = stop.0.statement in
+    let tests = and_true ((stop.0.signer == member.0) && (w.view == view.number)) (w.regency == s.regency + 1) stop.2 in
+    let front = and_true (stop.0.signer == member.0) (w.view == view.number) tests.0 in
+    record {
+      message = Change (changes.Stop stop.0);
+      source = stop.1;
+      key_is = same_promise w.view w.regency view.number (s.regency + 1) (eqb-true w.view view.number front.1) (eqb-true w.regency (s.regency + 1) tests.1);
+    }
+
+-- a beginning that is adopted came, and is of the view in force
+record IsAdopted (sources : List (List ℕ)) (view : ℕ) (s : SignedBy Sync) : Type 0 where
+  source : HasSource sources (Change (changes.Sync s))
+  of_view : s.statement.view ≡ view
+
+adoption-from : {S : Type 0} (sources : List (List ℕ)) (n : Node S) → FromSources sources n → IfSome (adoption n) (IsAdopted sources (view_of n).number)
+unfolding adoption adopting
+adoption-from sources n from =
+    by (find (is_adoptable (view_of n) (synchronizer_of n)) n.syncs)
+    (if_found (λ (s : SignedBy Sync). HasSource sources (Change (changes.Sync s))) (is_adoptable (view_of n) (synchronizer_of n)) n.syncs from.syncs)
+  where
+    by : (o : Option (SignedBy Sync)) → IfSome o (λ s. HasSource sources (Change (changes.Sync s)) × (is_adoptable (view_of n) (synchronizer_of n) s ≡ true)) → IfSome o (IsAdopted sources (view_of n).number)
+    by None due = tt
+    by (Some s) due =
+        let outer = and_true (is_needed (view_of n).number (regency_of n) s.statement.view s.statement.regency) _ due.1 in
+        let inner = and_true (s.statement.view == (view_of n).number) (nat_le (regency_of n) s.statement.regency) outer.0 in
+        record { source = due.0; of_view = eqb-true s.statement.view (view_of n).number inner.0 }
+
+-- ---- what the rules leave of it
+
+-- of a node that has an entry
+record IsFrom {S : Type 0} (sources : List (List ℕ)) (n : Node S) : Type 0 where
+  from : FromSources sources n
+  some : 0 < length n.entries
+
+-- a node that keeps the same, and has the same book or one more entry
+
+is_from-as : {S : Type 0} (sources : List (List ℕ)) (n n' : Node S) → n'.arrivals ≡ n.arrivals → n'.stops ≡ n.stops → n'.syncs ≡ n.syncs → n'.entries ≡ n.entries → IsFrom sources n → IsFrom sources n'
+is_from-as sources n n' arrivals stops syncs entries is = record {
+  from = record {
+    arrivals = subst (λ (ms : List Message). Each (λ (m : Message). HasSource sources (Plain m)) ms) (sym arrivals) is.from.arrivals;
+    stops = subst (λ (xs : List (SignedBy Stop)). Each (λ (s : SignedBy Stop). HasSource sources (Change (changes.Stop s))) xs) (sym stops) is.from.stops;
+    syncs = subst (λ (xs : List (SignedBy Sync)). Each (λ (s : SignedBy Sync). HasSource sources (Change (changes.Sync s))) xs) (sym syncs) is.from.syncs;
+    book = subst (λ (es : List LogEntry). FromBook sources es) (sym entries) is.from.book;
+  };
+  some = subst (λ (es : List LogEntry). 0 < length es) (sym entries) is.some;
+}
+
+is_from-end : {S : Type 0} (sources : List (List ℕ)) (n n' : Node S) (e : LogEntry) → n'.arrivals ≡ n.arrivals → n'.stops ≡ n.stops → n'.syncs ≡ n.syncs → n'.entries ≡ n.entries ++ e ∷ []
+    → EntryFrom sources e → IsLast n.entries e → IsFrom sources n → IsFrom sources n'
+is_from-end {S = S} sources n n' e arrivals stops syncs entries from last is =
+    let x : Node S = record n { entries = n.entries ++ e ∷ [] } in
+    is_from-as sources x n' arrivals stops syncs entries
+    (record {
+      from = record { arrivals = is.from.arrivals; stops = is.from.stops; syncs = is.from.syncs; book = from-end sources n.entries e is.some is.from.book from last };
+      some = omega (arith, length-append n.entries (e ∷ []));
+    })
+
+is_from-aside : {S : Type 0} (sources : List (List ℕ)) (n n' : Node S) → Aside n n' → IsFrom sources n → IsFrom sources n'
+is_from-aside {S = S} sources n n' aside is = subst (λ (x : Node S). IsFrom sources x) (sym aside.same) (is_from-as sources n _ refl refl refl refl is)
+
+-- a regency above the one in force is above all that are promised in its view
+above_force : {S : Type 0} (n : Node S) (view regency : ℕ) → view ≡ (view_of n).number → regency_of n < regency → greatest_regency view n.entries < regency
+unfolding regency_of
+above_force n view regency same less = let at : greatest_regency view n.entries ≡ greatest_regency (view_of n).number n.entries = ap (λ v. greatest_regency v n.entries) same in omega (arith, at, less)
+
+is_from-promised : {S : Type 0} (sources : List (List ℕ)) (n : Node S) (s : SignedBy Sync) → IsAdopted sources (view_of n).number s → IsFrom sources n
+    → IsFrom sources (record n { entries = n.entries ++ promised_for n s.statement })
+is_from-promised {S = S} sources n s came is =
+    either_by (λ (xs : List LogEntry). IsFrom sources (record n { entries = n.entries ++ xs })) (nat_lt (regency_of n) s.statement.regency)
+    (Promised (record { view = s.statement.view; regency = s.statement.regency }) ∷ []) []
+    (λ less. is_from-end sources n _ (Promised (record { view = s.statement.view; regency = s.statement.regency })) refl refl refl refl
+    (record { message = Change (changes.Sync s); source = came.source; key_is = refl })
+    (above_force n s.statement.view s.statement.regency came.of_view (ltb-true (regency_of n) s.statement.regency less)) is)
+    (λ not_less. is_from-as sources n _ refl refl refl (append-nil n.entries) is)
+
+is_from-adopts_by : {S : Type 0} (sources : List (List ℕ)) (n : Node S) (sync : Option (SignedBy Sync)) → IfSome sync (IsAdopted sources (view_of n).number) → IsFrom sources n → IsFrom sources (adopts_by n sync)
+unfolding adopts_by
+is_from-adopts_by sources n None came is = is
+is_from-adopts_by {S = S} sources n (Some s) came is =
+    let x : Node S = record n { entries = n.entries ++ promised_for n s.statement } in
+    is_from-end sources x (adopts_by n (Some s)) (Synced (start_by_sync s.statement)) refl refl refl refl
+    (record { message = Change (changes.Sync s); source = came.source; key_is = refl }) tt (is_from-promised sources n s came is)
+
+is_from-adopts : {S : Type 0} (sources : List (List ℕ)) (n : Node S) → IsFrom sources n → IsFrom sources (adopts n)
+unfolding adopts
+is_from-adopts sources n is = is_from-adopts_by sources n (adoption n) (adoption-from sources n is.from) is
+
+is_from-promise_next : {S : Type 0} (sources : List (List ℕ)) (n : Node S) → promising n ≡ true → IsFrom sources n → IsFrom sources (promise_next n)
+unfolding promise_next promising
+is_from-promise_next sources n due is =
+    is_from-end sources n (promise_next n) (Promised (next_promise n)) refl refl refl refl (promising-from sources (view_of n) (synchronizer_of n) is.from.stops due)
+    (above_force n (view_of n).number (regency_of n + 1) refl (omega arith)) is
+
+is_from-promises : {S : Type 0} (sources : List (List ℕ)) (n : Node S) → IsFrom sources n → IsFrom sources (promises n)
+unfolding promises
+is_from-promises {S = S} sources n is =
+    either_by (λ (x : Node S). IsFrom sources x) (promising n) (promise_next n) n (λ due. is_from-promise_next sources n due is) (λ not_due. is)
+
+is_from-write_batch : {S : Type 0} (sources : List (List ℕ)) (n : Node S) (p : Option Proposed) → IfSome p (λ (x : Proposed). FromMessage sources slot_proposed (open_slot n)) → IsFrom sources n
+    → IsFrom sources (write_batch n p)
+unfolding write_batch
+is_from-write_batch sources n None from is = is
+is_from-write_batch sources n (Some p) from is = is_from-end sources n (write_batch n (Some p)) (Wrote (record { slot = open_slot n; digest = p.head.statement.digest })) refl refl refl refl from tt is
+
+is_from-accept_batch : {S : Type 0} (sources : List (List ℕ)) (n : Node S) (p : Option Proposed) → IfSome p (λ (x : Proposed). FromMessage sources slot_proposed (open_slot n)) → IsFrom sources n
+    → IsFrom sources (accept_batch n p)
+unfolding accept_batch
+is_from-accept_batch sources n None from is = is
+is_from-accept_batch sources n (Some p) from is = is_from-end sources n (accept_batch n (Some p)) (Accepted _) refl refl refl refl from tt is
+
+is_from-decide_batch : {S : Type 0} (sources : List (List ℕ)) (n : Node S) (d : Option Decision) → deciding n ≡ d → IsFrom sources n → IsFrom sources (decide_batch n d)
+unfolding decide_batch
+is_from-decide_batch sources n None due is = is
+is_from-decide_batch sources n (Some d) due is = is_from-end sources n (decide_batch n (Some d)) (Decided d) refl refl refl refl (deciding-from sources n d due is.from) tt is
+
+is_from-writes : {S : Type 0} (sources : List (List ℕ)) (n : Node S) → IsFrom sources n → IsFrom sources (writes n)
+unfolding writes
+is_from-writes sources n is = is_from-write_batch sources n (writing n) (writing-from sources n is.from) is
+
+is_from-accepts : {S : Type 0} (sources : List (List ℕ)) (n : Node S) → IsFrom sources n → IsFrom sources (accepts n)
+unfolding accepts
+is_from-accepts sources n is = is_from-accept_batch sources n (accepting n) (accepting-from sources n is.from) is
+
+is_from-decides : {S : Type 0} (sources : List (List ℕ)) (n : Node S) → IsFrom sources n → IsFrom sources (decides n)
+unfolding decides
+is_from-decides sources n is = is_from-decide_batch sources n (deciding n) refl is
+
+-- what is kept has come
+is_from-kept : {S : Type 0} (sources : List (List ℕ)) (n : Node S) (message : AnyMessage) → HasSource sources message → IsFrom sources n → IsFrom sources (kept n message)
+unfolding kept_plain kept_change
+is_from-kept {S = S} sources n (Plain (Ask q)) came is =
+    either (λ (x : Node S). IsFrom sources x) (is_next n.replica.table q.statement) (record n { pool = offered n.pool q }) n (is_from-as sources n _ refl refl refl refl is) is
+is_from-kept sources n (Plain (Propose p)) came is = record {
+  from = record {
+    arrivals = each_end (λ (m : Message). HasSource sources (Plain m)) n.arrivals (Propose p) is.from.arrivals came;
+    stops = is.from.stops;
+    syncs = is.from.syncs;
+    book = is.from.book;
+  };
+  some = is.some;
+}
+is_from-kept sources n (Plain (Vote b)) came is = record {
+  from = record {
+    arrivals = each_end (λ (m : Message). HasSource sources (Plain m)) n.arrivals (Vote b) is.from.arrivals came;
+    stops = is.from.stops;
+    syncs = is.from.syncs;
+    book = is.from.book;
+  };
+  some = is.some;
+}
+is_from-kept sources n (Plain (Reply a)) came is = is
+is_from-kept sources n (Change (changes.Stop s)) came is = record {
+  from = record {
+    arrivals = is.from.arrivals;
+    stops = each_end (λ (x : SignedBy Stop). HasSource sources (Change (changes.Stop x))) n.stops s is.from.stops came;
+    syncs = is.from.syncs;
+    book = is.from.book;
+  };
+  some = is.some;
+}
+is_from-kept sources n (Change (changes.StopData r)) came is = is_from-as sources n _ refl refl refl refl is
+is_from-kept sources n (Change (changes.Sync s)) came is = record {
+  from = record {
+    arrivals = is.from.arrivals;
+    stops = is.from.stops;
+    syncs = each_end (λ (x : SignedBy Sync). HasSource sources (Change (changes.Sync x))) n.syncs s is.from.syncs came;
+    book = is.from.book;
+  };
+  some = is.some;
+}
+
+is_from-deliver_batch : {S : Type 0} (sources : List (List ℕ)) (m : Meaning S) (n : Node S) (batch : Option Batch) → IsFrom sources n → IsFrom sources (deliver_batch m n batch)
+unfolding deliver_batch
+is_from-deliver_batch sources m n None is = is
+is_from-deliver_batch {S = S} sources m n (Some batch) is =
+    let r : Replica S = delivered m n.replica batch in
+    let x : Node S = record n { replica = r; waiting = None; pool = settled r.table n.pool; impatient = false } in
+    is_from-aside sources x (replying x (lines_to_answer m n batch)) (aside-replying x (lines_to_answer m n batch)) (is_from-as sources n x refl refl refl refl is)
+
+is_from-delivers : {S : Type 0} (sources : List (List ℕ)) (m : Meaning S) (n : Node S) → IsFrom sources n → IsFrom sources (delivers m n)
+unfolding delivers
+is_from-delivers sources m n is = is_from-deliver_batch sources m n n.waiting is
+
+-- ---- a step
+
+from_rules : {S : Type 0} (sources : List (List ℕ)) → KeptByRules {S = S} (λ n. IsFrom sources n)
+from_rules sources = record {
+  by_adopts = λ n is. is_from-adopts sources n is;
+  by_joins = λ n is. is_from-aside sources n (joins n) (aside-joins n) is;
+  by_promises = λ n is. is_from-promises sources n is;
+  by_leads = λ n is. is_from-aside sources n (leads n) (aside-leads n) is;
+  by_proposes = λ n is. is_from-aside sources n (proposes n) (aside-proposes n) is;
+  by_writes = λ n is. is_from-writes sources n is;
+  by_accepts = λ n is. is_from-accepts sources n is;
+  by_decides = λ n is. is_from-decides sources n is;
+}
+
+from_steps : {S : Type 0} (sources : List (List ℕ)) (m : Meaning S) → KeptInSteps m (λ n. IsFrom sources n) (λ message. HasSource sources message)
+from_steps sources m = record {
+  by_rules = from_rules sources;
+  by_times = λ n is. is_from-aside sources n (times n) (aside-times n) is;
+  by_answers = λ n message is. is_from-aside sources n (answers_again n message) (aside-answers_again n message) is;
+  by_noted = λ n message is. is_from-aside sources n (noted n message) (aside-noted n message) is;
+  by_kept = λ n message fine came is. is_from-kept sources n message came is;
+  by_delivers = λ n is. is_from-delivers sources m n is;
+}
+
+-- where what comes has a source, each event leaves all that a node keeps and writes down with one
+pub from-step : {S : Type 0} (sources : List (List ℕ)) (m : Meaning S) (n : Node S) (event : NodeEvent) → ForEvent (λ message. HasSource sources message) event → 0 < length n.entries
+    → FromSources sources n → FromSources sources (step_of m n event).node
+from-step {S = S} sources m n event came some from =
+    let is : IsFrom sources (step_of m n event).node =
+    keeps_step m (λ (x : Node S). IsFrom sources x) (λ message. HasSource sources message) n event (from_steps sources m) (λ x count good. is_from-as sources x _ refl refl refl refl good) came
+    (record { from = from; some = some }) in
+    is.from
+
+-- a book that begins with its opening has an entry
+pub begun_some : (entries : List LogEntry) → IsBegun entries → 0 < length entries
+begun_some [] begun = absurd begun
+begun_some (e ∷ es) begun = omega arith
+
+-- what leaves is of no matter
+pub from-released : {S : Type 0} (sources : List (List ℕ)) (n : Node S) → FromSources sources n → FromSources sources (released n)
+from-released sources n from = record { arrivals = from.arrivals; stops = from.stops; syncs = from.syncs; book = from.book }
+
+pub from-opened : {S : Type 0} (sources : List (List ℕ)) (m : Meaning S) (secret : List ℕ) (id : ℕ) (view : View) (period : ℕ) → FromSources sources (opened m secret id view period)
+from-opened sources m secret id view period =
+    record { arrivals = tt; stops = tt; syncs = tt; book = from-opening sources (Opened (record { member = id; period = period; view = view })) tt }
+
+-- a node that goes on after a crash has kept nothing but its book
+pub from-reopened : {S : Type 0} (sources : List (List ℕ)) (m : Meaning S) (secret : List ℕ) (id : ℕ) (view : View) (period : ℕ) (entries : List LogEntry) → FromBook sources entries
+    → FromSources sources (reopened m secret id view period entries)
+unfolding reopened
+from-reopened sources m secret id view period [] book =
+    record { arrivals = tt; stops = tt; syncs = tt; book = from-opening sources (Opened (record { member = id; period = period; view = view })) tt }
+from-reopened {S = S} sources m secret id view period (e ∷ es) book =
+    let n : Node S = record (stopped m secret id view) { entries = e ∷ es; replica = state m view (decided_of (e ∷ es)); restored = length (e ∷ es); firm = length (e ∷ es) } in
+    subst (λ (x : Node S). FromSources sources x) (sym (reopened_is m secret id view period e es)) (record { arrivals = tt; stops = tt; syncs = tt; book = book })
+
+-- ---- different keys have different sources
+
+-- the sources without one of a key still have the other keys
+record Without {K : Type 0} (sources : List (List ℕ)) (key : AnyMessage → Option K) (k : K) : Type 0 where
+  rest : List (List ℕ)
+  fewer : length sources ≡ length rest + 1
+  others : (j : K) → FromMessage sources key j → (j ≡ k → ⊥) → FromMessage rest key j
+
+-- a message that is read from other bytes
+elsewhere : {K : Type 0} (bytes : List ℕ) (more : List (List ℕ)) (key : AnyMessage → Option K) (j : K) (m : AnyMessage) → HasSource (bytes ∷ more) m → key m ≡ Some j
+    → (any_decoded bytes ≡ Ok m → FromMessage more key j) → FromMessage more key j
+elsewhere bytes more key j m (inl here) at by = by here
+elsewhere bytes more key j m (inr later) at by = record { message = m; source = later; key_is = at }
+
+first_without : {K : Type 0} (bytes : List ℕ) (more : List (List ℕ)) (key : AnyMessage → Option K) (m : AnyMessage) (k : K) → any_decoded bytes ≡ Ok m → key m ≡ Some k → Without (bytes ∷ more) key k
+first_without bytes more key m k read at = record {
+  rest = more;
+  fewer = omega arith;
+  others = λ j from other.
+      elsewhere bytes more key j from.message from.source from.key_is
+      (λ here. let same : m ≡ from.message = one m from.message (sym read ∙ here) in
+      absurd (other (some-equal j k (sym from.key_is ∙ (sym (ap key same) ∙ at)))));
+}
+  where
+    one : (a b : AnyMessage) → ◌≡◌ {A = Result AnyMessage ℕ} (Ok a) (Ok b) → a ≡ b
+    one a b same = cc
+
+-- with other bytes before them
+put_before : {K : Type 0} (bytes : List ℕ) (more rest : List (List ℕ)) (key : AnyMessage → Option K) (j : K) (m : AnyMessage) → HasSource (bytes ∷ more) m → key m ≡ Some j
+    → (FromMessage more key j → FromMessage rest key j) → FromMessage (bytes ∷ rest) key j
+put_before bytes more rest key j m (inl here) at by = record { message = m; source = inl here; key_is = at }
+put_before bytes more rest key j m (inr later) at by =
+    let there = by (record { message = m; source = later; key_is = at }) in record { message = there.message; source = inr there.source; key_is = there.key_is }
+
+without : {K : Type 0} (sources : List (List ℕ)) (key : AnyMessage → Option K) (m : AnyMessage) (k : K) → HasSource sources m → key m ≡ Some k → Without sources key k
+without [] key m k has at = absurd has
+without (bytes ∷ more) key m k (inl read) at = first_without bytes more key m k read at
+without (bytes ∷ more) key m k (inr later) at =
+    let w = without more key m k later at in
+    record {
+      rest = bytes ∷ w.rest;
+      fewer = let less = w.fewer in omega (arith, less);
+      others = λ j from other. put_before bytes more w.rest key j from.message from.source from.key_is (λ there. w.others j there other);
+    }
+
+-- keys none of which is there twice
+abbrev Apart : {K : Type 0} → List K → Type 0
+Apart [] = Unit {0}
+Apart (k ∷ ks) = Each (λ j. j ≡ k → ⊥) ks × Apart ks
+
+-- there are no more of them than sources
+few_keys : {K : Type 0} (sources : List (List ℕ)) (key : AnyMessage → Option K) (ks : List K) → Apart ks → Each (λ k. FromMessage sources key k) ks → length ks ≤ length sources
+few_keys sources key [] apart each = omega arith
+few_keys {K = K} sources key (k ∷ ks) apart each =
+    let w = without sources key each.0.message k each.0.source each.0.key_is in
+    let less = w.fewer in
+    let rest = few_keys w.rest key ks apart.1
+    (each_both (λ (j : K). FromMessage sources key j) (λ (j : K). j ≡ k → ⊥) (λ (j : K). FromMessage w.rest key j) (λ j from other. w.others j from other) ks each.1 apart.0) in
+    omega (arith, less, rest)
+
+-- ---- entries of a kind have different keys
+
+-- an entry's key is not that of one before it
+abbrev Differ : {K : Type 0} → (LogEntry → Option K) → List LogEntry → Type 0
+Differ {K = K} kind entries =
+    (before : List LogEntry) (entry : LogEntry) (after : List LogEntry) → entries ≡ before ++ entry ∷ after
+    → (other : LogEntry) → Among other before → (k : K) → kind other ≡ Some k → kind entry ≡ Some k → ⊥
+
+-- where a value stands
+record Stands (e : LogEntry) (es : List LogEntry) : Type 0 where
+  before : List LogEntry
+  after : List LogEntry
+  split : es ≡ before ++ e ∷ after
+
+stands : (e : LogEntry) (es : List LogEntry) → Among e es → Stands e es
+stands e [] there = absurd there
+stands e (x ∷ xs) (inl is) = record { before = []; after = xs; split = ap (λ (y : LogEntry). y ∷ xs) (sym is) }
+stands e (x ∷ xs) (inr later) = let s = stands e xs later in record { before = x ∷ s.before; after = s.after; split = ap (λ (ys : List LogEntry). x ∷ ys) s.split }
+
+differ_behind : {K : Type 0} (kind : LogEntry → Option K) (e : LogEntry) (es : List LogEntry) → Differ kind (e ∷ es) → Differ kind es
+differ_behind kind e es differ before entry after split other there = differ (e ∷ before) entry after (ap (λ (xs : List LogEntry). e ∷ xs) split) other (inr there)
+
+differ_apart : {K : Type 0} (kind : LogEntry → Option K) (es : List LogEntry) → Differ kind es → Apart (filter_map kind es)
+differ_apart kind [] differ = tt
+differ_apart {K = K} kind (e ∷ es) differ = by (kind e) refl (differ_apart kind es (differ_behind kind e es differ))
+  where
+    by : (o : Option K) → kind e ≡ o → Apart (filter_map kind es) → Apart (cons_option o (filter_map kind es))
+    by None is rest = rest
+    by (Some k) is rest = (
+      each_filter_map_in (λ (j : K). j ≡ k → ⊥) kind es
+          (λ x j there at same.
+          let s = stands x es there in
+          differ (e ∷ s.before) x s.after (ap (λ (xs : List LogEntry). e ∷ xs) s.split) e (inl refl) k is (at ∙ ap (λ (i : K). Some i) same)),
+      rest,
+    )
+
+few_kind : {K : Type 0} (sources : List (List ℕ)) (key : AnyMessage → Option K) (kind : LogEntry → Option K) (e : LogEntry) (es : List LogEntry) → Differ kind (e ∷ es)
+    → ((x : LogEntry) → EntryFrom sources x → IfSome (kind x) (λ k. FromMessage sources key k)) → Each (EntryFrom sources) es → length (filter_map kind es) ≤ length sources
+few_kind {K = K} sources key kind e es differ gives each =
+    few_keys sources key (filter_map kind es) (differ_apart kind es (differ_behind kind e es differ)) (each_given (EntryFrom sources) (λ (k : K). FromMessage sources key k) kind gives es each)
+
+-- ---- the kinds
+
+abbrev slot_written : LogEntry → Option Slot
+slot_written (Opened o) = None
+slot_written (Wrote w) = Some w.slot
+slot_written (Accepted a) = None
+slot_written (Promised p) = None
+slot_written (Synced s) = None
+slot_written (Decided d) = None
+slot_written (Installed i) = None
+slot_written (Marked m) = None
+
+abbrev slot_accepted : LogEntry → Option Slot
+slot_accepted (Opened o) = None
+slot_accepted (Wrote w) = None
+slot_accepted (Accepted a) = Some a.slot
+slot_accepted (Promised p) = None
+slot_accepted (Synced s) = None
+slot_accepted (Decided d) = None
+slot_accepted (Installed i) = None
+slot_accepted (Marked m) = None
+
+abbrev promise_in : LogEntry → Option Promise
+promise_in (Opened o) = None
+promise_in (Wrote w) = None
+promise_in (Accepted a) = None
+promise_in (Promised p) = Some p
+promise_in (Synced s) = None
+promise_in (Decided d) = None
+promise_in (Installed i) = None
+promise_in (Marked m) = None
+
+abbrev regency_synced : LogEntry → Option Promise
+regency_synced (Opened o) = None
+regency_synced (Wrote w) = None
+regency_synced (Accepted a) = None
+regency_synced (Promised p) = None
+regency_synced (Synced s) = Some (record { view = s.view; regency = s.regency })
+regency_synced (Decided d) = None
+regency_synced (Installed i) = None
+regency_synced (Marked m) = None
+
+abbrev place_decided : LogEntry → Option ℕ
+place_decided (Opened o) = None
+place_decided (Wrote w) = None
+place_decided (Accepted a) = None
+place_decided (Promised p) = None
+place_decided (Synced s) = None
+place_decided (Decided d) = Some d.slot.place
+place_decided (Installed i) = None
+place_decided (Marked m) = None
+
+-- each entry with a source is of one of them
+all_kinds : (sources : List (List ℕ)) (es : List LogEntry) → Each (EntryFrom sources) es
+    → length es ≤ length (filter_map slot_written es) + length (filter_map slot_accepted es) + length (filter_map promise_in es) + length (filter_map regency_synced es) + length (filter_map place_decided es)
+all_kinds sources [] each = omega arith
+all_kinds sources (Opened o ∷ es) each = absurd each.0
+all_kinds sources (Wrote w ∷ es) each = let rest = all_kinds sources es each.1 in omega (arith, rest)
+all_kinds sources (Accepted a ∷ es) each = let rest = all_kinds sources es each.1 in omega (arith, rest)
+all_kinds sources (Promised p ∷ es) each = let rest = all_kinds sources es each.1 in omega (arith, rest)
+all_kinds sources (Synced s ∷ es) each = let rest = all_kinds sources es each.1 in omega (arith, rest)
+all_kinds sources (Decided d ∷ es) each = let rest = all_kinds sources es each.1 in omega (arith, rest)
+all_kinds sources (Installed i ∷ es) each = absurd each.0
+all_kinds sources (Marked m ∷ es) each = absurd each.0
+
+-- and has a source of its key
+
+written_gives : (sources : List (List ℕ)) (e : LogEntry) → EntryFrom sources e → IfSome (slot_written e) (λ k. FromMessage sources slot_proposed k)
+written_gives sources (Wrote w) from = from
+written_gives sources e from = tt
+
+accepted_gives : (sources : List (List ℕ)) (e : LogEntry) → EntryFrom sources e → IfSome (slot_accepted e) (λ k. FromMessage sources slot_proposed k)
+accepted_gives sources (Accepted a) from = from
+accepted_gives sources e from = tt
+
+promised_gives : (sources : List (List ℕ)) (e : LogEntry) → EntryFrom sources e → IfSome (promise_in e) (λ k. FromMessage sources regency_asked k)
+promised_gives sources (Promised p) from = from
+promised_gives sources e from = tt
+
+synced_gives : (sources : List (List ℕ)) (e : LogEntry) → EntryFrom sources e → IfSome (regency_synced e) (λ k. FromMessage sources regency_begun k)
+synced_gives sources (Synced s) from = from
+synced_gives sources e from = tt
+
+decided_gives : (sources : List (List ℕ)) (e : LogEntry) → EntryFrom sources e → IfSome (place_decided e) (λ k. FromMessage sources place_voted k)
+decided_gives sources (Decided d) from = from
+decided_gives sources e from = tt
+
+-- a slot is written in once, and accepted in once
+
+written_differs : (before : List LogEntry) (entry other : LogEntry) (k : Slot) → Admits 0 0 before entry → Among other before → slot_written other ≡ Some k → slot_written entry ≡ Some k → ⊥
+written_differs before (Wrote w) (Wrote o) k may there is same = may.first o there (some-equal o.slot w.slot (is ∙ sym same))
+written_differs before (Wrote w) other k may there is same = cc
+written_differs before entry other k may there is same = cc
+
+accepted_differs : (before : List LogEntry) (entry other : LogEntry) (k : Slot) → Admits 0 0 before entry → Among other before → slot_accepted other ≡ Some k → slot_accepted entry ≡ Some k → ⊥
+accepted_differs before (Accepted a) (Accepted o) k may there is same = may.first o there (some-equal o.slot a.slot (is ∙ sym same))
+accepted_differs before (Accepted a) other k may there is same = cc
+accepted_differs before entry other k may there is same = cc
+
+-- a regency begins once
+synced_differs : (before : List LogEntry) (entry other : LogEntry) (k : Promise) → IsTidyAfter before entry → Among other before → regency_synced other ≡ Some k → regency_synced entry ≡ Some k → ⊥
+synced_differs before (Synced s) (Synced o) k tidy there is same =
+    let equal = some-equal (record { view = o.view; regency = o.regency }) (record { view = s.view; regency = s.regency }) (is ∙ sym same) in
+    tidy.once o there (ap (λ (p : Promise). p.view) equal) (ap (λ (p : Promise). p.regency) equal)
+synced_differs before (Synced s) other k tidy there is same = cc
+synced_differs before entry other k tidy there is same = cc
+
+-- promises rise
+
+promise_most : (p : Promise) (es : List LogEntry) → Among (Promised p) es → p.regency ≤ greatest_regency p.view es
+promise_most p [] there = absurd there
+promise_most p (e ∷ es) (inl is) =
+    let own : regency_in p.view (Promised p) ≡ p.regency = rw (eq-eqb p.view p.view refl) refl in
+    let here : regency_in p.view (Promised p) ≡ regency_in p.view e = ap (λ (x : LogEntry). regency_in p.view x) is in
+    omega (arith, own, here)
+promise_most p (e ∷ es) (inr later) = let rest = promise_most p es later in omega (arith, rest)
+
+promised_differs : (before : List LogEntry) (entry other : LogEntry) (k : Promise) → IsLast before entry → Among other before → promise_in other ≡ Some k → promise_in entry ≡ Some k → ⊥
+promised_differs before (Promised p) (Promised o) k last there is same =
+    let equal : o ≡ p = some-equal o p (is ∙ sym same) in
+    let most : p.regency ≤ greatest_regency p.view before = subst (λ (q : Promise). q.regency ≤ greatest_regency q.view before) equal (promise_most o before there) in
+    omega (arith, most, last)
+promised_differs before (Promised p) other k last there is same = cc
+promised_differs before entry other k last there is same = cc
+
+-- places are decided in turn
+
+bare : Meaning ℕ
+bare = record { first = 0; next = λ s op. s; reply = λ s op. []; snapshot = λ s. []; restore = λ bytes. None }
+
+decided_differs : (secret : List ℕ) (stated : List Statement) (view : View) (before : List LogEntry) (entry other : LogEntry) (after : List LogEntry) (k : ℕ)
+    → IsSoundBook secret stated view (before ++ entry ∷ after) → Among other before → place_decided other ≡ Some k → place_decided entry ≡ Some k → ⊥
+decided_differs secret stated view before (Decided d) (Decided o) after k book there is same =
+    let turn = in_turn bare secret stated view before d after book in
+    let count = count_is bare secret stated view before (front_of secret stated view before (Decided d ∷ after) book) in
+    let most = made_most before o.slot.place (record { entry = Decided o; there = there; made = refl }) in
+    let equal = some-equal o.slot.place d.slot.place (is ∙ sym same) in
+    omega (arith, turn, count, most, equal)
+decided_differs secret stated view before (Decided d) other after k book there is same = cc
+decided_differs secret stated view before entry other after k book there is same = cc
+
+-- ---- a book has few entries
+
+few_behind : (secret : List ℕ) (stated : List Statement) (view : View) (sources : List (List ℕ)) (e : LogEntry) (es : List LogEntry) → IsSoundBook secret stated view (e ∷ es) → FromBook sources (e ∷ es)
+    → length es ≤ 5 * length sources
+few_behind secret stated view sources e es book from =
+    let all = all_kinds sources es from.behind in
+    let wrote = few_kind sources slot_proposed slot_written e es
+    (λ before entry after split other there k is same. written_differs before entry other k (book.lawful before entry after split) there is same) (written_gives sources) from.behind in
+    let accepted = few_kind sources slot_proposed slot_accepted e es
+    (λ before entry after split other there k is same. accepted_differs before entry other k (book.lawful before entry after split) there is same) (accepted_gives sources) from.behind in
+    let promised = few_kind sources regency_asked promise_in e es
+    (λ before entry after split other there k is same. promised_differs before entry other k (from.rising before entry after split) there is same) (promised_gives sources) from.behind in
+    let synced = few_kind sources regency_begun regency_synced e es
+    (λ before entry after split other there k is same. synced_differs before entry other k (book.tidy before entry after split) there is same) (synced_gives sources) from.behind in
+    let decided = few_kind sources place_voted place_decided e es
+    (λ before entry after split other there k is same.
+    decided_differs secret stated view before entry other after k (subst (λ (xs : List LogEntry). IsSoundBook secret stated view xs) split book) there is same) (decided_gives sources) from.behind in
+    omega (arith, all, wrote, accepted, promised, synced, decided)
+
+pub few_entries : (secret : List ℕ) (stated : List Statement) (view : View) (sources : List (List ℕ)) (es : List LogEntry) → IsSoundBook secret stated view es → FromBook sources es
+    → length es ≤ 5 * length sources + 1
+few_entries secret stated view sources [] book from = omega arith
+few_entries secret stated view sources (e ∷ es) book from = let few = few_behind secret stated view sources e es book from in omega (arith, few)
