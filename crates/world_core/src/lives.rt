@@ -85,8 +85,7 @@ impl<S: Service> Host<S> {
         requires { self.old.up ≡ true }
         ensures { OnOk result (self.new ≡ record self.old { store = started self.old.store (spelled_behind node.now.node.restored node.now.node.entries) }) }
     {
-        self.store
-            .write_down(behind(node.book(), node.restored()))
+        self.store.write_down(behind(node.book(), node.restored()))
     }
 
     /// A life ends: what was delivered in it was so earlier.
@@ -139,11 +138,7 @@ impl<S: Service> Host<S> {
 }
 
 /// What a node that goes on from so many entries tells, if there is one.
-fn told<S: Service>(
-    member: MemberId,
-    entries: u64,
-    node: &Option<NodeCore<S>>,
-) -> Option<OutLine>
+fn told<S: Service>(member: MemberId, entries: u64, node: &Option<NodeCore<S>>) -> Option<OutLine>
     ensures { result ≡ told_with member entries (option_map (λ n. n.node) node.now) }
 {
     match node {
