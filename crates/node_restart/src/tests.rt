@@ -6,7 +6,7 @@ use smart_base::keys::Digester;
 use smart_base::name::{ClientId, MemberId};
 use smart_base::number::{Place, Regency, ViewNo};
 use smart_base::party::Party;
-use smart_base::sequence::Bytes;
+use smart_base::sequence::{Bytes, Sequence};
 use smart_base::view::View;
 use smart_keys::hash::Sha;
 use smart_keys::ring::Ring;
@@ -19,7 +19,7 @@ use smart_service::service::Service;
 use std::alloc::{AllocError, Global};
 use std::test::Fail;
 use vote_book::codec::encode_entry;
-use vote_book::entry::{Decision, LogEntry, Opening, Start, Write};
+use vote_book::entry::{Accept, Decision, LogEntry, Opening, Start, Write};
 
 /// A service that counts its runs, and replies with the last digit of how many were before. The
 /// operation `full` always wants memory.
@@ -169,38 +169,84 @@ fn synced() -> LogEntry {
     })
 }
 
-/// The decision of the first place, with the accepts of so many members.
-fn decided(alloc: Global, count: u16) -> Result<LogEntry, Fail> {
-    let batch = batch(alloc)?;
-    let digest = Sha::digest(batch.text(alloc)?.as_slice());
-    let mut accepts = SignedList::new(alloc);
+/// The votes of the first members, so many of them, on a digest.
+fn votes(
+    alloc: Global,
+    kind: VoteKind,
+    digest: Digest32,
+    count: u16,
+) -> Result<SignedList<Ballot>, Fail> {
+    let mut votes = Vec::new(alloc);
     for number in 0..count {
         let member = number.saturating_add(1);
         let ballot = Ballot {
-            kind: VoteKind::Accept,
+            kind,
             slot: slot(0),
             digest,
         };
         let party = Party::Member(MemberId::new(member));
-        accepts.push(signed(alloc, party, member, ballot)?)?;
+        votes.push(signed(alloc, party, member, ballot)?)?;
     }
+    if votes.len() < 1 << 16 {
+        Ok(SignedList::from_list(Sequence::from_vec(votes)))
+    } else {
+        Err(Fail::from("too many votes"))
+    }
+}
+
+fn digest_of(alloc: Global, batch: &Batch) -> Result<Digest32, Fail> {
+    Ok(Sha::digest(batch.text(alloc)?.as_slice()))
+}
+
+/// The accept of the first place, with the writes of so many members.
+fn accepted(alloc: Global, count: u16) -> Result<LogEntry, Fail> {
+    let batch = batch(alloc)?;
+    let digest = digest_of(alloc, &batch)?;
+    Ok(LogEntry::Accepted(Accept {
+        slot: slot(0),
+        digest,
+        writes: votes(alloc, VoteKind::Write, digest, count)?,
+        batch,
+    }))
+}
+
+/// An accept of another batch than the one that the writes are for.
+fn misread(alloc: Global) -> Result<LogEntry, Fail> {
+    let digest = Digest32::new([7; 32]);
+    Ok(LogEntry::Accepted(Accept {
+        slot: slot(0),
+        digest,
+        writes: votes(alloc, VoteKind::Write, digest, 3)?,
+        batch: batch(alloc)?,
+    }))
+}
+
+/// The decision of the first place, with votes of a kind by so many members.
+fn decided(alloc: Global, kind: VoteKind, count: u16) -> Result<LogEntry, Fail> {
+    let batch = batch(alloc)?;
+    let digest = digest_of(alloc, &batch)?;
     Ok(LogEntry::Decided(Decision {
         slot: slot(0),
         batch,
-        accepts,
+        accepts: votes(alloc, kind, digest, count)?,
     }))
 }
 
 /// The entry of a letter: `o` the opening, `w` a write in regency 0, `s` the beginning of regency 7,
-/// `v` a write there, `d` a decision, `e` one with too few accepts.
+/// `v` a write there, `a` an accept, `b` one with too few writes, `c` one of another batch, `d` a
+/// decision, `e` one with too few accepts, `f` one with writes for accepts.
 fn entry(alloc: Global, letter: u8) -> Result<LogEntry, Fail> {
     match letter {
         b'o' => opened(alloc),
         b'w' => Ok(wrote(0)),
         b's' => Ok(synced()),
         b'v' => Ok(wrote(7)),
-        b'd' => decided(alloc, 3),
-        _ => decided(alloc, 2),
+        b'a' => accepted(alloc, 3),
+        b'b' => accepted(alloc, 2),
+        b'c' => misread(alloc),
+        b'd' => decided(alloc, VoteKind::Accept, 3),
+        b'e' => decided(alloc, VoteKind::Accept, 2),
+        _ => decided(alloc, VoteKind::Write, 3),
     }
 }
 
@@ -231,7 +277,15 @@ oww !3
 odd !3
 ov !2
 oe !2
-odov !4";
+of !2
+odov !4
+oa =0
+owad =1
+oada !4
+oaa !3
+ob !2
+oc !2
+owb !3";
 
 /// What becomes of restored entries, as a row says it.
 fn outcome(alloc: Global, letters: &str) -> Result<(u8, u64), Fail> {
