@@ -37,7 +37,7 @@ use Rattle.replica_laws.proofs.Genuine.{FitVotes}
 use Rattle.replica_laws.proofs.Again.{entries-noted, entries-answers_again}
 use Rattle.replica_laws.proofs.Once.{entries-kept, entries-delivers, entries-proposes, entries-joins, entries-leads, entries-times}
 use Rattle.replica_laws.proofs.Rulewise.{KeptByRules, KeptInSteps, keeps_step}
-use Rattle.replica_laws.proofs.FitNodes.{FitNode, FitsBegun, FitsVoted, IsBrief, FitsEvent, view-low, certificate-fits, open-fits, writing-fits, accepting-fits, deciding-fits, promising-low, fit-as, fit-adopts, fit-joins, fit-promises, fit-leads, fit-proposes, fit-writes, fit-accepts, fit-decides, fit-times, fit-answers_again, fit-noted, fit-kept, fit-delivers, fit-opened, fit-released, event-fits}
+use Rattle.replica_laws.proofs.FitNodes.{FitNode, FitsBegun, FitsVoted, IsBrief, FitsEvent, view-low, certificate-fits, open-fits, writing-fits, accepting-fits, deciding-fits, promising-low, fit-as, fit-adopts, fit-joins, fit-promises, fit-leads, fit-proposes, fit-writes, fit-accepts, fit-decides, fit-times, fit-answers_again, fit-noted, fit-kept, fit-delivers, fit-opened, event-fits}
 use Rattle.replica_laws.proofs.FitNodes as nodes
 use Rattle.replica_laws.specs.Sending.{IsByteEvent}
 

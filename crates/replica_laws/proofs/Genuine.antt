@@ -14,7 +14,7 @@ use Rattle.smart_messages.specs.Spelling.{FitsProposal, FitsBallot, FitsAnswer, 
 use Rattle.smart_messages.specs.Statements.{proposal_small, ballot_small, answer_small}
 use Rattle.smart_messages.specs.SignedLists.{listed, FitsList, optional, FitsOptional}
 use Rattle.smart_messages.specs.Reports as spells_report
-use Rattle.smart_messages.specs.Reports.{reports, votes_of, FitsVote, FitsReport, FitsEvidence, FitsDecisionProof, FitsLockCertificate}
+use Rattle.smart_messages.specs.Reports.{reports, votes_of, FitsVote, FitsReport, FitsEvidence, FitsLockCertificate}
 use Rattle.smart_messages.specs.Regencies as spells_change
 use Rattle.smart_messages.specs.Regencies.{stops, syncs, FitsStop, FitsSync}
 use Rattle.smart_messages.specs.RegencyLaws.{stop_small}

@@ -1,5 +1,5 @@
 -- What idle nodes tell.
-use Rattle.std.proofs.Common.{◌≡◌, ℕ, Bool, List, [], ◌∷◌, Option, Some, refl, ap}
+use Rattle.std.proofs.Common.{◌≡◌, ℕ, Bool, List, [], ◌∷◌, Some, refl, ap}
 use Rattle.std.specs.Prelude.{slice_get}
 use Rattle.smart_messages.specs.declared.entry.NodeEvent.{NodeEvent}
 use Rattle.node_rules.specs.declared.node.Fired.{Fired}

@@ -29,11 +29,6 @@ pub still_runs : {S : Type 0} (course : Course S) (xs : List (Host S)) (i : ℕ)
 unfolding disk_called
 still_runs {S = S} course xs i h within up = ap (λ (found : Option (Host S)). runs found) (get_set xs i (disk_called course h) within) ∙ up
 
--- what happens where a member's node was found happens at the member
-pub at_found : {S : Type 0} (f : ℕ → World S → World S) (member : ℕ) (w x w' : World S) (found : Option ℕ)
-    → ((g : ℕ → World S → World S) → at_index g x found ≡ at_member g member w) → w' ≡ at_index f x found → w' ≡ at_member f member w
-at_found f member w x w' found all is = is ∙ all f
-
 -- where a member stands at an index, its node is found there
 pub found_at : {S E : Type 0} (member : ℕ) (w x : World S) (i : ℕ) (result : Result (Option ℕ) E) → host_index w.hosts member ≡ Some i
     → IfOk result (λ found. (f : ℕ → World S → World S) → at_index f x found ≡ at_host f i w (slice_get w.hosts i))

@@ -1,5 +1,5 @@
 -- Hosts that stop, and that go on from what their devices hold.
-use Rattle.std.specs.Prelude.{ℕ, Bool, false, not, List, [], ◌∷◌, length, Option, Some, None}
+use Rattle.std.specs.Prelude.{ℕ, Bool, false, not, List, [], Option, Some, None}
 use Rattle.smart_base.specs.Views.{View}
 use Rattle.smart_service.specs.Services.{Meaning}
 use Rattle.durable_store.specs.Restored.{restores}

@@ -1,11 +1,11 @@
 -- One list holds throughout a script.
-use Rattle.std.proofs.Common.{◌≡◌, ◌⊎◌, inl, inr, ⊎_elim, ℕ, true, List, take, refl}
+use Rattle.std.proofs.Common.{◌≡◌, ⊎_elim, ℕ, true, List, take, refl}
 use Rattle.smart_base.specs.Lists.{Each}
 use Rattle.smart_base.specs.Views.{View, is_view}
 use Rattle.smart_service.specs.Services.{Meaning}
 use Rattle.world_rules.specs.Worlds.{course_of, World, begun}
 use Rattle.world_rules.specs.Plays.{lines_told}
-use Rattle.world_rules.specs.Promises.{IsAnswered, IsRogue, IsRight, IsKept, OneList, OneListThroughout, world_at}
+use Rattle.world_rules.specs.Promises.{IsAnswered, IsKept, OneList, OneListThroughout, world_at}
 use Rattle.world_rules.specs.declared.line.Line.{Line}
 use Rattle.world_laws.proofs.Keeps.{KeepsAll, keeps-world_after}
 use Rattle.world_laws.proofs.Kept.{all_recover, replied_kept}
@@ -22,7 +22,7 @@ use Rattle.world_laws.proofs.Grows.{list-grows}
 use Rattle.world_laws.proofs.Replies.{RepliesRight, reply_stated, keeps-replies, replies-begun}
 use Rattle.world_laws.proofs.Asked.{asked-after}
 use Rattle.world_laws.proofs.Asking.{right-after}
-use Rattle.world_laws.proofs.Accepted.{AcceptedTold, AcceptedRight, RightUnlessRogue, Telling, keeps-told, told-begun, accepted-right}
+use Rattle.world_laws.proofs.Accepted.{AcceptedTold, AcceptedRight, Telling, keeps-told, told-begun, accepted-right}
 use Rattle.world_laws.proofs.Told.{lines-answered}
 use Rattle.world_laws.proofs.Past.{past-known}
 

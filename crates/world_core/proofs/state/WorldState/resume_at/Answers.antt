@@ -1,4 +1,4 @@
-use Rattle.std.proofs.Common.{◌≡◌, ◌<◌, ◌∙◌, ap, refl, sym, Some, length}
+use Rattle.std.proofs.Common.{◌<◌, ◌∙◌, ap, refl, sym, Some, length}
 use Rattle.std.specs.Prelude.{slice_get}
 use Rattle.std.proofs.lemmas.Option.{slice_get-get_or}
 use Rattle.world_rules.specs.Worlds.{core_course}

@@ -1,4 +1,4 @@
-use Rattle.std.proofs.Common.{◌≡◌, ◌<◌, ◌∙◌, ap, sym, subst, Some, length}
+use Rattle.std.proofs.Common.{◌<◌, ◌∙◌, ap, sym, Some, length}
 use Rattle.std.specs.Prelude.{slice_get}
 use Rattle.std.proofs.lemmas.Option.{slice_get-get_or}
 use Rattle.world_core.proofs.Idling.{tried_at}
