@@ -1,5 +1,5 @@
 use Rattle.restart_laws.proofs.Certified.{certified_exact}
-use Rattle.restart_laws.proofs.Restored.{all_certified, back, begun, decoded, first_exact, fits, lawful, read, rest, within}
+use Rattle.restart_laws.proofs.Restored.{all_certified, back, begun, decoded, first_exact, fits, in_turn, lawful, read, rest, within}
 use Rattle.restart_laws.proofs.laws.what_is_undamaged_is_lawful.Goals as goal
 
 pub returns-clause-decoded : goal.returns-clause-decoded
@@ -34,3 +34,6 @@ returns-clause-first c = λ secret view restored number. first_exact secret view
 
 pub returns-clause-within : goal.returns-clause-within
 returns-clause-within c = λ secret view restored number some. within secret view restored number some
+
+pub returns-clause-turn : goal.returns-clause-turn
+returns-clause-turn c = λ secret view restored before d after none split. in_turn secret view restored before d after none split

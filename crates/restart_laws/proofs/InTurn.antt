@@ -1,0 +1,193 @@
+-- Entries that may be restored decide one place after the other, and what the replica behind them remembers of a client they have decided.
+use Rattle.std.proofs.Common.{List, None, Option, Some, ap, append-nil, append_assoc, arith, inl, length, length-append, nat_le, nat_lt, not, refl, subst, sym, true, ℕ, ◌≡◌, ◌≤◌, ◌<◌, ◌∙◌, ◌+◌, ◌++◌, ◌∷◌, [], ◌&&◌, ◌||◌, ◌==◌}
+use Rattle.std.proofs.lemmas.Bool.{ltb-true}
+use Rattle.std.specs.List.{list_all, list_any}
+use Rattle.std.specs.Prelude.{is_none}
+use Rattle.certificates.specs.Certificates.{accept_of, votes_fault}
+use Rattle.node_laws.proofs.Delivering.{Answered, decided_requests, delivered_table}
+use Rattle.node_laws.proofs.Lists.{among_left, among_right, and_true, each_among, each_of}
+use Rattle.node_rules.specs.Arrivals.{is_batch_for}
+use Rattle.node_rules.specs.Reopening.{decided_of, rests}
+use Rattle.replica_laws.proofs.InOrder.{decided-append, decided-none, place-delivered}
+use Rattle.replica_rules.specs.Replicas.{after_batches, empty, state}
+use Rattle.replica_rules.specs.Seals.{digest_of, fits, is_managers, is_verified, request_fits}
+use Rattle.restart_laws.proofs.Certified.{each_of_three}
+use Rattle.smart_base.specs.Lists.{Each, same_bytes}
+use Rattle.smart_base.specs.Views.{View}
+use Rattle.smart_messages.specs.Kinds.{requests}
+use Rattle.smart_messages.specs.Messages.{Batch, batch_text}
+use Rattle.smart_service.specs.Services.{Meaning}
+use Rattle.smart_service.specs.declared.replica.Replica.{Replica}
+use Rattle.vote_book.proofs.Last.{latest_push}
+use Rattle.vote_book.proofs.Tested.{admitting}
+use Rattle.vote_book.proofs.Tidy.{front_lawful}
+use Rattle.vote_book.specs.Admission.{is_above}
+use Rattle.vote_book.specs.Books.{Admits, Among, Follows, Lawful, last_made, latest_made}
+use Rattle.vote_book.specs.declared.entry.Decision.{Decision}
+use Rattle.vote_book.specs.declared.entry.LogEntry.{LogEntry}
+use Rattle.vote_book.specs.declared.entry.LogEntry.TheVariants.{Accepted, Decided, Installed, Marked, Opened, Promised, Synced, Wrote}
+
+-- ---- the place of a batch
+
+-- a batch stands at no place before the first
+some_batch : (secret : List ℕ) (place : ℕ) (batch : Batch) → nat_le 1 (length batch) ≡ true → list_all (request_fits secret place) batch ≡ true → 0 < place
+some_batch secret place [] one all = absurd (cc)
+some_batch secret place (q ∷ qs) one all =
+    let first = and_true (request_fits secret place q) (list_all (request_fits secret place) qs) all in
+    let limits = and_true (nat_le q.statement.client 1024 && nat_lt q.statement.after place) (is_verified requests secret q) first.0 in
+    let after = ltb-true q.statement.after place (and_true (nat_le q.statement.client 1024) (nat_lt q.statement.after place) limits.0).1 in
+    omega (arith, after)
+
+some_fits : (secret : List ℕ) (place : ℕ) (batch : Batch) → fits secret batch place ≡ true → 0 < place
+unfolding fits
+some_fits secret place batch is =
+    let front = and_true (nat_le 1 (length batch) && nat_le (length batch) 64 && nat_le (length (batch_text batch)) 262144 && list_all (request_fits secret place) batch)
+    (nat_le (length batch) 1 || not (list_any is_managers batch)) is in
+    let all = and_true (nat_le 1 (length batch) && nat_le (length batch) 64 && nat_le (length (batch_text batch)) 262144) (list_all (request_fits secret place) batch) front.0 in
+    let sizes = and_true (nat_le 1 (length batch) && nat_le (length batch) 64) (nat_le (length (batch_text batch)) 262144) all.0 in
+    some_batch secret place batch (and_true (nat_le 1 (length batch)) (nat_le (length batch) 64) sizes.0).0 all.1
+
+some_place : (secret : List ℕ) (place : ℕ) (digest : List ℕ) (batch : Batch) → is_batch_for secret place digest batch ≡ true → 0 < place
+unfolding is_batch_for
+some_place secret place digest batch is =
+    let outer = and_true (fits secret batch place && not (list_any is_managers batch)) (same_bytes (digest_of batch) digest) is in
+    some_fits secret place batch (and_true (fits secret batch place) (not (list_any is_managers batch)) outer.0).0
+
+decided_some : (secret : List ℕ) (view : View) (d : Decision) → rests secret view (Decided d) ≡ true → 0 < d.slot.place
+decided_some secret view d rest =
+    some_place secret d.slot.place (digest_of d.batch) d.batch
+    (each_of_three (d.slot.view == view.number) (is_none (votes_fault secret view (accept_of d.slot (digest_of d.batch)) d.accepts))
+    (is_batch_for secret d.slot.place (digest_of d.batch) d.batch) rest).2
+
+-- ---- one place after the other
+
+-- the latest place that is made, by how many batches are decided
+abbrev pub TurnAt : Option ℕ → ℕ → Type 0
+TurnAt None count = count ≡ 0
+TurnAt (Some latest) count = latest ≡ count
+
+abbrev pub InTurn : List LogEntry → Type 0
+InTurn es = TurnAt (latest_made es) (length (decided_of es))
+
+turn_next : (latest : Option ℕ) (count place : ℕ) → Follows 0 latest place → TurnAt latest count → 0 < place → place ≡ count + 1
+turn_next None count place follows turn some = omega (arith, follows, turn, some)
+turn_next (Some k) count place follows turn some = omega (arith, follows, turn)
+
+-- nothing is installed behind a decision
+turn_same : (latest : Option ℕ) (count last place : ℕ) → TurnAt latest count → is_above latest last place ≡ true → place ≤ 0 → place ≡ count
+turn_same None count last place turn above few = omega (arith, turn, few)
+turn_same (Some k) count last place turn above few = let more = ltb-true last place above in absurd (omega (arith, more, few))
+
+keeps_turn : (xs ys : List LogEntry) → latest_made ys ≡ latest_made xs → decided_of ys ≡ decided_of xs → InTurn xs → InTurn ys
+keeps_turn xs ys latest decided is =
+    subst (λ (o : Option ℕ). TurnAt o (length (decided_of ys))) (sym latest) (subst (λ (ds : List Batch). TurnAt (latest_made xs) (length ds)) (sym decided) is)
+
+turn_place : (secret : List ℕ) (view : View) (before : List LogEntry) (d : Decision) → Follows 0 (latest_made before) d.slot.place → rests secret view (Decided d) ≡ true → InTurn before
+    → d.slot.place ≡ length (decided_of before) + 1
+turn_place secret view before d follows rest is = turn_next (latest_made before) (length (decided_of before)) d.slot.place follows is (decided_some secret view d rest)
+
+turn_step : (secret : List ℕ) (view : View) (restored : ℕ) (before : List LogEntry) (e : LogEntry) → length before < restored → Admits 0 restored before e
+    → rests secret view e ≡ true → InTurn before → InTurn (before ++ e ∷ [])
+turn_step secret view restored before (Opened o) few may rest is = keeps_turn before (before ++ Opened o ∷ []) (latest_push before (Opened o)) (decided-none before (Opened o) refl) is
+turn_step secret view restored before (Wrote w) few may rest is = keeps_turn before (before ++ Wrote w ∷ []) (latest_push before (Wrote w)) (decided-none before (Wrote w) refl) is
+turn_step secret view restored before (Accepted a) few may rest is = keeps_turn before (before ++ Accepted a ∷ []) (latest_push before (Accepted a)) (decided-none before (Accepted a) refl) is
+turn_step secret view restored before (Promised p) few may rest is = keeps_turn before (before ++ Promised p ∷ []) (latest_push before (Promised p)) (decided-none before (Promised p) refl) is
+turn_step secret view restored before (Synced s) few may rest is = keeps_turn before (before ++ Synced s ∷ []) (latest_push before (Synced s)) (decided-none before (Synced s) refl) is
+turn_step secret view restored before (Decided d) few may rest is =
+    let place : d.slot.place ≡ length (decided_of before) + 1 = turn_place secret view before d may rest is in
+    let more : length (decided_of (before ++ Decided d ∷ [])) ≡ length (decided_of before ++ d.batch ∷ []) = ap (λ (bs : List Batch). length bs) (decided-append before (Decided d)) in
+    let same : d.slot.place ≡ length (decided_of (before ++ Decided d ∷ [])) = omega (arith, place, more, length-append (decided_of before) (d.batch ∷ [])) in
+    subst (λ (o : Option ℕ). TurnAt o (length (decided_of (before ++ Decided d ∷ [])))) (sym (latest_push before (Decided d))) same
+turn_step secret view restored before (Installed i) few may rest is =
+    let above = (and_true (is_above (latest_made before) (last_made before) i.place) (not (nat_lt (length before) restored) || nat_le i.place 0)
+    (admitting 0 restored before (Installed i) may)).0 in
+    let same : i.place ≡ length (decided_of before) = turn_same (latest_made before) (length (decided_of before)) (last_made before) i.place is above (may.within few) in
+    let all : i.place ≡ length (decided_of (before ++ Installed i ∷ [])) =
+    same ∙ ap (λ (bs : List Batch). length bs) (sym (decided-none before (Installed i) refl)) in
+    subst (λ (o : Option ℕ). TurnAt o (length (decided_of (before ++ Installed i ∷ [])))) (sym (latest_push before (Installed i))) all
+turn_step secret view restored before (Marked m) few may rest is = keeps_turn before (before ++ Marked m ∷ []) (latest_push before (Marked m)) (decided-none before (Marked m) refl) is
+
+turns_on : (secret : List ℕ) (view : View) (restored : ℕ) (before es : List LogEntry) → length before + length es ≤ restored → Lawful 0 restored (before ++ es)
+    → Each (λ e. rests secret view e ≡ true) es → InTurn before → InTurn (before ++ es)
+turns_on secret view restored before [] few lawful all is = subst InTurn (sym (append-nil before)) is
+turns_on secret view restored before (e ∷ es) few lawful all is =
+    let whole : (before ++ e ∷ []) ++ es ≡ before ++ e ∷ es = append_assoc before (e ∷ []) es in
+    let next : length (before ++ e ∷ []) + length es ≤ restored = omega (arith, few, length-append before (e ∷ [])) in
+    subst InTurn whole
+    (turns_on secret view restored (before ++ e ∷ []) es next (subst (λ (xs : List LogEntry). Lawful 0 restored xs) (sym whole) lawful) all.1
+    (turn_step secret view restored before e (omega (arith, few)) (lawful before e es refl) all.0 is))
+
+-- places are decided one after the other, from the first on
+pub decided_in_turn : (secret : List ℕ) (view : View) (restored : ℕ) (before : List LogEntry) (d : Decision) (after : List LogEntry)
+    → length (before ++ Decided d ∷ after) ≤ restored → Lawful 0 restored (before ++ Decided d ∷ after) → Each (λ e. rests secret view e ≡ true) (before ++ Decided d ∷ after)
+    → d.slot.place ≡ length (decided_of before) + 1
+decided_in_turn secret view restored before d after few lawful all =
+    let P : LogEntry → Type 0 = λ e. rests secret view e ≡ true in
+    let es : List LogEntry = before ++ Decided d ∷ after in
+    let front : Each P before = each_of P before (λ x there. each_among P es x all (among_left x before (Decided d ∷ after) there)) in
+    let short : 0 + length before ≤ restored = omega (arith, few, length-append before (Decided d ∷ after)) in
+    let turn : InTurn before = turns_on secret view restored [] before short (front_lawful 0 restored before (Decided d ∷ after) lawful) front refl in
+    turn_place secret view before d (lawful before (Decided d) after refl) (each_among P es (Decided d) all (among_right (Decided d) before (Decided d ∷ after) (inl refl))) turn
+
+-- ---- what the replica remembers
+
+-- the replica behind one entry and then others
+after_one : {S : Type 0} (m : Meaning S) (r : Replica S) (e : LogEntry) (es : List LogEntry)
+    → after_batches m (after_batches m r (decided_of (e ∷ []))) (decided_of es) ≡ after_batches m r (decided_of (e ∷ es))
+after_one m r (Opened o) es = refl
+after_one m r (Wrote w) es = refl
+after_one m r (Accepted a) es = refl
+after_one m r (Promised p) es = refl
+after_one m r (Synced s) es = refl
+after_one m r (Decided d) es = refl
+after_one m r (Installed i) es = refl
+after_one m r (Marked k) es = refl
+
+place_one : {S : Type 0} (m : Meaning S) (r : Replica S) (e : LogEntry) → (after_batches m r (decided_of (e ∷ []))).place ≡ r.place + length (decided_of (e ∷ []))
+place_one m r (Opened o) = omega arith
+place_one m r (Wrote w) = omega arith
+place_one m r (Accepted a) = omega arith
+place_one m r (Promised p) = omega arith
+place_one m r (Synced s) = omega arith
+place_one m r (Decided d) = place-delivered m r d.batch
+place_one m r (Installed i) = omega arith
+place_one m r (Marked k) = omega arith
+
+lines_step : {S : Type 0} (m : Meaning S) (secret : List ℕ) (view : View) (restored : ℕ) (r : Replica S) (before : List LogEntry) (e : LogEntry) (whole : List LogEntry)
+    → r.place ≡ length (decided_of before) → Among e whole → Admits 0 restored before e → rests secret view e ≡ true → InTurn before → Each (Answered whole) r.table
+    → Each (Answered whole) (after_batches m r (decided_of (e ∷ []))).table
+lines_step m secret view restored r before (Opened o) whole at there may rest turn table = table
+lines_step m secret view restored r before (Wrote w) whole at there may rest turn table = table
+lines_step m secret view restored r before (Accepted a) whole at there may rest turn table = table
+lines_step m secret view restored r before (Promised p) whole at there may rest turn table = table
+lines_step m secret view restored r before (Synced s) whole at there may rest turn table = table
+lines_step m secret view restored r before (Decided d) whole at there may rest turn table =
+    let place : d.slot.place ≡ length (decided_of before) + 1 = turn_place secret view before d may rest turn in
+    delivered_table m r whole d.batch
+    (decided_requests whole (r.place + 1) d.batch (record { decision = d; there = there; place_is = omega (arith, place, at); batch_is = refl })) table
+lines_step m secret view restored r before (Installed i) whole at there may rest turn table = table
+lines_step m secret view restored r before (Marked k) whole at there may rest turn table = table
+
+lines_on : {S : Type 0} (m : Meaning S) (secret : List ℕ) (view : View) (restored : ℕ) (r : Replica S) (before es : List LogEntry) → r.place ≡ length (decided_of before)
+    → length before + length es ≤ restored → Lawful 0 restored (before ++ es) → Each (λ e. rests secret view e ≡ true) es → InTurn before → Each (Answered (before ++ es)) r.table
+    → Each (Answered (before ++ es)) (after_batches m r (decided_of es)).table
+lines_on m secret view restored r before [] at few lawful all turn table = table
+lines_on {S = S} m secret view restored r before (e ∷ es) at few lawful all turn table =
+    let whole : (before ++ e ∷ []) ++ es ≡ before ++ e ∷ es = append_assoc before (e ∷ []) es in
+    let next : Replica S = after_batches m r (decided_of (e ∷ [])) in
+    let may : Admits 0 restored before e = lawful before e es refl in
+    let count : length (decided_of (before ++ e ∷ [])) ≡ length (decided_of before ++ decided_of (e ∷ [])) = ap (λ (bs : List Batch). length bs) (decided-append before e) in
+    let place : next.place ≡ length (decided_of (before ++ e ∷ [])) =
+    omega (arith, place_one m r e, at, count, length-append (decided_of before) (decided_of (e ∷ []))) in
+    let room : length (before ++ e ∷ []) + length es ≤ restored = omega (arith, few, length-append before (e ∷ [])) in
+    let lines : Each (Answered (before ++ e ∷ es)) next.table =
+    lines_step m secret view restored r before e (before ++ e ∷ es) at (among_right e before (e ∷ es) (inl refl)) may all.0 turn table in
+    let later : Each (Answered ((before ++ e ∷ []) ++ es)) (after_batches m next (decided_of es)).table =
+    lines_on m secret view restored next (before ++ e ∷ []) es place room (subst (λ (xs : List LogEntry). Lawful 0 restored xs) (sym whole) lawful) all.1
+    (turn_step secret view restored before e (omega (arith, few)) may all.0 turn) (subst (λ (xs : List LogEntry). Each (Answered xs) next.table) (sym whole) lines) in
+    subst (λ (xs : List LogEntry). Each (Answered xs) (after_batches m r (decided_of (e ∷ es))).table) whole
+    (subst (λ (x : Replica S). Each (Answered ((before ++ e ∷ []) ++ es)) x.table) (after_one m r e es) later)
+
+pub lines_of_state : {S : Type 0} (m : Meaning S) (secret : List ℕ) (view : View) (es : List LogEntry) → Lawful 0 (length es) es → Each (λ e. rests secret view e ≡ true) es
+    → Each (Answered es) (state m view (decided_of es)).table
+lines_of_state m secret view es lawful all = lines_on m secret view (length es) (empty m view) [] es refl (omega arith) lawful all refl tt
