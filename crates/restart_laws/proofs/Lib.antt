@@ -4,3 +4,4 @@ pub mod InTurn
 pub mod Writes
 pub mod Once
 pub mod GoesOn
+pub mod Stays

@@ -15,6 +15,7 @@ ghost use Rattle.node_laws.specs.Sound.{IsBegun};
 ghost use Rattle.replica_laws.specs.Books.{AcceptsOnce, DeliversInOrder, WritesOnce};
 ghost use Rattle.replica_laws.specs.Sending.{HoldsOwn, LeavesFirm};
 ghost use Rattle.restart_laws.specs.Restoring.{IsCertified, IsFirstDamage};
+ghost use Rattle.restart_laws.specs.Staying.{Stays};
 
 use smart_service::service::Service;
 
@@ -23,8 +24,9 @@ use smart_service::service::Service;
 /// disks can hold (`fits`): they begin with an opening, if there are any (`begun`), each may stand
 /// behind those before it (`lawful`) and has what it rests on (`rest`), an accept a certificate of
 /// writes and a decision its proof, by a quorum of the view's members (`certified`, `exact`). They decide
-/// one place after the other (`turn`). And the spellings of such entries are not damaged (`back`). Else the first that is damaged is told by its
-/// number (`first`), which is one of theirs, and what stands in front of it is not damaged (`within`).
+/// one place after the other (`turn`). And the spellings of such entries are not damaged (`back`). Else
+/// the first that is damaged is told by its number (`first`), which is one of theirs, and what stands in
+/// front of it is not damaged (`within`).
 pub fn what_is_undamaged_is_lawful()
     ensures decoded { (secret : List ℕ) (view : View) (restored : List (List ℕ)) → damaged secret view restored ≡ None →
         map entry_decoded restored ≡ map (λ (e : LogEntry). Ok e) (entries_in restored) }
@@ -49,6 +51,13 @@ pub fn what_is_undamaged_is_lawful()
         (damaged secret view restored ≡ Some number) ↔ IsFirstDamage secret view restored number }
     ensures within { (secret : List ℕ) (view : View) (restored : List (List ℕ)) (number : ℕ) → damaged secret view restored ≡ Some number →
         (1 ≤ number) × (number ≤ length restored) × (damaged secret view (take (number - 1) restored) ≡ None) }
+{}
+
+/// Whatever entries a member goes on from, and whatever comes behind them, they stay at the front of its
+/// book, count as restored and are firm.
+pub fn what_was_restored_stays<S: Service>()
+    ensures { (secret : List ℕ) (id : ℕ) (view : View) (period : ℕ) (entries : List LogEntry) (events : List NodeEvent) →
+        Stays entries (node_after S.meaning (reopened S.meaning secret id view period entries) events) }
 {}
 
 /// A member accepts at most one batch for a slot, over what was restored and what comes behind it:
