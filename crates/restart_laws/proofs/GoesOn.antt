@@ -1,9 +1,9 @@
 -- A member that goes on delivers in order, and what leaves it rests on firm entries.
-use Rattle.std.proofs.Common.{List, ap, arith, length, refl, subst, sym, take, take_all, true, ℕ, ◌≡◌, ◌∙◌, ◌∷◌, []}
+use Rattle.std.proofs.Common.{List, ap, arith, length, refl, subst, sym, take, take_all, ℕ, ◌≡◌, ◌∙◌, ◌∷◌, []}
 use Rattle.node_laws.proofs.Reopened.{reopened_is, state_place}
 use Rattle.node_rules.specs.Kept.{node_after}
 use Rattle.node_rules.specs.Nodes.{Node}
-use Rattle.node_rules.specs.Reopening.{decided_of, reopened, rests, stopped}
+use Rattle.node_rules.specs.Reopening.{decided_of, reopened, stopped}
 use Rattle.node_rules.specs.Steps.{leaving}
 use Rattle.node_rules.specs.declared.node.Held.{Held}
 use Rattle.replica_laws.proofs.Follows.{follows_after}
@@ -15,12 +15,11 @@ use Rattle.replica_laws.specs.Books.{DeliversInOrder}
 use Rattle.replica_laws.specs.Sending.{HoldsOwn, IsOwn, LeavesFirm, RestsOn}
 use Rattle.replica_rules.specs.Replicas.{state}
 use Rattle.restart_laws.proofs.InTurn.{lines_of_state}
-use Rattle.smart_base.specs.Lists.{Each}
+use Rattle.restart_laws.specs.Lives.{DecidesInTurn}
 use Rattle.smart_base.specs.Views.{View}
 use Rattle.smart_messages.specs.Messages.{Batch}
 use Rattle.smart_messages.specs.declared.entry.NodeEvent.{NodeEvent}
 use Rattle.smart_service.specs.Services.{Meaning}
-use Rattle.vote_book.specs.Books.{Lawful}
 use Rattle.vote_book.specs.declared.entry.LogEntry.{LogEntry}
 
 -- the node that goes on from some entries
@@ -41,7 +40,7 @@ in_order-going m secret id view e es =
       count = sym at;
     }
 
-in_order-reopened : {S : Type 0} (m : Meaning S) (secret : List ℕ) (id : ℕ) (view : View) (period : ℕ) (entries : List LogEntry)
+pub in_order-reopened : {S : Type 0} (m : Meaning S) (secret : List ℕ) (id : ℕ) (view : View) (period : ℕ) (entries : List LogEntry)
     → DeliversInOrder m view (reopened m secret id view period entries)
 unfolding reopened
 in_order-reopened m secret id view period [] = record { replica = refl; waiting = refl; count = refl }
@@ -55,27 +54,27 @@ delivers_after m secret id view period entries events =
 
 -- ---- messages
 
-rests-reopened : {S : Type 0} (m : Meaning S) (secret : List ℕ) (id : ℕ) (view : View) (period : ℕ) (entries : List LogEntry) → Lawful 0 (length entries) entries
-    → Each (λ e. rests secret view e ≡ true) entries → NodeRests (reopened m secret id view period entries)
+rests-reopened : {S : Type 0} (m : Meaning S) (secret : List ℕ) (id : ℕ) (view : View) (period : ℕ) (entries : List LogEntry) → DecidesInTurn entries
+    → NodeRests (reopened m secret id view period entries)
 unfolding reopened
-rests-reopened m secret id view period [] lawful all = record { held = tt; waits = tt; lines = tt }
-rests-reopened {S = S} m secret id view period (e ∷ es) lawful all =
+rests-reopened m secret id view period [] turn = record { held = tt; waits = tt; lines = tt }
+rests-reopened {S = S} m secret id view period (e ∷ es) turn =
     let n : Node S = going m secret id view e es in
-    let is : NodeRests n = record { held = tt; waits = tt; lines = lines_of_state m secret view (e ∷ es) lawful all } in
+    let is : NodeRests n = record { held = tt; waits = tt; lines = lines_of_state m view (e ∷ es) turn } in
     subst (λ (x : Node S). NodeRests x) (sym (reopened_is m secret id view period e es)) is
 
-rests_on : {S : Type 0} (m : Meaning S) (secret : List ℕ) (id : ℕ) (view : View) (period : ℕ) (entries : List LogEntry) (events : List NodeEvent) → Lawful 0 (length entries) entries
-    → Each (λ e. rests secret view e ≡ true) entries → NodeRests (node_after m (reopened m secret id view period entries) events)
-rests_on m secret id view period entries events lawful all =
-    rests_after m (reopened m secret id view period entries) events (rests-reopened m secret id view period entries lawful all)
+rests_on : {S : Type 0} (m : Meaning S) (secret : List ℕ) (id : ℕ) (view : View) (period : ℕ) (entries : List LogEntry) (events : List NodeEvent) → DecidesInTurn entries
+    → NodeRests (node_after m (reopened m secret id view period entries) events)
+rests_on m secret id view period entries events turn =
+    rests_after m (reopened m secret id view period entries) events (rests-reopened m secret id view period entries turn)
 
 pub leaves_firm_after : {S : Type 0} (m : Meaning S) (secret : List ℕ) (id : ℕ) (view : View) (period : ℕ) (entries : List LogEntry) (events : List NodeEvent)
-    → Lawful 0 (length entries) entries → Each (λ e. rests secret view e ≡ true) entries → LeavesFirm (node_after m (reopened m secret id view period entries) events)
-leaves_firm_after {S = S} m secret id view period entries events lawful all =
+    → DecidesInTurn entries → LeavesFirm (node_after m (reopened m secret id view period entries) events)
+leaves_firm_after {S = S} m secret id view period entries events turn =
     let n : Node S = node_after m (reopened m secret id view period entries) events in
     each_weaker (λ (h : Held). IsOwn n.id h.to h.message × RestsOn (take n.firm n.entries) h.message) (λ (h : Held). RestsOn (take n.firm n.entries) h.message) (λ h is. is.1)
     (leaving n.firm n.held)
-    (leaving_rest n.id n.firm n.entries n.held (rests_on m secret id view period entries events lawful all).held)
+    (leaving_rest n.id n.firm n.entries n.held (rests_on m secret id view period entries events turn).held)
 
 -- a member goes on under its name
 id-reopened : {S : Type 0} (m : Meaning S) (secret : List ℕ) (id : ℕ) (view : View) (period : ℕ) (entries : List LogEntry) → (reopened m secret id view period entries).id ≡ id
@@ -84,9 +83,9 @@ id-reopened m secret id view period [] = refl
 id-reopened {S = S} m secret id view period (e ∷ es) = ap (λ (n : Node S). n.id) (reopened_is m secret id view period e es)
 
 pub holds_own_after : {S : Type 0} (m : Meaning S) (secret : List ℕ) (id : ℕ) (view : View) (period : ℕ) (entries : List LogEntry) (events : List NodeEvent)
-    → Lawful 0 (length entries) entries → Each (λ e. rests secret view e ≡ true) entries → HoldsOwn id (node_after m (reopened m secret id view period entries) events)
-holds_own_after {S = S} m secret id view period entries events lawful all =
+    → DecidesInTurn entries → HoldsOwn id (node_after m (reopened m secret id view period entries) events)
+holds_own_after {S = S} m secret id view period entries events turn =
     let n : Node S = node_after m (reopened m secret id view period entries) events in
     let named : n.id ≡ id = follows_after m (reopened m secret id view period entries) events ∙ id-reopened m secret id view period entries in
     each_weaker (HoldsRight n.id n.entries) (λ (h : Held). IsOwn id h.to h.message) (λ h right. subst (λ (k : ℕ). IsOwn k h.to h.message) named right.own) n.held
-    (rests_on m secret id view period entries events lawful all).held
+    (rests_on m secret id view period entries events turn).held

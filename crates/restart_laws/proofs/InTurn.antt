@@ -12,6 +12,7 @@ use Rattle.replica_laws.proofs.InOrder.{decided-append, decided-none, place-deli
 use Rattle.replica_rules.specs.Replicas.{after_batches, empty, state}
 use Rattle.replica_rules.specs.Seals.{digest_of, fits, is_managers, is_verified, request_fits}
 use Rattle.restart_laws.proofs.Certified.{each_of_three}
+use Rattle.restart_laws.specs.Lives.{DecidesInTurn}
 use Rattle.smart_base.specs.Lists.{Each, same_bytes}
 use Rattle.smart_base.specs.Views.{View}
 use Rattle.smart_messages.specs.Kinds.{requests}
@@ -117,17 +118,22 @@ turns_on secret view restored before (e ∷ es) few lawful all is =
     (turns_on secret view restored (before ++ e ∷ []) es next (subst (λ (xs : List LogEntry). Lawful 0 restored xs) (sym whole) lawful) all.1
     (turn_step secret view restored before e (omega (arith, few)) (lawful before e es refl) all.0 is))
 
--- places are decided one after the other, from the first on
-pub decided_in_turn : (secret : List ℕ) (view : View) (restored : ℕ) (before : List LogEntry) (d : Decision) (after : List LogEntry)
+turns_at : (secret : List ℕ) (view : View) (restored : ℕ) (before : List LogEntry) (d : Decision) (after : List LogEntry)
     → length (before ++ Decided d ∷ after) ≤ restored → Lawful 0 restored (before ++ Decided d ∷ after) → Each (λ e. rests secret view e ≡ true) (before ++ Decided d ∷ after)
     → d.slot.place ≡ length (decided_of before) + 1
-decided_in_turn secret view restored before d after few lawful all =
+turns_at secret view restored before d after few lawful all =
     let P : LogEntry → Type 0 = λ e. rests secret view e ≡ true in
     let es : List LogEntry = before ++ Decided d ∷ after in
     let front : Each P before = each_of P before (λ x there. each_among P es x all (among_left x before (Decided d ∷ after) there)) in
     let short : 0 + length before ≤ restored = omega (arith, few, length-append before (Decided d ∷ after)) in
     let turn : InTurn before = turns_on secret view restored [] before short (front_lawful 0 restored before (Decided d ∷ after) lawful) front refl in
     turn_place secret view before d (lawful before (Decided d) after refl) (each_among P es (Decided d) all (among_right (Decided d) before (Decided d ∷ after) (inl refl))) turn
+
+pub decided_in_turn : (secret : List ℕ) (view : View) (entries : List LogEntry) → Lawful 0 (length entries) entries → Each (λ e. rests secret view e ≡ true) entries → DecidesInTurn entries
+decided_in_turn secret view entries lawful all before d after split =
+    turns_at secret view (length (before ++ Decided d ∷ after)) before d after (omega arith)
+    (subst (λ (xs : List LogEntry). Lawful 0 (length xs) xs) split lawful)
+    (subst (λ (xs : List LogEntry). Each (λ (e : LogEntry). rests secret view e ≡ true) xs) split all)
 
 -- ---- what the replica remembers
 
@@ -153,41 +159,31 @@ place_one m r (Decided d) = place-delivered m r d.batch
 place_one m r (Installed i) = omega arith
 place_one m r (Marked k) = omega arith
 
-lines_step : {S : Type 0} (m : Meaning S) (secret : List ℕ) (view : View) (restored : ℕ) (r : Replica S) (before : List LogEntry) (e : LogEntry) (whole : List LogEntry)
-    → r.place ≡ length (decided_of before) → Among e whole → Admits 0 restored before e → rests secret view e ≡ true → InTurn before → Each (Answered whole) r.table
-    → Each (Answered whole) (after_batches m r (decided_of (e ∷ []))).table
-lines_step m secret view restored r before (Opened o) whole at there may rest turn table = table
-lines_step m secret view restored r before (Wrote w) whole at there may rest turn table = table
-lines_step m secret view restored r before (Accepted a) whole at there may rest turn table = table
-lines_step m secret view restored r before (Promised p) whole at there may rest turn table = table
-lines_step m secret view restored r before (Synced s) whole at there may rest turn table = table
-lines_step m secret view restored r before (Decided d) whole at there may rest turn table =
-    let place : d.slot.place ≡ length (decided_of before) + 1 = turn_place secret view before d may rest turn in
+lines_step : {S : Type 0} (m : Meaning S) (r : Replica S) (before : List LogEntry) (e : LogEntry) (es whole : List LogEntry) → whole ≡ before ++ e ∷ es → DecidesInTurn whole
+    → r.place ≡ length (decided_of before) → Each (Answered whole) r.table → Each (Answered whole) (after_batches m r (decided_of (e ∷ []))).table
+lines_step m r before (Opened o) es whole split turn at table = table
+lines_step m r before (Wrote w) es whole split turn at table = table
+lines_step m r before (Accepted a) es whole split turn at table = table
+lines_step m r before (Promised p) es whole split turn at table = table
+lines_step m r before (Synced s) es whole split turn at table = table
+lines_step m r before (Decided d) es whole split turn at table =
+    let place : d.slot.place ≡ length (decided_of before) + 1 = turn before d es split in
+    let there : Among (Decided d) whole = subst (λ (xs : List LogEntry). Among (Decided d) xs) (sym split) (among_right (Decided d) before (Decided d ∷ es) (inl refl)) in
     delivered_table m r whole d.batch
     (decided_requests whole (r.place + 1) d.batch (record { decision = d; there = there; place_is = omega (arith, place, at); batch_is = refl })) table
-lines_step m secret view restored r before (Installed i) whole at there may rest turn table = table
-lines_step m secret view restored r before (Marked k) whole at there may rest turn table = table
+lines_step m r before (Installed i) es whole split turn at table = table
+lines_step m r before (Marked k) es whole split turn at table = table
 
-lines_on : {S : Type 0} (m : Meaning S) (secret : List ℕ) (view : View) (restored : ℕ) (r : Replica S) (before es : List LogEntry) → r.place ≡ length (decided_of before)
-    → length before + length es ≤ restored → Lawful 0 restored (before ++ es) → Each (λ e. rests secret view e ≡ true) es → InTurn before → Each (Answered (before ++ es)) r.table
-    → Each (Answered (before ++ es)) (after_batches m r (decided_of es)).table
-lines_on m secret view restored r before [] at few lawful all turn table = table
-lines_on {S = S} m secret view restored r before (e ∷ es) at few lawful all turn table =
-    let whole : (before ++ e ∷ []) ++ es ≡ before ++ e ∷ es = append_assoc before (e ∷ []) es in
+lines_on : {S : Type 0} (m : Meaning S) (r : Replica S) (before es whole : List LogEntry) → whole ≡ before ++ es → DecidesInTurn whole → r.place ≡ length (decided_of before)
+    → Each (Answered whole) r.table → Each (Answered whole) (after_batches m r (decided_of es)).table
+lines_on m r before [] whole split turn at table = table
+lines_on {S = S} m r before (e ∷ es) whole split turn at table =
     let next : Replica S = after_batches m r (decided_of (e ∷ [])) in
-    let may : Admits 0 restored before e = lawful before e es refl in
     let count : length (decided_of (before ++ e ∷ [])) ≡ length (decided_of before ++ decided_of (e ∷ [])) = ap (λ (bs : List Batch). length bs) (decided-append before e) in
     let place : next.place ≡ length (decided_of (before ++ e ∷ [])) =
     omega (arith, place_one m r e, at, count, length-append (decided_of before) (decided_of (e ∷ []))) in
-    let room : length (before ++ e ∷ []) + length es ≤ restored = omega (arith, few, length-append before (e ∷ [])) in
-    let lines : Each (Answered (before ++ e ∷ es)) next.table =
-    lines_step m secret view restored r before e (before ++ e ∷ es) at (among_right e before (e ∷ es) (inl refl)) may all.0 turn table in
-    let later : Each (Answered ((before ++ e ∷ []) ++ es)) (after_batches m next (decided_of es)).table =
-    lines_on m secret view restored next (before ++ e ∷ []) es place room (subst (λ (xs : List LogEntry). Lawful 0 restored xs) (sym whole) lawful) all.1
-    (turn_step secret view restored before e (omega (arith, few)) may all.0 turn) (subst (λ (xs : List LogEntry). Each (Answered xs) next.table) (sym whole) lines) in
-    subst (λ (xs : List LogEntry). Each (Answered xs) (after_batches m r (decided_of (e ∷ es))).table) whole
-    (subst (λ (x : Replica S). Each (Answered ((before ++ e ∷ []) ++ es)) x.table) (after_one m r e es) later)
+    subst (λ (x : Replica S). Each (Answered whole) x.table) (after_one m r e es)
+    (lines_on m next (before ++ e ∷ []) es whole (split ∙ sym (append_assoc before (e ∷ []) es)) turn place (lines_step m r before e es whole split turn at table))
 
-pub lines_of_state : {S : Type 0} (m : Meaning S) (secret : List ℕ) (view : View) (es : List LogEntry) → Lawful 0 (length es) es → Each (λ e. rests secret view e ≡ true) es
-    → Each (Answered es) (state m view (decided_of es)).table
-lines_of_state m secret view es lawful all = lines_on m secret view (length es) (empty m view) [] es refl (omega arith) lawful all refl tt
+pub lines_of_state : {S : Type 0} (m : Meaning S) (view : View) (es : List LogEntry) → DecidesInTurn es → Each (Answered es) (state m view (decided_of es)).table
+lines_of_state m view es turn = lines_on m (empty m view) [] es es refl turn refl tt

@@ -1,7 +1,9 @@
 pub mod Certified
-pub mod Restored
 pub mod InTurn
+pub mod Restored
 pub mod Writes
 pub mod Once
 pub mod GoesOn
+pub mod Turns
+pub mod Lives
 pub mod Stays

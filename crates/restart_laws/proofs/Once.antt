@@ -1,5 +1,5 @@
 -- Lawful entries accept and write once for each slot, and a member that goes on from them does.
-use Rattle.std.proofs.Common.{List, ap, append-nil, append_assoc, arith, not, refl, subst, sym, ℕ, ◌≡◌, ◌++◌, ◌∷◌, []}
+use Rattle.std.proofs.Common.{List, ap, append-nil, append_assoc, arith, not, refl, subst, sym, ℕ, ◌≡◌, ◌++◌, ◌∷◌, [], Bool, suc, take, zero, ◌≤◌}
 use Rattle.std.specs.List.{list_any}
 use Rattle.node_laws.proofs.Lists.{and_true, not_true}
 use Rattle.node_laws.proofs.Reopened.{reopened_is}
@@ -7,7 +7,7 @@ use Rattle.node_rules.specs.Kept.{node_after}
 use Rattle.node_rules.specs.Nodes.{Node}
 use Rattle.node_rules.specs.Reopening.{reopened}
 use Rattle.replica_laws.proofs.Once.{once_accepted, once_after, once_more}
-use Rattle.replica_laws.specs.Books.{AcceptsOnce, WritesOnce}
+use Rattle.replica_laws.specs.Books.{AcceptsOnce, WritesOnce, passing}
 use Rattle.restart_laws.proofs.Writes.{one_more, one_written, written_after}
 use Rattle.smart_base.specs.Views.{View}
 use Rattle.smart_messages.specs.declared.entry.NodeEvent.{NodeEvent}
@@ -23,6 +23,12 @@ use Rattle.vote_book.specs.declared.entry.LogEntry.TheVariants.{Accepted, Decide
 pub book_reopened : {S : Type 0} (m : Meaning S) (secret : List ℕ) (id : ℕ) (view : View) (period : ℕ) (e : LogEntry) (es : List LogEntry)
     → (reopened m secret id view period (e ∷ es)).entries ≡ e ∷ es
 book_reopened {S = S} m secret id view period e es = ap (λ (n : Node S). n.entries) (reopened_is m secret id view period e es)
+
+-- no more pass of a front
+passing_front : {A : Type 0} (p : A → Bool) (k : ℕ) (xs : List A) → passing p (take k xs) ≤ passing p xs
+passing_front p zero xs = omega arith
+passing_front p (suc k) [] = omega arith
+passing_front p (suc k) (x ∷ xs) = let rest = passing_front p k xs in omega (arith, rest)
 
 -- ---- accepts
 
@@ -47,17 +53,22 @@ once_on opening restored before (e ∷ es) lawful once =
     (once_on opening restored (before ++ e ∷ []) es (subst (λ (xs : List LogEntry). Lawful opening restored xs) (sym whole) lawful)
     (once_step opening restored before e (lawful before e es refl) once))
 
-once_reopened : {S : Type 0} (m : Meaning S) (opening restored : ℕ) (secret : List ℕ) (id : ℕ) (view : View) (period : ℕ) (entries : List LogEntry) → Lawful opening restored entries
+pub lawful_once : (opening count : ℕ) (entries : List LogEntry) → Lawful opening count entries → AcceptsOnce entries
+lawful_once opening count entries lawful = once_on opening count [] entries lawful (λ slot. omega arith)
+
+once_reopened : {S : Type 0} (m : Meaning S) (secret : List ℕ) (id : ℕ) (view : View) (period : ℕ) (entries : List LogEntry) → AcceptsOnce entries
     → AcceptsOnce (reopened m secret id view period entries).entries
 unfolding reopened
-once_reopened m opening restored secret id view period [] lawful = λ slot. omega arith
-once_reopened m opening restored secret id view period (e ∷ es) lawful =
-    subst (λ (xs : List LogEntry). AcceptsOnce xs) (sym (book_reopened m secret id view period e es)) (once_on opening restored [] (e ∷ es) lawful (λ slot. omega arith))
+once_reopened m secret id view period [] once = λ slot. omega arith
+once_reopened m secret id view period (e ∷ es) once = subst (λ (xs : List LogEntry). AcceptsOnce xs) (sym (book_reopened m secret id view period e es)) once
 
-pub accepts_once_after : {S : Type 0} (m : Meaning S) (opening restored : ℕ) (secret : List ℕ) (id : ℕ) (view : View) (period : ℕ) (entries : List LogEntry) (events : List NodeEvent)
-    → Lawful opening restored entries → AcceptsOnce (node_after m (reopened m secret id view period entries) events).entries
-accepts_once_after m opening restored secret id view period entries events lawful =
-    once_after m (reopened m secret id view period entries) events (once_reopened m opening restored secret id view period entries lawful)
+pub accepts_once_after : {S : Type 0} (m : Meaning S) (secret : List ℕ) (id : ℕ) (view : View) (period : ℕ) (entries : List LogEntry) (events : List NodeEvent)
+    → AcceptsOnce entries → AcceptsOnce (node_after m (reopened m secret id view period entries) events).entries
+accepts_once_after m secret id view period entries events once =
+    once_after m (reopened m secret id view period entries) events (once_reopened m secret id view period entries once)
+
+pub once_front : (k : ℕ) (entries : List LogEntry) → AcceptsOnce entries → AcceptsOnce (take k entries)
+once_front k entries once slot = omega (arith, passing_front (accepts_in slot) k entries, once slot)
 
 -- ---- writes
 
@@ -82,14 +93,19 @@ written_on opening restored before (e ∷ es) lawful once =
     (written_on opening restored (before ++ e ∷ []) es (subst (λ (xs : List LogEntry). Lawful opening restored xs) (sym whole) lawful)
     (written_step opening restored before e (lawful before e es refl) once))
 
-written_reopened : {S : Type 0} (m : Meaning S) (opening restored : ℕ) (secret : List ℕ) (id : ℕ) (view : View) (period : ℕ) (entries : List LogEntry) → Lawful opening restored entries
+pub lawful_written : (opening count : ℕ) (entries : List LogEntry) → Lawful opening count entries → WritesOnce entries
+lawful_written opening count entries lawful = written_on opening count [] entries lawful (λ slot. omega arith)
+
+written_reopened : {S : Type 0} (m : Meaning S) (secret : List ℕ) (id : ℕ) (view : View) (period : ℕ) (entries : List LogEntry) → WritesOnce entries
     → WritesOnce (reopened m secret id view period entries).entries
 unfolding reopened
-written_reopened m opening restored secret id view period [] lawful = λ slot. omega arith
-written_reopened m opening restored secret id view period (e ∷ es) lawful =
-    subst (λ (xs : List LogEntry). WritesOnce xs) (sym (book_reopened m secret id view period e es)) (written_on opening restored [] (e ∷ es) lawful (λ slot. omega arith))
+written_reopened m secret id view period [] once = λ slot. omega arith
+written_reopened m secret id view period (e ∷ es) once = subst (λ (xs : List LogEntry). WritesOnce xs) (sym (book_reopened m secret id view period e es)) once
 
-pub writes_once_after : {S : Type 0} (m : Meaning S) (opening restored : ℕ) (secret : List ℕ) (id : ℕ) (view : View) (period : ℕ) (entries : List LogEntry) (events : List NodeEvent)
-    → Lawful opening restored entries → WritesOnce (node_after m (reopened m secret id view period entries) events).entries
-writes_once_after m opening restored secret id view period entries events lawful =
-    written_after m (reopened m secret id view period entries) events (written_reopened m opening restored secret id view period entries lawful)
+pub writes_once_after : {S : Type 0} (m : Meaning S) (secret : List ℕ) (id : ℕ) (view : View) (period : ℕ) (entries : List LogEntry) (events : List NodeEvent)
+    → WritesOnce entries → WritesOnce (node_after m (reopened m secret id view period entries) events).entries
+writes_once_after m secret id view period entries events once =
+    written_after m (reopened m secret id view period entries) events (written_reopened m secret id view period entries once)
+
+pub written_front : (k : ℕ) (entries : List LogEntry) → WritesOnce entries → WritesOnce (take k entries)
+written_front k entries once slot = omega (arith, passing_front (writes_in slot) k entries, once slot)

@@ -6,9 +6,10 @@ use Rattle.std.specs.List.{cons_option}
 use Rattle.std.specs.Prelude.{map, ◌↔◌}
 use Rattle.node_laws.proofs.Lists.{each_weaker}
 use Rattle.node_laws.specs.Sound.{IsBegun}
-use Rattle.node_rules.specs.Reopening.{damage_at, damaged, damaged_from, decided_of, entries_in, entry_of, is_opening, may_restore, opens_first, rests}
+use Rattle.node_rules.specs.Reopening.{damage_at, damaged, damaged_from, entries_in, entry_of, is_opening, may_restore, opens_first, rests}
 use Rattle.restart_laws.proofs.Certified.{all_three, certified, each_of_three, resting}
 use Rattle.restart_laws.proofs.InTurn.{decided_in_turn}
+use Rattle.restart_laws.specs.Lives.{DecidesInTurn}
 use Rattle.restart_laws.specs.Restoring.{IsCertified, IsDamage, IsFirstDamage}
 use Rattle.smart_base.specs.Cuts.{IsBytes}
 use Rattle.smart_base.specs.Lists.{Each}
@@ -20,9 +21,7 @@ use Rattle.vote_book.proofs.Tidy.{front_lawful}
 use Rattle.vote_book.specs.Admission.{admits}
 use Rattle.vote_book.specs.Books.{Lawful}
 use Rattle.vote_book.specs.Entries.{FitsEntry, entry_decoded, entry_text}
-use Rattle.vote_book.specs.declared.entry.Decision.{Decision}
 use Rattle.vote_book.specs.declared.entry.LogEntry.{LogEntry}
-use Rattle.vote_book.specs.declared.entry.LogEntry.TheVariants.{Decided}
 
 -- ---- entries that may be restored
 
@@ -207,14 +206,8 @@ back secret view entries fit begins laws all =
     undamaged_by secret view [] entries fit (restores_of secret view (length entries) [] entries (omega arith) begins laws all)
 
 -- they decide one place after the other
-pub in_turn : (secret : List ℕ) (view : View) (restored : List (List ℕ)) (before : List LogEntry) (d : Decision) (after : List LogEntry) → damaged secret view restored ≡ None
-    → entries_in restored ≡ before ++ Decided d ∷ after → d.slot.place ≡ length (decided_of before) + 1
-in_turn secret view restored before d after none split =
-    let laws : Lawful 0 (length (before ++ Decided d ∷ after)) (before ++ Decided d ∷ after) =
-    subst (λ (xs : List LogEntry). Lawful 0 (length xs) xs) split (lawful_entries secret view restored none) in
-    let all : Each (λ (e : LogEntry). rests secret view e ≡ true) (before ++ Decided d ∷ after) =
-    subst (λ (xs : List LogEntry). Each (λ (e : LogEntry). rests secret view e ≡ true) xs) split (rest secret view restored none) in
-    decided_in_turn secret view (length (before ++ Decided d ∷ after)) before d after (omega arith) laws all
+pub in_turn : (secret : List ℕ) (view : View) (restored : List (List ℕ)) → damaged secret view restored ≡ None → DecidesInTurn (entries_in restored)
+in_turn secret view restored none = decided_in_turn secret view (entries_in restored) (lawful_entries secret view restored none) (rest secret view restored none)
 
 -- ---- the first damage
 

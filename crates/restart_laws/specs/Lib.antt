@@ -1,2 +1,3 @@
+pub mod Lives
 pub mod Restoring
 pub mod Staying

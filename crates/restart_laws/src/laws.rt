@@ -1,19 +1,18 @@
 //! The laws of members that go on after a crash.
-ghost use Rattle.std.specs.Prelude.{◌≡◌, ◌≤◌, ◌↔◌, ◌⊎◌, ℕ, ◌+◌, ◌-◌, true, List, [], ◌∷◌, ◌++◌, length, map, take, None, Some, Ok};
+ghost use Rattle.std.specs.Prelude.{◌≡◌, ◌≤◌, ◌↔◌, ◌⊎◌, ℕ, ◌-◌, true, List, [], length, map, take, None, Some, Ok};
 ghost use Rattle.smart_base.specs.Cuts.{IsBytes};
 ghost use Rattle.smart_base.specs.Lists.{Each};
 ghost use Rattle.smart_base.specs.Views.{View};
 ghost use Rattle.smart_messages.specs.declared.entry.NodeEvent.{NodeEvent};
 ghost use Rattle.vote_book.specs.Books.{Lawful};
 ghost use Rattle.vote_book.specs.Entries.{entry_text, entry_decoded, FitsEntry};
-ghost use Rattle.vote_book.specs.declared.entry.Decision.{Decision};
 ghost use Rattle.vote_book.specs.declared.entry.LogEntry.{LogEntry};
-ghost use Rattle.vote_book.specs.declared.entry.LogEntry.TheVariants.{Decided};
 ghost use Rattle.node_rules.specs.Kept.{node_after};
-ghost use Rattle.node_rules.specs.Reopening.{damaged, decided_of, entries_in, reopened, rests};
+ghost use Rattle.node_rules.specs.Reopening.{damaged, entries_in, reopened, rests};
 ghost use Rattle.node_laws.specs.Sound.{IsBegun};
 ghost use Rattle.replica_laws.specs.Books.{AcceptsOnce, DeliversInOrder, WritesOnce};
 ghost use Rattle.replica_laws.specs.Sending.{HoldsOwn, LeavesFirm};
+ghost use Rattle.restart_laws.specs.Lives.{DecidesInTurn, Life, lives_on};
 ghost use Rattle.restart_laws.specs.Restoring.{IsCertified, IsFirstDamage};
 ghost use Rattle.restart_laws.specs.Staying.{Stays};
 
@@ -43,8 +42,8 @@ pub fn what_is_undamaged_is_lawful()
     ensures certified { (secret : List ℕ) (view : View) (restored : List (List ℕ)) → damaged secret view restored ≡ None →
         Each (IsCertified secret view) (entries_in restored) }
     ensures exact { (secret : List ℕ) (view : View) (e : LogEntry) → (rests secret view e ≡ true) ↔ IsCertified secret view e }
-    ensures turn { (secret : List ℕ) (view : View) (restored : List (List ℕ)) (before : List LogEntry) (d : Decision) (after : List LogEntry) → damaged secret view restored ≡ None →
-        entries_in restored ≡ before ++ Decided d ∷ after → d.slot.place ≡ length (decided_of before) + 1 }
+    ensures turn { (secret : List ℕ) (view : View) (restored : List (List ℕ)) → damaged secret view restored ≡ None →
+        DecidesInTurn (entries_in restored) }
     ensures back { (secret : List ℕ) (view : View) (entries : List LogEntry) → Each FitsEntry entries → (entries ≡ []) ⊎ IsBegun entries → Lawful 0 (length entries) entries →
         Each (λ e. rests secret view e ≡ true) entries → damaged secret view (map entry_text entries) ≡ None }
     ensures first { (secret : List ℕ) (view : View) (restored : List (List ℕ)) (number : ℕ) →
@@ -60,46 +59,59 @@ pub fn what_was_restored_stays<S: Service>()
         Stays entries (node_after S.meaning (reopened S.meaning secret id view period entries) events) }
 {}
 
-/// A member accepts at most one batch for a slot, over what was restored and what comes behind it:
-/// whatever comes, in whatever order, to the node that goes on from lawful entries (`lawful`), as what
-/// was restored and is not damaged are (`undamaged`).
+/// A member that goes on from entries with at most one accept for a slot, as lawful entries are
+/// (`lawful`) and what was restored and is not damaged (`undamaged`), accepts at most one batch for a
+/// slot, those entries and what comes behind them taken together: in all its lives, whatever comes in
+/// each, and whichever front of its book each leaves (`lives`).
 pub fn a_member_accepts_once_over_its_lives<S: Service>()
-    ensures lawful { (opening count : ℕ) (secret : List ℕ) (id : ℕ) (view : View) (period : ℕ) (entries : List LogEntry) (events : List NodeEvent) → Lawful opening count entries →
-        AcceptsOnce (node_after S.meaning (reopened S.meaning secret id view period entries) events).entries }
-    ensures undamaged { (secret : List ℕ) (id : ℕ) (view : View) (period : ℕ) (restored : List (List ℕ)) (events : List NodeEvent) → damaged secret view restored ≡ None →
-        AcceptsOnce (node_after S.meaning (reopened S.meaning secret id view period (entries_in restored)) events).entries }
+    ensures lawful { (opening count : ℕ) (entries : List LogEntry) → Lawful opening count entries → AcceptsOnce entries }
+    ensures lives { (secret : List ℕ) (id : ℕ) (view : View) (period : ℕ) (entries : List LogEntry) (lives : List Life) (events : List NodeEvent) → AcceptsOnce entries →
+        AcceptsOnce (lives_on S.meaning secret id view period entries lives events).entries }
+    ensures undamaged { (secret : List ℕ) (id : ℕ) (view : View) (period : ℕ) (restored : List (List ℕ)) (lives : List Life) (events : List NodeEvent) → damaged secret view restored ≡ None →
+        AcceptsOnce (lives_on S.meaning secret id view period (entries_in restored) lives events).entries }
 {}
 
-/// A member writes for at most one batch in a slot, over what was restored and what comes behind it.
+/// The same of the batches for which a member writes.
 pub fn a_member_writes_once_over_its_lives<S: Service>()
-    ensures lawful { (opening count : ℕ) (secret : List ℕ) (id : ℕ) (view : View) (period : ℕ) (entries : List LogEntry) (events : List NodeEvent) → Lawful opening count entries →
-        WritesOnce (node_after S.meaning (reopened S.meaning secret id view period entries) events).entries }
-    ensures undamaged { (secret : List ℕ) (id : ℕ) (view : View) (period : ℕ) (restored : List (List ℕ)) (events : List NodeEvent) → damaged secret view restored ≡ None →
-        WritesOnce (node_after S.meaning (reopened S.meaning secret id view period (entries_in restored)) events).entries }
+    ensures lawful { (opening count : ℕ) (entries : List LogEntry) → Lawful opening count entries → WritesOnce entries }
+    ensures lives { (secret : List ℕ) (id : ℕ) (view : View) (period : ℕ) (entries : List LogEntry) (lives : List Life) (events : List NodeEvent) → WritesOnce entries →
+        WritesOnce (lives_on S.meaning secret id view period entries lives events).entries }
+    ensures undamaged { (secret : List ℕ) (id : ℕ) (view : View) (period : ℕ) (restored : List (List ℕ)) (lives : List Life) (events : List NodeEvent) → damaged secret view restored ≡ None →
+        WritesOnce (lives_on S.meaning secret id view period (entries_in restored) lives events).entries }
 {}
 
-/// Whatever entries a member goes on from, and whatever comes behind them, its replica is the state
-/// after its decided batches in order, those that were restored first, but for the last where it waits.
+/// Whatever entries a member goes on from, in all its lives and whatever comes in each, its replica is the
+/// state after its decided batches in order, those that were restored first, but for the last where it
+/// waits.
 pub fn a_member_delivers_in_order_over_its_lives<S: Service>()
-    ensures { (secret : List ℕ) (id : ℕ) (view : View) (period : ℕ) (entries : List LogEntry) (events : List NodeEvent) →
-        DeliversInOrder S.meaning view (node_after S.meaning (reopened S.meaning secret id view period entries) events) }
+    ensures { (secret : List ℕ) (id : ℕ) (view : View) (period : ℕ) (entries : List LogEntry) (lives : List Life) (events : List NodeEvent) →
+        DeliversInOrder S.meaning view (lives_on S.meaning secret id view period entries lives events) }
 {}
 
-/// Votes, reports and replies leave a member that goes on only when the entries that they rest on are
-/// firm: whatever comes to the node that goes on from lawful entries, each of which has what it rests on
-/// (`lawful`), as what was restored and is not damaged are (`undamaged`).
+/// A member that goes on from entries that decide one place after the other, as what was restored and is
+/// not damaged does (`undamaged`), decides so in all its lives, whatever comes in each (`lives`).
+pub fn a_member_decides_in_turn_over_its_lives<S: Service>()
+    ensures lives { (secret : List ℕ) (id : ℕ) (view : View) (period : ℕ) (entries : List LogEntry) (lives : List Life) (events : List NodeEvent) → DecidesInTurn entries →
+        DecidesInTurn (lives_on S.meaning secret id view period entries lives events).entries }
+    ensures undamaged { (secret : List ℕ) (id : ℕ) (view : View) (period : ℕ) (restored : List (List ℕ)) (lives : List Life) (events : List NodeEvent) → damaged secret view restored ≡ None →
+        DecidesInTurn (lives_on S.meaning secret id view period (entries_in restored) lives events).entries }
+{}
+
+/// Votes, reports and replies leave a member only when the entries that they rest on are firm: in all
+/// its lives, whatever comes in each, where it goes on from entries that decide one place after the other
+/// (`lives`), as what was restored and is not damaged does (`undamaged`).
 pub fn votes_leave_when_firm_over_all_lives<S: Service>()
-    ensures lawful { (secret : List ℕ) (id : ℕ) (view : View) (period : ℕ) (entries : List LogEntry) (events : List NodeEvent) → Lawful 0 (length entries) entries →
-        Each (λ e. rests secret view e ≡ true) entries → LeavesFirm (node_after S.meaning (reopened S.meaning secret id view period entries) events) }
-    ensures undamaged { (secret : List ℕ) (id : ℕ) (view : View) (period : ℕ) (restored : List (List ℕ)) (events : List NodeEvent) → damaged secret view restored ≡ None →
-        LeavesFirm (node_after S.meaning (reopened S.meaning secret id view period (entries_in restored)) events) }
+    ensures lives { (secret : List ℕ) (id : ℕ) (view : View) (period : ℕ) (entries : List LogEntry) (lives : List Life) (events : List NodeEvent) → DecidesInTurn entries →
+        LeavesFirm (lives_on S.meaning secret id view period entries lives events) }
+    ensures undamaged { (secret : List ℕ) (id : ℕ) (view : View) (period : ℕ) (restored : List (List ℕ)) (lives : List Life) (events : List NodeEvent) → damaged secret view restored ≡ None →
+        LeavesFirm (lives_on S.meaning secret id view period (entries_in restored) lives events) }
 {}
 
-/// Each message that a member holds which goes on names it as its signer, but for a client's request
-/// that it passes on to one member.
+/// Each message that such a member holds names it as its signer, but for a client's request that it passes
+/// on to one member. A reply goes to the client that it names, and a report to one member.
 pub fn a_member_holds_its_own_over_its_lives<S: Service>()
-    ensures lawful { (secret : List ℕ) (id : ℕ) (view : View) (period : ℕ) (entries : List LogEntry) (events : List NodeEvent) → Lawful 0 (length entries) entries →
-        Each (λ e. rests secret view e ≡ true) entries → HoldsOwn id (node_after S.meaning (reopened S.meaning secret id view period entries) events) }
-    ensures undamaged { (secret : List ℕ) (id : ℕ) (view : View) (period : ℕ) (restored : List (List ℕ)) (events : List NodeEvent) → damaged secret view restored ≡ None →
-        HoldsOwn id (node_after S.meaning (reopened S.meaning secret id view period (entries_in restored)) events) }
+    ensures lives { (secret : List ℕ) (id : ℕ) (view : View) (period : ℕ) (entries : List LogEntry) (lives : List Life) (events : List NodeEvent) → DecidesInTurn entries →
+        HoldsOwn id (lives_on S.meaning secret id view period entries lives events) }
+    ensures undamaged { (secret : List ℕ) (id : ℕ) (view : View) (period : ℕ) (restored : List (List ℕ)) (lives : List Life) (events : List NodeEvent) → damaged secret view restored ≡ None →
+        HoldsOwn id (lives_on S.meaning secret id view period (entries_in restored) lives events) }
 {}

@@ -1,13 +1,16 @@
 use Rattle.std.proofs.Common.{length}
 use Rattle.node_rules.specs.Reopening.{entries_in}
-use Rattle.restart_laws.proofs.Once.{accepts_once_after}
+use Rattle.restart_laws.proofs.Lives.{accepts_once_on}
+use Rattle.restart_laws.proofs.Once.{lawful_once}
 use Rattle.restart_laws.proofs.Restored.{lawful}
 use Rattle.restart_laws.proofs.laws.a_member_accepts_once_over_its_lives.Goals as goal
 
 pub returns-clause-lawful : goal.returns-clause-lawful
-returns-clause-lawful g c = λ opening count secret id view period entries events laws.
-    accepts_once_after g.S.Service.meaning opening count secret id view period entries events laws
+returns-clause-lawful g c = λ opening count entries laws. lawful_once opening count entries laws
+
+pub returns-clause-lives : goal.returns-clause-lives
+returns-clause-lives g c = λ secret id view period entries lives events once. accepts_once_on g.S.Service.meaning secret id view period entries lives events once
 
 pub returns-clause-undamaged : goal.returns-clause-undamaged
-returns-clause-undamaged g c = λ secret id view period restored events none.
-    accepts_once_after g.S.Service.meaning 0 (length restored) secret id view period (entries_in restored) events (lawful secret view restored none)
+returns-clause-undamaged g c = λ secret id view period restored lives events none.
+    accepts_once_on g.S.Service.meaning secret id view period (entries_in restored) lives events (lawful_once 0 (length restored) (entries_in restored) (lawful secret view restored none))

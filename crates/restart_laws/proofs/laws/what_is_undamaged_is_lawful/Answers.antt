@@ -36,4 +36,4 @@ pub returns-clause-within : goal.returns-clause-within
 returns-clause-within c = λ secret view restored number some. within secret view restored number some
 
 pub returns-clause-turn : goal.returns-clause-turn
-returns-clause-turn c = λ secret view restored before d after none split. in_turn secret view restored before d after none split
+returns-clause-turn c = λ secret view restored none. in_turn secret view restored none
