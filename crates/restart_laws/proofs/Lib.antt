@@ -7,3 +7,4 @@ pub mod GoesOn
 pub mod Turns
 pub mod Lives
 pub mod Stays
+pub mod Votes

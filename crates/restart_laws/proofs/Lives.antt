@@ -7,7 +7,7 @@ use Rattle.replica_laws.specs.Sending.{HoldsOwn, LeavesFirm}
 use Rattle.restart_laws.proofs.GoesOn.{holds_own_after, leaves_firm_after}
 use Rattle.restart_laws.proofs.Once.{accepts_once_after, once_front, writes_once_after, written_front}
 use Rattle.restart_laws.proofs.Turns.{turn_front, turns_after}
-use Rattle.restart_laws.specs.Lives.{DecidesInTurn, Life, left_by, lives_on}
+use Rattle.restart_laws.specs.Lives.{DecidesInTurn, IsOrderly, Life, left_by, lives_on}
 use Rattle.smart_base.specs.Views.{View}
 use Rattle.smart_messages.specs.declared.entry.NodeEvent.{NodeEvent}
 use Rattle.smart_service.specs.Services.{Meaning}
@@ -56,3 +56,12 @@ pub holds_own_on : {S : Type 0} (m : Meaning S) (secret : List ℕ) (id : ℕ) (
     → DecidesInTurn entries → HoldsOwn id (lives_on m secret id view period entries lives events)
 holds_own_on m secret id view period entries lives events turn =
     holds_own_after m secret id view period (left_by m secret id view period entries lives) events (turns_on m secret id view period entries lives turn)
+
+-- what was restored and is orderly goes on so
+pub orderly_on : {S : Type 0} (m : Meaning S) (secret : List ℕ) (id : ℕ) (view : View) (period : ℕ) (entries : List LogEntry) (lives : List Life) (events : List NodeEvent)
+    → IsOrderly entries → IsOrderly (lives_on m secret id view period entries lives events).entries
+orderly_on m secret id view period entries lives events is = record {
+  accepts = accepts_once_on m secret id view period entries lives events is.accepts;
+  writes = writes_once_on m secret id view period entries lives events is.writes;
+  turn = decides_in_turn_on m secret id view period entries lives events is.turn;
+}

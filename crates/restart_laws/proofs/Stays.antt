@@ -14,7 +14,7 @@ use Rattle.replica_laws.proofs.Again.{entries-answers_again, entries-noted}
 use Rattle.replica_laws.proofs.Leaves.{Leaves, leaves-accepts, leaves-adopts, leaves-answers_again, leaves-joins, leaves-kept, leaves-leads, leaves-noted, leaves-promises, leaves-proposes, leaves-times, leaves-writes}
 use Rattle.replica_laws.proofs.Lists.{either}
 use Rattle.replica_laws.proofs.Once.{entries-delivers, entries-joins, entries-kept, entries-leads, entries-proposes, entries-times, entries_adopted}
-use Rattle.replica_laws.proofs.Rulewise.{KeptByRules, KeptInSteps, free-read, keeps_passes, keeps_reading}
+use Rattle.replica_laws.proofs.Rulewise.{KeptByRules, KeptInSteps, free-event, free-read, keeps_passes, keeps_reading, keeps_step}
 use Rattle.replica_rules.specs.Pools.{settled}
 use Rattle.replica_rules.specs.Replicas.{delivered}
 use Rattle.restart_laws.specs.Staying.{Stays}
@@ -77,6 +77,35 @@ front-decide_batch es n (Some d) is = front_more es n.entries (Decided d ∷ [])
 front-decides : {S : Type 0} (es : List LogEntry) (n : Node S) → IsFront es n.entries → IsFront es (decides n).entries
 unfolding decides
 front-decides es n is = front-decide_batch es n (deciding n) is
+
+front-rules : {S : Type 0} (es : List LogEntry) → KeptByRules {S = S} (λ n. IsFront es n.entries)
+front-rules es = record {
+  by_adopts = λ n is. front-adopts es n is;
+  by_joins = λ n is. front_as es n.entries (joins n).entries (entries-joins n) is;
+  by_promises = λ n is. front-promises es n is;
+  by_leads = λ n is. front_as es n.entries (leads n).entries (entries-leads n) is;
+  by_proposes = λ n is. front_as es n.entries (proposes n).entries (entries-proposes n) is;
+  by_writes = λ n is. front-writes es n is;
+  by_accepts = λ n is. front-accepts es n is;
+  by_decides = λ n is. front-decides es n is;
+}
+
+front-in_steps : {S : Type 0} (m : Meaning S) (es : List LogEntry) → KeptInSteps m (λ n. IsFront es n.entries) (λ message. Unit {0})
+front-in_steps m es = record {
+  by_rules = front-rules es;
+  by_times = λ n is. front_as es n.entries (times n).entries (entries-times n) is;
+  by_answers = λ n message is. front_as es n.entries (answers_again n message).entries (entries-answers_again n message) is;
+  by_noted = λ n message is. front_as es n.entries (noted n message).entries (entries-noted n message) is;
+  by_kept = λ n message fine may is. front_as es n.entries (kept n message).entries (entries-kept n message) is;
+  by_delivers = λ n is. front_as es n.entries (delivers m n).entries (entries-delivers m n) is;
+}
+
+-- a book only grows
+pub front_after : {S : Type 0} (m : Meaning S) (es : List LogEntry) (n : Node S) (events : List NodeEvent) → IsFront es n.entries → IsFront es (node_after m n events).entries
+front_after m es n [] is = is
+front_after m es n (e ∷ events) is =
+    front_after m es (step_of m n e).node events
+    (keeps_step m (λ x. IsFront es x.entries) (λ message. Unit {0}) n e (front-in_steps m es) (λ x count was. was) (free-event e) is)
 
 -- ---- what was restored, and is firm
 

@@ -1,9 +1,11 @@
 //! The laws of members that go on after a crash.
-ghost use Rattle.std.specs.Prelude.{◌≡◌, ◌≤◌, ◌↔◌, ◌⊎◌, ℕ, ◌-◌, true, List, [], length, map, take, None, Some, Ok};
+ghost use Rattle.std.specs.Prelude.{◌≡◌, ◌≤◌, ◌↔◌, ◌⊎◌, ℕ, ◌-◌, true, List, [], ◌∷◌, ◌++◌, length, map, take, None, Some, Ok};
 ghost use Rattle.smart_base.specs.Cuts.{IsBytes};
 ghost use Rattle.smart_base.specs.Lists.{Each};
 ghost use Rattle.smart_base.specs.Views.{View};
+ghost use Rattle.smart_messages.specs.Forms.{SignedBy};
 ghost use Rattle.smart_messages.specs.declared.entry.NodeEvent.{NodeEvent};
+ghost use Rattle.smart_messages.specs.declared.statement.Ballot.{Ballot};
 ghost use Rattle.vote_book.specs.Books.{Lawful};
 ghost use Rattle.vote_book.specs.Entries.{entry_text, entry_decoded, FitsEntry};
 ghost use Rattle.vote_book.specs.declared.entry.LogEntry.{LogEntry};
@@ -12,7 +14,7 @@ ghost use Rattle.node_rules.specs.Reopening.{damaged, entries_in, reopened, rest
 ghost use Rattle.node_laws.specs.Sound.{IsBegun};
 ghost use Rattle.replica_laws.specs.Books.{AcceptsOnce, DeliversInOrder, WritesOnce};
 ghost use Rattle.replica_laws.specs.Sending.{HoldsOwn, LeavesFirm};
-ghost use Rattle.restart_laws.specs.Lives.{DecidesInTurn, Life, lives_on};
+ghost use Rattle.restart_laws.specs.Lives.{Agree, AllKeepFirm, DecidesInTurn, IsOrderly, LetsGo, Life, left_by, lives_on};
 ghost use Rattle.restart_laws.specs.Restoring.{IsCertified, IsFirstDamage};
 ghost use Rattle.restart_laws.specs.Staying.{Stays};
 
@@ -114,4 +116,19 @@ pub fn a_member_holds_its_own_over_its_lives<S: Service>()
         HoldsOwn id (lives_on S.meaning secret id view period entries lives events) }
     ensures undamaged { (secret : List ℕ) (id : ℕ) (view : View) (period : ℕ) (restored : List (List ℕ)) (lives : List Life) (events : List NodeEvent) → damaged secret view restored ≡ None →
         HoldsOwn id (lives_on S.meaning secret id view period (entries_in restored) lives events) }
+{}
+
+/// A member stands by each vote that has left it: another of the same kind in the same slot, which leaves
+/// it later in that life (`life`) or in a later one (`lives`), is for the same batch. That is so over all
+/// its lives from entries that are orderly, as what was restored and is not damaged is (`undamaged`), where
+/// each life, from the one in which the first vote left on, leaves as many entries as ever were firm in it.
+pub fn a_member_stands_by_its_votes<S: Service>()
+    ensures undamaged { (secret : List ℕ) (view : View) (restored : List (List ℕ)) → damaged secret view restored ≡ None → IsOrderly (entries_in restored) }
+    ensures life { (secret : List ℕ) (id : ℕ) (view : View) (period : ℕ) (entries : List LogEntry) (lives : List Life) (events more : List NodeEvent) (a b : SignedBy Ballot) →
+        IsOrderly entries → LetsGo (lives_on S.meaning secret id view period entries lives events) a → LetsGo (lives_on S.meaning secret id view period entries lives (events ++ more)) b → Agree a b }
+    ensures lives { (secret : List ℕ) (id : ℕ) (view : View) (period : ℕ) (entries : List LogEntry) (lives : List Life) (events more : List NodeEvent) (kept : ℕ) (later : List Life)
+        (last : List NodeEvent) (a b : SignedBy Ballot) → IsOrderly entries →
+        AllKeepFirm S.meaning secret id view period (left_by S.meaning secret id view period entries lives) (record { events = events ++ more; kept = kept } ∷ later) →
+        LetsGo (lives_on S.meaning secret id view period entries lives events) a →
+        LetsGo (lives_on S.meaning secret id view period entries (lives ++ record { events = events ++ more; kept = kept } ∷ later) last) b → Agree a b }
 {}
