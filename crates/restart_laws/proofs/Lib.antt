@@ -8,3 +8,4 @@ pub mod Turns
 pub mod Lives
 pub mod Stays
 pub mod Votes
+pub mod AlwaysGoes

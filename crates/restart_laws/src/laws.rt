@@ -1,9 +1,10 @@
 //! The laws of members that go on after a crash.
-ghost use Rattle.std.specs.Prelude.{◌≡◌, ◌≤◌, ◌↔◌, ◌⊎◌, ℕ, ◌-◌, true, List, [], ◌∷◌, ◌++◌, length, map, take, None, Some, Ok};
+ghost use Rattle.std.specs.Prelude.{◌≡◌, ◌<◌, ◌≤◌, ◌↔◌, ◌⊎◌, ℕ, ◌-◌, ◌^◌, true, List, [], ◌∷◌, ◌++◌, length, map, take, None, Some, Ok};
 ghost use Rattle.smart_base.specs.Cuts.{IsBytes};
 ghost use Rattle.smart_base.specs.Lists.{Each};
-ghost use Rattle.smart_base.specs.Views.{View};
+ghost use Rattle.smart_base.specs.Views.{View, is_view};
 ghost use Rattle.smart_messages.specs.Forms.{SignedBy};
+ghost use Rattle.smart_messages.specs.Spelling.{IsSigner};
 ghost use Rattle.smart_messages.specs.declared.entry.NodeEvent.{NodeEvent};
 ghost use Rattle.smart_messages.specs.declared.statement.Ballot.{Ballot};
 ghost use Rattle.vote_book.specs.Books.{Lawful};
@@ -13,7 +14,7 @@ ghost use Rattle.node_rules.specs.Kept.{node_after};
 ghost use Rattle.node_rules.specs.Reopening.{damaged, entries_in, reopened, rests};
 ghost use Rattle.node_laws.specs.Sound.{IsBegun};
 ghost use Rattle.replica_laws.specs.Books.{AcceptsOnce, DeliversInOrder, WritesOnce};
-ghost use Rattle.replica_laws.specs.Sending.{HoldsOwn, LeavesFirm};
+ghost use Rattle.replica_laws.specs.Sending.{HoldsGenuine, HoldsOwn, IsByteEvent, LeavesFirm};
 ghost use Rattle.restart_laws.specs.Lives.{Agree, AllKeepFirm, DecidesInTurn, IsOrderly, LetsGo, Life, left_by, lives_on};
 ghost use Rattle.restart_laws.specs.Restoring.{IsCertified, IsFirstDamage};
 ghost use Rattle.restart_laws.specs.Staying.{Stays};
@@ -131,4 +132,19 @@ pub fn a_member_stands_by_its_votes<S: Service>()
         AllKeepFirm S.meaning secret id view period (left_by S.meaning secret id view period entries lives) (record { events = events ++ more; kept = kept } ∷ later) →
         LetsGo (lives_on S.meaning secret id view period entries lives events) a →
         LetsGo (lives_on S.meaning secret id view period entries (lives ++ record { events = events ++ more; kept = kept } ∷ later) last) b → Agree a b }
+{}
+
+/// A member that began with nothing can always go on: whatever bytes come to it in however many lives,
+/// and whichever front of its book each of them leaves, the entries left have spellings (`spelled`), which
+/// are read as these entries again (`read`), and none of which is damaged (`undamaged`). Each message that
+/// it holds, in whichever life, is read from its bytes and bears its signer's tag (`genuine`).
+pub fn a_member_can_always_go_on<S: Service>()
+    ensures spelled { (secret : List ℕ) (id : ℕ) (view : View) (period : ℕ) (lives : List Life) → IsSigner 1 id → is_view view ≡ true → period < 2 ^ 32 →
+        Each (λ l. Each IsByteEvent l.events) lives → Each FitsEntry (left_by S.meaning secret id view period [] lives) }
+    ensures undamaged { (secret : List ℕ) (id : ℕ) (view : View) (period : ℕ) (lives : List Life) → IsSigner 1 id → is_view view ≡ true → period < 2 ^ 32 →
+        Each (λ l. Each IsByteEvent l.events) lives → damaged secret view (map entry_text (left_by S.meaning secret id view period [] lives)) ≡ None }
+    ensures read { (secret : List ℕ) (id : ℕ) (view : View) (period : ℕ) (lives : List Life) → IsSigner 1 id → is_view view ≡ true → period < 2 ^ 32 →
+        Each (λ l. Each IsByteEvent l.events) lives → entries_in (map entry_text (left_by S.meaning secret id view period [] lives)) ≡ left_by S.meaning secret id view period [] lives }
+    ensures genuine { (secret : List ℕ) (id : ℕ) (view : View) (period : ℕ) (lives : List Life) (events : List NodeEvent) → IsSigner 1 id → is_view view ≡ true → period < 2 ^ 32 →
+        Each (λ l. Each IsByteEvent l.events) lives → Each IsByteEvent events → HoldsGenuine (lives_on S.meaning secret id view period [] lives events) }
 {}
