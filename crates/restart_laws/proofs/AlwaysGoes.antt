@@ -254,7 +254,7 @@ leaves secret view stated n k is = record {
 -- ---- all lives
 
 -- bytes come
-abbrev pub AllBytes : List Life → Type 0
+abbrev AllBytes : List Life → Type 0
 AllBytes lives = Each (λ (l : Life). Each IsByteEvent l.events) lives
 
 all_left : {S : Type 0} (secret : List ℕ) (m : Meaning S) → IsBrief m → (id : ℕ) (view : View) (period : ℕ) (entries : List LogEntry) (lives : List Life) → IsSigner 1 id

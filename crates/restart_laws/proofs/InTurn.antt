@@ -63,11 +63,11 @@ decided_some secret view d rest =
 -- ---- one place after the other
 
 -- the latest place that is made, by how many batches are decided
-abbrev pub TurnAt : Option ℕ → ℕ → Type 0
+abbrev TurnAt : Option ℕ → ℕ → Type 0
 TurnAt None count = count ≡ 0
 TurnAt (Some latest) count = latest ≡ count
 
-abbrev pub InTurn : List LogEntry → Type 0
+abbrev InTurn : List LogEntry → Type 0
 InTurn es = TurnAt (latest_made es) (length (decided_of es))
 
 turn_next : (latest : Option ℕ) (count place : ℕ) → Follows 0 latest place → TurnAt latest count → 0 < place → place ≡ count + 1

@@ -20,7 +20,7 @@ use Rattle.vote_book.specs.declared.entry.LogEntry.TheVariants.{Accepted, Decide
 
 -- ---- the book of a node that goes on
 
-pub book_reopened : {S : Type 0} (m : Meaning S) (secret : List ℕ) (id : ℕ) (view : View) (period : ℕ) (e : LogEntry) (es : List LogEntry)
+book_reopened : {S : Type 0} (m : Meaning S) (secret : List ℕ) (id : ℕ) (view : View) (period : ℕ) (e : LogEntry) (es : List LogEntry)
     → (reopened m secret id view period (e ∷ es)).entries ≡ e ∷ es
 book_reopened {S = S} m secret id view period e es = ap (λ (n : Node S). n.entries) (reopened_is m secret id view period e es)
 

@@ -26,7 +26,7 @@ use Rattle.vote_book.specs.declared.entry.LogEntry.{LogEntry}
 -- ---- entries that may be restored
 
 -- entries may be restored one behind the other
-abbrev pub Restores : List ℕ → View → List LogEntry → List LogEntry → Type 0
+abbrev Restores : List ℕ → View → List LogEntry → List LogEntry → Type 0
 Restores secret view before [] = Unit {0}
 Restores secret view before (e ∷ es) = (may_restore secret view before e ≡ true) × Restores secret view (before ++ e ∷ []) es
 
@@ -170,7 +170,7 @@ pub decoded : (secret : List ℕ) (view : View) (restored : List (List ℕ)) →
     → map entry_decoded restored ≡ map (λ (e : LogEntry). Ok e) (entries_in restored)
 decoded secret view restored none = (undamaged_is secret view [] restored none).decoded
 
-pub counted : (secret : List ℕ) (view : View) (restored : List (List ℕ)) → damaged secret view restored ≡ None → length (entries_in restored) ≡ length restored
+counted : (secret : List ℕ) (view : View) (restored : List (List ℕ)) → damaged secret view restored ≡ None → length (entries_in restored) ≡ length restored
 counted secret view restored none = count_read restored (entries_in restored) (decoded secret view restored none)
 
 pub read : (secret : List ℕ) (view : View) (restored : List (List ℕ)) → Each IsBytes restored → damaged secret view restored ≡ None
@@ -184,7 +184,7 @@ pub begun : (secret : List ℕ) (view : View) (restored : List (List ℕ)) → d
     → (entries_in restored ≡ []) ⊎ IsBegun (entries_in restored)
 begun secret view restored none = begun_on secret view (entries_in restored) (undamaged_is secret view [] restored none).all
 
-pub lawful_entries : (secret : List ℕ) (view : View) (restored : List (List ℕ)) → damaged secret view restored ≡ None
+lawful_entries : (secret : List ℕ) (view : View) (restored : List (List ℕ)) → damaged secret view restored ≡ None
     → Lawful 0 (length (entries_in restored)) (entries_in restored)
 lawful_entries secret view restored none =
     lawful_on secret view [] (entries_in restored) (none_lawful 0 0) (undamaged_is secret view [] restored none).all
@@ -304,7 +304,7 @@ damage_from secret view before [] number some = absurd (cc)
 damage_from secret view before (bytes ∷ rest) number some =
     damage_by secret view before bytes rest number (entry_decoded bytes) refl (λ e later. damage_from secret view (before ++ e ∷ []) rest number later) some
 
-pub first_damage : (secret : List ℕ) (view : View) (restored : List (List ℕ)) (number : ℕ) → damaged secret view restored ≡ Some number → IsFirstDamage secret view restored number
+first_damage : (secret : List ℕ) (view : View) (restored : List (List ℕ)) (number : ℕ) → damaged secret view restored ≡ Some number → IsFirstDamage secret view restored number
 first_damage secret view restored number some =
     let d = damage_from secret view [] restored number some in
     record { front = d.front; bytes = d.bytes; behind = d.behind; split = d.split; numbered = omega (arith, d.numbered); undamaged = d.undamaged; damage = d.damage }

@@ -34,7 +34,7 @@ use Rattle.vote_book.specs.declared.entry.LogEntry.TheVariants.{Accepted, Decide
 turn_as : (xs ys : List LogEntry) → ys ≡ xs → DecidesInTurn xs → DecidesInTurn ys
 turn_as xs ys same turn before d after split = turn before d after (sym same ∙ split)
 
-pub turn_none : DecidesInTurn []
+turn_none : DecidesInTurn []
 turn_none [] d after split = absurd (cc)
 turn_none (x ∷ xs) d after split = absurd (cc)
 
@@ -63,7 +63,7 @@ turn_front k es turn before d after split =
 -- ---- nodes
 
 -- a node that delivers in order, and has decided in turn
-record InTurn {S : Type 0} (m : Meaning S) (view : View) (n : Node S) : Type 0 where
+record IsTurning {S : Type 0} (m : Meaning S) (view : View) (n : Node S) : Type 0 where
   pub order : DeliversInOrder m view n
   pub turn : DecidesInTurn n.entries
 
@@ -98,7 +98,7 @@ turn-accepts n turn = turn-accept_batch n (accepting n) turn
 
 -- a batch is decided at the next place, where none waits
 turn-decide_batch : {S : Type 0} (m : Meaning S) (view : View) (n : Node S) (d : Option Decision) → (is_some d ≡ true → n.waiting ≡ None)
-    → IfSome d (λ (x : Decision). x.slot.place ≡ next_place n) → InTurn m view n → DecidesInTurn (decide_batch n d).entries
+    → IfSome d (λ (x : Decision). x.slot.place ≡ next_place n) → IsTurning m view n → DecidesInTurn (decide_batch n d).entries
 unfolding decide_batch
 turn-decide_batch m view n None free at is = is.turn
 turn-decide_batch m view n (Some d) free at is =
@@ -109,7 +109,7 @@ decides_where_free : {S : Type 0} (n : Node S) → is_some (deciding n) ≡ true
 unfolding deciding
 decides_where_free n some = free-waits n (guard_passed (is_free n) _ some)
 
-turn-decides : {S : Type 0} (m : Meaning S) (view : View) (n : Node S) → InTurn m view n → DecidesInTurn (decides n).entries
+turn-decides : {S : Type 0} (m : Meaning S) (view : View) (n : Node S) → IsTurning m view n → DecidesInTurn (decides n).entries
 unfolding decides
 turn-decides m view n is = turn-decide_batch m view n (deciding n) (decides_where_free n) (deciding-place n) is
 
@@ -125,7 +125,7 @@ order_as m view n n' leaves book d =
       count = rw (replica, waiting, book) d.count;
     }
 
-turn-rules : {S : Type 0} (m : Meaning S) (view : View) → KeptByRules {S = S} (λ n. InTurn m view n)
+turn-rules : {S : Type 0} (m : Meaning S) (view : View) → KeptByRules {S = S} (λ n. IsTurning m view n)
 turn-rules m view = record {
   by_adopts = λ n is. record { order = (in_order-rules m view).by_adopts n is.order; turn = turn-adopts n is.turn };
   by_joins = λ n is. record { order = (in_order-rules m view).by_joins n is.order; turn = turn_as n.entries (joins n).entries (entries-joins n) is.turn };
@@ -137,7 +137,7 @@ turn-rules m view = record {
   by_decides = λ n is. record { order = (in_order-rules m view).by_decides n is.order; turn = turn-decides m view n is };
 }
 
-turn-in_steps : {S : Type 0} (m : Meaning S) (view : View) → KeptInSteps m (λ n. InTurn m view n) (λ message. Unit {0})
+turn-in_steps : {S : Type 0} (m : Meaning S) (view : View) → KeptInSteps m (λ n. IsTurning m view n) (λ message. Unit {0})
 turn-in_steps m view = record {
   by_rules = turn-rules m view;
   by_times = λ n is. record { order = order_as m view n (times n) (leaves-times n) (entries-times n) is.order; turn = turn_as n.entries (times n).entries (entries-times n) is.turn };
@@ -150,11 +150,11 @@ turn-in_steps m view = record {
   by_delivers = λ n is. record { order = in_order-delivers m view n is.order; turn = turn_as n.entries (delivers m n).entries (entries-delivers m n) is.turn };
 }
 
-turn_after : {S : Type 0} (m : Meaning S) (view : View) (n : Node S) (events : List NodeEvent) → InTurn m view n → InTurn m view (node_after m n events)
+turn_after : {S : Type 0} (m : Meaning S) (view : View) (n : Node S) (events : List NodeEvent) → IsTurning m view n → IsTurning m view (node_after m n events)
 turn_after m view n [] is = is
 turn_after m view n (e ∷ es) is =
     turn_after m view (step_of m n e).node es
-    (keeps_step m (λ x. InTurn m view x) (λ message. Unit {0}) n e (turn-in_steps m view)
+    (keeps_step m (λ x. IsTurning m view x) (λ message. Unit {0}) n e (turn-in_steps m view)
     (λ x count was. record { order = record { replica = was.order.replica; waiting = was.order.waiting; count = was.order.count }; turn = was.turn }) (free-event e) is)
 
 turn-reopened : {S : Type 0} (m : Meaning S) (secret : List ℕ) (id : ℕ) (view : View) (period : ℕ) (entries : List LogEntry) → DecidesInTurn entries

@@ -37,7 +37,7 @@ one_written entries w none once other = rw passing-end (cases (same_slot w.slot 
     cases false is = omega (arith, once other)
 
 -- a node whose book writes once for each slot
-abbrev pub Written : {S : Type 0} → Node S → Type 0
+abbrev Written : {S : Type 0} → Node S → Type 0
 Written n = WritesOnce n.entries
 
 -- a node with the same book
