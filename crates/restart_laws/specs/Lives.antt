@@ -47,7 +47,7 @@ lives_on m secret id view period entries lives events = node_after m (reopened m
 
 -- ---- what disks keep, and what leaves
 
--- a life of a node leaves as many entries as ever were firm in it
+-- a life of a node leaves no fewer entries than were firm at any moment of it
 abbrev pub KeepsFirm : {S : Type 0} → Meaning S → Node S → Life → Type 0
 KeepsFirm m n l = (before after : List NodeEvent) → l.events ≡ before ++ after → (node_after m n before).firm ≤ l.kept
 

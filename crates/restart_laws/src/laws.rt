@@ -122,7 +122,8 @@ pub fn a_member_holds_its_own_over_its_lives<S: Service>()
 /// A member stands by each vote that has left it: another of the same kind in the same slot, which leaves
 /// it later in that life (`life`) or in a later one (`lives`), is for the same batch. That is so over all
 /// its lives from entries that are orderly, as what was restored and is not damaged is (`undamaged`), where
-/// each life, from the one in which the first vote left on, leaves as many entries as ever were firm in it.
+/// each life, from the one in which the first vote left on, leaves no fewer entries than were firm at any
+/// moment of it.
 pub fn a_member_stands_by_its_votes<S: Service>()
     ensures undamaged { (secret : List ℕ) (view : View) (restored : List (List ℕ)) → damaged secret view restored ≡ None → IsOrderly (entries_in restored) }
     ensures life { (secret : List ℕ) (id : ℕ) (view : View) (period : ℕ) (entries : List LogEntry) (lives : List Life) (events more : List NodeEvent) (a b : SignedBy Ballot) →
