@@ -408,3 +408,159 @@ fn the_log_of_the_newest_checkpoint_is_restored(rt: HostRuntime) -> Result<(), F
     assert_eq!(rt; firm, 2);
     Ok(())
 }
+
+/// What a life restored, and its generation, how many entries were firm and its disks at its end.
+#[derive(Drop)]
+struct Life {
+    restored: Vec<u8>,
+    generation: u64,
+    firm: u64,
+    left: Disks<MemDisk>,
+}
+
+/// A life gives one entry and makes so many calls.
+fn live_once(alloc: Global, disks: Disks<MemDisk>, calls: u64, given: u8) -> Result<Life, Fail>
+    requires { AreSettled disk_cells disks }
+{
+    let (mut store, kept) = match reopen(alloc, disks) {
+        Ok(opened) => opened,
+        Err(_) => return Err("it opens".into()),
+    };
+    let restored = shown(alloc, &kept)?;
+    let one = entry(alloc, given)?;
+    let is_run = run(alloc, &mut store, one, calls).is_ok();
+    let generation = store.generation();
+    let firm = store.firm();
+    let left = store.into_disks();
+    if !is_run {
+        return Err("no call fails".into());
+    }
+    Ok(Life {
+        restored,
+        generation,
+        firm,
+        left,
+    })
+}
+
+/// What a store has whose odd slot counts generation 1, and whose even slot has generation 2 behind a
+/// gate that is torn at first. The log is that of the present generation.
+#[derive(Drop)]
+struct TornModel {
+    generation: u64,
+    is_torn: bool,
+    log: Model,
+}
+
+impl TornModel {
+    /// A life that gives an entry of this byte. The close of the torn gate makes two calls.
+    fn live(&mut self, calls: u64, crash: Crash, given: u8) -> Result<(), AllocError> {
+        let close = if self.is_torn { 2 } else { 0 };
+        let of_log = calls.saturating_sub(close).min(6);
+        self.log.live(of_log, crash, given)?;
+        self.is_torn = self.is_torn && calls < 2;
+        Ok(())
+    }
+
+    /// The crash at the end of such a life. Only where the gate was closed and not yet synced it may
+    /// be closed or open from then on.
+    fn crash(&mut self, alloc: Global, calls: u64, crash: Crash) -> Result<(), AllocError> {
+        if !self.is_torn || calls != 1 {
+            return Ok(());
+        }
+        if crash == Crash::New {
+            self.is_torn = false;
+        }
+        if crash == Crash::Open {
+            self.is_torn = false;
+            self.generation = 2;
+            self.log = held(alloc, 5)?;
+        }
+        Ok(())
+    }
+}
+
+/// A log with one entry.
+fn held(alloc: Global, byte: u8) -> Result<Model, AllocError> {
+    let mut entries = Vec::new(alloc);
+    entries.push(byte)?;
+    Ok(Model {
+        entries,
+        gate: Gate::Closed,
+        firm: 1,
+    })
+}
+
+/// Two lives over a torn slot, each of which ends by a crash, and a third: whether each restores, and
+/// has at its end, what the model says.
+fn torn_lives(
+    alloc: Global,
+    calls: (u64, u64),
+    crashes: (Crash, Crash),
+) -> Result<(bool, bool, bool), Fail> {
+    let mut model = TornModel {
+        generation: 1,
+        is_torn: true,
+        log: held(alloc, 6)?,
+    };
+    let first = disks(
+        alloc,
+        (
+            b"\x01\0\0\0\0\0\0\0\x0d\0\0\0\0\0\0\0\x01\0\0\0\x01\x05\0",
+            b"\x01\0\0\0\0\0\0\0\x0d\0\0\0\0\0\0\0\x01\0\0\0\x01\x06\0",
+        ),
+        (
+            b"\x07\0\0\0\0\0\0\0\x02\0\0\0\0",
+            b"\x01\0\0\0\0\0\0\0\x01\0\0\0\0",
+        ),
+        Failing { device: 0, call: 0 },
+    )?;
+    let (one, left) = is_as_said(alloc, first, &mut model, (calls.0, crashes.0), 10)?;
+    let next = crashed(alloc, &left, crashes.0)?;
+    let (two, left) = is_as_said(alloc, next, &mut model, (calls.1, crashes.1), 20)?;
+    let next = crashed(alloc, &left, crashes.1)?;
+    let (three, _) = is_as_said(alloc, next, &mut model, (8, Crash::New), 30)?;
+    Ok((one, two, three))
+}
+
+/// Whether a life of so many calls, that ends by this crash, does as the model says, and its disks.
+fn is_as_said(
+    alloc: Global,
+    disks: Disks<MemDisk>,
+    model: &mut TornModel,
+    end: (u64, Crash),
+    given: u8,
+) -> Result<(bool, Disks<MemDisk>), Fail>
+    requires { AreSettled disk_cells disks }
+{
+    let (calls, crash) = end;
+    let life = live_once(alloc, disks, calls, given)?;
+    let Life {
+        restored,
+        generation,
+        firm,
+        left,
+    } = life;
+    let is_restored = restored.as_slice() == model.log.entries.as_slice();
+    model.live(calls, crash, given)?;
+    let is_so = is_restored && generation == model.generation && firm == model.log.firm;
+    model.crash(alloc, calls, crash)?;
+    Ok((is_so, left))
+}
+
+#[test]
+fn what_is_restored_over_a_torn_slot(rt: HostRuntime) -> Result<(), Fail> {
+    let alloc = rt.alloc();
+    let crashes = [Crash::Old, Crash::New, Crash::Torn, Crash::Open];
+    for one in 0..9 {
+        for other in 0..9 {
+            for first in crashes {
+                for second in crashes {
+                    let are = torn_lives(alloc, (one, other), (first, second))?;
+                    assert_eq!(rt; are, (true, true, true), "at {one} {first:?} {other} {second:?}");
+                }
+            }
+        }
+    }
+    Ok(())
+}
