@@ -1,23 +1,23 @@
 -- What a run of calls keeps.
-use Rattle.std.proofs.Common.{◌≡◌, ◌⊎◌, inl, inr, ℕ, Bool, true, false, not, cond, ◌&&◌, ◌||◌, List, [], ◌∷◌, ◌++◌, drop, Some, None, refl, sym, ap, ◌∙◌, subst, append_assoc}
-use Rattle.std.proofs.lemmas.List.{append-nil}
+use Rattle.std.proofs.Common.{◌≡◌, ◌⊎◌, inl, inr, ℕ, Bool, true, false, not, cond, ◌&&◌, ◌||◌, ◌==◌, List, [], ◌∷◌, ◌++◌, drop, Some, None, refl, sym, ap, ◌∙◌, subst, append_assoc}
+use Rattle.std.proofs.lemmas.List.{append-nil, append_cancel_right}
 use Rattle.smart_base.specs.Lists.{Each}
 use Rattle.disk_model.specs.Cells.{Cells}
 use Rattle.disk_model.specs.declared.disk.Disk.{Ghosts}
 use Rattle.store_form.specs.Spelling.{Group}
-use Rattle.batch_log.specs.Jobs.{Stands, code}
+use Rattle.batch_log.specs.Jobs.{Stands, code, idle}
 use Rattle.batch_log.specs.declared.job.Job.{Job}
 use Rattle.batch_log.specs.declared.job.Job.TheVariants as jobs
 use Rattle.checkpoint_store.specs.declared.job.SlotJob.{SlotJob}
 use Rattle.checkpoint_store.specs.declared.job.SlotJob.TheVariants.{Empty, Torn, Shut, Close, SyncClose, Fill, SyncFill, Full, Gate, SyncGate, Counts}
 use Rattle.durable_store.specs.Restored.{Images, restores}
-use Rattle.durable_store.specs.Turns.{closing, unsure, adds, rests, code_next}
+use Rattle.durable_store.specs.Turns.{closing, unsure, adds, rests, ends_group, code_next}
 use Rattle.durable_store.specs.Standing.{first, with, some, slot_others, log_kept, log_others, log_stake, calls_log, added_by, waiting_after, kept_after, others_after, at_stake, is_idle, is_due, running, to_come, StoreStands, AreImages}
 use Rattle.durable_store.specs.Calls.{NextJobs}
-use Rattle.durable_store.specs.Wholes.{IsOneOf, Grows}
+use Rattle.durable_store.specs.Wholes.{IsOneOf, Grows, HasRun}
 use Rattle.durable_store.specs.declared.kept.Kept.{Kept}
 use Rattle.durable_store.specs.declared.store.Store.{Store}
-use Rattle.durable_store.proofs.Codes.{adds_is, adds_by}
+use Rattle.durable_store.proofs.Codes.{adds_is, adds_by, ends_is}
 use Rattle.durable_store.proofs.Given.{together_then}
 use Rattle.durable_store.proofs.Begins.{rest_idle}
 use Rattle.durable_store.proofs.Leaves.{calm_idle}
@@ -107,6 +107,39 @@ module _ (run all : List (List ℕ)) where
       ∙ together_then waits waiting added (so_far past) job ∙ rest
   rest_then false waits adding waiting added past job is rest = ap (λ (b : Bool). past ++ (cond b added [] ++ waiting)) (is ∙ sym (adds_is job)) ∙ rest
 
+-- ---- what is left of the others
+
+module _ (P : Kept → Type 0) where
+  slot_each : (job : SlotJob) (os : List Kept) → Each P os → Each P (slot_others job os)
+  slot_each SyncClose os each = each_drop P os each
+  slot_each Empty os each = each
+  slot_each Torn os each = each
+  slot_each Shut os each = each
+  slot_each Close os each = each
+  slot_each (Fill bytes) os each = each
+  slot_each SyncFill os each = each
+  slot_each Full os each = each
+  slot_each Gate os each = each
+  slot_each SyncGate os each = each
+  slot_each Counts os each = each
+
+  -- but for the gate of a group
+  log_each : (waits : Bool) (job : Job) (added : Group) (now : Kept) (os : List Kept) → (code_next waits job == 1) ≡ false → (ends_group job ≡ false → Each P os) → Each P (log_others job added now os)
+  log_each waits (jobs.Gate next) added now os opens each = absurd cc
+  log_each waits (jobs.SyncGate next) added now os opens each = tt
+  log_each waits (jobs.SyncClose waiting) added now os opens each = tt
+  log_each waits jobs.Rest added now os opens each = each refl
+  log_each waits jobs.Torn added now os opens each = each refl
+  log_each waits (jobs.Close waiting) added now os opens each = each refl
+  log_each waits (jobs.Body bytes) added now os opens each = each refl
+  log_each waits (jobs.SyncBody next) added now os opens each = each refl
+
+  others_each : (b c waits : Bool) (even odd : SlotJob) (job : Job) (n : ℕ) (added : Group) (now : Kept) (os : List Kept) → n ≡ cond (not (b || c)) (code_next waits job) (code job) → (n == 1) ≡ false → (ends_group job ≡ false → Each P os)
+      → Each P (cond b (slot_others even os) (cond c (slot_others odd os) (log_others job added now os)))
+  others_each true c waits even odd job n added now os is opens each = slot_each even os (each (ends_is job ∙ ap (λ (m : ℕ). m == 1) (sym is) ∙ opens))
+  others_each false true waits even odd job n added now os is opens each = slot_each odd os (each (ends_is job ∙ ap (λ (m : ℕ). m == 1) (sym is) ∙ opens))
+  others_each false false waits even odd job n added now os is opens each = log_each waits job added now os (ap (λ (m : ℕ). m == 1) (sym is) ∙ opens) each
+
 -- ---- what a crash restores
 
 module _ (kept : Kept) (others : List Kept) (run all : List (List ℕ)) where
@@ -127,19 +160,6 @@ module _ (kept : Kept) (others : List Kept) (run all : List (List ℕ)) where
   first_known now [] is each = is
   first_known now (x ∷ xs) is each = each.0
 
-  slot_known : (job : SlotJob) (os : List Kept) → Each Known os → Each Known (slot_others job os)
-  slot_known SyncClose os each = each_drop Known os each
-  slot_known Empty os each = each
-  slot_known Torn os each = each
-  slot_known Shut os each = each
-  slot_known Close os each = each
-  slot_known (Fill bytes) os each = each
-  slot_known SyncFill os each = each
-  slot_known Full os each = each
-  slot_known Gate os each = each
-  slot_known SyncGate os each = each
-  slot_known Counts os each = each
-
   log_known : (job : Job) (added : Group) (now : Kept) (os : List Kept) → (adds job ≡ true → Known (with now added)) → Each Known os → Each Known (log_others job added now os)
   log_known (jobs.Gate next) added now os gate each = (gate refl, tt)
   log_known (jobs.SyncGate next) added now os gate each = tt
@@ -152,8 +172,8 @@ module _ (kept : Kept) (others : List Kept) (run all : List (List ℕ)) where
 
   others_known : (b c : Bool) (even odd : SlotJob) (job : Job) (added : Group) (now : Kept) (os : List Kept) → (adds job ≡ true → Known (with now added)) → Each Known os
       → Each Known (cond b (slot_others even os) (cond c (slot_others odd os) (log_others job added now os)))
-  others_known true c even odd job added now os gate each = slot_known even os each
-  others_known false true even odd job added now os gate each = slot_known odd os each
+  others_known true c even odd job added now os gate each = slot_each Known even os each
+  others_known false true even odd job added now os gate each = slot_each Known odd os each
   others_known false false even odd job added now os gate each = log_known job added now os gate each
 
   stake_known : (calls : Bool) (job : Job) (added : Group) (now : Kept) (os : List Kept) → Known now → (adds job ≡ true → Known (with now added)) → Each Known os → Known (cond calls (log_stake job added now os) (first now os))
@@ -188,6 +208,41 @@ rest_sure (jobs.Body bytes) is = absurd cc
 rest_sure (jobs.SyncBody next) is = absurd cc
 rest_sure (jobs.Gate next) is = absurd cc
 rest_sure (jobs.SyncGate next) is = absurd cc
+
+idle_adds : (job : Job) → idle job ≡ true → adds job ≡ false
+idle_adds jobs.Rest is = refl
+idle_adds jobs.Torn is = refl
+idle_adds (jobs.Close waiting) is = absurd cc
+idle_adds (jobs.SyncClose waiting) is = absurd cc
+idle_adds (jobs.Body bytes) is = absurd cc
+idle_adds (jobs.SyncBody next) is = absurd cc
+idle_adds (jobs.Gate next) is = absurd cc
+idle_adds (jobs.SyncGate next) is = absurd cc
+
+idle_ends : (job : Job) → idle job ≡ true → ends_group job ≡ false
+idle_ends jobs.Rest is = refl
+idle_ends jobs.Torn is = refl
+idle_ends (jobs.Close waiting) is = refl
+idle_ends (jobs.SyncClose waiting) is = refl
+idle_ends (jobs.Body bytes) is = refl
+idle_ends (jobs.SyncBody next) is = refl
+idle_ends (jobs.Gate next) is = refl
+idle_ends (jobs.SyncGate next) is = absurd cc
+
+idle_stands : (cells : Cells) (end : ℕ) (job : Job) (added : Group) (own other : List Group) → idle job ≡ true → Stands cells end job added own other → Stands cells end job [] own other
+idle_stands cells end jobs.Rest added own other is s = s
+idle_stands cells end jobs.Torn added own other is s = s
+idle_stands cells end (jobs.Close waiting) added own other is s = absurd cc
+idle_stands cells end (jobs.SyncClose waiting) added own other is s = absurd cc
+idle_stands cells end (jobs.Body bytes) added own other is s = absurd cc
+idle_stands cells end (jobs.SyncBody next) added own other is s = absurd cc
+idle_stands cells end (jobs.Gate next) added own other is s = absurd cc
+idle_stands cells end (jobs.SyncGate next) added own other is s = absurd cc
+
+among : (others xs : List Kept) → Each (λ (x : Kept). IsOneOf x others) xs → (x : Kept) → IsOneOf x xs → IsOneOf x others
+among others [] each x is = absurd is
+among others (y ∷ ys) each x (inl same) = subst (λ (k : Kept). IsOneOf k others) (sym same) each.0
+among others (y ∷ ys) each x (inr is) = among others ys each.1 x is
 
 rest_stands : (cells : Cells) (end : ℕ) (job : Job) (added : Group) (own other : List Group) → rests job ≡ true → Stands cells end job added own other → Stands cells end job [] own other
 rest_stands cells end jobs.Rest added own other is s = s
@@ -231,6 +286,27 @@ module _ {D : Type 0} {g : Ghosts D} where
       let odd = calm_idle s.slots.odd.job h.turn.odd_closes done.odd in
       (rw (even, odd) (rest_idle s.log.job done.rest), h.others_are ∙ rw (done.even, done.odd, rest_sure s.log.job done.rest) refl)
 
+  pub at_idle : (s : Store D g) (added : Group) (kept : Kept) (others : List Kept) → idle s.log.job ≡ true → StoreStands s added kept others → StoreStands s [] kept others
+  at_idle s added kept others is h = record {
+    next = h.next;
+    even = h.even;
+    even_other = h.even_other;
+    odd = h.odd;
+    odd_other = h.odd_other;
+    own = h.own;
+    own_other = h.own_other;
+    even_slot = h.even_slot;
+    odd_slot = h.odd_slot;
+    log = idle_stands (g.cells s.log.device) s.log.end s.log.job added h.own h.own_other is h.log;
+    other_log = h.other_log;
+    turn = h.turn;
+    present = h.present;
+    kept_is = h.kept_is;
+    others_are = h.others_are;
+    firm = h.firm;
+    counted = λ is_adding. absurd (not_both (adds s.log.job) (idle_adds s.log.job is) is_adding);
+  }
+
   pub at_rest : (s : Store D g) (added : Group) (kept : Kept) (others : List Kept) → IsDone s → StoreStands s added kept others → StoreStands s [] kept []
   at_rest s added kept others done h = record {
     next = h.next;
@@ -268,6 +344,8 @@ module _ {D : Type 0} {g : Ghosts D} where
       pub then : Cut (running s0 added0) (running s0 added0 ++ s0.waiting) (past ++ running s added)
       pub rest : past ++ (running s added ++ s.waiting) ≡ running s0 added0 ++ s0.waiting
       pub known : Each (Grows kept others (running s0 added0) (running s0 added0 ++ s0.waiting)) others_now
+      -- but for the gate of a group they are of those that it had
+      pub held : ends_group s.log.job ≡ false → Each (λ (x : Kept). IsOneOf x others) others_now
 
     pub at_first : StoreStands s0 added0 kept others → Grown s0
     at_first h = record {
@@ -279,6 +357,7 @@ module _ {D : Type 0} {g : Ghosts D} where
       then = inr (inl refl);
       rest = refl;
       known = each_of (Grows kept others ran all) others (λ x is. inr (inl is));
+      held = λ opens. each_of (λ (x : Kept). IsOneOf x others) others (λ x is. is);
     }
 
     pub grows_on : (s t : Store D g) → NextJobs s t → t.waiting ≡ waiting_after s
@@ -296,6 +375,9 @@ module _ {D : Type 0} {g : Ghosts D} where
           rest = ap (λ (w : List (List ℕ)). next ++ (running t (added_by s h.added) ++ w)) waiting ∙ rest_then ran all (calls_log s) (some s.waiting) (adds t.log.job) s.waiting h.added h.past s.log.job adding h.rest;
           known = others_known kept others ran all (closing s.slots.even.job) (closing s.slots.odd.job) s.slots.even.job s.slots.odd.job s.log.job h.added (with kept h.past) h.others_now
               (gate_known kept others ran all s.log.job h.added h.past h.then) h.known;
+          held = λ opens.
+              others_each (λ (x : Kept). IsOneOf x others) (closing s.slots.even.job) (closing s.slots.odd.job) (some s.waiting) s.slots.even.job s.slots.odd.job s.log.job (code t.log.job) h.added (with kept h.past) h.others_now
+              jobs.log (sym (ends_is t.log.job) ∙ opens) h.held;
         }
 
     -- a crash during the next call
@@ -313,6 +395,19 @@ module _ {D : Type 0} {g : Ghosts D} where
 
     pub now_known : (s : Store D g) → Grown s → (images : Images) → AreImages s images → Grows kept others (running s0 added0) (running s0 added0 ++ s0.waiting) (restores images)
     now_known s h images are = pair_known s h (restores images) (store_leaves s h.added (with kept h.past) h.others_now h.stands images are)
+
+    -- no job runs, and what waited waits still
+    pub has_run : (s : Store D g) → idle s.log.job ≡ true → s.waiting ≡ s0.waiting → Grown s → HasRun s kept others (running s0 added0)
+    has_run s is waits h =
+        let none = idle_adds s.log.job is in
+        let rest : h.past ++ s0.waiting ≡ ran ++ s0.waiting =
+        ap (λ (l : List (List ℕ)). h.past ++ l) (sym waits) ∙ ap (λ (b : Bool). h.past ++ (cond b h.added [] ++ s.waiting)) (sym none) ∙ h.rest in
+        let past_is : h.past ≡ ran = append_cancel_right h.past ran s0.waiting rest in
+        record {
+          left = h.others_now;
+          stands = subst (λ (l : List (List ℕ)). StoreStands s [] (with kept l) h.others_now) past_is (at_idle s h.added (with kept h.past) h.others_now is h.stands);
+          known = among others h.others_now (h.held (idle_ends s.log.job is));
+        }
 
     -- the run has ended
     pub at_end : (s : Store D g) → IsDone s → Grown s → StoreStands s [] (with kept (running s0 added0 ++ s0.waiting)) []

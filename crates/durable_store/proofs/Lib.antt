@@ -4,6 +4,7 @@ pub mod Codes
 pub mod Given
 pub mod Lighter
 pub mod Growing
+pub mod Firms
 pub mod Lasting
 pub mod Appending
 pub mod Fronts

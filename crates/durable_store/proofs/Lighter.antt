@@ -220,23 +220,30 @@ module _ {D : Type 0} {g : Ghosts D} where
   not_begun_yet s0 s due (inl h) free = absurd (begun_busy s h due free)
   not_begun_yet s0 s due (inr h) free = h
 
+  module _ (s t : Store D g) (jobs : NextJobs s t) (waiting : t.waiting ≡ waiting_after s) where
+    pub has_begun : begins_group s ≡ true → HasBegun t
+    has_begun is =
+        let calls : calls_log s ≡ true = and_left (calls_log s) (rests s.log.job && some s.waiting) is in
+        let rest = and_left (rests s.log.job) (some s.waiting) (and_right (calls_log s) (rests s.log.job && some s.waiting) is) in
+        record {
+          none = subst (λ (b : Bool). t.waiting ≡ cond b [] s.waiting) is waiting;
+          calm = still_calm s t jobs waiting calls;
+          small = rw (log_by s t jobs waiting true calls) (rest_small (some s.waiting) s.log.job rest);
+        }
+
+    pub goes_begun : HasBegun s → HasBegun t
+    goes_begun h = record {
+      none = waiting ∙ nil_after (begins_group s) s.waiting h.none;
+      calm = still_calm s t jobs waiting h.calm;
+      small = rw (log_by s t jobs waiting true h.calm) (code_small (some s.waiting) s.log.job h.small);
+    }
+
   pub begins_or_not : (s0 s t : Store D g) → is_due s ≡ true → NextJobs s t → t.waiting ≡ waiting_after s → HasBegun s ⊎ HasNotBegun s0 s → HasBegun t ⊎ HasNotBegun s0 t
-  begins_or_not s0 s t due jobs waiting (inl h) = inl (record {
-    none = waiting ∙ nil_after (begins_group s) s.waiting h.none;
-    calm = still_calm s t jobs waiting h.calm;
-    small = rw (log_by s t jobs waiting true h.calm) (code_small (some s.waiting) s.log.job h.small);
-  })
+  begins_or_not s0 s t due jobs waiting (inl h) = inl (goes_begun s t jobs waiting h)
   begins_or_not s0 s t due jobs waiting (inr h) = by (begins_group s) refl
     where
       by : (b : Bool) → begins_group s ≡ b → HasBegun t ⊎ HasNotBegun s0 t
-      by true is =
-          let calls : calls_log s ≡ true = and_left (calls_log s) (rests s.log.job && some s.waiting) is in
-          let rest = and_left (rests s.log.job) (some s.waiting) (and_right (calls_log s) (rests s.log.job && some s.waiting) is) in
-          inl (record {
-            none = subst (λ (b : Bool). t.waiting ≡ cond b [] s.waiting) is waiting;
-            calm = still_calm s t jobs waiting calls;
-            small = rw (log_by s t jobs waiting true calls) (rest_small (some s.waiting) s.log.job rest);
-          })
+      by true is = inl (has_begun s t jobs waiting is)
       by false is = inr (record {
         waits = subst (λ (b : Bool). t.waiting ≡ cond b [] s.waiting) is waiting ∙ h.waits;
         first = λ calls rest. absurd (not_both (begins_group s) is (due_begins s (subst (λ (x : Store D g). calls_log x ≡ true) (sym (h.first calls rest)) calls) (subst (λ (x : Store D g). rests x.log.job ≡ true) (sym (h.first calls rest)) rest) due));

@@ -22,7 +22,7 @@ use Rattle.durable_store.proofs.Leaves.{slot_plain, slot_still, calm_idle, log_s
 
 -- ---- the first of the others
 
-first_of : (kept x : Kept) (others rest : List Kept) (t : Bool) → t ≡ true → others ≡ only t x ++ rest → first kept others ≡ x
+pub first_of : (kept x : Kept) (others rest : List Kept) (t : Bool) → t ≡ true → others ≡ only t x ++ rest → first kept others ≡ x
 first_of kept x others rest true is are = ap (first kept) are
 first_of kept x others rest false is are = absurd cc
 

@@ -227,6 +227,10 @@ module _ {D : Type 0} {g : Ghosts D} where
   abbrev pub together : Store D g → Group → Kept → List (List ℕ)
   together s added kept = kept.entries ++ (running s added ++ s.waiting)
 
+  -- how many entries the running job adds
+  abbrev pub being_added : Store D g → ℕ
+  being_added s = cond (adds s.log.job) s.adding 0
+
   -- how many are not firm yet
   abbrev pub to_come : Store D g → ℕ
   to_come s = cond (adds s.log.job) s.adding 0 + length s.waiting

@@ -2,7 +2,7 @@
 use Rattle.std.specs.Prelude.{◌≡◌, ◌⊎◌, ◌≤◌, ℕ, List, [], ◌∷◌, ◌++◌}
 use Rattle.disk_model.specs.declared.disk.Disk.{Ghosts}
 use Rattle.store_form.specs.Spelling.{Group}
-use Rattle.durable_store.specs.Standing.{with}
+use Rattle.durable_store.specs.Standing.{with, StoreStands}
 use Rattle.durable_store.specs.declared.kept.Kept.{Kept}
 use Rattle.durable_store.specs.declared.store.Store.{Store}
 
@@ -25,6 +25,12 @@ pub record Lasts {D : Type 0} (g : Ghosts D) (old new : D) : Type 0 where
   pub keeps : (t : ℕ) (c : List ℕ) → t ≤ g.moment old → g.left_since old t c → g.left_since new t c
 
 module _ {D : Type 0} {g : Ghosts D} where
+  -- It stands for what was kept with the group that ran already, `ran`, and for nothing instead that it did not before.
+  pub record HasRun (s : Store D g) (kept : Kept) (others : List Kept) (ran : Group) : Type 0 where
+    pub left : List Kept
+    pub stands : StoreStands s [] (with kept ran) left
+    pub known : (x : Kept) → IsOneOf x left → IsOneOf x others
+
   pub record TimeLasts (old new : Store D g) : Type 0 where
     pub even_slot : Lasts g old.slots.even.device new.slots.even.device
     pub odd_slot : Lasts g old.slots.odd.device new.slots.odd.device

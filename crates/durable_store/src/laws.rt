@@ -1,6 +1,7 @@
 //! What holds of a store between two calls.
 ghost use Rattle.std.specs.Prelude.{◌≡◌, ◌≤◌, ℕ, List, [], length, take, false, true};
 ghost use Rattle.store_form.specs.Spelling.{Group, IsGroup};
+ghost use Rattle.checkpoint_store.specs.Slots.{generation_of};
 ghost use Rattle.durable_store.specs.Standing.{first, calls_log, at_stake, is_idle, is_due, StoreStands, AreImages, LeavesEither, MayLeave, StateStands, group_begins, added_in, kept_in, others_in};
 ghost use Rattle.durable_store.specs.Restored.{Images, restores};
 ghost use Rattle.durable_store.specs.Wholes.{IsFront};
@@ -38,12 +39,15 @@ pub fn an_empty_store()
     ensures { UnswitchedWire no_bytes nothing nothing }
 {}
 
-/// Where no slot has to be closed, each crash restores all that is firm, and at the front. During the
-/// next call it does so too: `next_call` says that it restores what is kept, or what is at stake.
+/// Each crash that restores the present generation restores all that is firm, and at the front. Where
+/// no slot has to be closed each crash restores that generation. During the next call it does so too:
+/// `next_call` says that it restores what is kept, or what is at stake.
 pub fn what_is_firm_stays<D: Disk>(store: &Store<D>)
     ensures fits { (added : Group) (kept : Kept) (others : List Kept) → StoreStands store.now added kept others → store.now.firm ≤ length kept.entries }
-    ensures firm { (added : Group) (kept : Kept) (others : List Kept) → StoreStands store.now added kept others → calls_log store.now ≡ true
-        → (images : Images) → AreImages store.now images → take store.now.firm (restores images).entries ≡ take store.now.firm kept.entries }
+    ensures firm { (added : Group) (kept : Kept) (others : List Kept) → StoreStands store.now added kept others
+        → (images : Images) → AreImages store.now images → generation_of (restores images).present ≡ store.now.generation → take store.now.firm (restores images).entries ≡ take store.now.firm kept.entries }
+    ensures present { (added : Group) (kept : Kept) (others : List Kept) → StoreStands store.now added kept others → calls_log store.now ≡ true
+        → (images : Images) → AreImages store.now images → generation_of (restores images).present ≡ store.now.generation }
     ensures other { (added : Group) (kept : Kept) (others : List Kept) → StoreStands store.now added kept others → calls_log store.now ≡ true
         → IsFront kept.entries (first kept others).entries }
     ensures at_stake { (added : Group) (kept : Kept) (others : List Kept) → StoreStands store.now added kept others → calls_log store.now ≡ true

@@ -71,16 +71,16 @@ impl<D: Disk> Store<D> {
     ghost use Rattle.store_form.specs.Spelling.{Group};
     ghost use Rattle.store_form.specs.declared.checkpoint.Checkpoint.{Checkpoint};
     ghost use Rattle.batch_log.specs.Jobs.{Stands, LeavesEither as LogLeaves, IsUnderWay as LogUnderWay, kept_after as log_kept_after, other_after as log_other_after, at_stake as log_at_stake, code, code_after, idle};
-    ghost use Rattle.checkpoint_store.specs.Slots.{is_odd};
+    ghost use Rattle.checkpoint_store.specs.Slots.{is_odd, generation_of};
     ghost use Rattle.checkpoint_store.specs.Stores.{slot, beside, StandsAt, UnderWayAt, LeavesAt};
     ghost use Rattle.checkpoint_store.specs.SlotJobs.{idle as slot_idle};
     ghost use Rattle.durable_store.specs.Restored.{Images, restores};
     ghost use Rattle.durable_store.specs.Turns.{closing, job_begun, job_closed, other_closed, ends_group, job_started};
-    ghost use Rattle.durable_store.specs.Standing.{StoreStands, IsUnderWay, LeavesEither, some, added_by, waiting_after, adding_after, firm_after, kept_after, others_after, at_stake, is_idle, is_due, calls_log, together, to_come, running, with, AreImages};
+    ghost use Rattle.durable_store.specs.Standing.{StoreStands, IsUnderWay, LeavesEither, some, added_by, waiting_after, adding_after, firm_after, kept_after, others_after, at_stake, is_idle, is_due, calls_log, together, to_come, being_added, running, with, AreImages};
     ghost use Rattle.durable_store.specs.Calls.{LeftSince, NoneFalls, OneRose, NextJobs, CallsOne, TimeGoes};
     ghost use Rattle.durable_store.specs.declared.kept.Kept.{Kept};
     ghost use Rattle.durable_store.specs.Given.{given};
-    ghost use Rattle.durable_store.specs.Wholes.{Grows, TimeLasts};
+    ghost use Rattle.durable_store.specs.Wholes.{Grows, HasRun, TimeLasts};
     ghost use Rattle.durable_store.specs.States.{state_of};
     ghost use Rattle.durable_store.specs.Exact.{store_called, started, log_begins};
     ghost use Rattle.batch_log.specs.Exact.{log_called, job_called, end_called};
@@ -108,13 +108,22 @@ impl<D: Disk> Store<D> {
             → (images : Images) → LeftSince self.old self.new images → Grows kept others (running self.old added) (running self.old added ++ (self.old.waiting ++ entries)) (restores images) }
         // A store that only crashes of its own lives have changed stays one, and each crash then leaves such a store, however
         // the call ends: what it keeps, and what it may restore instead, are of those.
-        ensures own { OnOk result (D.told → IsUnswitched (state_of self.old) → IsUnswitched (state_of self.new)) }
+        ensures own { self.new.state ≡ State.Open → D.told → IsUnswitched (state_of self.old) → IsUnswitched (state_of self.new) }
         ensures lives { self.old.state ≡ State.Open → D.told → (added : Group) (kept : Kept) (others : List Kept) → StoreStands self.old added kept others → IsUnswitched (state_of self.old)
             → (images : Images) → AreImages self.new images → UnswitchedGrowth kept others (running self.old added) (running self.old added ++ (self.old.waiting ++ entries)) images }
-        // However it ends, each crash restores as many entries as count as firm, or more.
-        ensures counted { D.told → calls_log self.old ≡ true → (added : Group) (kept : Kept) (others : List Kept) → StoreStands self.old added kept others
-            → (images : Images) → AreImages self.new images → self.new.firm ≤ length (restores images).entries }
+        // However it ends, each crash that restores the present generation restores as many entries as count as firm, or more.
+        // Where no slot has to be closed before, each crash restores that generation.
+        ensures counted { D.told → (added : Group) (kept : Kept) (others : List Kept) → StoreStands self.old added kept others
+            → (images : Images) → AreImages self.new images → generation_of (restores images).present ≡ self.new.generation → self.new.firm ≤ length (restores images).entries }
+        ensures present { D.told → calls_log self.old ≡ true → (added : Group) (kept : Kept) (others : List Kept) → StoreStands self.old added kept others
+            → (images : Images) → AreImages self.new images → generation_of (restores images).present ≡ self.new.generation }
+        // Where it fails, what it was to add does not count as firm, and the group that was running does where it was made firm.
+        ensures partly { OnErr result ((self.new.firm ≡ self.old.firm) ⊎ (self.new.firm ≡ min (self.old.firm + being_added self.old) (2 ^ 64 - 1))) }
+        ensures rises { self.old.firm ≤ self.new.firm }
         ensures underway { self.new.state ≡ State.Open → D.told → IsUnderWay self.new }
+        // Where memory runs out and the store stays open, it is as it was, or the group that was running is firm.
+        ensures no_memory { OnErr result (self.new.state ≡ State.Open → D.told → (added : Group) (kept : Kept) (others : List Kept) → StoreStands self.old added kept others
+            → (self.new ≡ self.old) ⊎ HasRun self.new kept others (running self.old added)) }
         ensures generation { self.new.generation ≡ self.old.generation }
         ensures not_taken { OnErr result (self.new.state ≡ State.Open → self.new.waiting ≡ self.old.waiting) }
         // Memory that runs out before any device call changes nothing.
@@ -172,6 +181,7 @@ impl<D: Disk> Store<D> {
         ensures untouched { (self.old.state ≡ State.Open → ⊥) → self.new ≡ self.old }
         // Memory that runs out where a job of the log begins changes nothing.
         ensures unchanged { OnErr result (self.new.state ≡ State.Open → (self.new ≡ self.old) × (idle self.old.log.job ≡ true)) }
+        ensures calm { OnErr result (self.new.state ≡ State.Open → calls_log self.old ≡ true) }
         ensures one { CallsOne self.old self.new }
         ensures time { TimeGoes self.old self.new }
         ensures later { NoneFalls self.old self.new }
@@ -300,11 +310,17 @@ impl<D: Disk> Store<D> {
             → (images : Images) → AreImages self.new images → Grows kept others (running self.old added) (running self.old added ++ self.old.waiting) (restores images) }
         ensures any_moment { D.told → D.remembers → calls_log self.old ≡ true → (added : Group) (kept : Kept) (others : List Kept) → StoreStands self.old added kept others
             → (images : Images) → LeftSince self.old self.new images → Grows kept others (running self.old added) (running self.old added ++ self.old.waiting) (restores images) }
-        ensures own { OnOk result (D.told → IsUnswitched (state_of self.old) → IsUnswitched (state_of self.new)) }
+        ensures own { self.new.state ≡ State.Open → D.told → IsUnswitched (state_of self.old) → IsUnswitched (state_of self.new) }
         ensures lives { D.told → (added : Group) (kept : Kept) (others : List Kept) → StoreStands self.old added kept others → IsUnswitched (state_of self.old)
             → (images : Images) → AreImages self.new images → UnswitchedGrowth kept others (running self.old added) (running self.old added ++ self.old.waiting) images }
-        ensures counted { D.told → calls_log self.old ≡ true → (added : Group) (kept : Kept) (others : List Kept) → StoreStands self.old added kept others
-            → (images : Images) → AreImages self.new images → self.new.firm ≤ length (restores images).entries }
+        ensures counted { D.told → (added : Group) (kept : Kept) (others : List Kept) → StoreStands self.old added kept others
+            → (images : Images) → AreImages self.new images → generation_of (restores images).present ≡ self.new.generation → self.new.firm ≤ length (restores images).entries }
+        ensures present { D.told → calls_log self.old ≡ true → (added : Group) (kept : Kept) (others : List Kept) → StoreStands self.old added kept others
+            → (images : Images) → AreImages self.new images → generation_of (restores images).present ≡ self.new.generation }
+        ensures partly { OnErr result ((self.new.firm ≡ self.old.firm) ⊎ (self.new.firm ≡ min (self.old.firm + being_added self.old) (2 ^ 64 - 1))) }
+        ensures rises { self.old.firm ≤ self.new.firm }
+        ensures no_memory { OnErr result (self.new.state ≡ State.Open → D.told → (added : Group) (kept : Kept) (others : List Kept) → StoreStands self.old added kept others
+            → HasRun self.new kept others (running self.old added)) }
         ensures underway { self.new.state ≡ State.Open → D.told → IsUnderWay self.new }
         ensures generation { self.new.generation ≡ self.old.generation }
         ensures held { OnErr result (self.new.state ≡ State.Open → self.new.waiting ≡ self.old.waiting) }
@@ -314,6 +330,7 @@ impl<D: Disk> Store<D> {
         ensures cause { IsErrOf result (LogFault.Disk false) → OneRose self.old self.new }
         ensures closes { Closes result self.old.state self.new.state }
     {
+        let _before = self.firm;
         let tail = Tail {
             made: 0,
             entries: Sequence::new(alloc),

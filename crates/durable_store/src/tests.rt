@@ -557,7 +557,11 @@ fn what_is_restored_over_a_torn_slot(rt: HostRuntime) -> Result<(), Fail> {
             for first in crashes {
                 for second in crashes {
                     let are = torn_lives(alloc, (one, other), (first, second))?;
-                    assert_eq!(rt; are, (true, true, true), "at {one} {first:?} {other} {second:?}");
+                    assert_eq!(rt;
+                        are,
+                        (true, true, true),
+                        "at {one} {first:?} {other} {second:?}"
+                    );
                 }
             }
         }

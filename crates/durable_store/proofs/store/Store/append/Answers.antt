@@ -1,13 +1,13 @@
-use Rattle.std.proofs.Common.{◌≤◌, length, ◌∙◌, [], sym, ap, subst}
+use Rattle.std.proofs.Common.{◌≤◌, length, ◌∙◌, [], sym, ap, subst, inr}
 use Rattle.durable_store.specs.Restored.{restores}
 use Rattle.durable_store.specs.Turns.{rests}
-use Rattle.durable_store.specs.Standing.{StoreStands, AreImages, with, to_come}
+use Rattle.durable_store.specs.Standing.{StoreStands, AreImages, with, running, to_come}
 use Rattle.durable_store.specs.Calls.{LeftSince}
 use Rattle.durable_store.proofs.Called.{on_ok, on_err}
-use Rattle.durable_store.proofs.Fronts.{counted_now}
+use Rattle.durable_store.proofs.Fronts.{counted_now, present_now}
 use Rattle.durable_store.proofs.Lasting.{images_now}
 use Rattle.durable_store.proofs.Grows.{growth_still}
-use Rattle.durable_store.proofs.Appending.{same_images, still_known, all_same, calls_same, to_come_same, taken_back, firm_is, restores_all}
+use Rattle.durable_store.proofs.Appending.{same_images, still_known, ran_same, all_same, calls_same, to_come_same, taken_back, firm_is, restores_all}
 use Rattle.durable_store.proofs.store.Store.append.Goals as goal
 
 pub returns-in_err-start-clause-crash : goal.returns-in_err-start-clause-crash
@@ -61,22 +61,40 @@ returns-else-is_err-clause-firm g c =
     on_ok c.finish-answer.result _ _ (λ firm. firm_is c.finish-answer.new.self.firm s.firm c.start.new.self.firm (to_come s) _ _ e.firm (to_come_same s c.start.new.self c.args.entries e.log e.waiting e.adding) firm) c.finish-answer.ensures.firm
 
 pub returns-in_err-start-clause-counted : goal.returns-in_err-start-clause-counted
-returns-in_err-start-clause-counted g c = λ told calls added kept others h images are.
+returns-in_err-start-clause-counted g c = λ told added kept others h images are same.
     let s = c.args.self.now in
-    subst (λ x. x.firm ≤ length (restores images).entries) (sym c.in_err-start.ensures.err) (counted_now s added kept others h calls images (subst (λ x. AreImages x images) c.in_err-start.ensures.err are))
+    let e = c.in_err-start.ensures in
+    subst (λ x. x.firm ≤ length (restores images).entries) (sym e.err) (counted_now s added kept others h images (subst (λ x. AreImages x images) e.err are) (same ∙ e.generation))
 
 pub returns-then-is_err-clause-counted : goal.returns-then-is_err-clause-counted
-returns-then-is_err-clause-counted g c = λ told calls added kept others h images are.
+returns-then-is_err-clause-counted g c = λ told added kept others h images are same.
     let e = c.in_ok-start.ensures in
     let b = c.take_back.ensures in
     subst (λ n. n ≤ length (restores images).entries) (sym b.firm)
-    (c.finish-answer.ensures.counted told (calls_same c.args.self.now c.start.new.self c.args.entries e.log e.waiting e.slots calls) added kept others (e.stands added kept others h) images
-    (same_images c.finish-answer.new.self c.take_back.new.self b.slots b.log b.other_log b.generation images are))
+    (c.finish-answer.ensures.counted told added kept others (e.stands added kept others h) images (same_images c.finish-answer.new.self c.take_back.new.self b.slots b.log b.other_log b.generation images are) (same ∙ b.generation))
 
 pub returns-else-is_err-clause-counted : goal.returns-else-is_err-clause-counted
-returns-else-is_err-clause-counted g c = λ told calls added kept others h images are.
+returns-else-is_err-clause-counted g c = λ told added kept others h images are same.
     let e = c.in_ok-start.ensures in
-    c.finish-answer.ensures.counted told (calls_same c.args.self.now c.start.new.self c.args.entries e.log e.waiting e.slots calls) added kept others (e.stands added kept others h) images are
+    c.finish-answer.ensures.counted told added kept others (e.stands added kept others h) images are same
+
+pub returns-in_err-start-clause-present : goal.returns-in_err-start-clause-present
+returns-in_err-start-clause-present g c = λ told calls added kept others h images are.
+    let e = c.in_err-start.ensures in
+    present_now c.args.self.now added kept others h calls images (subst (λ x. AreImages x images) e.err are) ∙ sym e.generation
+
+pub returns-then-is_err-clause-present : goal.returns-then-is_err-clause-present
+returns-then-is_err-clause-present g c = λ told calls added kept others h images are.
+    let e = c.in_ok-start.ensures in
+    let b = c.take_back.ensures in
+    c.finish-answer.ensures.present told (calls_same c.args.self.now c.start.new.self c.args.entries e.log e.waiting e.slots calls) added kept others (e.stands added kept others h) images
+    (same_images c.finish-answer.new.self c.take_back.new.self b.slots b.log b.other_log b.generation images are)
+    ∙ sym b.generation
+
+pub returns-else-is_err-clause-present : goal.returns-else-is_err-clause-present
+returns-else-is_err-clause-present g c = λ told calls added kept others h images are.
+    let e = c.in_ok-start.ensures in
+    c.finish-answer.ensures.present told (calls_same c.args.self.now c.start.new.self c.args.entries e.log e.waiting e.slots calls) added kept others (e.stands added kept others h) images are
 
 -- ---- what the next life begins with
 
@@ -84,6 +102,15 @@ pub returns-in_err-start-clause-lives : goal.returns-in_err-start-clause-lives
 returns-in_err-start-clause-lives g c = λ is_open told added kept others h w images are.
     growth_still c.args.self.now added kept others _ _ h w images (subst (λ x. AreImages x images) c.in_err-start.ensures.err are)
 
-pub returns-else-is_err-clause-own : goal.returns-else-is_err-clause-own
-returns-else-is_err-clause-own g c =
-    on_ok c.finish-answer.result _ _ (λ own told w. own told (c.start.ensures.own w)) c.finish-answer.ensures.own
+-- ---- memory runs out
+
+pub returns-then-is_err-clause-no_memory : goal.returns-then-is_err-clause-no_memory
+returns-then-is_err-clause-no_memory g c =
+    let s = c.args.self.now in
+    let t = c.finish-answer.new.self in
+    let e = c.in_ok-start.ensures in
+    let b = c.take_back.ensures in
+    on_err c.finish-answer.result _ _ (λ ran is_open told added kept others h.
+    let r = ran (sym b.state ∙ is_open) told added kept others (e.stands added kept others h) in
+    let stands = subst (λ l. StoreStands t [] (with kept l) r.left) (ran_same s c.start.new.self c.args.entries e.log e.waiting added) r.stands in
+    inr (record { left = r.left; stands = b.stands [] (with kept (running s added)) r.left stands; known = r.known })) c.finish-answer.ensures.no_memory

@@ -1,11 +1,14 @@
-use Rattle.std.proofs.Common.{◌≡◌, ◌∙◌, ◌++◌, inr, true, false, refl, sym, ap}
+use Rattle.std.proofs.Common.{◌≡◌, ◌∙◌, ◌++◌, ℕ, inr, true, false, refl, sym, ap, subst, arith}
 use Rattle.durable_store.specs.Restored.{restores}
 use Rattle.durable_store.specs.Standing.{is_due, running}
-use Rattle.durable_store.specs.Wholes.{Grows}
+use Rattle.durable_store.specs.Wholes.{Grows, HasRun}
+use Rattle.durable_store.specs.States.{state_of}
+use Rattle.durable_store.specs.Lives.{IsUnswitched}
 use Rattle.durable_store.proofs.Called.{on_none}
 use Rattle.durable_store.proofs.Lighter.{lighter, still_calm, begins_or_not, not_begun_yet}
-use Rattle.durable_store.proofs.Growing.{at_first, grows_on, crash_known, now_known, at_end, done_is}
-use Rattle.durable_store.proofs.Fronts.{counted_then, counted_now}
+use Rattle.durable_store.proofs.Growing.{at_first, grows_on, crash_known, now_known, has_run, at_end, done_is, none_to_come}
+use Rattle.durable_store.proofs.Fronts.{counted_then, counted_now, present_then, present_now}
+use Rattle.durable_store.proofs.Firms.{MayCount, counting_first, counting_on, counting_due, may_rise}
 use Rattle.durable_store.proofs.Grows.{growth_of, growth_now}
 use Rattle.durable_store.proofs.Lasting.{times_none, times_on, falls_none, falls_on, still_first, still_on, images_now, moment_on}
 use Rattle.durable_store.proofs.store.Store.finish.Goals as goal
@@ -20,6 +23,7 @@ loop-alloc-init g c =
       own = λ told w. w;
       moments = λ told remembers calls added kept others h images left. now_known s added kept others s (at_first s added kept others h) images (images_now (g.met.D.Disk.only_now remembers) s images left);
       calm = λ is. (is, still_first s);
+      counting = counting_first s;
       begun = inr (record { waits = refl; first = λ calls rest. refl });
       counts = refl;
       generation = refl;
@@ -52,6 +56,7 @@ loop-alloc-preserved g c =
           (i.moments told remembers calls added kept others h)
           (λ images are. crash_known s0 added kept others s so_far (restores images) (e.crash i.is_open told so_far.added _ so_far.others_now so_far.stands images are));
       calm = λ calls. (still_calm s t e.jobs e.waiting (i.calm calls).0, still_on s0 s t (i.calm calls).0 (i.calm calls).1 e.one);
+      counting = counting_on s0 s t due e.jobs e.waiting e.adding e.firm i.counting;
       begun = begins_or_not s0 s t due e.jobs e.waiting i.begun;
       counts = e.counts ∙ i.counts;
       generation = e.generation ∙ i.generation;
@@ -115,17 +120,51 @@ returns-clause-done g c =
     (done, (done_is s done).none)
 
 pub returns-in_err-next_call-clause-counted : goal.returns-in_err-next_call-clause-counted
-returns-in_err-next_call-clause-counted g c = λ told calls added kept others h images are.
+returns-in_err-next_call-clause-counted g c = λ told added kept others h images are same.
     let i = c.loop-alloc.invariant in
     let so_far = i.grown told added kept others h in
-    counted_then c.loop-alloc.self so_far.added _ so_far.others_now so_far.stands (i.calm calls).0 c.next_call.new.self.firm (restores images) c.in_err-next_call.ensures.not_firm
+    counted_then c.loop-alloc.self so_far.added _ so_far.others_now so_far.stands c.next_call.new.self.firm (restores images) c.in_err-next_call.ensures.not_firm (same ∙ c.next_call.ensures.generation)
     (c.next_call.ensures.crash i.is_open told so_far.added _ so_far.others_now so_far.stands images are)
 
 pub returns-clause-counted : goal.returns-clause-counted
-returns-clause-counted g c = λ told calls added kept others h images are.
+returns-clause-counted g c = λ told added kept others h images are same.
+    let so_far = c.loop-alloc.invariant.grown told added kept others h in
+    counted_now c.loop-alloc.self so_far.added _ so_far.others_now so_far.stands images are same
+
+pub returns-in_err-next_call-clause-present : goal.returns-in_err-next_call-clause-present
+returns-in_err-next_call-clause-present g c = λ told calls added kept others h images are.
     let i = c.loop-alloc.invariant in
     let so_far = i.grown told added kept others h in
-    counted_now c.loop-alloc.self so_far.added _ so_far.others_now so_far.stands (i.calm calls).0 images are
+    present_then c.loop-alloc.self so_far.added _ so_far.others_now so_far.stands (i.calm calls).0 (restores images)
+    (c.next_call.ensures.crash i.is_open told so_far.added _ so_far.others_now so_far.stands images are)
+    ∙ sym c.next_call.ensures.generation
+
+pub returns-clause-present : goal.returns-clause-present
+returns-clause-present g c = λ told calls added kept others h images are.
+    let i = c.loop-alloc.invariant in
+    let so_far = i.grown told added kept others h in
+    present_now c.loop-alloc.self so_far.added _ so_far.others_now so_far.stands (i.calm calls).0 images are
+
+pub returns-in_err-next_call-clause-partly : goal.returns-in_err-next_call-clause-partly
+returns-in_err-next_call-clause-partly g c =
+    let s0 = c.args.self.now in
+    let s = c.loop-alloc.self in
+    on_none c.from_residual.result _ (subst (λ (n : ℕ). MayCount s0 n) (sym c.in_err-next_call.ensures.not_firm) (counting_due s0 s (sym c.is_due.ensures ∙ c.loop-alloc-test.true) c.loop-alloc.invariant.counting))
+
+pub returns-in_err-next_call-clause-own : goal.returns-in_err-next_call-clause-own
+returns-in_err-next_call-clause-own g c = λ is_open told w.
+    let u = c.in_err-next_call.ensures.unchanged is_open in
+    subst (λ x. IsUnswitched (state_of x)) (sym u.0) (c.loop-alloc.invariant.own told w)
+
+pub returns-in_err-next_call-clause-no_memory : goal.returns-in_err-next_call-clause-no_memory
+returns-in_err-next_call-clause-no_memory g c =
+    let s0 = c.args.self.now in
+    let s = c.loop-alloc.self in
+    let i = c.loop-alloc.invariant in
+    on_none c.from_residual.result _ (λ is_open told added kept others h.
+    let u = c.in_err-next_call.ensures.unchanged is_open in
+    let waits = not_begun_yet s0 s (sym c.is_due.ensures ∙ c.loop-alloc-test.true) i.begun u.1 in
+    subst (λ x. HasRun x kept others (running s0 added)) (sym u.0) (has_run s0 added kept others s u.1 waits.waits (i.grown told added kept others h)))
 
 -- ---- what the next life begins with
 
@@ -139,3 +178,18 @@ pub returns-clause-lives : goal.returns-clause-lives
 returns-clause-lives g c = λ told added kept others h w images are.
     let i = c.loop-alloc.invariant in
     growth_now c.args.self.now added kept others c.loop-alloc.self (i.grown told added kept others h) (i.own told w) images are
+
+pub returns-clause-firm : goal.returns-clause-firm
+returns-clause-firm g c =
+    let s = c.loop-alloc.self in
+    let none = none_to_come s (done_is s (sym c.is_due.ensures ∙ c.loop-alloc-test.false)) in
+    omega (arith, c.loop-alloc.invariant.counts, none)
+
+pub returns-clause-rises : goal.returns-clause-rises
+returns-clause-rises g c = let firm = returns-clause-firm g c in omega (arith, firm)
+
+pub returns-in_err-next_call-clause-rises : goal.returns-in_err-next_call-clause-rises
+returns-in_err-next_call-clause-rises g c =
+    let s0 = c.args.self.now in
+    let s = c.loop-alloc.self in
+    may_rise s0 c.next_call.new.self.firm (omega arith) (subst (λ (n : ℕ). MayCount s0 n) (sym c.in_err-next_call.ensures.not_firm) (counting_due s0 s (sym c.is_due.ensures ∙ c.loop-alloc-test.true) c.loop-alloc.invariant.counting))
