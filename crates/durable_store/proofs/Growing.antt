@@ -110,7 +110,7 @@ module _ (run all : List (List ℕ)) where
 -- ---- what is left of the others
 
 module _ (P : Kept → Type 0) where
-  slot_each : (job : SlotJob) (os : List Kept) → Each P os → Each P (slot_others job os)
+  pub slot_each : (job : SlotJob) (os : List Kept) → Each P os → Each P (slot_others job os)
   slot_each SyncClose os each = each_drop P os each
   slot_each Empty os each = each
   slot_each Torn os each = each

@@ -21,3 +21,4 @@ pub mod Grows
 pub mod States
 pub mod Plain
 pub mod Found
+pub mod Passing

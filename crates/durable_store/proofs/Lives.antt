@@ -136,7 +136,7 @@ module _ (s t : StoreState) (added : Group) (kept : Kept) (others : List Kept) (
 
 -- ---- a store that is opened
 
-image_of : (cells : Cells) (bytes : List ℕ) → cells ≡ settled bytes → IsImage cells bytes
+pub image_of : (cells : Cells) (bytes : List ℕ) → cells ≡ settled bytes → IsImage cells bytes
 image_of cells bytes are = subst (λ (q : Cells). IsImage q bytes) (sym are) (sound_settled bytes).reads
 
 pub opens_as : (s : StoreState) (images : Images) (read kept other : Kept) (others : List Kept) → StateStands s [] read others → UnswitchedWire images kept other

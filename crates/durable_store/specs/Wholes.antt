@@ -2,7 +2,9 @@
 use Rattle.std.specs.Prelude.{◌≡◌, ◌⊎◌, ◌≤◌, ℕ, List, [], ◌∷◌, ◌++◌}
 use Rattle.disk_model.specs.declared.disk.Disk.{Ghosts}
 use Rattle.store_form.specs.Spelling.{Group}
+use Rattle.durable_store.specs.Restored.{Images, restores}
 use Rattle.durable_store.specs.Standing.{with, StoreStands}
+use Rattle.durable_store.specs.Calls.{LeftSince}
 use Rattle.durable_store.specs.declared.kept.Kept.{Kept}
 use Rattle.durable_store.specs.declared.store.Store.{Store}
 
@@ -36,3 +38,18 @@ module _ {D : Type 0} {g : Ghosts D} where
     pub odd_slot : Lasts g old.slots.odd.device new.slots.odd.device
     pub log : Lasts g old.log.device new.log.device
     pub other_log : Lasts g old.other_log new.other_log
+
+  -- The moments of a run of calls. Up to `middle` the log is not called, and from then on no slot is. What a crash might have
+  -- left up to then restores what was kept, or might have been restored instead; and what it might have left since, what
+  -- Grows says.
+  pub record Passes (old new : Store D g) (kept : Kept) (others : List Kept) (ran all : Group) : Type 0 where
+    pub middle : Store D g
+    pub generation : middle.generation ≡ old.generation
+    pub log : middle.log.device ≡ old.log.device
+    pub even_slot : new.slots.even.device ≡ middle.slots.even.device
+    pub odd_slot : new.slots.odd.device ≡ middle.slots.odd.device
+    pub other_log : (middle.other_log ≡ old.other_log) × (new.other_log ≡ middle.other_log)
+    pub earlier : TimeLasts old middle
+    pub later : TimeLasts middle new
+    pub before : (images : Images) → LeftSince old middle images → (restores images ≡ kept) ⊎ IsOneOf (restores images) others
+    pub after : (images : Images) → LeftSince middle new images → Grows kept others ran all (restores images)

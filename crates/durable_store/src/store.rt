@@ -80,7 +80,7 @@ impl<D: Disk> Store<D> {
     ghost use Rattle.durable_store.specs.Calls.{LeftSince, NoneFalls, OneRose, NextJobs, CallsOne, TimeGoes};
     ghost use Rattle.durable_store.specs.declared.kept.Kept.{Kept};
     ghost use Rattle.durable_store.specs.Given.{given};
-    ghost use Rattle.durable_store.specs.Wholes.{Grows, HasRun, TimeLasts};
+    ghost use Rattle.durable_store.specs.Wholes.{Grows, HasRun, Passes, TimeLasts};
     ghost use Rattle.durable_store.specs.States.{state_of};
     ghost use Rattle.durable_store.specs.Exact.{store_called, started, log_begins};
     ghost use Rattle.batch_log.specs.Exact.{log_called, job_called, end_called};
@@ -103,9 +103,12 @@ impl<D: Disk> Store<D> {
         // Whether it goes well or not, a crash restores what one before it might have restored, or what was kept with a whole group.
         ensures crash { self.old.state ≡ State.Open → D.told → (added : Group) (kept : Kept) (others : List Kept) → StoreStands self.old added kept others
             → (images : Images) → AreImages self.new images → Grows kept others (running self.old added) (running self.old added ++ (self.old.waiting ++ entries)) (restores images) }
-        // So it does at any moment of the call. Where slots are closed in it, `next_call` says so of each of its calls.
+        // So it does at any moment of the call, where no slot is closed in it.
         ensures any_moment { self.old.state ≡ State.Open → D.told → D.remembers → calls_log self.old ≡ true → (added : Group) (kept : Kept) (others : List Kept) → StoreStands self.old added kept others
             → (images : Images) → LeftSince self.old self.new images → Grows kept others (running self.old added) (running self.old added ++ (self.old.waiting ++ entries)) (restores images) }
+        // Of any store: no slot is called once the log was.
+        ensures moments { self.old.state ≡ State.Open → D.told → D.remembers → (added : Group) (kept : Kept) (others : List Kept) → StoreStands self.old added kept others
+            → Passes self.old self.new kept others (running self.old added) (running self.old added ++ (self.old.waiting ++ entries)) }
         // A store that only crashes of its own lives have changed stays one, and each crash then leaves such a store, however
         // the call ends: what it keeps, and what it may restore instead, are of those.
         ensures own { self.new.state ≡ State.Open → D.told → IsUnswitched (state_of self.old) → IsUnswitched (state_of self.new) }
@@ -310,6 +313,8 @@ impl<D: Disk> Store<D> {
             → (images : Images) → AreImages self.new images → Grows kept others (running self.old added) (running self.old added ++ self.old.waiting) (restores images) }
         ensures any_moment { D.told → D.remembers → calls_log self.old ≡ true → (added : Group) (kept : Kept) (others : List Kept) → StoreStands self.old added kept others
             → (images : Images) → LeftSince self.old self.new images → Grows kept others (running self.old added) (running self.old added ++ self.old.waiting) (restores images) }
+        ensures moments { D.told → D.remembers → (added : Group) (kept : Kept) (others : List Kept) → StoreStands self.old added kept others
+            → Passes self.old self.new kept others (running self.old added) (running self.old added ++ self.old.waiting) }
         ensures own { self.new.state ≡ State.Open → D.told → IsUnswitched (state_of self.old) → IsUnswitched (state_of self.new) }
         ensures lives { D.told → (added : Group) (kept : Kept) (others : List Kept) → StoreStands self.old added kept others → IsUnswitched (state_of self.old)
             → (images : Images) → AreImages self.new images → UnswitchedGrowth kept others (running self.old added) (running self.old added ++ self.old.waiting) images }

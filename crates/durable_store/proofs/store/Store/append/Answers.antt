@@ -1,8 +1,10 @@
-use Rattle.std.proofs.Common.{◌≤◌, length, ◌∙◌, [], sym, ap, subst, inr}
+use Rattle.std.proofs.Common.{◌≤◌, ◌++◌, refl, length, ◌∙◌, [], sym, ap, subst, inr}
 use Rattle.durable_store.specs.Restored.{restores}
 use Rattle.durable_store.specs.Turns.{rests}
 use Rattle.durable_store.specs.Standing.{StoreStands, AreImages, with, running, to_come}
 use Rattle.durable_store.specs.Calls.{LeftSince}
+use Rattle.durable_store.specs.Wholes.{Passes}
+use Rattle.durable_store.proofs.Passing.{passes_none, passes_same}
 use Rattle.durable_store.proofs.Called.{on_ok, on_err}
 use Rattle.durable_store.proofs.Fronts.{counted_now, present_now}
 use Rattle.durable_store.proofs.Lasting.{images_now}
@@ -114,3 +116,30 @@ returns-then-is_err-clause-no_memory g c =
     let r = ran (sym b.state ∙ is_open) told added kept others (e.stands added kept others h) in
     let stands = subst (λ l. StoreStands t [] (with kept l) r.left) (ran_same s c.start.new.self c.args.entries e.log e.waiting added) r.stands in
     inr (record { left = r.left; stands = b.stands [] (with kept (running s added)) r.left stands; known = r.known })) c.finish-answer.ensures.no_memory
+
+-- ---- the moments of the call
+
+pub returns-in_err-start-clause-moments : goal.returns-in_err-start-clause-moments
+returns-in_err-start-clause-moments g c = λ is_open told remembers added kept others h.
+    let s = c.args.self.now in
+    subst (λ x. Passes s x kept others (running s added) (running s added ++ (s.waiting ++ c.args.entries))) (sym c.in_err-start.ensures.err) (passes_none (g.met.D.Disk.only_now remembers) s added kept others h _ _)
+
+pub returns-then-is_err-clause-moments : goal.returns-then-is_err-clause-moments
+returns-then-is_err-clause-moments g c = λ is_open told remembers added kept others h.
+    let s = c.args.self.now in
+    let m = c.start.new.self in
+    let e = c.in_ok-start.ensures in
+    let b = c.take_back.ensures in
+    passes_same s m c.finish-answer.new.self c.take_back.new.self kept others _ _ _ _ e.slots e.log e.other_log e.generation b.slots b.log b.other_log
+    (ran_same s m c.args.entries e.log e.waiting added) (all_same s m c.args.entries e.log e.waiting added)
+    (c.finish-answer.ensures.moments told remembers added kept others (e.stands added kept others h))
+
+pub returns-else-is_err-clause-moments : goal.returns-else-is_err-clause-moments
+returns-else-is_err-clause-moments g c = λ is_open told remembers added kept others h.
+    let s = c.args.self.now in
+    let m = c.start.new.self in
+    let t = c.finish-answer.new.self in
+    let e = c.in_ok-start.ensures in
+    passes_same s m t t kept others _ _ _ _ e.slots e.log e.other_log e.generation refl refl refl
+    (ran_same s m c.args.entries e.log e.waiting added) (all_same s m c.args.entries e.log e.waiting added)
+    (c.finish-answer.ensures.moments told remembers added kept others (e.stands added kept others h))

@@ -8,6 +8,7 @@ use Rattle.durable_store.proofs.Called.{on_none}
 use Rattle.durable_store.proofs.Lighter.{lighter, still_calm, begins_or_not, not_begun_yet}
 use Rattle.durable_store.proofs.Growing.{at_first, grows_on, crash_known, now_known, has_run, at_end, done_is, none_to_come}
 use Rattle.durable_store.proofs.Fronts.{counted_then, counted_now, present_then, present_now}
+use Rattle.durable_store.proofs.Passing.{passing_first, passing_on, passes_call, passes_end}
 use Rattle.durable_store.proofs.Firms.{MayCount, counting_first, counting_on, counting_due, may_rise}
 use Rattle.durable_store.proofs.Grows.{growth_of, growth_now}
 use Rattle.durable_store.proofs.Lasting.{times_none, times_on, falls_none, falls_on, still_first, still_on, images_now, moment_on}
@@ -22,6 +23,7 @@ loop-alloc-init g c =
       grown = λ told added kept others h. at_first s added kept others h;
       own = λ told w. w;
       moments = λ told remembers calls added kept others h images left. now_known s added kept others s (at_first s added kept others h) images (images_now (g.met.D.Disk.only_now remembers) s images left);
+      passing = λ told remembers added kept others h. passing_first (g.met.D.Disk.only_now remembers) s added kept others h;
       calm = λ is. (is, still_first s);
       counting = counting_first s;
       begun = inr (record { waits = refl; first = λ calls rest. refl });
@@ -55,6 +57,9 @@ loop-alloc-preserved g c =
           moment_on (g.met.D.Disk.only_now remembers) s0 s t (λ x. Grows kept others (running s0 added) (running s0 added ++ s0.waiting) x) (e.generation ∙ i.generation) calm.1 (still_on s0 s t calm.0 calm.1 e.one) i.times e.time
           (i.moments told remembers calls added kept others h)
           (λ images are. crash_known s0 added kept others s so_far (restores images) (e.crash i.is_open told so_far.added _ so_far.others_now so_far.stands images are));
+      passing = λ told remembers added kept others h.
+          passing_on (g.met.D.Disk.only_now remembers) s0 added kept others s t (i.grown told added kept others h) e.one e.time e.generation (e.crash i.is_open told) (e.goes told) e.jobs e.waiting i.generation
+          (i.passing told remembers added kept others h);
       calm = λ calls. (still_calm s t e.jobs e.waiting (i.calm calls).0, still_on s0 s t (i.calm calls).0 (i.calm calls).1 e.one);
       counting = counting_on s0 s t due e.jobs e.waiting e.adding e.firm i.counting;
       begun = begins_or_not s0 s t due e.jobs e.waiting i.begun;
@@ -82,6 +87,18 @@ returns-in_err-next_call-clause-any_moment g c = λ told remembers calls added k
     moment_on (g.met.D.Disk.only_now remembers) s0 s t (λ x. Grows kept others (running s0 added) (running s0 added ++ s0.waiting) x) (e.generation ∙ i.generation) calm.1 (still_on s0 s t calm.0 calm.1 e.one) i.times e.time
     (i.moments told remembers calls added kept others h)
     (λ images are. crash_known s0 added kept others s so_far (restores images) (e.crash i.is_open told so_far.added _ so_far.others_now so_far.stands images are))
+
+pub returns-in_err-next_call-clause-moments : goal.returns-in_err-next_call-clause-moments
+returns-in_err-next_call-clause-moments g c = λ told remembers added kept others h.
+    let i = c.loop-alloc.invariant in
+    let e = c.next_call.ensures in
+    passes_call (g.met.D.Disk.only_now remembers) c.args.self.now added kept others c.loop-alloc.self c.next_call.new.self (i.grown told added kept others h) e.one e.time e.generation (e.crash i.is_open told) i.generation
+    (i.passing told remembers added kept others h)
+
+pub returns-clause-moments : goal.returns-clause-moments
+returns-clause-moments g c = λ told remembers added kept others h.
+    let i = c.loop-alloc.invariant in
+    passes_end (g.met.D.Disk.only_now remembers) c.args.self.now added kept others c.loop-alloc.self (i.grown told added kept others h) (i.passing told remembers added kept others h)
 
 pub returns-in_err-next_call-clause-unchanged : goal.returns-in_err-next_call-clause-unchanged
 returns-in_err-next_call-clause-unchanged g c =

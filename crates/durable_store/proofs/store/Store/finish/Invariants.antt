@@ -11,6 +11,7 @@ use Rattle.durable_store.specs.declared.kept.Kept.{Kept}
 use Rattle.durable_store.proofs.Lighter.{weight, HasBegun, HasNotBegun}
 use Rattle.durable_store.proofs.Growing.{Grown}
 use Rattle.durable_store.proofs.Firms.{Counting}
+use Rattle.durable_store.proofs.Passing.{Passing}
 use Rattle.durable_store.proofs.Lasting.{AreStill}
 use Rattle.durable_store.proofs.store.Store.finish.Given as goal
 
@@ -22,6 +23,7 @@ invariant-loop-alloc g l = record {
   own : g.D.Disk.told → IsUnswitched (state_of l.fn.self) → IsUnswitched (state_of l.self);
   moments : g.D.Disk.told → g.D.Disk.remembers → calls_log l.fn.self ≡ true → (added : Group) (kept : Kept) (others : List Kept) → StoreStands l.fn.self added kept others
       → (images : Images) → LeftSince l.fn.self l.self images → Grows kept others (running l.fn.self added) (running l.fn.self added ++ l.fn.self.waiting) (restores images);
+  passing : (told : g.D.Disk.told) (remembers : g.D.Disk.remembers) (added : Group) (kept : Kept) (others : List Kept) → StoreStands l.fn.self added kept others → Passing (g.met.D.Disk.only_now remembers) l.fn.self added kept others l.self;
   calm : calls_log l.fn.self ≡ true → (calls_log l.self ≡ true) × AreStill l.fn.self l.self;
   counting : Counting l.fn.self l.self;
   begun : HasBegun l.self ⊎ HasNotBegun l.fn.self l.self;
