@@ -22,7 +22,7 @@ use Rattle.durable_store.proofs.Given.{together_then}
 use Rattle.durable_store.proofs.Begins.{rest_idle}
 use Rattle.durable_store.proofs.Leaves.{calm_idle}
 use Rattle.durable_store.proofs.Moves.{store_leaves}
-use Rattle.durable_store.proofs.Lighter.{or_left, or_right, not_false, none_waits}
+use Rattle.durable_store.proofs.Lighter.{or_left, or_right, not_either, not_false, none_waits}
 
 -- ---- lists
 
@@ -397,8 +397,11 @@ module _ {D : Type 0} {g : Ghosts D} where
     now_known s h images are = pair_known s h (restores images) (store_leaves s h.added (with kept h.past) h.others_now h.stands images are)
 
     -- no job runs, and what waited waits still
-    pub has_run : (s : Store D g) → idle s.log.job ≡ true → s.waiting ≡ s0.waiting → Grown s → HasRun s kept others (running s0 added0)
-    has_run s is waits h =
+    pub has_run : (s : Store D g) → calls_log s ≡ true → idle s.log.job ≡ true → s.waiting ≡ s0.waiting → Grown s → HasRun s kept others (running s0 added0)
+    has_run s calls is waits h =
+        let both = not_either (closing s.slots.even.job) (closing s.slots.odd.job) calls in
+        let even = calm_idle s.slots.even.job h.stands.turn.even_closes both.0 in
+        let odd = calm_idle s.slots.odd.job h.stands.turn.odd_closes both.1 in
         let none = idle_adds s.log.job is in
         let rest : h.past ++ s0.waiting ≡ ran ++ s0.waiting =
         ap (λ (l : List (List ℕ)). h.past ++ l) (sym waits) ∙ ap (λ (b : Bool). h.past ++ (cond b h.added [] ++ s.waiting)) (sym none) ∙ h.rest in
@@ -407,6 +410,8 @@ module _ {D : Type 0} {g : Ghosts D} where
           left = h.others_now;
           stands = subst (λ (l : List (List ℕ)). StoreStands s [] (with kept l) h.others_now) past_is (at_idle s h.added (with kept h.past) h.others_now is h.stands);
           known = among others h.others_now (h.held (idle_ends s.log.job is));
+          calm = calls;
+          idle = rw (even, odd) is;
         }
 
     -- the run has ended

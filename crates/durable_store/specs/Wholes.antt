@@ -1,9 +1,9 @@
 -- What a run of calls makes of a store.
-use Rattle.std.specs.Prelude.{◌≡◌, ◌⊎◌, ◌≤◌, ℕ, List, [], ◌∷◌, ◌++◌}
+use Rattle.std.specs.Prelude.{◌≡◌, true, ◌⊎◌, ◌≤◌, ℕ, List, [], ◌∷◌, ◌++◌}
 use Rattle.disk_model.specs.declared.disk.Disk.{Ghosts}
 use Rattle.store_form.specs.Spelling.{Group}
 use Rattle.durable_store.specs.Restored.{Images, restores}
-use Rattle.durable_store.specs.Standing.{with, StoreStands}
+use Rattle.durable_store.specs.Standing.{with, is_idle, calls_log, StoreStands}
 use Rattle.durable_store.specs.Calls.{LeftSince}
 use Rattle.durable_store.specs.declared.kept.Kept.{Kept}
 use Rattle.durable_store.specs.declared.store.Store.{Store}
@@ -27,11 +27,14 @@ pub record Lasts {D : Type 0} (g : Ghosts D) (old new : D) : Type 0 where
   pub keeps : (t : ℕ) (c : List ℕ) → t ≤ g.moment old → g.left_since old t c → g.left_since new t c
 
 module _ {D : Type 0} {g : Ghosts D} where
-  -- It stands for what was kept with the group that ran already, `ran`, and for nothing instead that it did not before.
+  -- No job runs, and no slot has to be closed. It stands for what was kept with the group that ran already, `ran`, and for
+  -- nothing instead that it did not stand for before.
   pub record HasRun (s : Store D g) (kept : Kept) (others : List Kept) (ran : Group) : Type 0 where
     pub left : List Kept
     pub stands : StoreStands s [] (with kept ran) left
     pub known : (x : Kept) → IsOneOf x left → IsOneOf x others
+    pub calm : calls_log s ≡ true
+    pub idle : is_idle s ≡ true
 
   pub record TimeLasts (old new : Store D g) : Type 0 where
     pub even_slot : Lasts g old.slots.even.device new.slots.even.device

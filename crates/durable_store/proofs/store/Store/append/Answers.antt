@@ -1,7 +1,7 @@
-use Rattle.std.proofs.Common.{◌≤◌, ◌++◌, refl, length, ◌∙◌, [], sym, ap, subst, inr}
+use Rattle.std.proofs.Common.{◌≤◌, ◌++◌, refl, length, ◌∙◌, [], sym, ap, subst, inr, ◌≡◌, true}
 use Rattle.durable_store.specs.Restored.{restores}
 use Rattle.durable_store.specs.Turns.{rests}
-use Rattle.durable_store.specs.Standing.{StoreStands, AreImages, with, running, to_come}
+use Rattle.durable_store.specs.Standing.{StoreStands, AreImages, is_idle, calls_log, with, running, to_come}
 use Rattle.durable_store.specs.Calls.{LeftSince}
 use Rattle.durable_store.specs.Wholes.{Passes}
 use Rattle.durable_store.proofs.Passing.{passes_none, passes_same}
@@ -115,7 +115,9 @@ returns-then-is_err-clause-no_memory g c =
     on_err c.finish-answer.result _ _ (λ ran is_open told added kept others h.
     let r = ran (sym b.state ∙ is_open) told added kept others (e.stands added kept others h) in
     let stands = subst (λ l. StoreStands t [] (with kept l) r.left) (ran_same s c.start.new.self c.args.entries e.log e.waiting added) r.stands in
-    inr (record { left = r.left; stands = b.stands [] (with kept (running s added)) r.left stands; known = r.known })) c.finish-answer.ensures.no_memory
+    let calm : calls_log c.take_back.new.self ≡ true = rw (b.slots) r.calm in
+    let free : is_idle c.take_back.new.self ≡ true = rw (b.slots, b.log) r.idle in
+    inr (record { left = r.left; stands = b.stands [] (with kept (running s added)) r.left stands; known = r.known; calm = calm; idle = free })) c.finish-answer.ensures.no_memory
 
 -- ---- the moments of the call
 

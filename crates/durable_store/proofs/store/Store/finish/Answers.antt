@@ -181,7 +181,7 @@ returns-in_err-next_call-clause-no_memory g c =
     on_none c.from_residual.result _ (λ is_open told added kept others h.
     let u = c.in_err-next_call.ensures.unchanged is_open in
     let waits = not_begun_yet s0 s (sym c.is_due.ensures ∙ c.loop-alloc-test.true) i.begun u.1 in
-    subst (λ x. HasRun x kept others (running s0 added)) (sym u.0) (has_run s0 added kept others s u.1 waits.waits (i.grown told added kept others h)))
+    subst (λ x. HasRun x kept others (running s0 added)) (sym u.0) (has_run s0 added kept others s (c.in_err-next_call.ensures.calm is_open) u.1 waits.waits (i.grown told added kept others h)))
 
 -- ---- what the next life begins with
 
