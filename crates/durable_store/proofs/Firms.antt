@@ -1,5 +1,5 @@
 -- Which entries count as firm before a run of calls has ended.
-use Rattle.std.proofs.Common.{◌≡◌, ◌⊎◌, inl, inr, ℕ, ◌+◌, ◌-◌, ◌^◌, ◌≤◌, min, Bool, true, false, cond, ◌&&◌, ◌||◌, not, List, length, Some, None, refl, sym, ap, ◌∙◌, subst, arith}
+use Rattle.std.proofs.Common.{◌≡◌, ◌⊎◌, inl, inr, ℕ, ◌+◌, ◌-◌, ◌^◌, ◌≤◌, min, Bool, true, false, cond, ◌&&◌, length, Some, None, refl, sym, ap, ◌∙◌, subst, arith}
 use Rattle.disk_model.specs.declared.disk.Disk.{Ghosts}
 use Rattle.batch_log.specs.Jobs.{code}
 use Rattle.batch_log.specs.declared.job.Job.{Job}

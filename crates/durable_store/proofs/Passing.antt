@@ -6,7 +6,7 @@ use Rattle.disk_model.specs.declared.disk.Disk.{Ghosts}
 use Rattle.store_form.specs.Spelling.{Group}
 use Rattle.store_form.specs.declared.checkpoint.Checkpoint.{Checkpoint}
 use Rattle.batch_log.specs.Log.{restored}
-use Rattle.checkpoint_store.specs.Slots.{is_odd, slot_of, newer, generation_of}
+use Rattle.checkpoint_store.specs.Slots.{is_odd, slot_of, generation_of}
 use Rattle.checkpoint_store.specs.SlotJobs.{SlotStands, idle as slot_idle}
 use Rattle.checkpoint_store.specs.declared.job.SlotJob.{SlotJob}
 use Rattle.checkpoint_store.specs.declared.job.SlotJob.TheVariants.{Empty, Torn, Shut, Close, SyncClose, Fill, SyncFill, Full, Gate, SyncGate, Counts}
@@ -19,7 +19,7 @@ use Rattle.durable_store.specs.declared.kept.Kept.{Kept}
 use Rattle.durable_store.specs.declared.store.Store.{Store}
 use Rattle.durable_store.proofs.Moves.{store_leaves}
 use Rattle.durable_store.proofs.Lives.{image_of}
-use Rattle.durable_store.proofs.Lighter.{calm_even, still_calm}
+use Rattle.durable_store.proofs.Lighter.{still_calm}
 use Rattle.durable_store.proofs.Growing.{Grown, slot_each, crash_known, now_known}
 use Rattle.durable_store.proofs.Appending.{still_known}
 use Rattle.durable_store.proofs.Lasting.{AreStill, still_first, still_on, times_none, times_on, images_now, moment_on}

@@ -491,19 +491,11 @@ fn held(alloc: Global, byte: u8) -> Result<Model, AllocError> {
     })
 }
 
-/// Two lives over a torn slot, each of which ends by a crash, and a third: whether each restores, and
-/// has at its end, what the model says.
-fn torn_lives(
-    alloc: Global,
-    calls: (u64, u64),
-    crashes: (Crash, Crash),
-) -> Result<(bool, bool, bool), Fail> {
-    let mut model = TornModel {
-        generation: 1,
-        is_torn: true,
-        log: held(alloc, 6)?,
-    };
-    let first = disks(
+/// Generation 1 in the odd slot, generation 2 behind a torn gate in the even one, and an entry in each log.
+fn torn_disks(alloc: Global) -> Result<Disks<MemDisk>, AllocError>
+    ensures { IfOk result (λ d. AreSettled disk_cells d) }
+{
+    disks(
         alloc,
         (
             b"\x01\0\0\0\0\0\0\0\x0d\0\0\0\0\0\0\0\x01\0\0\0\x01\x05\0",
@@ -514,17 +506,11 @@ fn torn_lives(
             b"\x01\0\0\0\0\0\0\0\x01\0\0\0\0",
         ),
         Failing { device: 0, call: 0 },
-    )?;
-    let (one, left) = is_as_said(alloc, first, &mut model, (calls.0, crashes.0), 10)?;
-    let next = crashed(alloc, &left, crashes.0)?;
-    let (two, left) = is_as_said(alloc, next, &mut model, (calls.1, crashes.1), 20)?;
-    let next = crashed(alloc, &left, crashes.1)?;
-    let (three, _) = is_as_said(alloc, next, &mut model, (8, Crash::New), 30)?;
-    Ok((one, two, three))
+    )
 }
 
-/// Whether a life of so many calls, that ends by this crash, does as the model says, and its disks.
-fn is_as_said(
+/// Whether a life of so many calls does as the model says, and the disks after this crash.
+fn live_as_said(
     alloc: Global,
     disks: Disks<MemDisk>,
     model: &mut TornModel,
@@ -532,20 +518,48 @@ fn is_as_said(
     given: u8,
 ) -> Result<(bool, Disks<MemDisk>), Fail>
     requires { AreSettled disk_cells disks }
+    ensures { IfOk result (λ r. AreSettled disk_cells r.1) }
 {
     let (calls, crash) = end;
     let life = live_once(alloc, disks, calls, given)?;
-    let Life {
-        restored,
-        generation,
-        firm,
-        left,
-    } = life;
-    let is_restored = restored.as_slice() == model.log.entries.as_slice();
+    let is_so = is_as_said(alloc, &life, model, end, given)?;
+    let next = crashed(alloc, &life.left, crash)?;
+    Ok((is_so, next))
+}
+
+/// Whether the life did as the model says, which goes on to what the crash leaves.
+fn is_as_said(
+    alloc: Global,
+    life: &Life,
+    model: &mut TornModel,
+    end: (u64, Crash),
+    given: u8,
+) -> Result<bool, AllocError> {
+    let (calls, crash) = end;
+    let is_restored = life.restored.as_slice() == model.log.entries.as_slice();
     model.live(calls, crash, given)?;
-    let is_so = is_restored && generation == model.generation && firm == model.log.firm;
+    let is_so = life.generation == model.generation && life.firm == model.log.firm;
     model.crash(alloc, calls, crash)?;
-    Ok((is_so, left))
+    Ok(is_restored && is_so)
+}
+
+/// Two lives over a torn slot, each of which ends by a crash, and a third: whether each does as the
+/// model says.
+fn torn_lives(
+    alloc: Global,
+    one: (u64, Crash),
+    other: (u64, Crash),
+) -> Result<(bool, bool, bool), Fail> {
+    let mut model = TornModel {
+        generation: 1,
+        is_torn: true,
+        log: held(alloc, 6)?,
+    };
+    let torn = torn_disks(alloc)?;
+    let (is_first, next) = live_as_said(alloc, torn, &mut model, one, 10)?;
+    let (is_second, next) = live_as_said(alloc, next, &mut model, other, 20)?;
+    let (is_third, _) = live_as_said(alloc, next, &mut model, (8, Crash::New), 30)?;
+    Ok((is_first, is_second, is_third))
 }
 
 #[test]
@@ -556,7 +570,7 @@ fn what_is_restored_over_a_torn_slot(rt: HostRuntime) -> Result<(), Fail> {
         for other in 0..9 {
             for first in crashes {
                 for second in crashes {
-                    let are = torn_lives(alloc, (one, other), (first, second))?;
+                    let are = torn_lives(alloc, (one, first), (other, second))?;
                     assert_eq!(rt;
                         are,
                         (true, true, true),
