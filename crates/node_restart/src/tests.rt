@@ -306,19 +306,27 @@ fn outcome(alloc: Global, letters: &str) -> Result<(u8, u64), Fail> {
     }
 }
 
+/// A number below 10 as a row writes it.
+fn digit(number: u64) -> u8 {
+    if number < 10 {
+        b'0' + number as u8
+    } else {
+        b'?'
+    }
+}
+
+/// Whether restored entries become what a row says.
+fn becomes(alloc: Global, letters: &str, wanted: &[u8]) -> Result<bool, Fail> {
+    let (kind, number) = outcome(alloc, letters)?;
+    Ok(wanted == [kind, digit(number)].as_slice())
+}
+
 #[test]
 fn entries_are_taken_back_up_to_the_first_damaged(rt: HostRuntime) -> Result<(), Fail> {
     let alloc = rt.alloc();
     for row in ROWS.lines() {
         let (letters, wanted) = row.rsplit_once(' ').ok_or("no outcome")?;
-        let (kind, number) = outcome(alloc, letters)?;
-        let wanted = wanted.as_bytes();
-        assert_eq!(rt; wanted.first(), Some(&kind), "{row}");
-        assert_eq!(rt;
-            wanted.get(1),
-            Some(&(number as u8).wrapping_add(b'0')),
-            "{row}"
-        );
+        assert!(rt; becomes(alloc, letters, wanted.as_bytes())?, "{row}");
     }
     Ok(())
 }
