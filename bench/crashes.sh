@@ -1,7 +1,17 @@
 #!/bin/sh
-# What crashes cost: the bench of asks with one client, so that each ask is a place of its own, where all members stop behind
-# each 64th place and go on from what their devices hold. A member that goes on reads all that it ever wrote down.
-# usage: bench/crashes.sh [N [PROGRAM]]
-# Without N it is 2000, and without PROGRAM the proved program that ./prove makes. The status is that of bench/asks.sh.
+# What crashes cost: the bench of asks over so many places and over twice as many, where all members stop behind each 64th
+# place and go on from what their devices hold. There are 64 clients. A round of them has two places, as the first request is
+# proposed alone and the others together.
+# usage: bench/crashes.sh [PLACES [PROGRAM]]
+# Without PLACES it is 64, and without PROGRAM the proved program that ./prove makes. The status is that of bench/asks.sh.
+# A member that goes on reads and checks all that it ever wrote down, so the work of restarts grows with the square of the places:
+# the ratio is about 2.3 from 64 places to 128, and 2.5 to 256, until checkpoints shorten what is read.
 top=$(CDPATH= cd -- "$(dirname -- "$0")/.." && pwd) || exit 1
-exec "$top/bench/asks.sh" "${1:-2000}" 1 "${2:-$top/out/smart}" 4294967296 64
+places=${1:-64}
+case $places in
+'' | 0* | *[!0-9]*)
+    echo "usage: bench/crashes.sh [PLACES [PROGRAM]]" >&2
+    exit 2
+    ;;
+esac
+exec "$top/bench/asks.sh" "$((32 * places))" 64 "${2:-$top/out/smart}" 4294967296 2048
