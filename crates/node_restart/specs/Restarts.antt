@@ -1,13 +1,20 @@
 -- What a node is given back by restored entries, one by one: its replica and its book.
-use Rattle.std.specs.Prelude.{ℕ, ◌≡◌, ◌+◌, Bool, false, List, [], ◌∷◌, ◌++◌, Option, Some, None, Result, Ok, Err, if◌then◌else◌}
+use Rattle.std.specs.Prelude.{ℕ, ◌≡◌, ◌+◌, Bool, false, not, ◌&&◌, List, [], ◌∷◌, ◌++◌, Option, Some, None, Result, Ok, Err, if◌then◌else◌}
+use Rattle.std.specs.List.{list_any}
 use Rattle.smart_base.specs.Views.{View, present}
+use Rattle.smart_messages.specs.Messages.{Batch}
 use Rattle.smart_service.specs.Services.{Meaning}
 use Rattle.smart_service.specs.declared.replica.Replica.{Replica}
 use Rattle.vote_book.specs.Books.{Book, number_or, place_made, latest_made, last_made}
 use Rattle.vote_book.specs.declared.entry.LogEntry.{LogEntry}
 use Rattle.vote_book.specs.declared.entry.LogEntry.TheVariants.{Opened, Wrote, Accepted, Promised, Synced, Decided, Installed, Marked}
 use Rattle.replica_rules.specs.Replicas.{empty, delivered}
+use Rattle.replica_rules.specs.Seals.{digest_of, is_managers, fits}
 use Rattle.node_rules.specs.Reopening.{may_restore}
+
+-- what names a batch in votes, if it may stand at a place
+abbrev pub named_for : List ℕ → ℕ → Batch → Option (List ℕ)
+named_for secret place batch = if fits secret batch place && not (list_any is_managers batch) then Some (digest_of batch) else None
 
 -- the replica that takes back an entry
 abbrev pub replayed : {S : Type 0} → Meaning S → Replica S → LogEntry → Replica S

@@ -1,9 +1,10 @@
 //! What names a batch, and whether it may stand at a place.
-ghost use Rattle.std.specs.Prelude.{◌≡◌, IfOk, length};
+ghost use Rattle.std.specs.Prelude.{◌≡◌, ◌&&◌, not, IfOk, length};
 ghost use Rattle.std.specs.List.{list_any, list_all};
 ghost use Rattle.smart_messages.specs.Messages.{batch_text};
 ghost use Rattle.replica_rules.specs.Seals.{digest_of, request_fits, is_managers, fits};
 ghost use Rattle.node_rules.specs.Arrivals.{is_batch_for};
+ghost use Rattle.node_restart.specs.Restarts.{named_for};
 
 use smart_base::bytes::Digest32;
 use smart_base::equality::same_bytes;
@@ -64,6 +65,14 @@ fn fits(ring: &Ring, batch: &[Signed<Request>], bytes: usize, place: u64) -> boo
         && (batch.len() <= 1 || !has_managers(batch))
 }
 
+/// Whether a batch of so many bytes may stand at a place, and no request of it is the view manager's.
+fn may_stand(ring: &Ring, batch: &[Signed<Request>], bytes: usize, place: u64) -> bool
+    requires { bytes ≡ length (batch_text batch.now) }
+    ensures { result ≡ (fits ring.now batch.now place && not (list_any is_managers batch.now)) }
+{
+    fits(ring, batch, bytes, place) && !has_managers(batch)
+}
+
 /// Whether a batch may stand at a place, and is the one of a digest.
 #[tactic(auto, unfolding(replica_rules::specs::Seals::digest_of, node_rules::specs::Arrivals::is_batch_for))]
 pub fn is_batch_for(
@@ -75,9 +84,25 @@ pub fn is_batch_for(
 ) -> Result<bool, AllocError>
     ensures { IfOk result (λ valid. valid ≡ is_batch_for ring.now place digest.now batch.now) }
 {
-    let requests = batch.as_slice();
     let text = batch.text(alloc)?;
-    let fits = fits(ring, requests, text.len(), place);
+    let stands = may_stand(ring, batch.as_slice(), text.len(), place);
     let named = Sha::digest(text.as_slice());
-    Ok(fits && !has_managers(requests) && same_bytes(named.as_slice(), digest.as_slice()))
+    Ok(stands && same_bytes(named.as_slice(), digest.as_slice()))
+}
+
+/// What names a batch in votes, if it may stand at a place.
+#[tactic(auto, unfolding(replica_rules::specs::Seals::digest_of, node_rules::specs::Arrivals::is_batch_for))]
+pub fn named_for(
+    alloc: Global,
+    ring: &Ring,
+    place: u64,
+    batch: &Batch,
+) -> Result<Option<Digest32>, AllocError>
+    ensures { IfOk result (λ named. named ≡ named_for ring.now place batch.now) }
+{
+    let text = batch.text(alloc)?;
+    if !may_stand(ring, batch.as_slice(), text.len(), place) {
+        return Ok(None);
+    }
+    Ok(Some(Sha::digest(text.as_slice())))
 }

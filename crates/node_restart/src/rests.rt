@@ -6,7 +6,7 @@ ghost use Rattle.node_rules.specs.Arrivals.{is_batch_for};
 ghost use Rattle.node_rules.specs.Reopening.{is_opening, rests};
 ghost use Rattle.vote_book.specs.declared.entry.LogEntry.TheVariants.{Accepted, Decided};
 
-use crate::batch::{digest_of, is_batch_for};
+use crate::batch::{is_batch_for, named_for};
 use certificates::check::{check_proof, check_write_cert};
 use smart_base::view::View;
 use smart_keys::ring::Ring;
@@ -54,6 +54,7 @@ fn accept_rests(
 }
 
 /// Whether a decision has its proof and a batch for its place.
+#[tactic(auto, using(crate::proofs::Named::named, crate::proofs::Named::unnamed))]
 fn decision_rests(
     alloc: Global,
     ring: &Ring,
@@ -70,11 +71,10 @@ fn decision_rests(
     if slot.view != view.number() {
         return Ok(false);
     }
-    let digest = digest_of(alloc, batch)?;
-    if check_proof(ring, view, *slot, digest, accepts.as_slice()).is_err() {
-        return Ok(false);
+    match named_for(alloc, ring, slot.place.get(), batch)? {
+        Some(digest) => Ok(check_proof(ring, view, *slot, digest, accepts.as_slice()).is_ok()),
+        None => Ok(false),
     }
-    is_batch_for(alloc, ring, slot.place.get(), &digest, batch)
 }
 
 /// Whether what an entry rests on holds in a view. It takes memory for a batch's bytes alone.
