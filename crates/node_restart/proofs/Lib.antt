@@ -1,3 +1,4 @@
 pub mod Turns
 pub mod Replays
 pub mod Named
+pub mod Sound

@@ -1,15 +1,17 @@
 -- What a node is given back by restored entries, one by one: its replica and its book.
-use Rattle.std.specs.Prelude.{ℕ, ◌≡◌, ◌+◌, Bool, false, not, ◌&&◌, List, [], ◌∷◌, ◌++◌, Option, Some, None, Result, Ok, Err, if◌then◌else◌}
+use Rattle.std.specs.Prelude.{ℕ, ◌≡◌, ◌+◌, Bool, true, false, not, ◌&&◌, List, [], ◌∷◌, ◌++◌, Option, Some, None, Result, Ok, Err, if◌then◌else◌}
 use Rattle.std.specs.List.{list_any}
 use Rattle.smart_base.specs.Views.{View, present}
-use Rattle.smart_messages.specs.Messages.{Batch}
+use Rattle.smart_messages.specs.Messages.{Batch, FitsBatch}
 use Rattle.smart_service.specs.Services.{Meaning}
 use Rattle.smart_service.specs.declared.replica.Replica.{Replica}
-use Rattle.vote_book.specs.Books.{Book, number_or, place_made, latest_made, last_made}
+use Rattle.vote_book.specs.Books.{Book, number_or, place_made, latest_made, last_made, Among}
+use Rattle.vote_book.specs.declared.entry.Accept.{Accept}
 use Rattle.vote_book.specs.declared.entry.LogEntry.{LogEntry}
 use Rattle.vote_book.specs.declared.entry.LogEntry.TheVariants.{Opened, Wrote, Accepted, Promised, Synced, Decided, Installed, Marked}
 use Rattle.replica_rules.specs.Replicas.{empty, delivered}
 use Rattle.replica_rules.specs.Seals.{digest_of, is_managers, fits}
+use Rattle.node_rules.specs.Arrivals.{is_batch_for}
 use Rattle.node_rules.specs.Reopening.{may_restore}
 
 -- what names a batch in votes, if it may stand at a place
@@ -46,6 +48,16 @@ took m r e = record { replica = replayed m r.replica e; entries = r.entries ++ e
 abbrev pub taken : {S : Type 0} → Meaning S → List ℕ → Restart S → Result LogEntry ℕ → Option (Restart S)
 taken m secret r (Err at) = None
 taken m secret r (Ok e) = if may_restore secret (present r.replica.views) r.entries e then Some (took m r e) else None
+
+-- ---- the accepts among what is taken back
+
+-- an accept's batch has a spelling, may stand at its place, and is the one of its digest
+pub record IsSound (secret : List ℕ) (a : Accept) : Type 0 where
+  pub fits : FitsBatch a.batch
+  pub stands : is_batch_for secret a.slot.place a.digest a.batch ≡ true
+
+abbrev pub AreSound : List ℕ → List LogEntry → Type 0
+AreSound secret entries = (a : Accept) → Among (Accepted a) entries → IsSound secret a
 
 -- ---- where the replica stands
 

@@ -1,7 +1,7 @@
 //! What names a batch, and whether it may stand at a place.
-ghost use Rattle.std.specs.Prelude.{◌≡◌, ◌&&◌, not, IfOk, length};
+ghost use Rattle.std.specs.Prelude.{◌≡◌, ◌&&◌, true, not, IfOk, length};
 ghost use Rattle.std.specs.List.{list_any, list_all};
-ghost use Rattle.smart_messages.specs.Messages.{batch_text};
+ghost use Rattle.smart_messages.specs.Messages.{batch_text, FitsBatch};
 ghost use Rattle.replica_rules.specs.Seals.{digest_of, request_fits, is_managers, fits};
 ghost use Rattle.node_rules.specs.Arrivals.{is_batch_for};
 ghost use Rattle.node_restart.specs.Restarts.{named_for};
@@ -105,4 +105,15 @@ pub fn named_for(
         return Ok(None);
     }
     Ok(Some(Sha::digest(text.as_slice())))
+}
+
+/// Whether two batches are one, by their bytes.
+#[tactic(auto, using(crate::proofs::Sound::is_one))]
+pub fn is_same(alloc: Global, a: &Batch, b: &Batch) -> Result<bool, AllocError>
+    requires fits { FitsBatch a.now }
+    requires also { FitsBatch b.now }
+    ensures { IfOk result (λ same. same ≡ true → a.now ≡ b.now) }
+{
+    let (a, b) = (a.text(alloc)?, b.text(alloc)?);
+    Ok(same_bytes(a.as_slice(), b.as_slice()))
 }

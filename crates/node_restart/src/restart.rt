@@ -4,11 +4,11 @@ ghost use Rattle.std.specs.Result.{is_err};
 ghost use Rattle.smart_base.specs.Views.{present};
 ghost use Rattle.vote_book.specs.Admission.{admits};
 ghost use Rattle.vote_book.specs.Books.{last_made};
-ghost use Rattle.vote_book.specs.Entries.{entry_decoded};
+ghost use Rattle.vote_book.specs.Entries.{FitsEntry, entry_decoded};
 ghost use Rattle.node_rules.specs.Nodes.{Node};
 ghost use Rattle.node_rules.specs.Reopening.{opens_first, may_restore, damaged, entries_in, takes_all_back};
 ghost use Rattle.replica_rules.specs.Replicas.{empty};
-ghost use Rattle.node_restart.specs.Restarts.{Restart, replayed, begun, took, taken, IsInTurn, place_behind};
+ghost use Rattle.node_restart.specs.Restarts.{Restart, replayed, begun, took, taken, AreSound, IsInTurn, place_behind};
 ghost use Rattle.node_restart.specs.declared.fault.ReopenFault.TheVariants.{Damaged};
 
 use crate::fault::ReopenFault;
@@ -118,12 +118,14 @@ impl<S: Service> Restart<S> {
 
     /// Whether an entry may be restored behind the others.
     fn may_restore(&self, ring: &Ring, entry: &LogEntry) -> Result<bool, AllocError>
+        requires sound { AreSound ring.now self.now.entries }
+        requires fits { FitsEntry entry.now }
         ensures { IfOk result (λ may. may ≡ may_restore ring.now (present self.now.replica.views) self.now.entries entry.now) }
     {
         if !self.opens_first(entry) || !self.admits(entry) {
             return Ok(false);
         }
-        rests(self.alloc, ring, self.view(), entry)
+        rests(self.alloc, ring, self.view(), &self.book, entry)
     }
 
     /// Writes an entry into the book, and delivers what it decided.
@@ -147,9 +149,11 @@ impl<S: Service> Restart<S> {
     }
 
     /// Takes the next entry back, unless it is damaged.
-    pub fn take(self, ring: &Ring, bytes: &[u8]) -> Result<Self, ReopenFault>
+    fn take(self, ring: &Ring, bytes: &[u8]) -> Result<Self, ReopenFault>
+        requires sound { AreSound ring.now self.entries }
         ensures taken { IfOk result (λ later. taken S.meaning ring.now self (entry_decoded bytes.now) ≡ Some later) }
         ensures views { IfOk result (λ later. later.replica.views ≡ self.replica.views) }
+        ensures sound { IfOk result (λ later. AreSound ring.now later.entries) }
         ensures cause { (entry : ℕ) → IsErrOf result (Damaged entry) → (taken S.meaning ring.now self (entry_decoded bytes.now) ≡ None) × (entry ≡ length self.entries + 1) }
     {
         let number = self.made() + 1;

@@ -1,16 +1,23 @@
 //! What an entry rests on.
-ghost use Rattle.std.specs.Prelude.{◌≡◌, ◌==◌, ◌&&◌, is_none, IfOk};
+ghost use Rattle.std.specs.Prelude.{◌≡◌, ◌==◌, ◌&&◌, true, is_none, IfOk};
+ghost use Rattle.smart_messages.specs.Messages.{FitsBatch};
 ghost use Rattle.certificates.specs.Certificates.{votes_fault, write_of, accept_of};
 ghost use Rattle.replica_rules.specs.Seals.{digest_of};
 ghost use Rattle.node_rules.specs.Arrivals.{is_batch_for};
 ghost use Rattle.node_rules.specs.Reopening.{is_opening, rests};
+ghost use Rattle.node_restart.specs.Restarts.{named_for, AreSound};
+ghost use Rattle.vote_book.specs.Entries.{FitsEntry};
 ghost use Rattle.vote_book.specs.declared.entry.LogEntry.TheVariants.{Accepted, Decided};
 
-use crate::batch::{is_batch_for, named_for};
+use crate::batch::{is_batch_for, is_same, named_for};
 use certificates::check::{check_proof, check_write_cert};
+use smart_base::bytes::Digest32;
 use smart_base::view::View;
 use smart_keys::ring::Ring;
+use smart_messages::batch::Batch;
+use smart_messages::statement::Slot;
 use std::alloc::{AllocError, Global};
+use vote_book::book::Book;
 use vote_book::entry::{Accept, Decision, LogEntry};
 
 /// Whether an entry opens a book.
@@ -53,14 +60,57 @@ fn accept_rests(
     is_batch_for(alloc, ring, slot.place.get(), digest, batch)
 }
 
+/// Whether an accept is for a place, and has this batch.
+fn has_accepted(
+    alloc: Global,
+    accept: &Accept,
+    place: u64,
+    batch: &Batch,
+) -> Result<bool, AllocError>
+    requires accept { FitsBatch accept.now.batch }
+    requires batch { FitsBatch batch.now }
+    ensures { IfOk result (λ has. has ≡ true → (accept.now.slot.place ≡ place) × (accept.now.batch ≡ batch.now)) }
+{
+    if accept.slot.place.get() != place {
+        return Ok(false);
+    }
+    is_same(alloc, &accept.batch, batch)
+}
+
+/// What names a batch in votes, if it may stand at a slot's place. Where the book is locked on this
+/// batch there, it may, and the accept names it.
+#[tactic(auto, using(crate::proofs::Sound::lock_sound, crate::proofs::Sound::named_so))]
+fn named_behind(
+    alloc: Global,
+    ring: &Ring,
+    book: &Book,
+    slot: &Slot,
+    batch: &Batch,
+) -> Result<Option<Digest32>, AllocError>
+    requires sound { AreSound ring.now book.now.entries }
+    requires fits { FitsBatch batch.now }
+    ensures { IfOk result (λ named. named ≡ named_for ring.now slot.now.place batch.now) }
+{
+    let place = slot.place.get();
+    if let Some(accept) = book.lock(slot.view) {
+        if has_accepted(alloc, accept, place, batch)? {
+            return Ok(Some(accept.digest));
+        }
+    }
+    named_for(alloc, ring, place, batch)
+}
+
 /// Whether a decision has its proof and a batch for its place.
 #[tactic(auto, using(crate::proofs::Named::named, crate::proofs::Named::unnamed))]
 fn decision_rests(
     alloc: Global,
     ring: &Ring,
     view: &View,
+    book: &Book,
     decision: &Decision,
 ) -> Result<bool, AllocError>
+    requires sound { AreSound ring.now book.now.entries }
+    requires fits { FitsBatch decision.now.batch }
     ensures { IfOk result (λ holds. holds ≡ rests ring.now view.now (Decided decision.now)) }
 {
     let Decision {
@@ -71,19 +121,28 @@ fn decision_rests(
     if slot.view != view.number() {
         return Ok(false);
     }
-    match named_for(alloc, ring, slot.place.get(), batch)? {
+    match named_behind(alloc, ring, book, slot, batch)? {
         Some(digest) => Ok(check_proof(ring, view, *slot, digest, accepts.as_slice()).is_ok()),
         None => Ok(false),
     }
 }
 
-/// Whether what an entry rests on holds in a view. It takes memory for a batch's bytes alone.
-pub fn rests(alloc: Global, ring: &Ring, view: &View, entry: &LogEntry) -> Result<bool, AllocError>
+/// Whether what an entry rests on holds in a view, behind the entries of a book. It takes memory for
+/// the bytes of two batches alone.
+pub fn rests(
+    alloc: Global,
+    ring: &Ring,
+    view: &View,
+    book: &Book,
+    entry: &LogEntry,
+) -> Result<bool, AllocError>
+    requires sound { AreSound ring.now book.now.entries }
+    requires fits { FitsEntry entry.now }
     ensures { IfOk result (λ holds. holds ≡ rests ring.now view.now entry.now) }
 {
     match entry {
         LogEntry::Accepted(accept) => accept_rests(alloc, ring, view, accept),
-        LogEntry::Decided(decision) => decision_rests(alloc, ring, view, decision),
+        LogEntry::Decided(decision) => decision_rests(alloc, ring, view, book, decision),
         LogEntry::Opened(_)
         | LogEntry::Wrote(_)
         | LogEntry::Promised(_)

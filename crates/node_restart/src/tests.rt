@@ -122,17 +122,21 @@ fn signed<S: Statement>(
     )
 }
 
-/// The batch of the first request of client 1.
-fn batch(alloc: Global) -> Result<Batch, Fail> {
+/// The batch of a first request of client 1, with this operation.
+fn batch_of(alloc: Global, op: &[u8]) -> Result<Batch, Fail> {
     let client = ClientId::new(1);
     let request = Request {
         client,
         seq: 1,
         after: 0,
-        op: Payload::new(Bytes::from_slice(alloc, b"5")?),
+        op: Payload::new(Bytes::from_slice(alloc, op)?),
     };
     let request = signed(alloc, Party::Client(client), 1, request)?;
     Ok(Batch::single(alloc, request)?)
+}
+
+fn batch(alloc: Global) -> Result<Batch, Fail> {
+    batch_of(alloc, b"5")
 }
 
 /// A slot of the first place.
@@ -232,9 +236,20 @@ fn decided(alloc: Global, kind: VoteKind, count: u16) -> Result<LogEntry, Fail> 
     }))
 }
 
+/// The decision of another batch, with accepts of the one with this operation.
+fn decided_else(alloc: Global, op: &[u8]) -> Result<LogEntry, Fail> {
+    let digest = digest_of(alloc, &batch_of(alloc, op)?)?;
+    Ok(LogEntry::Decided(Decision {
+        slot: slot(0),
+        batch: batch_of(alloc, b"6")?,
+        accepts: votes(alloc, VoteKind::Accept, digest, 3)?,
+    }))
+}
+
 /// The entry of a letter: `o` the opening, `w` a write in regency 0, `s` the beginning of regency 7,
 /// `v` a write there, `a` an accept, `b` one with too few writes, `c` one of another batch, `d` a
-/// decision, `e` one with too few accepts, `f` one with writes for accepts.
+/// decision, `e` one with too few accepts, `f` one with writes for accepts, `g` one of another batch
+/// than that of `a`, `h` one of that other batch with accepts of the batch of `a`.
 fn entry(alloc: Global, letter: u8) -> Result<LogEntry, Fail> {
     match letter {
         b'o' => opened(alloc),
@@ -246,6 +261,8 @@ fn entry(alloc: Global, letter: u8) -> Result<LogEntry, Fail> {
         b'c' => misread(alloc),
         b'd' => decided(alloc, VoteKind::Accept, 3),
         b'e' => decided(alloc, VoteKind::Accept, 2),
+        b'g' => decided_else(alloc, b"6"),
+        b'h' => decided_else(alloc, b"5"),
         _ => decided(alloc, VoteKind::Write, 3),
     }
 }
@@ -282,6 +299,9 @@ odov !4
 oa =0
 owad =1
 oada !4
+oae !3
+oag =1
+oah !3
 oaa !3
 ob !2
 oc !2

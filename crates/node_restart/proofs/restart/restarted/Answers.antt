@@ -14,6 +14,7 @@ loop-bytes-preserved g c = record {
       c.as_slice.ensures c.in-Ok.ensures.taken c.loop-bytes.invariant.entries;
   replica = replica_behind g.S.Service.meaning c.args.ring.now c.args.view c.loop-bytes.restart c.in-Ok.later c.as_slice.result.now c.loop-bytes.invariant.replica c.in-Ok.ensures.taken;
   view = ap (λ (vs : List View). present vs) c.in-Ok.ensures.views ∙ c.loop-bytes.invariant.view;
+  sound = c.in-Ok.ensures.sound;
 }
 
 pub returns-in-Err-clause-cause : goal.returns-in-Err-clause-cause

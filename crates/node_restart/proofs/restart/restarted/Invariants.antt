@@ -2,7 +2,7 @@ use Rattle.std.proofs.Common.{◌≡◌, ◌++◌, drop}
 use Rattle.smart_base.specs.Views.{present}
 use Rattle.node_rules.specs.Reopening.{damaged, damaged_from, entries_in}
 use Rattle.replica_rules.specs.Replicas.{empty}
-use Rattle.node_restart.specs.Restarts.{all_replayed}
+use Rattle.node_restart.specs.Restarts.{all_replayed, AreSound}
 use Rattle.node_restart.proofs.restart.restarted.Given as goal
 
 -- what was taken and what is left are all, of which the first that is damaged is left
@@ -12,4 +12,5 @@ invariant-loop-bytes g l = record {
   entries : l.restart.entries ++ entries_in (drop l.bytes-index l.restored) ≡ entries_in l.restored;
   replica : l.restart.replica ≡ all_replayed g.S.Service.meaning (empty g.S.Service.meaning l.fn.view) l.restart.entries;
   view : present l.restart.replica.views ≡ l.fn.view;
+  sound : AreSound l.ring l.restart.entries;
 }

@@ -1,0 +1,66 @@
+-- The accepts among what is taken back.
+use Rattle.std.proofs.Common.{◌≡◌, ◌⊎◌, inl, inr, ⊎_elim, ℕ, ◌+◌, ◌==◌, Bool, true, false, ◌&&◌, ◌++◌, not, cond, List, [], ◌∷◌, length, Option, Some, None, refl, ap, sym, subst, ◌∙◌, is_none}
+use Rattle.std.specs.List.{list_any}
+use Rattle.std.proofs.lemmas.Bool.{and_parts}
+use Rattle.smart_base.specs.Lists.{same_bytes}
+use Rattle.smart_base.specs.Views.{View, present}
+use Rattle.smart_messages.specs.Messages.{Batch, FitsBatch, batch_text}
+use Rattle.smart_messages.proofs.Messages.{batch_is}
+use Rattle.smart_service.specs.Services.{Meaning}
+use Rattle.certificates.specs.Certificates.{votes_fault, write_of}
+use Rattle.vote_book.specs.Books.{Among, last_made}
+use Rattle.vote_book.specs.BookReports.{lock_of, IsGreatestAccept}
+use Rattle.vote_book.specs.Admission.{admits}
+use Rattle.vote_book.specs.Entries.{FitsEntry}
+use Rattle.vote_book.specs.declared.entry.Accept.{Accept}
+use Rattle.vote_book.specs.declared.entry.LogEntry.{LogEntry}
+use Rattle.vote_book.specs.declared.entry.LogEntry.TheVariants.{Accepted}
+use Rattle.vote_book.proofs.Locks.{lock_is}
+use Rattle.vote_book.proofs.Tested.{same_bytes_is}
+use Rattle.replica_rules.specs.Seals.{digest_of, is_managers, fits}
+use Rattle.node_rules.specs.Arrivals.{is_batch_for}
+use Rattle.node_rules.specs.Reopening.{opens_first, rests, may_restore}
+use Rattle.node_restart.specs.Restarts.{Restart, took, named_for, IsSound, AreSound}
+
+pub is_one : (a b : Batch) → FitsBatch a → FitsBatch b → same_bytes (batch_text a) (batch_text b) ≡ true → a ≡ b
+is_one a b fits_a fits_b same = batch_is a b fits_a fits_b (same_bytes_is (batch_text a) (batch_text b) same)
+
+-- the lock is sound
+
+pub lock_sound : (secret : List ℕ) (view : ℕ) (entries : List LogEntry) (a : Accept) → AreSound secret entries → Some a ≡ lock_of view entries → IsSound secret a
+lock_sound secret view entries a sound is = let lock = lock_is view entries a (sym is) in sound a lock.there
+
+named_by : (secret : List ℕ) (a : Accept) → is_batch_for secret a.slot.place a.digest a.batch ≡ true → Some a.digest ≡ named_for secret a.slot.place a.batch
+unfolding is_batch_for
+named_by secret a stands =
+    let parts = and_parts (fits secret a.batch a.slot.place && not (list_any is_managers a.batch)) (same_bytes (digest_of a.batch) a.digest) stands in
+    let digest : digest_of a.batch ≡ a.digest = same_bytes_is (digest_of a.batch) a.digest parts.1 in
+    ap (λ (d : List ℕ). Some d) (sym digest) ∙ sym (ap (λ (t : Bool). cond t (Some (digest_of a.batch)) None) parts.0)
+
+pub named_so : (secret : List ℕ) (a : Accept) (place : ℕ) (batch : Batch) → IsSound secret a → (a.slot.place ≡ place) × (a.batch ≡ batch) → Some a.digest ≡ named_for secret place batch
+named_so secret a place batch sound is = rw (← is.0, ← is.1) (named_by secret a sound.stands)
+
+-- with one entry more
+
+among_push : (x e : LogEntry) (es : List LogEntry) → Among x (es ++ e ∷ []) → Among x es ⊎ (x ≡ e)
+among_push x e [] (inl is) = inr is
+among_push x e [] (inr none) = absurd none
+among_push x e (y ∷ ys) (inl is) = inl (inl is)
+among_push x e (y ∷ ys) (inr there) = ⊎_elim (λ front. inl (inr front)) (λ is. inr is) (among_push x e ys there)
+
+accept_sound : (secret : List ℕ) (view : View) (before : List LogEntry) (a : Accept) → FitsEntry (Accepted a) → may_restore secret view before (Accepted a) ≡ true → IsSound secret a
+accept_sound secret view before a fits may =
+    let all = and_parts (opens_first before (Accepted a) && admits 0 (length before + 1) before (Accepted a)) (rests secret view (Accepted a)) may in
+    let rest = and_parts ((a.slot.view == view.number) && is_none (votes_fault secret view (write_of a.slot a.digest) a.writes)) (is_batch_for secret a.slot.place a.digest a.batch) all.1 in
+    record { fits = fits.batch_fits; stands = rest.1 }
+
+sound_after : (secret : List ℕ) (view : View) (before : List LogEntry) (e : LogEntry) → AreSound secret before → FitsEntry e → may_restore secret view before e ≡ true → AreSound secret (before ++ e ∷ [])
+sound_after secret view before e sound fits may a there =
+    ⊎_elim (λ front. sound a front)
+    (λ (is : Accepted a ≡ e). accept_sound secret view before a (subst (λ (x : LogEntry). FitsEntry x) (sym is) fits) (subst (λ (x : LogEntry). may_restore secret view before x ≡ true) (sym is) may))
+    (among_push (Accepted a) e before there)
+
+pub sound_took : {S : Type 0} (m : Meaning S) (secret : List ℕ) (r later : Restart S) (e : LogEntry) → AreSound secret r.entries → FitsEntry e → may_restore secret (present r.replica.views) r.entries e ≡ true → later ≡ took m r e
+    → AreSound secret later.entries
+sound_took {S = S} m secret r later e sound fits may is =
+    subst (λ (x : Restart S). AreSound secret x.entries) (sym is) (sound_after secret (present r.replica.views) r.entries e sound fits may)
