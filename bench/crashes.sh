@@ -4,8 +4,8 @@
 # proposed alone and the others together.
 # usage: bench/crashes.sh [PLACES [PROGRAM]]
 # Without PLACES it is 64, and without PROGRAM the proved program that ./prove makes. The status is that of bench/asks.sh.
-# A member that goes on reads and checks all that it ever wrote down, so the work of restarts grows with the square of the places:
-# the ratio is about 2.3 from 64 places to 128, and 2.5 to 256, until checkpoints shorten what is read.
+# A member that goes on reads and checks all that it ever wrote down, so the work of restarts grows with the square of the places,
+# and the ratio with the places, until checkpoints shorten what is read.
 top=$(CDPATH= cd -- "$(dirname -- "$0")/.." && pwd) || exit 1
 places=${1:-64}
 case $places in

@@ -122,21 +122,21 @@ fn signed<S: Statement>(
     )
 }
 
-/// The batch of a first request of client 1, with this operation.
-fn batch_of(alloc: Global, op: &[u8]) -> Result<Batch, Fail> {
+/// The batch of a first request of client 1, with an operation of this byte.
+fn batch_of(alloc: Global, op: u8) -> Result<Batch, Fail> {
     let client = ClientId::new(1);
     let request = Request {
         client,
         seq: 1,
         after: 0,
-        op: Payload::new(Bytes::from_slice(alloc, op)?),
+        op: Payload::new(Bytes::from_slice(alloc, &[op])?),
     };
     let request = signed(alloc, Party::Client(client), 1, request)?;
     Ok(Batch::single(alloc, request)?)
 }
 
 fn batch(alloc: Global) -> Result<Batch, Fail> {
-    batch_of(alloc, b"5")
+    batch_of(alloc, b'5')
 }
 
 /// A slot of the first place.
@@ -237,11 +237,11 @@ fn decided(alloc: Global, kind: VoteKind, count: u16) -> Result<LogEntry, Fail> 
 }
 
 /// The decision of another batch, with accepts of the one with this operation.
-fn decided_else(alloc: Global, op: &[u8]) -> Result<LogEntry, Fail> {
+fn decided_else(alloc: Global, op: u8) -> Result<LogEntry, Fail> {
     let digest = digest_of(alloc, &batch_of(alloc, op)?)?;
     Ok(LogEntry::Decided(Decision {
         slot: slot(0),
-        batch: batch_of(alloc, b"6")?,
+        batch: batch_of(alloc, b'6')?,
         accepts: votes(alloc, VoteKind::Accept, digest, 3)?,
     }))
 }
@@ -261,8 +261,8 @@ fn entry(alloc: Global, letter: u8) -> Result<LogEntry, Fail> {
         b'c' => misread(alloc),
         b'd' => decided(alloc, VoteKind::Accept, 3),
         b'e' => decided(alloc, VoteKind::Accept, 2),
-        b'g' => decided_else(alloc, b"6"),
-        b'h' => decided_else(alloc, b"5"),
+        b'g' => decided_else(alloc, b'6'),
+        b'h' => decided_else(alloc, b'5'),
         _ => decided(alloc, VoteKind::Write, 3),
     }
 }
