@@ -1,12 +1,15 @@
--- What names a batch that may stand at a place.
-use Rattle.std.proofs.Common.{◌≡◌, ℕ, Bool, true, false, ◌&&◌, not, cond, List, Option, Some, None, refl}
+-- What names a batch that may stand at a place, and when two batches are one.
+use Rattle.std.proofs.Common.{◌≡◌, ℕ, Bool, true, false, ◌&&◌, not, cond, List, Some, None, refl, ap, sym, ◌∙◌}
 use Rattle.std.specs.List.{list_any}
+use Rattle.std.proofs.lemmas.Bool.{and_parts}
 use Rattle.smart_base.specs.Lists.{same_bytes}
-use Rattle.smart_messages.specs.Messages.{Batch}
-use Rattle.vote_book.proofs.Tested.{same_bytes_self}
+use Rattle.smart_messages.specs.Messages.{Batch, FitsBatch, batch_text}
+use Rattle.smart_messages.proofs.Messages.{batch_is}
+use Rattle.vote_book.specs.declared.entry.Accept.{Accept}
+use Rattle.vote_book.proofs.Tested.{same_bytes_is, same_bytes_self}
 use Rattle.replica_rules.specs.Seals.{digest_of, is_managers, fits}
 use Rattle.node_rules.specs.Arrivals.{is_batch_for}
-use Rattle.node_restart.specs.Restarts.{named_for}
+use Rattle.node_restart.specs.Restarts.{named_for, IsSound}
 
 and_as : (a b : Bool) → b ≡ true → (a && b) ≡ a
 and_as true b is = is
@@ -30,3 +33,18 @@ unnamed secret place batch is = by (fits secret batch place && not (list_any is_
     by : (t : Bool) → is_batch_for secret place (digest_of batch) batch ≡ t → None ≡ cond t (Some (digest_of batch)) None → is_batch_for secret place (digest_of batch) batch ≡ false
     by true stands is = absurd (cc)
     by false stands is = stands
+
+-- batches are one by their bytes, and an accept names its own
+
+pub is_one : (a b : Batch) → FitsBatch a → FitsBatch b → same_bytes (batch_text a) (batch_text b) ≡ true → a ≡ b
+is_one a b fits_a fits_b same = batch_is a b fits_a fits_b (same_bytes_is (batch_text a) (batch_text b) same)
+
+named_by : (secret : List ℕ) (a : Accept) → is_batch_for secret a.slot.place a.digest a.batch ≡ true → Some a.digest ≡ named_for secret a.slot.place a.batch
+unfolding is_batch_for
+named_by secret a stands =
+    let parts = and_parts (fits secret a.batch a.slot.place && not (list_any is_managers a.batch)) (same_bytes (digest_of a.batch) a.digest) stands in
+    let digest : digest_of a.batch ≡ a.digest = same_bytes_is (digest_of a.batch) a.digest parts.1 in
+    ap (λ (d : List ℕ). Some d) (sym digest) ∙ sym (ap (λ (t : Bool). cond t (Some (digest_of a.batch)) None) parts.0)
+
+pub named_so : (secret : List ℕ) (a : Accept) (place : ℕ) (batch : Batch) → IsSound secret a → (a.slot.place ≡ place) × (a.batch ≡ batch) → Some a.digest ≡ named_for secret place batch
+named_so secret a place batch sound is = rw (← is.0, ← is.1) (named_by secret a sound.stands)

@@ -1,44 +1,24 @@
 -- The accepts among what is taken back.
-use Rattle.std.proofs.Common.{◌≡◌, ◌⊎◌, inl, inr, ⊎_elim, ℕ, ◌+◌, ◌==◌, Bool, true, false, ◌&&◌, ◌++◌, not, cond, List, [], ◌∷◌, length, Option, Some, None, refl, ap, sym, subst, ◌∙◌, is_none}
-use Rattle.std.specs.List.{list_any}
+use Rattle.std.proofs.Common.{◌≡◌, ◌⊎◌, inl, inr, ⊎_elim, ℕ, ◌+◌, ◌==◌, true, ◌&&◌, ◌++◌, List, [], ◌∷◌, length, Some, sym, subst, is_none}
 use Rattle.std.proofs.lemmas.Bool.{and_parts}
-use Rattle.smart_base.specs.Lists.{same_bytes}
 use Rattle.smart_base.specs.Views.{View, present}
-use Rattle.smart_messages.specs.Messages.{Batch, FitsBatch, batch_text}
-use Rattle.smart_messages.proofs.Messages.{batch_is}
 use Rattle.smart_service.specs.Services.{Meaning}
 use Rattle.certificates.specs.Certificates.{votes_fault, write_of}
-use Rattle.vote_book.specs.Books.{Among, last_made}
-use Rattle.vote_book.specs.BookReports.{lock_of, IsGreatestAccept}
+use Rattle.vote_book.specs.Books.{Among}
+use Rattle.vote_book.specs.BookReports.{lock_of}
 use Rattle.vote_book.specs.Admission.{admits}
 use Rattle.vote_book.specs.Entries.{FitsEntry}
 use Rattle.vote_book.specs.declared.entry.Accept.{Accept}
 use Rattle.vote_book.specs.declared.entry.LogEntry.{LogEntry}
 use Rattle.vote_book.specs.declared.entry.LogEntry.TheVariants.{Accepted}
 use Rattle.vote_book.proofs.Locks.{lock_is}
-use Rattle.vote_book.proofs.Tested.{same_bytes_is}
-use Rattle.replica_rules.specs.Seals.{digest_of, is_managers, fits}
+use Rattle.replica_rules.specs.Seals.{fits}
 use Rattle.node_rules.specs.Arrivals.{is_batch_for}
 use Rattle.node_rules.specs.Reopening.{opens_first, rests, may_restore}
-use Rattle.node_restart.specs.Restarts.{Restart, took, named_for, IsSound, AreSound}
-
-pub is_one : (a b : Batch) → FitsBatch a → FitsBatch b → same_bytes (batch_text a) (batch_text b) ≡ true → a ≡ b
-is_one a b fits_a fits_b same = batch_is a b fits_a fits_b (same_bytes_is (batch_text a) (batch_text b) same)
-
--- the lock is sound
+use Rattle.node_restart.specs.Restarts.{Restart, took, IsSound, AreSound}
 
 pub lock_sound : (secret : List ℕ) (view : ℕ) (entries : List LogEntry) (a : Accept) → AreSound secret entries → Some a ≡ lock_of view entries → IsSound secret a
 lock_sound secret view entries a sound is = let lock = lock_is view entries a (sym is) in sound a lock.there
-
-named_by : (secret : List ℕ) (a : Accept) → is_batch_for secret a.slot.place a.digest a.batch ≡ true → Some a.digest ≡ named_for secret a.slot.place a.batch
-unfolding is_batch_for
-named_by secret a stands =
-    let parts = and_parts (fits secret a.batch a.slot.place && not (list_any is_managers a.batch)) (same_bytes (digest_of a.batch) a.digest) stands in
-    let digest : digest_of a.batch ≡ a.digest = same_bytes_is (digest_of a.batch) a.digest parts.1 in
-    ap (λ (d : List ℕ). Some d) (sym digest) ∙ sym (ap (λ (t : Bool). cond t (Some (digest_of a.batch)) None) parts.0)
-
-pub named_so : (secret : List ℕ) (a : Accept) (place : ℕ) (batch : Batch) → IsSound secret a → (a.slot.place ≡ place) × (a.batch ≡ batch) → Some a.digest ≡ named_for secret place batch
-named_so secret a place batch sound is = rw (← is.0, ← is.1) (named_by secret a sound.stands)
 
 -- with one entry more
 

@@ -92,7 +92,7 @@ pub fn is_batch_for(
 
 /// What names a batch in votes, if it may stand at a place.
 #[tactic(auto, unfolding(replica_rules::specs::Seals::digest_of, node_rules::specs::Arrivals::is_batch_for))]
-pub fn named_for(
+pub(crate) fn named_for(
     alloc: Global,
     ring: &Ring,
     place: u64,
@@ -108,10 +108,10 @@ pub fn named_for(
 }
 
 /// Whether two batches are one, by their bytes.
-#[tactic(auto, using(crate::proofs::Sound::is_one))]
-pub fn is_same(alloc: Global, a: &Batch, b: &Batch) -> Result<bool, AllocError>
-    requires fits { FitsBatch a.now }
-    requires also { FitsBatch b.now }
+#[tactic(auto, using(crate::proofs::Named::is_one))]
+pub(crate) fn is_same(alloc: Global, a: &Batch, b: &Batch) -> Result<bool, AllocError>
+    requires first { FitsBatch a.now }
+    requires second { FitsBatch b.now }
     ensures { IfOk result (λ same. same ≡ true → a.now ≡ b.now) }
 {
     let (a, b) = (a.text(alloc)?, b.text(alloc)?);

@@ -79,7 +79,7 @@ fn has_accepted(
 
 /// What names a batch in votes, if it may stand at a slot's place. Where the book is locked on this
 /// batch there, it may, and the accept names it.
-#[tactic(auto, using(crate::proofs::Sound::lock_sound, crate::proofs::Sound::named_so))]
+#[tactic(auto, using(crate::proofs::Sound::lock_sound, crate::proofs::Named::named_so))]
 fn named_behind(
     alloc: Global,
     ring: &Ring,
