@@ -1,5 +1,4 @@
 pub mod Log
 pub mod Jobs
 pub mod Wires
-pub mod Ends
 pub mod Exact

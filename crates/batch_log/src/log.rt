@@ -1,50 +1,14 @@
 //! The log over one device.
 ghost use Rattle.std.specs.Prelude.{◌≡◌, true};
 ghost use Rattle.batch_log.specs.Jobs.{idle};
-ghost use Rattle.batch_log.specs.declared.log.State.TheVariants.{Open};
+ghost use Rattle.store_form.specs.declared.ends.State.TheVariants.{Open};
 
 use crate::job::{Job, begun, body_of, is_idle, step};
 use disk_model::disk::Disk;
 use faults::Fault;
 use smart_base::sequence::Bytes;
 use std::alloc::{AllocError, Global};
-
-/// Why a call of a log did not do its work.
-#[derive(Clone, Copy, Debug, PartialEq, Eq)]
-pub enum LogFault {
-    /// The disk has failed, in this call or, where the log is closed, in an earlier one.
-    Disk { closed: bool },
-    /// Memory ran out, in this call or in the one that closed the log.
-    NoMemory,
-}
-
-/// Whether a log takes calls, and what closed it.
-#[derive(Clone, Copy, Debug, PartialEq, Eq)]
-pub enum State {
-    Open,
-    /// The disk has failed.
-    Failed,
-    /// Memory ran out inside a device call.
-    NoMemory,
-}
-
-impl State {
-    ghost use Rattle.std.specs.Prelude.{◌≡◌, OnErr, IsErrOf, false};
-    ghost use Rattle.batch_log.specs.Ends.{Closes};
-
-    /// What whatever is closed answers.
-    pub fn check(self) -> Result<(), LogFault>
-        ensures closes { Closes result self self }
-        ensures not_now { IsErrOf result (LogFault.Disk false) → ⊥ }
-        ensures closed { OnErr result (self ≡ State.Open → ⊥) }
-    {
-        match self {
-            State::Open => Ok(()),
-            State::Failed => Err(LogFault::Disk { closed: true }),
-            State::NoMemory => Err(LogFault::NoMemory),
-        }
-    }
-}
+use store_form::ends::{LogFault, State};
 
 /// A log that is open until its disk fails, or memory runs out inside a device call. Then it is to be
 /// opened again over what the device holds.
@@ -72,7 +36,7 @@ impl<D: Disk> BatchLog<D> {
     ghost use Rattle.batch_log.specs.Jobs.{IsUnderWay, Stands, Runs, Adds, Begins, IsIdle, idle, LeavesEither, OneOf, at_stake, kept_after, other_after, code, code_after};
     ghost use Rattle.batch_log.specs.Exact.{log_called, job_called, end_called};
     ghost use Rattle.batch_log.specs.Wires.{Wired, LeavesWire};
-    ghost use Rattle.batch_log.specs.Ends.{Closes};
+    ghost use Rattle.store_form.specs.Ends.{Closes};
 
     /// Adds a group of entries, and closes a torn gate first. After `Ok` each crash leaves the log
     /// with the group.
@@ -214,15 +178,5 @@ impl<D: Disk> BatchLog<D> {
     {
         let BatchLog { device, .. } = self;
         device
-    }
-}
-
-impl From<AllocError> for LogFault {
-    ghost use Rattle.batch_log.specs.declared.log.LogFault.TheVariants.{NoMemory};
-
-    ghost from_gives = { λ _ e. e ≡ NoMemory };
-
-    fn from(_e: AllocError) -> Self {
-        LogFault::NoMemory
     }
 }

@@ -9,11 +9,12 @@ ghost use Rattle.batch_log.specs.Jobs.{Stands, IsIdle, IsUnderWay};
 ghost use Rattle.batch_log.specs.Exact.{end_opened, job_opened};
 
 use crate::job::Job;
-use crate::log::{BatchLog, LogFault, State};
+use crate::log::BatchLog;
 use crate::reading::{Groups, groups_of};
 use disk_model::disk::{Disk, read_all};
 use faults::Fault;
 use std::alloc::Global;
+use store_form::ends::{LogFault, State};
 
 /// The groups, where they end, and whether the gate there is closed.
 fn read_log<D: Disk>(alloc: Global, device: &mut D) -> Result<(Groups, u64, Job), Fault>

@@ -5,13 +5,13 @@ ghost use Rattle.disk_model.specs.Cells.{settled};
 ghost use Rattle.disk_model.specs.Memory.{disk_cells};
 ghost use Rattle.store_form.specs.Spelling.{IsEntry};
 
-use crate::log::LogFault;
 use crate::reading::Groups;
 use crate::reopening::reopen;
 use disk_model::memory::MemDisk;
 use smart_base::sequence::Bytes;
 use std::alloc::{AllocError, Global};
 use std::test::Fail;
+use store_form::ends::LogFault;
 
 /// A group of one entry of one byte.
 fn group(alloc: Global, byte: u8) -> Result<Vec<Bytes>, AllocError>

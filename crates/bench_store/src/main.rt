@@ -8,7 +8,7 @@ ghost use Rattle.disk_model.specs.Cells.{settled};
 ghost use Rattle.store_form.specs.Spelling.{IsEntry};
 ghost use Rattle.batch_log.specs.Jobs.{IsIdle, IsUnderWay};
 
-use batch_log::log::{BatchLog, LogFault};
+use batch_log::log::BatchLog;
 use batch_log::reopening::reopen;
 use disk_files::file::FileDisk;
 use disk_model::disk::Disk;
@@ -20,6 +20,7 @@ use std::alloc::{AllocError, Global};
 use std::fs::OpenOptions;
 use std::process::ExitCode;
 use std::{env, io};
+use store_form::ends::LogFault;
 
 /// The bytes of each entry.
 const ENTRY: [u8; 100] = [7; 100];

@@ -11,11 +11,11 @@ ghost use Rattle.checkpoint_store.specs.Exact.{slot_opened};
 use crate::job::SlotJob;
 use crate::reading::{newer, slot_of};
 use crate::store::{CheckpointStore, Slot};
-use batch_log::log::{LogFault, State};
 use disk_model::disk::{Disk, read_all};
 use faults::Fault;
 use std::alloc::Global;
 use store_form::checkpoint::Checkpoint;
+use store_form::ends::{LogFault, State};
 
 /// What a device of the odd, or of the even generations holds, and how its slot stands.
 fn open_slot<D: Disk>(

@@ -6,16 +6,16 @@ ghost use Rattle.disk_model.specs.Calls.{Elapses};
 ghost use Rattle.store_form.specs.declared.checkpoint.Checkpoint.{Checkpoint};
 ghost use Rattle.checkpoint_store.specs.SlotJobs.{IsSlotUnderWay, SlotStands, has_after, other_after, slot_called, job_after, idle};
 ghost use Rattle.checkpoint_store.specs.Exact.{cells_called};
-ghost use Rattle.batch_log.specs.declared.log.State.TheVariants.{Open};
+ghost use Rattle.store_form.specs.declared.ends.State.TheVariants.{Open};
 
 use crate::job::{SlotJob, is_idle, slot_step};
 use crate::reading::{is_odd, newest_of, read_pair};
-use batch_log::log::{LogFault, State};
 use disk_model::disk::Disk;
 use faults::Fault;
 use smart_base::sequence::Bytes;
 use std::alloc::{AllocError, Global};
 use store_form::checkpoint::{Checkpoint, put_checkpoint};
+use store_form::ends::{LogFault, State};
 
 /// A device, and the next call of the job on it.
 #[derive(Drop)]
@@ -45,7 +45,7 @@ impl<D: Disk> CheckpointStore<D> {
     ghost use Rattle.disk_model.specs.Calls.{Elapses, LeavesOnly};
     ghost use Rattle.store_form.specs.Spelling.{checkpoint_text};
     ghost use Rattle.store_form.specs.declared.checkpoint.Checkpoint.{Checkpoint};
-    ghost use Rattle.batch_log.specs.Ends.{Closes};
+    ghost use Rattle.store_form.specs.Ends.{Closes};
     ghost use Rattle.checkpoint_store.specs.Slots.{is_odd, slot_of, newest, InEachImage, IsClosed, IsReady, NoneAbove};
     ghost use Rattle.checkpoint_store.specs.Stores.{slot, beside, StandsAt, UnderWayAt, LeavesAt, IsFullAt, gate_gives};
     ghost use Rattle.checkpoint_store.specs.Exact.{cells_called};

@@ -9,12 +9,12 @@ ghost use Rattle.checkpoint_store.specs.SlotJobs.{IsIdle};
 use crate::reading::{generation_of, is_odd, slot_of};
 use crate::reopening::reopen;
 use crate::store::CheckpointStore;
-use batch_log::log::LogFault;
 use disk_model::memory::MemDisk;
 use smart_base::sequence::Bytes;
 use std::alloc::{AllocError, Global};
 use std::test::Fail;
 use store_form::checkpoint::Checkpoint;
+use store_form::ends::LogFault;
 
 /// Closes the gate of a slot, where it is not closed.
 fn shut(store: &mut CheckpointStore<MemDisk>, generation: u64) -> Result<(), LogFault>

@@ -9,7 +9,7 @@ use Rattle.batch_log.specs.Jobs.{Stands, code, code_after, kept_after as log_kep
 use Rattle.batch_log.specs.Wires.{Wired}
 use Rattle.batch_log.specs.declared.job.Job.{Job}
 use Rattle.batch_log.specs.declared.job.Job.TheVariants as jobs
-use Rattle.batch_log.specs.declared.log.State.TheVariants as states
+use Rattle.store_form.specs.declared.ends.State.TheVariants as states
 use Rattle.batch_log.proofs.Phases.{after_close, after_closed, after_closed_then, after_body, after_body_sync, after_gate, after_gate_sync}
 use Rattle.batch_log.proofs.Lives.{wired_written, wired_clean, wired_staged}
 use Rattle.checkpoint_store.specs.Exact.{cells_called}

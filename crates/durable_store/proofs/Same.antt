@@ -2,8 +2,8 @@
 use Rattle.std.proofs.Common.{◌≡◌, ℕ, List, sym, ap, ◌∙◌, subst}
 use Rattle.std.proofs.Props.{props}
 use Rattle.disk_model.specs.declared.disk.Disk.{Ghosts}
-use Rattle.batch_log.specs.declared.log.State.{State}
-use Rattle.batch_log.specs.declared.log.State.TheVariants.{Open}
+use Rattle.store_form.specs.declared.ends.State.{State}
+use Rattle.store_form.specs.declared.ends.State.TheVariants.{Open}
 use Rattle.batch_log.specs.declared.log.BatchLog.{BatchLog}
 use Rattle.checkpoint_store.specs.declared.store.CheckpointStore.{CheckpointStore}
 use Rattle.durable_store.specs.Fit.{AreEntries, entries_prop}

@@ -4,16 +4,16 @@ ghost use Rattle.faults.specs.Counts.{Rose};
 ghost use Rattle.disk_model.specs.Cells.{IsImage};
 ghost use Rattle.disk_model.specs.Calls.{Elapses};
 ghost use Rattle.store_form.specs.declared.checkpoint.Checkpoint.{Checkpoint};
-ghost use Rattle.batch_log.specs.Ends.{Closes};
+ghost use Rattle.store_form.specs.Ends.{Closes};
 ghost use Rattle.checkpoint_store.specs.SlotJobs.{idle};
 ghost use Rattle.checkpoint_store.specs.Exact.{cells_called};
 ghost use Rattle.checkpoint_store.specs.Stores.{slot, beside, StandsAt, UnderWayAt, LeavesAt};
 ghost use Rattle.durable_store.specs.Turns.{closing, job_begun, job_closed, other_closed};
 
-use batch_log::log::{LogFault, State};
 use checkpoint_store::job::SlotJob;
 use checkpoint_store::store::CheckpointStore;
 use disk_model::disk::Disk;
+use store_form::ends::{LogFault, State};
 
 /// Whether the gate of a slot has to be closed, or is being closed.
 pub fn is_closing(job: &SlotJob) -> bool

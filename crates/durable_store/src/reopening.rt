@@ -19,12 +19,13 @@ ghost use Rattle.durable_store.specs.declared.kept.Kept.{Kept};
 use crate::disks::Disks;
 use crate::kept::{Kept, push_all};
 use crate::store::{Store, StoreFault};
-use batch_log::log::{BatchLog, LogFault, State};
+use batch_log::log::BatchLog;
 use batch_log::reading::Groups;
 use checkpoint_store::reading::{generation_of, is_odd};
 use disk_model::disk::Disk;
 use smart_base::sequence::{Bytes, Sequence};
 use std::alloc::{AllocError, Global};
+use store_form::ends::{LogFault, State};
 
 /// Opens a store over four devices on which nothing is pending, and gives what it restores. A refused
 /// opening gives the devices back.

@@ -1,7 +1,7 @@
 //! The store over its four devices.
 ghost use Rattle.std.specs.Prelude.{◌≡◌, Bool, Err};
-ghost use Rattle.batch_log.specs.Ends.{Closes};
-ghost use Rattle.batch_log.specs.declared.log.State.TheVariants.{Open};
+ghost use Rattle.store_form.specs.Ends.{Closes};
+ghost use Rattle.store_form.specs.declared.ends.State.TheVariants.{Open};
 ghost use Rattle.durable_store.specs.Fit.{AreEntries, entries_prop};
 ghost use Rattle.durable_store.specs.Turns.{rests};
 
@@ -9,13 +9,14 @@ use crate::closing::{close_call, is_closing};
 use crate::disks::Disks;
 use crate::kept::push_all;
 use batch_log::job::{Job as LogJob, is_idle as is_log_idle};
-use batch_log::log::{BatchLog, LogFault, State};
+use batch_log::log::BatchLog;
 use checkpoint_store::job::is_idle as is_slot_idle;
 use checkpoint_store::reading::is_odd;
 use checkpoint_store::store::CheckpointStore;
 use disk_model::disk::Disk;
 use smart_base::sequence::{Bytes, Sequence};
 use std::alloc::Global;
+use store_form::ends::{LogFault, State};
 
 /// Why a call of a store did not do its work.
 pub type StoreFault = LogFault;

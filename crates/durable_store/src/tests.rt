@@ -1,6 +1,6 @@
 //! Stores over disks that fail and crash.
 ghost use Rattle.std.specs.Prelude.{◌≡◌, [], IfOk};
-ghost use Rattle.batch_log.specs.declared.log.State.TheVariants.{Open};
+ghost use Rattle.store_form.specs.declared.ends.State.TheVariants.{Open};
 ghost use Rattle.durable_store.specs.Fit.{AreEntries};
 ghost use Rattle.durable_store.specs.Standing.{IsUnderWay};
 ghost use Rattle.disk_model.specs.Cells.{settled};
@@ -11,11 +11,11 @@ use crate::disks::Disks;
 use crate::kept::Kept;
 use crate::reopening::reopen;
 use crate::store::{Job, Store, StoreFault, Tail};
-use batch_log::log::LogFault;
 use disk_model::memory::MemDisk;
 use smart_base::sequence::{Bytes, Sequence};
 use std::alloc::{AllocError, Global};
 use std::test::Fail;
+use store_form::ends::LogFault;
 
 #[derive(Clone, Copy, Debug, PartialEq, Eq)]
 enum Crash {

@@ -17,7 +17,8 @@ use Rattle.durable_store.specs.declared.kept.Kept.{Kept}
 use Rattle.durable_store.proofs.Lives.{calm_even, calm_odd, store_lives, wire_store}
 use Rattle.durable_store.proofs.Pushed.{kept_push}
 use Rattle.durable_store.proofs.States.{first_log}
-use Rattle.member_store.specs.Books.{is_unclosed, Begins, BringsBack, Holds, Leaves, written_book, still_aside}
+use Rattle.member_store.specs.Books.{Begins, BringsBack, Holds, Leaves}
+use Rattle.world_rules.specs.Crashes.{is_unclosed, written_book, still_aside}
 use Rattle.member_store.proofs.Begins.{begins_whole, begins_same}
 use Rattle.member_store.proofs.Opened.{opened_holds}
 

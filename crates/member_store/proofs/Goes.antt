@@ -13,7 +13,8 @@ use Rattle.durable_store.specs.Lives.{IsUnswitched}
 use Rattle.durable_store.specs.declared.kept.Kept.{Kept}
 use Rattle.durable_store.proofs.Lives.{calm_even, calm_odd}
 use Rattle.durable_store.proofs.Plain.{state_goes, state_own, state_started}
-use Rattle.member_store.specs.Books.{is_unclosed, BringsBack, Holds, still_aside}
+use Rattle.member_store.specs.Books.{BringsBack, Holds}
+use Rattle.world_rules.specs.Crashes.{is_unclosed, still_aside}
 
 -- ---- entries are given
 

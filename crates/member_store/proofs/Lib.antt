@@ -7,3 +7,4 @@ pub mod Opened
 pub mod Goes
 pub mod Crashed
 pub mod Groups
+pub mod Whole

@@ -12,8 +12,8 @@ use Rattle.durable_store.specs.Lives.{no_bytes, nothing, UnswitchedWire}
 use Rattle.durable_store.specs.declared.kept.Kept.{Kept}
 use Rattle.durable_store.proofs.Lives.{empty_store}
 use Rattle.durable_store.proofs.Found.{state_opens}
-use Rattle.member_store.specs.Books.{is_unclosed, BringsBack, Holds, still_aside}
-use Rattle.member_store.specs.Crashes.{bytes_held}
+use Rattle.member_store.specs.Books.{BringsBack, Holds}
+use Rattle.world_rules.specs.Crashes.{is_unclosed, still_aside, bytes_held}
 use Rattle.member_store.specs.Devices.{state_in}
 use Rattle.member_store.specs.declared.store.Devices.{Devices}
 use Rattle.member_store.specs.declared.store.Devices.TheVariants.{Running, Stopped}

@@ -2,7 +2,7 @@
 use Rattle.std.proofs.Common.{◌≡◌, ◌⊎◌, inl, inr, ⊎_elim, ℕ, ◌-◌, ◌^◌, ◌<◌, ◌≤◌, min, List, length, take, Some, None, sym, ◌∙◌, subst, arith}
 use Rattle.std.proofs.lemmas.List.{get_or-take, length-take, take_all}
 use Rattle.disk_model.specs.Cells.{Cells, IsImage, IsWrongAt, IsWrong}
-use Rattle.member_store.specs.Wrong.{wrong_in}
+use Rattle.world_rules.specs.Wrong.{wrong_in}
 use Rattle.member_store.proofs.Wrong.{wrong-found, wrong-none, wrong_length}
 
 module _ (s : Cells) (whole : List ℕ) (sound : s.shortest ≤ s.greatest) where

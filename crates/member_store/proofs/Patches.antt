@@ -4,8 +4,8 @@ use Rattle.std.proofs.lemmas.List.{get_or-take, get_or-append_right, get_or_appe
 use Rattle.std.proofs.lemmas.Bool.{cond-true, cond-false, eq-eqb, ne_eqb}
 use Rattle.disk_model.specs.Cells.{put}
 use Rattle.disk_model.proofs.Puts.{put_inside, put_outside, length-put}
-use Rattle.member_store.specs.declared.crash.Patch.{Patch}
-use Rattle.member_store.specs.Crashes.{patched, with_patches}
+use Rattle.world_rules.specs.declared.crash.Patch.{Patch}
+use Rattle.world_rules.specs.Crashes.{patched, with_patches}
 
 -- ---- one patch
 

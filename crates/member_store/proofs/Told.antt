@@ -6,16 +6,16 @@ use Rattle.checkpoint_store.specs.Slots.{is_odd}
 use Rattle.durable_store.specs.Restored.{Images, log_image}
 use Rattle.durable_store.specs.States.{StoreState}
 use Rattle.durable_store.specs.Standing.{MayLeave}
-use Rattle.member_store.specs.Wrong.{wrong_in}
-use Rattle.member_store.specs.Crashes.{even_log, odd_log, wrong_on, wrong_images}
-use Rattle.member_store.specs.declared.crash.NotAnImage.{NotAnImage}
+use Rattle.world_rules.specs.Wrong.{wrong_in}
+use Rattle.world_rules.specs.Crashes.{even_log, odd_log, wrong_on, wrong_images}
+use Rattle.world_rules.specs.declared.crash.NotAnImage.{NotAnImage}
 use Rattle.member_store.proofs.Wrong.{wrong-none, none-wrong}
 
 none_else : {A : Type 0} → (one other : Option A) → or_else one other ≡ None → (one ≡ None) × (other ≡ None)
 none_else None other is = (refl, is)
 none_else (Some x) other is = absurd cc
 
-all_none : {A : Type 0} → (a b c d : Option A) → a ≡ None → b ≡ None → c ≡ None → d ≡ None → or_else a (or_else b (or_else c d)) ≡ None
+pub all_none : {A : Type 0} → (a b c d : Option A) → a ≡ None → b ≡ None → c ≡ None → d ≡ None → or_else a (or_else b (or_else c d)) ≡ None
 all_none a b c d a_is b_is c_is d_is = rw (a_is, b_is, c_is, d_is) refl
 
 unmapped : {A B : Type 0} → (f : A → B) (o : Option A) → option_map f o ≡ None → o ≡ None
@@ -27,7 +27,7 @@ none_on device cells bytes is =
     let told : ℕ → NotAnImage = λ at. record { device = device; at = at } in
     none-wrong cells bytes (unmapped told (wrong_in cells bytes) is)
 
-on_none : (device : ℕ) (cells : Cells) (bytes : List ℕ) → IsImage cells bytes → wrong_on device cells bytes ≡ None
+pub on_none : (device : ℕ) (cells : Cells) (bytes : List ℕ) → IsImage cells bytes → wrong_on device cells bytes ≡ None
 on_none device cells bytes image =
     let told : ℕ → NotAnImage = λ at. record { device = device; at = at } in
     ap (option_map told) (wrong-none cells bytes image)

@@ -2,7 +2,7 @@
 use Rattle.std.proofs.Common.{◌≡◌, ◌≢◌, ◌⊎◌, inl, inr, ⊎_elim, ℕ, zero, suc, ◌+◌, ◌-◌, ◌^◌, ◌<◌, ◌≤◌, ◌==◌, nat_lt, nat_le, min, Bool, true, false, not, ◌&&◌, cond, List, length, get_or, Option, Some, None, refl, sym, ap, ◌∙◌, subst, arith}
 use Rattle.std.proofs.lemmas.Bool.{ltb-true, lt-ltb, leb-true, le-leb, lt-leb, eqb-false, ne_eqb, cases_eq, and_parts, and_from, and_left, and_right, not-true, not_from_false, cond-true, cond-false, false_from_ne_true}
 use Rattle.disk_model.specs.Cells.{Cells, IsImage, IsWrongAt, NoneWrong, IsWrong, covers}
-use Rattle.member_store.specs.Wrong.{is_wrong_at, first_from, or_length, wrong_in}
+use Rattle.world_rules.specs.Wrong.{is_wrong_at, first_from, or_length, wrong_in}
 
 -- ---- the first of some numbers that passes a test
 

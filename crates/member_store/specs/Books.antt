@@ -1,7 +1,5 @@
 -- What a member's store has of its node's book, and what a crash leaves of it.
-use Rattle.std.specs.Prelude.{◌≡◌, ◌≤◌, ℕ, Bool, true, false, cond, if◌then◌else◌, List, [], ◌++◌, length, take}
-use Rattle.batch_log.specs.declared.job.Job.{Job}
-use Rattle.batch_log.specs.declared.job.Job.TheVariants.{Rest, Torn, Close, SyncClose, Body, SyncBody, Gate, SyncGate}
+use Rattle.std.specs.Prelude.{◌≡◌, ◌≤◌, ℕ, Bool, true, false, cond, List, [], ◌++◌, length, take}
 use Rattle.store_form.specs.Spelling.{Group}
 use Rattle.durable_store.specs.Restored.{Images, restores}
 use Rattle.durable_store.specs.States.{StoreState}
@@ -10,17 +8,7 @@ use Rattle.durable_store.specs.Standing.{StateStands, first}
 use Rattle.durable_store.specs.Lives.{IsUnswitched}
 use Rattle.durable_store.specs.Exact.{store_opened}
 use Rattle.durable_store.specs.declared.kept.Kept.{Kept}
-
--- a gate that an earlier crash left torn, or that is not there, is not closed yet
-abbrev pub is_unclosed : Job → Bool
-is_unclosed Torn = true
-is_unclosed (Close waiting) = true
-is_unclosed (SyncClose waiting) = true
-is_unclosed Rest = false
-is_unclosed (Body bytes) = false
-is_unclosed (SyncBody next) = false
-is_unclosed (Gate next) = false
-is_unclosed (SyncGate next) = false
+use Rattle.world_rules.specs.Crashes.{is_unclosed, written_book, still_aside}
 
 -- entries are the first of a book
 abbrev pub Begins : List (List ℕ) → List (List ℕ) → Type 0
@@ -41,14 +29,6 @@ pub record Holds (s : StoreState) (book aside : List (List ℕ)) : Type 0 where
   pub own : IsUnswitched s
   pub all : kept.entries ++ (cond (adds s.log.job) added [] ++ s.waiting) ≡ book
   pub back : BringsBack (is_unclosed s.log.job) aside kept (first kept others)
-
--- the book of which a crash now leaves the first entries: nothing of this life is written while a gate is torn
-abbrev pub written_book : {A : Type 0} → StoreState → List A → List A → List A
-written_book s book aside = if is_unclosed s.log.job then aside else book
-
--- what was written behind a torn gate is lost once the gate is closed
-abbrev pub still_aside : {A : Type 0} → StoreState → List A → List A
-still_aside s aside = if is_unclosed s.log.job then aside else []
 
 -- what bytes that a crash leaves restore: first entries of a book, with all that is firm, and a store that holds them
 pub record Leaves (s : StoreState) (book aside : List (List ℕ)) (left : Images) : Type 0 where

@@ -1,7 +1,7 @@
 -- What a member's store has: a store that runs, or the devices of one that has crashed.
 use Rattle.std.specs.Prelude.{◌≡◌, true, false}
 use Rattle.disk_model.specs.Memory.{plain_cells}
-use Rattle.batch_log.specs.declared.log.State.TheVariants.{Open}
+use Rattle.store_form.specs.declared.ends.State.TheVariants.{Open}
 use Rattle.durable_store.specs.Disks.{contents, AreSettled}
 use Rattle.durable_store.specs.Standing.{IsUnderWay}
 use Rattle.durable_store.specs.States.{state_of}

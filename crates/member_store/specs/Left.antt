@@ -1,7 +1,7 @@
 -- What is left of a device, and why a store was not crashed.
 use Rattle.std.specs.Prelude.{◌≡◌, ℕ, List, length, take, Option, Some}
 use Rattle.member_store.specs.declared.left.Left.{Left}
-use Rattle.member_store.specs.declared.crash.NotAnImage.{NotAnImage as Wrong}
+use Rattle.world_rules.specs.declared.crash.NotAnImage.{NotAnImage as Wrong}
 use Rattle.member_store.specs.declared.crash.CrashFault.{CrashFault}
 use Rattle.member_store.specs.declared.crash.CrashFault.TheVariants.{NotAnImage, NoMemory}
 

@@ -6,8 +6,9 @@ ghost use Rattle.durable_store.specs.States.{StoreState};
 ghost use Rattle.durable_store.specs.Standing.{MayLeave, group_begins};
 ghost use Rattle.durable_store.specs.Exact.{store_called, started, store_opened};
 ghost use Rattle.durable_store.specs.Lives.{no_bytes};
-ghost use Rattle.member_store.specs.Crashes.{wrong_images};
-ghost use Rattle.member_store.specs.Books.{Holds, Leaves, still_aside};
+ghost use Rattle.world_rules.specs.Crashes.{images_left, wrong_images, still_aside};
+ghost use Rattle.world_rules.specs.declared.crash.Image.{Image};
+ghost use Rattle.member_store.specs.Books.{Holds, Leaves};
 
 /// Empty devices hold an empty book. What is given is behind the book, and a device call changes
 /// nothing of it, where the entries of a group that begins then have a spelling together. Only more
@@ -30,4 +31,10 @@ pub fn a_crash_leaves_a_book()
 pub fn no_byte_is_wrong()
     ensures may { (s : StoreState) (left : Images) → wrong_images s left ≡ None → MayLeave s left }
     ensures none { (s : StoreState) (left : Images) → MayLeave s left → wrong_images s left ≡ None }
+{}
+
+/// Of a store that holds a book a crash may always leave each device as it was at its last sync, and
+/// each as it reads: what is said of all that a crash may leave is never said of nothing.
+pub fn a_crash_leaves_something()
+    ensures { (s : StoreState) (book aside : List (List ℕ)) (image : Image) → Holds s book aside → wrong_images s (images_left image [] s) ≡ None }
 {}

@@ -2,14 +2,15 @@
 ghost use Rattle.std.specs.Prelude.{◌≡◌, ◌<◌, ◌+◌, ◌-◌, ◌^◌, ◌++◌, ℕ, List, None, Some, length, replicate, IfOk, IfErr, OnOk};
 ghost use Rattle.disk_model.specs.Cells.{put, settled};
 ghost use Rattle.disk_model.specs.Memory.{plain_cells};
-ghost use Rattle.member_store.specs.Wrong.{wrong_in};
-ghost use Rattle.member_store.specs.Crashes.{cells_left, patched, with_patches, wrong_on};
+ghost use Rattle.world_rules.specs.Wrong.{wrong_in};
+ghost use Rattle.world_rules.specs.Crashes.{cells_left, patched, with_patches, wrong_on};
 ghost use Rattle.member_store.specs.Left.{IsLeft, Tells};
 
-use crate::crash::{CrashFault, Image, NotAnImage, Patch};
+use crate::crash::CrashFault;
 use disk_model::plain::PlainDisk;
 use smart_base::sequence::Bytes;
 use std::alloc::{AllocError, Global};
+use world_rules::crash::{Image, NotAnImage, Patch};
 
 /// What is left of a device. It may be longer than any memory, so only its first bytes are here, as
 /// many as the device may have had.

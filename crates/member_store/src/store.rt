@@ -10,10 +10,10 @@ ghost use Rattle.durable_store.specs.Lives.{no_bytes};
 ghost use Rattle.durable_store.specs.Restored.{restores};
 ghost use Rattle.durable_store.specs.States.{state_of};
 ghost use Rattle.durable_store.specs.Exact.{store_opened, store_called, started, call_due};
-ghost use Rattle.member_store.specs.Crashes.{bytes_held, even_log, odd_log, images_left, wrong_images};
+ghost use Rattle.world_rules.specs.Crashes.{bytes_held, even_log, odd_log, images_left, wrong_images};
 ghost use Rattle.member_store.specs.Left.{Tells};
 
-use crate::crash::{CrashFault, Image, Patch};
+use crate::crash::CrashFault;
 use crate::left::disk_left;
 use checkpoint_store::reading::is_odd;
 use disk_model::plain::PlainDisk;
@@ -27,6 +27,7 @@ use std::marker::Model;
 use std::mem;
 use vote_book::codec::encode_entry;
 use vote_book::entry::LogEntry;
+use world_rules::crash::{Image, Patch};
 
 /// The most bytes that an entry of a store has.
 const ENTRY_BYTES: usize = 0xffff_ffff;
@@ -143,7 +144,7 @@ fn logs(store: &Store<PlainDisk>) -> (&PlainDisk, &PlainDisk)
 }
 
 /// What a crash leaves of the devices of a store, as a script says.
-#[tactic(auto, unfolding(crate::specs::Crashes::wrong_images))]
+#[tactic(auto, unfolding(world_rules::specs::Crashes::wrong_images))]
 fn disks_left(
     alloc: Global,
     store: &Store<PlainDisk>,

@@ -1,5 +1,5 @@
 //! Stores of members that crash and are opened again.
-use crate::crash::{CrashFault, Image, NotAnImage, Patch};
+use crate::crash::CrashFault;
 use crate::store::MemberStore;
 use smart_base::number::{Regency, ViewNo};
 use smart_base::sequence::{Bytes, Sequence};
@@ -7,6 +7,7 @@ use std::alloc::{AllocError, Global};
 use std::test::Fail;
 use vote_book::codec::encode_entry;
 use vote_book::entry::{LogEntry, Promise};
+use world_rules::crash::{Image, NotAnImage, Patch};
 
 /// The calls after which the gate of an empty log is closed, the bytes of a first group are firm, its
 /// gate is open, and it is firm.

@@ -2,10 +2,10 @@
 ghost use Rattle.std.specs.Prelude.{◌≡◌};
 ghost use Rattle.smart_top.specs.Statuses.{code_of};
 
-use member_store::crash::NotAnImage;
 use smart_io::stream::{Sink, write_all};
 use std::alloc::{AllocError, Global};
 use std::fmt::Write;
+use world_rules::crash::NotAnImage;
 use world_rules::line::Kind;
 use world_rules::message::Premise;
 

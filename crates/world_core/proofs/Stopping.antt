@@ -2,10 +2,10 @@
 use Rattle.std.proofs.Common.{◌≡◌, ℕ, zero, suc, ◌<◌, true, List, [], ◌∷◌, Option, Some, None, refl, ap, sym, ◌∙◌}
 use Rattle.std.specs.Prelude.{slice_get, slice_set, length, Result, Ok, Err, IfOk}
 use Rattle.smart_service.specs.Services.{Meaning}
-use Rattle.member_store.specs.Crashes.{images_left, wrong_images}
-use Rattle.member_store.specs.declared.crash.Image.{Image}
-use Rattle.member_store.specs.declared.crash.Patch.{Patch}
-use Rattle.member_store.specs.declared.crash.NotAnImage as stores
+use Rattle.world_rules.specs.Crashes.{images_left, wrong_images}
+use Rattle.world_rules.specs.declared.crash.Image.{Image}
+use Rattle.world_rules.specs.declared.crash.Patch.{Patch}
+use Rattle.world_rules.specs.declared.crash.NotAnImage as stores
 use Rattle.node_rules.specs.Reopening.{damaged}
 use Rattle.world_rules.specs.Secrets.{group_secret}
 use Rattle.world_rules.specs.Worlds.{Course, core_course, Host, World, at_host, at_index, at_member, host_index, disk_called, resumes_from}

@@ -3,9 +3,9 @@ use Rattle.std.specs.Prelude.{ℕ, Bool, false, not, List, [], Option, Some, Non
 use Rattle.smart_base.specs.Views.{View}
 use Rattle.smart_service.specs.Services.{Meaning}
 use Rattle.durable_store.specs.Restored.{restores}
-use Rattle.member_store.specs.Crashes.{images_left, wrong_images, bytes_held}
-use Rattle.member_store.specs.declared.crash.Image.{Image}
-use Rattle.member_store.specs.declared.crash.Patch.{Patch}
+use Rattle.world_rules.specs.Crashes.{images_left, wrong_images, bytes_held}
+use Rattle.world_rules.specs.declared.crash.Image.{Image}
+use Rattle.world_rules.specs.declared.crash.Patch.{Patch}
 use Rattle.node_rules.specs.Nodes.{Node}
 use Rattle.node_rules.specs.Reopening.{reopened, damaged, entries_in}
 use Rattle.world_rules.specs.Secrets.{group_secret}

@@ -6,10 +6,11 @@ ghost use Rattle.world_core.specs.Crashes.{runs, is_down, stops, telling_if, goe
 use crate::host::host_index;
 use crate::lives::resume;
 use crate::state::WorldState;
-use member_store::crash::{CrashFault, Image, Patch};
+use member_store::crash::CrashFault;
 use smart_base::name::MemberId;
 use smart_service::service::Service;
 use std::alloc::AllocError;
+use world_rules::crash::{Image, Patch};
 use world_rules::line::OutLine;
 use world_rules::message::{Ending, Premise};
 

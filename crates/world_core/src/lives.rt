@@ -2,7 +2,7 @@
 ghost use Rattle.std.specs.Prelude.{◌≡◌, ◌++◌, [], true, false, length, None, IfOk, IfErr, OnOk, OnErr, option_map};
 ghost use Rattle.durable_store.specs.Exact.{started, store_opened};
 ghost use Rattle.durable_store.specs.Restored.{restores};
-ghost use Rattle.member_store.specs.Crashes.{bytes_held, images_left, wrong_images};
+ghost use Rattle.world_rules.specs.Crashes.{bytes_held, images_left, wrong_images};
 ghost use Rattle.member_store.specs.Left.{Tells};
 ghost use Rattle.node_rules.specs.Reopening.{damaged};
 ghost use Rattle.world_rules.specs.Secrets.{group_secret};
@@ -10,7 +10,7 @@ ghost use Rattle.world_rules.specs.Worlds.{core_course, spelled_behind, host_cra
 ghost use Rattle.world_core.specs.Crashes.{held, node_from, node_in, host_with, told_with};
 
 use crate::host::{Host, PERIOD, behind};
-use member_store::crash::{CrashFault, Image, Patch};
+use member_store::crash::CrashFault;
 use member_store::store::MemberStore;
 use node_core::node::NodeCore;
 use node_restart::fault::ReopenFault;
@@ -21,6 +21,7 @@ use smart_base::view::View;
 use smart_keys::ring::Ring;
 use smart_service::service::Service;
 use std::alloc::{AllocError, Global};
+use world_rules::crash::{Image, Patch};
 use world_rules::line::OutLine;
 
 /// Stops a store. Its devices stay as they read, which a crash may leave of any, so that only memory

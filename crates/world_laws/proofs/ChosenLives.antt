@@ -14,7 +14,8 @@ use Rattle.durable_store.specs.States.{StoreState}
 use Rattle.durable_store.specs.Standing.{MayLeave}
 use Rattle.durable_store.specs.Turns.{adds}
 use Rattle.durable_store.specs.Exact.{store_called, store_opened}
-use Rattle.member_store.specs.Books.{Holds, is_unclosed, still_aside}
+use Rattle.member_store.specs.Books.{Holds}
+use Rattle.world_rules.specs.Crashes.{is_unclosed, still_aside}
 use Rattle.member_store.proofs.Groups.{group_fits}
 use Rattle.node_rules.specs.Nodes.{Node}
 use Rattle.node_rules.specs.Reopening.{decided_of, entries_in, reopened}

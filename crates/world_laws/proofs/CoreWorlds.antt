@@ -20,10 +20,10 @@ use Rattle.node_rules.specs.Nodes as nodes
 use Rattle.kept_arrivals.proofs.Steps.{core_step_trimmed, opened_stands}
 use Rattle.durable_store.specs.Exact.{call_due}
 use Rattle.durable_store.specs.Restored.{Images, restores}
-use Rattle.member_store.specs.Crashes.{images_left, wrong_images, bytes_held}
-use Rattle.member_store.specs.declared.crash.Image.{Image}
-use Rattle.member_store.specs.declared.crash.Patch.{Patch}
-use Rattle.member_store.specs.declared.crash.NotAnImage.{NotAnImage}
+use Rattle.world_rules.specs.Crashes.{images_left, wrong_images, bytes_held}
+use Rattle.world_rules.specs.declared.crash.Image.{Image}
+use Rattle.world_rules.specs.declared.crash.Patch.{Patch}
+use Rattle.world_rules.specs.declared.crash.NotAnImage.{NotAnImage}
 use Rattle.vote_book.specs.declared.entry.LogEntry.{LogEntry}
 use Rattle.smart_service.specs.declared.replica.Replica.{Replica}
 use Rattle.replica_rules.specs.Replicas.{state}

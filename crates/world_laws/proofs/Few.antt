@@ -12,7 +12,7 @@ use Rattle.vote_book.specs.declared.entry.LogEntry.{LogEntry}
 use Rattle.vote_book.specs.declared.entry.LogEntry.TheVariants.{Opened, Wrote, Accepted, Promised, Synced, Decided, Installed, Marked}
 use Rattle.durable_store.specs.Restored.{Images}
 use Rattle.durable_store.specs.States.{StoreState}
-use Rattle.member_store.specs.Books.{is_unclosed, still_aside}
+use Rattle.world_rules.specs.Crashes.{is_unclosed, still_aside}
 use Rattle.node_rules.specs.Nodes.{Node}
 use Rattle.node_rules.specs.Reopening.{decided_of, entries_in, reopened}
 use Rattle.node_rules.specs.Steps.{Outcome, step_of, opened}

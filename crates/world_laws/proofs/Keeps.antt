@@ -32,10 +32,10 @@ use Rattle.node_rules.specs.Steps.{Outcome, leaving}
 use Rattle.node_rules.specs.Reopening.{reopened, damaged, entries_in}
 use Rattle.durable_store.specs.Restored.{Images, restores}
 use Rattle.durable_store.specs.Standing.{MayLeave}
-use Rattle.member_store.specs.Crashes.{images_left, wrong_images, bytes_held}
-use Rattle.member_store.specs.declared.crash.Image.{Image}
-use Rattle.member_store.specs.declared.crash.Patch.{Patch}
-use Rattle.member_store.specs.declared.crash.NotAnImage as stores
+use Rattle.world_rules.specs.Crashes.{images_left, wrong_images, bytes_held}
+use Rattle.world_rules.specs.declared.crash.Image.{Image}
+use Rattle.world_rules.specs.declared.crash.Patch.{Patch}
+use Rattle.world_rules.specs.declared.crash.NotAnImage as stores
 use Rattle.member_store.proofs.Told.{may_leave}
 use Rattle.node_rules.specs.declared.node.Held.{Held}
 use Rattle.node_rules.specs.declared.node.Target.{Target}

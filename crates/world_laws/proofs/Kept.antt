@@ -24,7 +24,8 @@ use Rattle.replica_rules.specs.Replicas.{state}
 use Rattle.replica_rules.specs.Seals.{is_verified}
 use Rattle.durable_store.specs.Restored.{Images, restores}
 use Rattle.durable_store.specs.Standing.{MayLeave}
-use Rattle.member_store.specs.Books.{Leaves, is_unclosed, written_book}
+use Rattle.member_store.specs.Books.{Leaves}
+use Rattle.world_rules.specs.Crashes.{is_unclosed, written_book}
 use Rattle.member_store.proofs.Crashed.{crash_leaves}
 use Rattle.agreement_laws.specs.Fronts.{IsFront}
 use Rattle.agreement_laws.specs.Statements.{Replied}

@@ -15,8 +15,8 @@ use Rattle.durable_store.specs.Standing.{MayLeave, group_begins}
 use Rattle.durable_store.specs.Exact.{store_called, started, store_opened}
 use Rattle.durable_store.specs.Lives.{no_bytes}
 use Rattle.store_form.specs.Spelling.{IsGroup}
-use Rattle.member_store.specs.Crashes.{bytes_held}
-use Rattle.member_store.specs.Books.{Holds, Leaves, is_unclosed, written_book, still_aside}
+use Rattle.world_rules.specs.Crashes.{bytes_held, is_unclosed, written_book, still_aside}
+use Rattle.member_store.specs.Books.{Holds, Leaves}
 use Rattle.member_store.proofs.Opened.{empty_holds}
 use Rattle.member_store.proofs.Goes.{given_holds, called_holds, called_firm}
 use Rattle.member_store.proofs.Crashed.{crash_leaves}

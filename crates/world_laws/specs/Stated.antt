@@ -3,7 +3,7 @@ use Rattle.std.specs.Prelude.{ℕ, suc, ◌≡◌, ◌⊎◌, true, false, List,
 use Rattle.smart_base.specs.Lists.{Each}
 use Rattle.vote_book.specs.Entries.{entry_text}
 use Rattle.durable_store.specs.Restored.{restores}
-use Rattle.member_store.specs.Crashes.{bytes_held}
+use Rattle.world_rules.specs.Crashes.{bytes_held}
 use Rattle.smart_messages.specs.declared.statement.Ballot.{Ballot}
 use Rattle.std.specs.List.{flat_map}
 use Rattle.smart_base.specs.Views.{View}

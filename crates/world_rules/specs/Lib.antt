@@ -3,6 +3,8 @@ pub mod Premises
 pub mod Injections
 pub mod Clients
 pub mod Repeats
+pub mod Wrong
+pub mod Crashes
 pub mod Worlds
 pub mod Plays
 pub mod Knowing

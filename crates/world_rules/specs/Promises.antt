@@ -16,7 +16,7 @@ use Rattle.node_rules.specs.Reopening.{reopened, damaged, entries_in}
 use Rattle.smart_service.specs.declared.replica.Replica.{Replica}
 use Rattle.vote_book.specs.Entries.{entry_text}
 use Rattle.durable_store.specs.Restored.{Images, restores}
-use Rattle.member_store.specs.Crashes.{bytes_held}
+use Rattle.world_rules.specs.Crashes.{bytes_held}
 use Rattle.durable_store.specs.Standing.{MayLeave}
 use Rattle.node_rules.specs.declared.node.Target.TheVariants as targets
 use Rattle.node_rules.specs.declared.node.Delivery.{Delivery}

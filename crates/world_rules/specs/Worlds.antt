@@ -43,11 +43,10 @@ use Rattle.durable_store.specs.States.{StoreState}
 use Rattle.durable_store.specs.Exact.{call_due, store_called, started, store_opened}
 use Rattle.durable_store.specs.Lives.{no_bytes}
 use Rattle.durable_store.specs.Restored.{Images, restores}
-use Rattle.member_store.specs.Crashes.{images_left, wrong_images, bytes_held}
-use Rattle.member_store.specs.Books.{written_book, still_aside}
-use Rattle.member_store.specs.declared.crash.Image.{Image}
-use Rattle.member_store.specs.declared.crash.Patch.{Patch}
-use Rattle.member_store.specs.declared.crash.NotAnImage as stores
+use Rattle.world_rules.specs.Crashes.{images_left, wrong_images, bytes_held, written_book, still_aside}
+use Rattle.world_rules.specs.declared.crash.Image.{Image}
+use Rattle.world_rules.specs.declared.crash.Patch.{Patch}
+use Rattle.world_rules.specs.declared.crash.NotAnImage as stores
 use Rattle.node_rules.specs.Reopening.{reopened, damaged, entries_in}
 use Rattle.world_rules.specs.Repeats.{until_rest, each_from}
 use Rattle.world_rules.specs.Secrets.{group_secret}

@@ -3,5 +3,6 @@
 //! types that they speak of.
 #![tactic(auto)]
 
+pub mod crash;
 pub mod line;
 pub mod message;

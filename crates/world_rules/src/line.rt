@@ -1,7 +1,7 @@
 //! The lines of a script and of its transcript.
+use crate::crash::{Image, Patch};
 use crate::message::Origin;
 use client_quorum::client::Ignored;
-use member_store::crash::{Image, Patch};
 use node_rules::node::Why;
 use smart_base::bytes::Payload;
 use smart_base::name::{ClientId, MemberId};

@@ -1,5 +1,5 @@
 //! Messages that were sent.
-use member_store::crash::NotAnImage;
+use crate::crash::NotAnImage;
 use node_rules::node::Target;
 use smart_base::name::{ClientId, MemberId};
 use smart_base::sequence::Bytes;

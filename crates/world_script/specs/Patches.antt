@@ -1,6 +1,6 @@
 -- Patches that were read, with those that further words are.
 use Rattle.std.specs.Prelude.{List, ◌++◌, Result, Ok, Err}
-use Rattle.member_store.specs.declared.crash.Patch.{Patch}
+use Rattle.world_rules.specs.declared.crash.Patch.{Patch}
 use Rattle.world_rules.specs.Scripts.{before}
 use Rattle.world_rules.specs.declared.line.Kind.{Kind}
 

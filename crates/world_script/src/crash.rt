@@ -6,11 +6,11 @@ ghost use Rattle.world_script.specs.Patches.{patches_then};
 use crate::hex::hex_bytes;
 use crate::numbers::{DEVICES, NUMBERS, member_of, number_in};
 use crate::words::{Words, parted_at};
-use member_store::crash::{Image, Patch};
 use smart_base::equality::same_bytes;
 use smart_base::name::MemberId;
 use smart_base::sequence::Sequence;
 use std::alloc::{AllocError, Global};
+use world_rules::crash::{Image, Patch};
 use world_rules::line::{Kind, Line};
 
 /// What a crash leaves: `old` or `new`.

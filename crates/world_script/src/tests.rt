@@ -1,6 +1,5 @@
 use crate::reading::{app_line, line_of};
 use crate::text::{app_text, text_of};
-use member_store::crash::{Image, Patch};
 use smart_base::name::{ClientId, MemberId};
 use smart_base::number::{Place, Regency, ViewNo};
 use smart_messages::statement::{Slot, VoteKind};
@@ -8,6 +7,7 @@ use std::alloc::{AllocError, Global};
 use std::fmt::Write;
 use std::process::Abort;
 use std::test::Fail;
+use world_rules::crash::{Image, Patch};
 use world_rules::line::{Injection, Kind, Line, OutLine, Summary};
 use world_rules::message::Origin;
 

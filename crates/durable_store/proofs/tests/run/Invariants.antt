@@ -1,5 +1,5 @@
 use Rattle.std.proofs.Common.{◌≡◌}
-use Rattle.batch_log.specs.declared.log.State.TheVariants.{Open}
+use Rattle.store_form.specs.declared.ends.State.TheVariants.{Open}
 use Rattle.durable_store.specs.Standing.{IsUnderWay}
 use Rattle.durable_store.proofs.tests.run.Given as goal
 

@@ -1,6 +1,6 @@
 use Rattle.std.proofs.Common.{take}
 use Rattle.disk_model.specs.Memory.{plain_cells}
-use Rattle.member_store.specs.Crashes.{cells_left, with_patches}
+use Rattle.world_rules.specs.Crashes.{cells_left, with_patches}
 use Rattle.member_store.specs.Left.{IsLeft}
 use Rattle.member_store.proofs.left.with_patches.Given as goal
 

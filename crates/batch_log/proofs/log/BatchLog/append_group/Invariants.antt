@@ -3,7 +3,7 @@ use Rattle.disk_model.specs.Calls.{LeavesOnly}
 use Rattle.store_form.specs.Spelling.{Group}
 use Rattle.batch_log.specs.Log.{restored}
 use Rattle.batch_log.specs.Jobs.{IsUnderWay, Stands, Runs, Adds, OneOf, code}
-use Rattle.batch_log.specs.declared.log.State.TheVariants.{Open}
+use Rattle.store_form.specs.declared.ends.State.TheVariants.{Open}
 use Rattle.batch_log.proofs.log.BatchLog.append_group.Given as goal
 
 abbrev pub invariant-loop-self : goal.invariant-loop-self

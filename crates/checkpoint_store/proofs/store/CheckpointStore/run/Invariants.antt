@@ -1,7 +1,7 @@
 use Rattle.std.proofs.Common.{◌≡◌, ◌≤◌, Option}
 use Rattle.disk_model.specs.Calls.{LeavesOnly}
 use Rattle.store_form.specs.declared.checkpoint.Checkpoint.{Checkpoint}
-use Rattle.batch_log.specs.declared.log.State.TheVariants.{Open}
+use Rattle.store_form.specs.declared.ends.State.TheVariants.{Open}
 use Rattle.checkpoint_store.specs.Slots.{is_odd}
 use Rattle.checkpoint_store.specs.Stores.{slot, beside, StandsAt, UnderWayAt}
 use Rattle.checkpoint_store.specs.SlotJobs.{Leaves, slot_stake, end_of, calls_left}

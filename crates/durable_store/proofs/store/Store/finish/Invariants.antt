@@ -1,6 +1,6 @@
 use Rattle.std.proofs.Common.{◌≡◌, ◌⊎◌, ◌+◌, ◌-◌, ◌^◌, ◌++◌, true, min, List}
 use Rattle.store_form.specs.Spelling.{Group}
-use Rattle.batch_log.specs.declared.log.State.TheVariants.{Open}
+use Rattle.store_form.specs.declared.ends.State.TheVariants.{Open}
 use Rattle.durable_store.specs.Restored.{Images, restores}
 use Rattle.durable_store.specs.States.{state_of}
 use Rattle.durable_store.specs.Standing.{StoreStands, IsUnderWay, calls_log, running, to_come}

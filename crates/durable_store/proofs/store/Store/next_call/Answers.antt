@@ -1,6 +1,6 @@
 use Rattle.std.proofs.Common.{◌≡◌, ◌≤◌, ◌∙◌, ◌⊎◌, inl, inr, subst, arith, true, false, cond, ◌&&◌, refl, sym, ap, ⊎_elim}
 use Rattle.faults.specs.Counts.{Rose}
-use Rattle.batch_log.specs.Ends.{Closes}
+use Rattle.store_form.specs.Ends.{Closes}
 use Rattle.durable_store.specs.Restored.{restores}
 use Rattle.durable_store.specs.Lives.{UnswitchedNext}
 use Rattle.durable_store.specs.Turns.{closing, rests}

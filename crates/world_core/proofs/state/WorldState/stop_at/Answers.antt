@@ -1,7 +1,7 @@
 use Rattle.std.proofs.Common.{◌≡◌, ◌<◌, ◌∙◌, ap, refl, sym, subst, Some, length}
 use Rattle.std.specs.Prelude.{slice_get}
 use Rattle.std.proofs.lemmas.Option.{slice_get-get_or}
-use Rattle.member_store.specs.Crashes.{images_left, wrong_images}
+use Rattle.world_rules.specs.Crashes.{images_left, wrong_images}
 use Rattle.member_store.specs.Left.{Tells}
 use Rattle.member_store.specs.declared.crash.CrashFault.{CrashFault}
 use Rattle.world_rules.specs.Worlds.{core_course}

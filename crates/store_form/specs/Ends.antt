@@ -1,9 +1,9 @@
 -- How a call of a log ends, and whether the log takes calls from then on.
 use Rattle.std.specs.Prelude.{◌≡◌, true, false, Result, Ok, Err}
-use Rattle.batch_log.specs.declared.log.LogFault.{LogFault}
-use Rattle.batch_log.specs.declared.log.LogFault.TheVariants.{Disk, NoMemory as no_memory}
-use Rattle.batch_log.specs.declared.log.State.{State}
-use Rattle.batch_log.specs.declared.log.State.TheVariants.{Open, Failed, NoMemory}
+use Rattle.store_form.specs.declared.ends.LogFault.{LogFault}
+use Rattle.store_form.specs.declared.ends.LogFault.TheVariants.{Disk, NoMemory as no_memory}
+use Rattle.store_form.specs.declared.ends.State.{State}
+use Rattle.store_form.specs.declared.ends.State.TheVariants.{Open, Failed, NoMemory}
 
 -- A disk that fails closes the log, and so does want of memory inside a device call. A closed log stays so, and answers
 -- what closed it.

@@ -1,15 +1,17 @@
--- What a crash leaves of a member's store, as a script names it.
-use Rattle.std.specs.Prelude.{ℕ, ◌-◌, ◌==◌, List, [], ◌∷◌, ◌++◌, length, replicate, if◌then◌else◌, Option, option_map}
+-- What a crash leaves of a member's store, as a script names it, and of which book.
+use Rattle.std.specs.Prelude.{ℕ, ◌-◌, ◌==◌, Bool, true, false, List, [], ◌∷◌, ◌++◌, length, replicate, if◌then◌else◌, Option, option_map}
 use Rattle.smart_base.specs.Lists.{or_else}
 use Rattle.disk_model.specs.Cells.{Cells, put}
+use Rattle.batch_log.specs.declared.job.Job.{Job}
+use Rattle.batch_log.specs.declared.job.Job.TheVariants.{Rest, Torn, Close, SyncClose, Body, SyncBody, Gate, SyncGate}
 use Rattle.checkpoint_store.specs.Slots.{is_odd}
 use Rattle.durable_store.specs.Restored.{Images}
 use Rattle.durable_store.specs.States.{StoreState}
-use Rattle.member_store.specs.Wrong.{wrong_in}
-use Rattle.member_store.specs.declared.crash.Image.{Image}
-use Rattle.member_store.specs.declared.crash.Image.TheVariants.{Old, New}
-use Rattle.member_store.specs.declared.crash.Patch.{Patch}
-use Rattle.member_store.specs.declared.crash.NotAnImage.{NotAnImage}
+use Rattle.world_rules.specs.Wrong.{wrong_in}
+use Rattle.world_rules.specs.declared.crash.Image.{Image}
+use Rattle.world_rules.specs.declared.crash.Image.TheVariants.{Old, New}
+use Rattle.world_rules.specs.declared.crash.Patch.{Patch}
+use Rattle.world_rules.specs.declared.crash.NotAnImage.{NotAnImage}
 
 -- what its devices 0 and 1 hold
 abbrev pub even_log : StoreState → Cells
@@ -53,3 +55,24 @@ unfoldable pub wrong_images : StoreState → Images → Option NotAnImage
 wrong_images s left =
     or_else (wrong_on 0 (even_log s) left.even_log)
     (or_else (wrong_on 1 (odd_log s) left.odd_log) (or_else (wrong_on 2 s.even.cells left.even_slot) (wrong_on 3 s.odd.cells left.odd_slot)))
+
+-- ---- the book that it leaves
+
+-- a gate that an earlier crash left torn, or that is not there, is not closed yet
+abbrev pub is_unclosed : Job → Bool
+is_unclosed Torn = true
+is_unclosed (Close waiting) = true
+is_unclosed (SyncClose waiting) = true
+is_unclosed Rest = false
+is_unclosed (Body bytes) = false
+is_unclosed (SyncBody next) = false
+is_unclosed (Gate next) = false
+is_unclosed (SyncGate next) = false
+
+-- the book of which a crash now leaves the first entries: nothing of this life is written while a gate is torn
+abbrev pub written_book : {A : Type 0} → StoreState → List A → List A → List A
+written_book s book aside = if is_unclosed s.log.job then aside else book
+
+-- what was written behind a torn gate is lost once the gate is closed
+abbrev pub still_aside : {A : Type 0} → StoreState → List A → List A
+still_aside s aside = if is_unclosed s.log.job then aside else []

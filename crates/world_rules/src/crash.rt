@@ -1,0 +1,27 @@
+//! What a script says that a crash leaves of a member's devices.
+use smart_base::sequence::Bytes;
+
+/// What a crash leaves of each device.
+#[derive(Clone, Copy, Debug, PartialEq, Eq)]
+pub enum Image {
+    /// It is as it was at its last sync.
+    Old,
+    /// It is as it reads.
+    New,
+}
+
+/// Bytes that a crash leaves at a place of a device, 0 to 3.
+#[derive(Drop)]
+pub struct Patch {
+    pub device: u64,
+    pub at: u64,
+    pub bytes: Bytes,
+}
+
+/// No crash now leaves these bytes on a device. `at` is the first byte that is wrong, or their length
+/// where only that is wrong, but at most 2^64 - 1. Of more devices the first is named.
+#[derive(Clone, Copy, Debug, PartialEq, Eq)]
+pub struct NotAnImage {
+    pub device: u64,
+    pub at: u64,
+}
