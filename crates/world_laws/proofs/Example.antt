@@ -458,3 +458,23 @@ first_chosen {S = S} m brief = ap (λ (w : World S). w.chosen) (play_is m brief)
 pub first_accepted : {S : Type 0} (m : Meaning S) → IsBrief m → (world_at m lone ask_and_flow 2).accepted ≡ first_acceptance m ∷ []
 unfolding computed
 first_accepted {S = S} m brief = ap (λ (w : World S). w.accepted) (play_is m brief)
+
+-- the play goes on
+pub first_going : {S : Type 0} (m : Meaning S) → IsBrief m → (world_at m lone ask_and_flow 2).ending ≡ None
+unfolding computed
+first_going {S = S} m brief = ap (λ (w : World S). w.ending) (play_is m brief)
+
+-- in the view that it began with
+pub first_view : {S : Type 0} (m : Meaning S) → IsBrief m → (world_at m lone ask_and_flow 2).view ≡ lone
+unfolding computed
+first_view {S = S} m brief = ap (λ (w : World S). w.view) (play_is m brief)
+
+-- there is one host
+pub first_alone : {S : Type 0} (m : Meaning S) → IsBrief m → length (world_at m lone ask_and_flow 2).hosts ≡ 1
+unfolding computed
+first_alone {S = S} m brief = ap (λ (w : World S). length w.hosts) (play_is m brief)
+
+-- its node runs
+pub first_up : {S : Type 0} (m : Meaning S) → IsBrief m → is_up (world_at m lone ask_and_flow 2) (host_in m (world_at m lone ask_and_flow 2).hosts) ≡ true
+unfolding computed
+first_up {S = S} m brief = ap (λ (w : World S). is_up w (host_in m w.hosts)) (play_is m brief)

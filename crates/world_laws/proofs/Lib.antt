@@ -42,3 +42,4 @@ pub mod Supplied
 pub mod Settles
 pub mod Example
 pub mod Later
+pub mod Survived

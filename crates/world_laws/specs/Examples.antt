@@ -1,7 +1,8 @@
--- Plays in which a batch is chosen and a reply accepted, in the first regency and in the next one.
-use Rattle.std.specs.Prelude.{ℕ, List, [], ◌∷◌}
+-- Plays in which a batch is chosen and a reply accepted: in the first regency, in the next one, and before a crash.
+use Rattle.std.specs.Prelude.{ℕ, List, [], ◌∷◌, ◌++◌}
 use Rattle.smart_base.specs.Views.{View}
 use Rattle.smart_base.specs.declared.party.Party.TheVariants.{Member}
+use Rattle.world_rules.specs.declared.crash.Image.TheVariants.{Old}
 use Rattle.smart_messages.specs.Forms.{SignedBy}
 use Rattle.smart_messages.specs.Kinds.{requests}
 use Rattle.smart_messages.specs.declared.statement.Request.{Request}
@@ -25,6 +26,10 @@ ask_and_flow = lines.Ask 1 (7 ∷ []) ∷ lines.Flow [] ∷ []
 -- client 1 asks for an operation, the member is given the request, time passes there twice while it waits, and then messages flow
 abbrev pub ask_and_wait : List Line
 ask_and_wait = lines.Ask 1 (7 ∷ []) ∷ lines.Give 1 (Member 1 ∷ []) ∷ lines.Tick (1 ∷ []) ∷ lines.Tick (1 ∷ []) ∷ lines.Flow [] ∷ []
+
+-- client 1 asks for an operation, messages flow, each member crashes with its devices as they were at their last sync, and each goes on
+abbrev pub ask_and_crash : List Line
+ask_and_crash = ask_and_flow ++ (lines.CrashAll Old ∷ lines.RestartAll ∷ [])
 
 -- what the client asks
 abbrev pub first_request : Request

@@ -1,8 +1,8 @@
 //! Members that stop, and go on from what their devices hold.
 use super::run_word;
 use crate::status::Status;
-use member_store::crash::NotAnImage;
 use std::test::Fail;
+use world_rules::crash::NotAnImage;
 use world_rules::message::Premise;
 
 /// All stop at once with the state of their last sync. A reply was accepted, and its place is there again
@@ -124,6 +124,51 @@ sent 2 n1 propose 0 1 0 1\n\
 crashed n1\n\
 restarted n1 0 1\n\
 end 9 2\n",
+);
+
+/// Before the torn gate is closed again, another crash opens it, and the entry is there again.
+const GATE_BROUGHT_BACK: (&str, &str) = (
+    "group 4 1\n\
+app count\n\
+ask 1 5\n\
+settle all\n\
+give 1 1\n\
+give 2 1\n\
+disk 1 3\n\
+crash 1 old 0@51=07\n\
+restart 1\n\
+disk 1\n\
+crash 1 old 0@51=01\n\
+restart 1\n",
+    "group 4 1 count 1024\n\
+sent 1 c1 ask 1 1 0\n\
+sent 2 n1 propose 0 1 0 1\n\
+crashed n1\n\
+restarted n1 0 1\n\
+crashed n1\n\
+restarted n1 0 2\n\
+end 12 2\n",
+);
+
+/// Once it is closed and that is sure, no crash opens it.
+const GATE_CLOSED_AGAIN: (&str, &str) = (
+    "group 4 1\n\
+app count\n\
+ask 1 5\n\
+settle all\n\
+give 1 1\n\
+give 2 1\n\
+disk 1 3\n\
+crash 1 old 0@51=07\n\
+restart 1\n\
+disk 1 2\n\
+crash 1 old 0@51=01\n\
+restart 1\n",
+    "group 4 1 count 1024\n\
+sent 1 c1 ask 1 1 0\n\
+sent 2 n1 propose 0 1 0 1\n\
+crashed n1\n\
+restarted n1 0 1\n",
 );
 
 /// Who has stopped takes nothing, who runs is idle where it is to go on, and who is faulty does neither.
@@ -402,6 +447,7 @@ fn crashes_are_survived(rt: HostRuntime) -> Result<(), Fail> {
         FIRM_VOTES,
         GATE_OPENED,
         GATE_TORN,
+        GATE_BROUGHT_BACK,
         WHO_IS_DOWN,
         LONE_CRASHES,
         IN_A_GROUP,
@@ -411,6 +457,16 @@ fn crashes_are_survived(rt: HostRuntime) -> Result<(), Fail> {
         assert_eq!(rt; played.written.as_slice(), told.as_bytes(), "{script}");
         assert_eq!(rt; played.said.len(), 0, "{script}");
     }
+    Ok(())
+}
+
+#[test]
+fn a_closed_gate_stays_closed(rt: HostRuntime) -> Result<(), Fail> {
+    let (script, told) = GATE_CLOSED_AGAIN;
+    let ended = run_word(&rt, "world", script.as_bytes(), &[], &[])?;
+    let which = Premise::NotAnImage(NotAnImage { device: 0, at: 51 });
+    assert_eq!(rt; ended.status, Status::Premise { line: 11, which });
+    assert_eq!(rt; ended.written.as_slice(), told.as_bytes());
     Ok(())
 }
 
