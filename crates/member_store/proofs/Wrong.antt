@@ -1,5 +1,5 @@
 -- Which byte is told as wrong, and that none is exactly where a crash may leave the bytes.
-use Rattle.std.proofs.Common.{◌≡◌, ◌≢◌, ◌⊎◌, inl, inr, ⊎_elim, ℕ, zero, suc, ◌+◌, ◌-◌, ◌^◌, ◌<◌, ◌≤◌, ◌==◌, nat_lt, nat_le, min, Bool, true, false, not, ◌&&◌, cond, List, length, get_or, Option, Some, None, refl, sym, ap, ◌∙◌, subst, arith}
+use Rattle.std.proofs.Common.{◌≡◌, ◌≢◌, ◌⊎◌, inl, inr, ⊎_elim, ℕ, zero, suc, ◌+◌, ◌<◌, ◌≤◌, ◌==◌, nat_lt, nat_le, Bool, true, false, not, ◌&&◌, cond, List, length, get_or, Option, Some, None, refl, sym, ap, ◌∙◌, subst, arith}
 use Rattle.std.proofs.lemmas.Bool.{ltb-true, lt-ltb, leb-true, le-leb, lt-leb, eqb-false, ne_eqb, cases_eq, and_parts, and_from, and_left, and_right, not-true, not_from_false, cond-true, cond-false, false_from_ne_true}
 use Rattle.disk_model.specs.Cells.{Cells, IsImage, IsWrongAt, NoneWrong, IsWrong, covers}
 use Rattle.world_rules.specs.Wrong.{is_wrong_at, first_from, or_length, wrong_in}
@@ -60,12 +60,12 @@ module _ (s : Cells) (image : List ℕ) where
   no_byte : NoneWrong s image (length image) → first_from (is_wrong_at s image) (length image) 0 ≡ None
   no_byte none = found_none (is_wrong_at s image) (length image) 0 (λ k low high. wrong_false k (omega arith) (none k (omega arith)))
 
-  told_length : (length image < s.shortest) ⊎ (s.greatest < length image) → or_length s image None ≡ Some (min (length image) (2 ^ 64 - 1))
+  told_length : (length image < s.shortest) ⊎ (s.greatest < length image) → or_length s image None ≡ Some (length image)
   told_length (inl short) =
-      cond-false (nat_le s.shortest (length image) && nat_le (length image) s.greatest) None (Some (min (length image) (2 ^ 64 - 1)))
+      cond-false (nat_le s.shortest (length image) && nat_le (length image) s.greatest) None (Some (length image))
       (and_left (nat_le s.shortest (length image)) (nat_le (length image) s.greatest) (lt-leb s.shortest (length image) short))
   told_length (inr long) =
-      cond-false (nat_le s.shortest (length image) && nat_le (length image) s.greatest) None (Some (min (length image) (2 ^ 64 - 1)))
+      cond-false (nat_le s.shortest (length image) && nat_le (length image) s.greatest) None (Some (length image))
       (and_right (nat_le s.shortest (length image)) (nat_le (length image) s.greatest) (lt-leb (length image) s.greatest long))
 
   -- a byte is wrong, and none before it
@@ -74,35 +74,32 @@ module _ (s : Cells) (image : List ℕ) where
   wrong_byte at none here = ap (or_length s image) (first_byte at none here)
 
   -- only their length is wrong
-  pub wrong_length : NoneWrong s image (length image) → (length image < s.shortest) ⊎ (s.greatest < length image) → wrong_in s image ≡ Some (min (length image) (2 ^ 64 - 1))
+  pub wrong_length : NoneWrong s image (length image) → (length image < s.shortest) ⊎ (s.greatest < length image) → wrong_in s image ≡ Some (length image)
   unfolding wrong_in
   wrong_length none by_length = ap (or_length s image) (no_byte none) ∙ told_length by_length
 
-  -- bytes that are no image, and a place that a number of 64 bits tells
-  pub wrong-found : (at : ℕ) → IsWrong s image at → at ≤ 2 ^ 64 - 1 → wrong_in s image ≡ Some at
-  wrong-found at w fits =
+  -- bytes that are no image
+  pub wrong-found : (at : ℕ) → IsWrong s image at → wrong_in s image ≡ Some at
+  wrong-found at w =
       ⊎_elim
       (λ (here : IsWrongAt s image at). wrong_byte at w.first here)
       (λ (by_length : (at ≡ length image) × ((length image < s.shortest) ⊎ (s.greatest < length image))).
-      wrong_length (subst (λ (n : ℕ). NoneWrong s image n) by_length.0 w.first) by_length.1 ∙ ap Some (capped at by_length.0 fits))
+      wrong_length (subst (λ (n : ℕ). NoneWrong s image n) by_length.0 w.first) by_length.1 ∙ ap Some (sym by_length.0))
       w.here
-    where
-      capped : (at : ℕ) → at ≡ length image → at ≤ 2 ^ 64 - 1 → min (length image) (2 ^ 64 - 1) ≡ at
-      capped at is fits = omega arith
 
   -- what a crash may leave
   pub wrong-none : IsImage s image → wrong_in s image ≡ None
   unfolding wrong_in
   wrong-none is =
       ap (or_length s image) (no_byte (λ k lt w. w.differs (is.same k w.below w.untouched)))
-      ∙ cond-true (nat_le s.shortest (length image) && nat_le (length image) s.greatest) None (Some (min (length image) (2 ^ 64 - 1)))
+      ∙ cond-true (nat_le s.shortest (length image) && nat_le (length image) s.greatest) None (Some (length image))
       (and_from (nat_le s.shortest (length image)) (nat_le (length image) s.greatest) (le-leb s.shortest (length image) is.no_shorter) (le-leb (length image) s.greatest is.no_longer))
 
   pub none-wrong : wrong_in s image ≡ None → IsImage s image
   unfolding wrong_in
   none-wrong told = by (first_from (is_wrong_at s image) (length image) 0) refl told
     where
-      as_long : (t : Bool) → (nat_le s.shortest (length image) && nat_le (length image) s.greatest) ≡ t → cond t None (Some (min (length image) (2 ^ 64 - 1))) ≡ None
+      as_long : (t : Bool) → (nat_le s.shortest (length image) && nat_le (length image) s.greatest) ≡ t → cond t None (Some (length image)) ≡ None
           → (s.shortest ≤ length image) × (length image ≤ s.greatest)
       as_long true fits none =
           let both = and_parts (nat_le s.shortest (length image)) (nat_le (length image) s.greatest) fits in

@@ -81,17 +81,17 @@ fn with_patches(
 }
 
 /// The disk with what is left, or the first byte that is wrong.
-fn disk_with(alloc: Global, disk: &PlainDisk, left: Left) -> Result<PlainDisk, u64>
+fn disk_with(alloc: Global, disk: &PlainDisk, left: Left) -> Result<PlainDisk, u128>
     ensures ok { IfOk result (λ d. (whole : List ℕ) → IsLeft (plain_cells disk.now).greatest whole left → (wrong_in (plain_cells disk.now) whole ≡ None) × (plain_cells d ≡ settled whole)) }
     ensures not { IfErr result (λ at. (whole : List ℕ) → IsLeft (plain_cells disk.now).greatest whole left → wrong_in (plain_cells disk.now) whole ≡ Some at) }
 {
     let Left { bytes, length } = left;
     let next = match disk.image(alloc, Bytes::from_vec(bytes)) {
         Ok(next) => next,
-        Err(wrong) => return Err(wrong.at),
+        Err(wrong) => return Err(wrong.at as u128),
     };
     if length > disk.greatest() as u128 {
-        return Err(length.min(u64::MAX as u128) as u64);
+        return Err(length);
     }
     Ok(next)
 }

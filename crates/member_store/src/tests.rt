@@ -78,7 +78,7 @@ fn patches(alloc: Global, pieces: &[Piece<'_>]) -> Result<Vec<Patch>, AllocError
 
 type Answer = Result<(), CrashFault>;
 
-fn wrong(device: u64, at: u64) -> Answer {
+fn wrong(device: u64, at: u128) -> Answer {
     Err(CrashFault::NotAnImage(NotAnImage { device, at }))
 }
 
@@ -212,7 +212,7 @@ fn a_gap_is_filled_with_zeros(rt: HostRuntime) -> Result<(), Fail> {
     let alloc = rt.alloc();
     for at in 0..4 {
         assert_eq!(rt; answer_over_gap(alloc, at, 0)?, Ok(()));
-        assert_eq!(rt; answer_over_gap(alloc, at, 1)?, wrong(0, at));
+        assert_eq!(rt; answer_over_gap(alloc, at, 1)?, wrong(0, at as u128));
     }
     assert_eq!(rt; answer_over_gap(alloc, 4, 9)?, Ok(()));
     assert_eq!(rt; answer_over_gap(alloc, 5, 0)?, wrong(0, 6));
@@ -222,7 +222,7 @@ fn a_gap_is_filled_with_zeros(rt: HostRuntime) -> Result<(), Fail> {
 #[test]
 fn the_first_wrong_byte_is_named(rt: HostRuntime) -> Result<(), Fail> {
     let alloc = rt.alloc();
-    let rows: [(&[Piece<'_>], (u64, u64)); 4] = [
+    let rows: [(&[Piece<'_>], (u64, u128)); 4] = [
         (&[(3, 0, &[1]), (1, 2, &[])], (1, 2)),
         (&[(3, 0, &[1]), (0, 3, &[255, 255])], (0, 3)),
         (&[(0, 5, &[255]), (0, 3, &[255])], (0, 3)),
@@ -255,7 +255,7 @@ fn a_length_that_no_device_has_is_told(rt: HostRuntime) -> Result<(), Fail> {
     let alloc = rt.alloc();
     for at in [1 << 20, 1 << 63, u64::MAX - 2, u64::MAX - 1, u64::MAX] {
         let far = crash_after(alloc, WRITTEN, Image::New, &[(2, at, &[1, 2])])?;
-        assert_eq!(rt; far, wrong(2, at.saturating_add(2)));
+        assert_eq!(rt; far, wrong(2, at as u128 + 2));
         // A wrong byte comes first.
         let byte = crash_after(alloc, WRITTEN, Image::Old, &[(0, at, &[]), (0, 0, &[1])])?;
         assert_eq!(rt; byte, wrong(0, 0));

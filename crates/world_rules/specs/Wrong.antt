@@ -1,5 +1,5 @@
 -- Whether a crash may leave bytes, and if not, which is the first that is wrong.
-use Rattle.std.specs.Prelude.{ℕ, zero, suc, ◌+◌, ◌-◌, ◌^◌, ◌==◌, nat_lt, nat_le, min, Bool, not, ◌&&◌, List, length, get_or, if◌then◌else◌, Option, Some, None}
+use Rattle.std.specs.Prelude.{ℕ, zero, suc, ◌+◌, ◌==◌, nat_lt, nat_le, Bool, not, ◌&&◌, List, length, get_or, if◌then◌else◌, Option, Some, None}
 use Rattle.disk_model.specs.Cells.{Cells, covers}
 
 -- no crash leaves the byte that stands there
@@ -11,10 +11,10 @@ abbrev pub first_from : (ℕ → Bool) → (count i : ℕ) → Option ℕ
 first_from p zero i = None
 first_from p (suc count) i = if p i then Some i else first_from p count (i + 1)
 
--- their length, where only that is wrong. No length is told that is greater than any device's
+-- their length, where only that is wrong
 abbrev pub or_length : Cells → List ℕ → Option ℕ → Option ℕ
 or_length s image (Some at) = Some at
-or_length s image None = if nat_le s.shortest (length image) && nat_le (length image) s.greatest then None else Some (min (length image) (2 ^ 64 - 1))
+or_length s image None = if nat_le s.shortest (length image) && nat_le (length image) s.greatest then None else Some (length image)
 
 -- the first wrong byte of bytes that are no image, or their length
 unfoldable pub wrong_in : Cells → List ℕ → Option ℕ

@@ -19,9 +19,9 @@ pub struct Patch {
 }
 
 /// No crash now leaves these bytes on a device. `at` is the first byte that is wrong, or their length
-/// where only that is wrong, but at most 2^64 - 1. Of more devices the first is named.
+/// where only that is wrong, which may be more than any device has. Of more devices the first is named.
 #[derive(Clone, Copy, Debug, PartialEq, Eq)]
 pub struct NotAnImage {
     pub device: u64,
-    pub at: u64,
+    pub at: u128,
 }

@@ -470,8 +470,8 @@ fn a_closed_gate_stays_closed(rt: HostRuntime) -> Result<(), Fail> {
     Ok(())
 }
 
-/// What no crash leaves: a byte that a sync made sure, bytes where a device has none, and of more
-/// devices the first.
+/// What no crash leaves: a byte that a sync made sure, bytes where a device has none, also past all
+/// that any has, and of more devices the first.
 #[test]
 fn images_that_no_crash_leaves_are_told(rt: HostRuntime) -> Result<(), Fail> {
     for (line, device, at, said) in [
@@ -479,6 +479,12 @@ fn images_that_no_crash_leaves_are_told(rt: HostRuntime) -> Result<(), Fail> {
         ("crash 1 new 1@0=00", 1, 1, "NotAnImage 1@1"),
         ("crash 4 new 3@9=0102", 3, 11, "NotAnImage 3@11"),
         ("crash 1 new 2@0=00 0@0=07", 0, 0, "NotAnImage 0@0"),
+        (
+            "crash 2 old 1@18446744073709551615=0102",
+            1,
+            (1 << 64) + 1,
+            "NotAnImage 1@18446744073709551617",
+        ),
     ] {
         let mut script = String::from_str(rt.alloc(), "group 4 1\napp count\nsettle all\n")?;
         script.push_str(line)?;

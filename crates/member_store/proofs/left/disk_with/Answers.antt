@@ -1,4 +1,4 @@
-use Rattle.std.proofs.Common.{◌∙◌, ◌^◌, ◌-◌, ◌≤◌, List, ℕ, Some, length, take, ap, arith, subst}
+use Rattle.std.proofs.Common.{◌∙◌, ◌≤◌, List, ℕ, Some, ap, arith, subst, sym}
 use Rattle.disk_model.specs.Cells.{IsImage, IsWrong, settled}
 use Rattle.disk_model.specs.Memory.{plain_cells}
 use Rattle.disk_model.specs.declared.plain.PlainDisk.{PlainDisk}
@@ -10,13 +10,12 @@ sound d = omega (arith, d.platter.sound.reads.no_shorter, d.platter.sound.reads.
 
 pub returns-in-Err-clause-not : goal.returns-in-Err-clause-not
 returns-in-Err-clause-not c = λ whole is.
-    let few : length (take c.args.disk.now.platter.greatest whole) ≤ 2 ^ 64 - 1 = omega (arith, ap length is.bytes, c.args.left.bytes.ok.0, c.args.left.bytes.small) in
-    part-wrong (plain_cells c.args.disk.now) whole (sound c.args.disk.now) c.in-Err.wrong.at few
+    part-wrong (plain_cells c.args.disk.now) whole (sound c.args.disk.now) c.in-Err.wrong.at
     (subst (λ (bytes : List ℕ). IsWrong (plain_cells c.args.disk.now) bytes c.in-Err.wrong.at) (c.from_vec.ensures ∙ is.bytes) c.in-Err.ensures.not)
 
 pub returns-then-length-greatest-clause-not : goal.returns-then-length-greatest-clause-not
 returns-then-length-greatest-clause-not c = λ whole is.
-    part-long (plain_cells c.args.disk.now) whole (sound c.args.disk.now) (subst (λ (bytes : List ℕ). IsImage (plain_cells c.args.disk.now) bytes) (c.from_vec.ensures ∙ is.bytes) c.in-Ok.ensures.ok.0) (omega (arith, is.length)) ∙ ap Some (omega (arith, is.length, c.min.ensures))
+    part-long (plain_cells c.args.disk.now) whole (sound c.args.disk.now) (subst (λ (bytes : List ℕ). IsImage (plain_cells c.args.disk.now) bytes) (c.from_vec.ensures ∙ is.bytes) c.in-Ok.ensures.ok.0) (omega (arith, is.length)) ∙ ap Some (sym is.length)
 
 pub returns-clause-ok : goal.returns-clause-ok
 returns-clause-ok c = λ whole is.
