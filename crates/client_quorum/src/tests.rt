@@ -10,8 +10,8 @@ use smart_base::view::View;
 use smart_keys::ring::Ring;
 use smart_messages::codec::encode;
 use smart_messages::message::Message;
-use smart_messages::signed::{Signed, Statement};
-use smart_messages::statement::{Answer, Request};
+use smart_statements::signed::{Signed, Statement};
+use smart_statements::statement::{Answer, Request};
 use std::alloc::{AllocError, Global};
 use std::test::Fail;
 

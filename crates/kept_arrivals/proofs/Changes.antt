@@ -1,8 +1,8 @@
 -- Each rule by which the regency changes, on what is needed.
 use Rattle.std.proofs.Common.{◌≡◌, ◌++◌, Bool, true, false, List, [], ◌∷◌, refl, ap, ◌∙◌, cond, arith, Option, Some, None}
-use Rattle.smart_messages.specs.Forms.{SignedBy}
-use Rattle.smart_messages.specs.declared.statement.Request.{Request}
-use Rattle.smart_messages.specs.declared.report.Report.{Report}
+use Rattle.smart_statements.specs.Forms.{SignedBy}
+use Rattle.smart_statements.specs.declared.statement.Request.{Request}
+use Rattle.smart_statements.specs.declared.report.Report.{Report}
 use Rattle.smart_messages.specs.declared.regency.Sync.{Sync}
 use Rattle.vote_book.specs.declared.entry.LogEntry.TheVariants.{Promised, Synced}
 use Rattle.regency_sync.specs.Synchronizers.{adopting, is_joining, is_promising, collecting}

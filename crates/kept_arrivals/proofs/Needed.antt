@@ -5,16 +5,16 @@ use Rattle.std.specs.Prelude.{filter, filter_map}
 use Rattle.smart_base.specs.Lists.{or_else, same_bytes}
 use Rattle.smart_base.specs.Views.{View, is_member, quorum}
 use Rattle.smart_base.proofs.SameLists.{and_true}
-use Rattle.smart_messages.specs.Forms.{SignedBy}
-use Rattle.smart_messages.specs.Equality.{same_slot}
-use Rattle.smart_messages.specs.declared.statement.Slot.{Slot}
+use Rattle.smart_statements.specs.Forms.{SignedBy}
+use Rattle.smart_statements.specs.Equality.{same_slot}
+use Rattle.smart_statements.specs.declared.statement.Slot.{Slot}
 use Rattle.smart_messages.specs.declared.message.Proposed.{Proposed}
-use Rattle.smart_messages.specs.declared.statement.Ballot.{Ballot}
+use Rattle.smart_statements.specs.declared.statement.Ballot.{Ballot}
 use Rattle.smart_messages.specs.declared.regency.Stop.{Stop}
 use Rattle.smart_messages.specs.declared.regency.Sync.{Sync}
 use Rattle.smart_messages.specs.declared.regency.Reported.{Reported}
-use Rattle.smart_messages.specs.declared.statement.VoteKind.{VoteKind}
-use Rattle.smart_messages.specs.declared.statement.VoteKind.TheVariants as kinds
+use Rattle.smart_statements.specs.declared.statement.VoteKind.{VoteKind}
+use Rattle.smart_statements.specs.declared.statement.VoteKind.TheVariants as kinds
 use Rattle.smart_messages.specs.declared.message.Message.{Message}
 use Rattle.smart_messages.specs.declared.message.Message.TheVariants.{Ask, Propose, Vote, Reply}
 use Rattle.vote_book.specs.declared.entry.LogEntry.{LogEntry}

@@ -5,14 +5,14 @@ use Rattle.std.specs.List.{list_any}
 use Rattle.smart_base.specs.Lists.{or_else}
 use Rattle.smart_base.specs.Views.{View, leader, present}
 use Rattle.smart_base.proofs.SameLists.{and_true}
-use Rattle.smart_messages.specs.Forms.{SignedBy}
-use Rattle.smart_messages.specs.Kinds.{proposals}
-use Rattle.smart_messages.specs.Messages.{Batch}
-use Rattle.smart_messages.specs.Equality.{same_slot}
-use Rattle.smart_messages.specs.declared.statement.Request.{Request}
-use Rattle.smart_messages.specs.declared.statement.Ballot.{Ballot}
-use Rattle.smart_messages.specs.declared.statement.Slot.{Slot}
-use Rattle.smart_messages.specs.declared.statement.VoteKind.TheVariants.{Write, Accept}
+use Rattle.smart_statements.specs.Forms.{SignedBy}
+use Rattle.smart_statements.specs.Kinds.{proposals}
+use Rattle.smart_statements.specs.Batches.{Batch}
+use Rattle.smart_statements.specs.Equality.{same_slot}
+use Rattle.smart_statements.specs.declared.statement.Request.{Request}
+use Rattle.smart_statements.specs.declared.statement.Ballot.{Ballot}
+use Rattle.smart_statements.specs.declared.statement.Slot.{Slot}
+use Rattle.smart_statements.specs.declared.statement.VoteKind.TheVariants.{Write, Accept}
 use Rattle.smart_messages.specs.declared.message.Message.TheVariants.{Ask, Propose, Vote, Reply}
 use Rattle.smart_messages.specs.declared.message.Proposed.{Proposed}
 use Rattle.smart_messages.specs.declared.any.AnyMessage.{AnyMessage}

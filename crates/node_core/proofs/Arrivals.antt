@@ -2,9 +2,9 @@
 use Rattle.std.proofs.Common.{◌≡◌, Bool, List, refl, ap, sym, Option, Some, None}
 use Rattle.std.proofs.lemmas.List.{append-nil}
 use Rattle.std.proofs.Math.Bool.{or-false}
-use Rattle.smart_messages.specs.Forms.{SignedBy}
-use Rattle.smart_messages.specs.declared.statement.Ballot.{Ballot}
-use Rattle.smart_messages.specs.declared.statement.Answer.{Answer}
+use Rattle.smart_statements.specs.Forms.{SignedBy}
+use Rattle.smart_statements.specs.declared.statement.Ballot.{Ballot}
+use Rattle.smart_statements.specs.declared.statement.Answer.{Answer}
 use Rattle.smart_messages.specs.declared.any.AnyMessage.TheVariants.{Plain, Change}
 use Rattle.smart_messages.specs.declared.message.Message.TheVariants.{Propose, Vote, Reply}
 use Rattle.smart_messages.specs.declared.message.Proposed.{Proposed}

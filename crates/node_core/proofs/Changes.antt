@@ -6,7 +6,7 @@ use Rattle.std.proofs.lemmas.Bool.{ltb-true, ltb-false, leb-true, eqb-true, eq-e
 use Rattle.std.proofs.lemmas.List.{append-nil}
 use Rattle.smart_base.specs.Views.{View}
 use Rattle.smart_base.proofs.SameLists.{and_true}
-use Rattle.smart_messages.specs.Forms.{SignedBy}
+use Rattle.smart_statements.specs.Forms.{SignedBy}
 use Rattle.smart_messages.specs.declared.regency.Sync.{Sync}
 use Rattle.vote_book.specs.declared.entry.Promise.{Promise}
 use Rattle.vote_book.specs.declared.entry.Start.{Start}
@@ -15,10 +15,10 @@ use Rattle.vote_book.specs.declared.entry.LogEntry.TheVariants.{Wrote, Accepted,
 use Rattle.regency_sync.specs.Synchronizers.{Synchronizer, adopting, is_adoptable, needs_sync, is_synced_in}
 use Rattle.regency_sync.specs.Synchronizers as sync
 use Rattle.node_rules.specs.Nodes.{Node, view_of, regency_of, open_slot, holding, recording, start_of, start_in, first_start, is_synced, synchronizer_of}
-use Rattle.smart_messages.specs.Messages.{Batch}
+use Rattle.smart_statements.specs.Batches.{Batch}
 use Rattle.smart_messages.specs.declared.message.Proposed.{Proposed}
-use Rattle.smart_messages.specs.declared.statement.VoteKind.TheVariants as kinds
-use Rattle.smart_messages.specs.declared.statement.VoteKind.TheVariants.{Write}
+use Rattle.smart_statements.specs.declared.statement.VoteKind.TheVariants as kinds
+use Rattle.smart_statements.specs.declared.statement.VoteKind.TheVariants.{Write}
 use Rattle.node_rules.specs.declared.node.Target.TheVariants as targets
 use Rattle.node_rules.specs.Votes.{certificate_votes}
 use Rattle.node_rules.specs.Rules.{ballot, writing, write_batch, writes, accepting, accept_batch, accepts}

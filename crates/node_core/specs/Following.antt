@@ -1,7 +1,7 @@
 -- What a node keeps beside its state, so that its rules need not walk its book.
 use Rattle.std.specs.Prelude.{ℕ, ◌≡◌, ◌+◌, ◌<◌, ◌^◌, ◌==◌, nat_lt, Bool, false, true, not, ◌&&◌, ◌||◌, List, [], length, if◌then◌else◌, Option, None, IsSome, is_some}
 use Rattle.smart_base.specs.Views.{View}
-use Rattle.smart_messages.specs.Messages.{Batch}
+use Rattle.smart_statements.specs.Batches.{Batch}
 use Rattle.vote_book.specs.Books.{last_made}
 use Rattle.vote_book.specs.declared.entry.Accept.{Accept}
 use Rattle.vote_book.specs.declared.entry.Promise.{Promise}

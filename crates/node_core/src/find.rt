@@ -1,9 +1,9 @@
 //! What a node looks up in what it keeps.
 ghost use Rattle.std.specs.Prelude.{◌≡◌, ◌<◌, ℕ, max, filter, filter_map, find, option_map, IsSome};
 ghost use Rattle.std.specs.List.{list_any};
-ghost use Rattle.smart_messages.specs.Equality.{same_slot};
+ghost use Rattle.smart_statements.specs.Equality.{same_slot};
 ghost use Rattle.smart_base.specs.Lists.{same_bytes};
-ghost use Rattle.smart_messages.specs.declared.statement.VoteKind.TheVariants as kinds;
+ghost use Rattle.smart_statements.specs.declared.statement.VoteKind.TheVariants as kinds;
 ghost use Rattle.std.specs.Option.{option_copied};
 ghost use Rattle.vote_book.specs.Books.{last_made};
 ghost use Rattle.vote_book.specs.Standing.{first_start};
@@ -21,8 +21,8 @@ use smart_base::bytes::Digest32;
 use smart_base::equality::same_bytes;
 use smart_base::number::{Place, Regency, ViewNo};
 use smart_base::view::View;
-use smart_messages::equality::same_slot;
-use smart_messages::statement::Slot;
+use smart_statements::equality::same_slot;
+use smart_statements::statement::Slot;
 use vote_book::book::Book;
 use vote_book::entry::{Accept, LogEntry, Start};
 

@@ -4,8 +4,8 @@ ghost use Rattle.std.specs.List.{list_any, list_all};
 ghost use Rattle.smart_base.specs.Spelling.{member_kind};
 ghost use Rattle.smart_base.specs.declared.keys.SignRefused.TheVariants.{NoMemory};
 ghost use Rattle.smart_keys.specs.Keys.{hmac};
-ghost use Rattle.smart_messages.specs.Forms.{Form};
-ghost use Rattle.smart_messages.specs.Messages.{batch_text};
+ghost use Rattle.smart_statements.specs.Forms.{Form};
+ghost use Rattle.smart_statements.specs.Batches.{batch_text};
 ghost use Rattle.replica_rules.specs.Seals.{signed, is_verified, digest_of, request_fits, is_managers, fits};
 ghost use Rattle.node_rules.specs.Arrivals.{is_batch_for};
 
@@ -16,9 +16,9 @@ use smart_base::name::MemberId;
 use smart_base::party::Party;
 use smart_keys::hash::Sha;
 use smart_keys::ring::{Ring, Sealer};
-use smart_messages::batch::{BATCH_BYTES, Batch};
-use smart_messages::signed::{Signed, Statement};
-use smart_messages::statement::Request;
+use smart_statements::batch::{BATCH_BYTES, Batch};
+use smart_statements::signed::{Signed, Statement};
+use smart_statements::statement::Request;
 use std::alloc::{AllocError, Global};
 use std::marker::Model;
 

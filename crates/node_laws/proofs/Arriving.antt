@@ -11,10 +11,10 @@ use Rattle.node_rules.specs.declared.node.Why.TheVariants.{BadProof, BadTag, Inv
 use Rattle.regency_sync.specs.Choices.{choice}
 use Rattle.smart_base.specs.Lists.{Each, or_else}
 use Rattle.smart_base.specs.Views.{View, is_member, leader}
-use Rattle.smart_messages.specs.Forms.{SignedBy}
-use Rattle.smart_messages.specs.Kinds.{ballots, proposals, requests}
+use Rattle.smart_statements.specs.Forms.{SignedBy}
+use Rattle.smart_statements.specs.Kinds.{ballots, proposals, requests}
 use Rattle.smart_messages.specs.Regencies.{stops, syncs}
-use Rattle.smart_messages.specs.Reports.{reports}
+use Rattle.smart_statements.specs.Reports.{reports}
 use Rattle.smart_messages.specs.declared.any.AnyMessage.{AnyMessage}
 use Rattle.smart_messages.specs.declared.any.AnyMessage.TheVariants.{Change, Plain}
 use Rattle.smart_messages.specs.declared.message.Message.{Message}
@@ -24,9 +24,9 @@ use Rattle.smart_messages.specs.declared.regency.RegencyMessage.{RegencyMessage}
 use Rattle.smart_messages.specs.declared.regency.Reported.{Reported}
 use Rattle.smart_messages.specs.declared.regency.Stop.{Stop}
 use Rattle.smart_messages.specs.declared.regency.Sync.{Sync}
-use Rattle.smart_messages.specs.declared.statement.Ballot.{Ballot}
-use Rattle.smart_messages.specs.declared.statement.Request.{Request}
-use Rattle.smart_messages.specs.declared.statement.Slot.{Slot}
+use Rattle.smart_statements.specs.declared.statement.Ballot.{Ballot}
+use Rattle.smart_statements.specs.declared.statement.Request.{Request}
+use Rattle.smart_statements.specs.declared.statement.Slot.{Slot}
 use Rattle.node_laws.proofs.Lists.{each_end, either, else_none, no_reason}
 use Rattle.node_laws.proofs.Nodes.{Arrived, ReportKept, StopKept, SyncKept, aside, keeps}
 use Rattle.node_laws.proofs.Votes.{in_force}

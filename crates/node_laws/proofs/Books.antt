@@ -12,8 +12,8 @@ use Rattle.node_rules.specs.declared.node.Held.{Held}
 use Rattle.smart_base.specs.Lists.{Each, or_else}
 use Rattle.smart_base.specs.Views.{View}
 use Rattle.smart_base.specs.declared.party.Party.TheVariants.{Member}
-use Rattle.smart_messages.specs.Messages.{Batch}
-use Rattle.smart_messages.specs.declared.statement.Answer.{Answer}
+use Rattle.smart_statements.specs.Batches.{Batch}
+use Rattle.smart_statements.specs.declared.statement.Answer.{Answer}
 use Rattle.vote_book.proofs.Growth.{last_or_earlier}
 use Rattle.vote_book.specs.Books.{Among, HasMade, last_made, latest_made, place_made}
 use Rattle.vote_book.specs.Tidy.{promise_of}

@@ -11,20 +11,20 @@ use Rattle.agreement_laws.specs.Certificates.{IsDrawn}
 use Rattle.agreement_laws.specs.Statements.{Statement}
 use Rattle.smart_base.specs.Lists.{Distinct, Each, or_else, same_bytes}
 use Rattle.smart_base.specs.Views.{View, ascends, is_member, is_view, quorum, weight_of}
-use Rattle.smart_messages.specs.Equality.{same_kind, same_slot}
-use Rattle.smart_messages.specs.Forms.{SignedBy}
-use Rattle.smart_messages.specs.Kinds.{ballots}
+use Rattle.smart_statements.specs.Equality.{same_kind, same_slot}
+use Rattle.smart_statements.specs.Forms.{SignedBy}
+use Rattle.smart_statements.specs.Kinds.{ballots}
 use Rattle.smart_messages.specs.declared.message.Message.{Message}
 use Rattle.smart_messages.specs.declared.message.Message.TheVariants.{Ask, Propose, Reply, Vote}
-use Rattle.smart_messages.specs.declared.statement.Ballot.{Ballot}
-use Rattle.smart_messages.specs.declared.statement.Slot.{Slot}
-use Rattle.smart_messages.specs.declared.statement.VoteKind.{VoteKind}
+use Rattle.smart_statements.specs.declared.statement.Ballot.{Ballot}
+use Rattle.smart_statements.specs.declared.statement.Slot.{Slot}
+use Rattle.smart_statements.specs.declared.statement.VoteKind.{VoteKind}
 use Rattle.vote_book.proofs.Tested.{same_bytes_is, slot_is}
 use Rattle.vote_book.specs.Books.{Among}
 use Rattle.node_laws.proofs.Lists.{and_true, each_among, each_filter_map, each_passes, each_take, each_weaker, either, guard, or_true, some_equal}
 use Rattle.node_laws.proofs.Nodes.{Arrived}
 use Rattle.node_laws.proofs.Stated.{vote_stated}
-use Rattle.smart_messages.specs.declared.statement.VoteKind.TheVariants as kinds
+use Rattle.smart_statements.specs.declared.statement.VoteKind.TheVariants as kinds
 use Rattle.agreement_laws.specs.Statements as says
 
 -- ---- members that ascend are distinct

@@ -15,7 +15,7 @@ use Rattle.smart_base.specs.Lists.{Each, or_else}
 use Rattle.smart_base.specs.Views.{View, is_view}
 use Rattle.smart_messages.specs.declared.message.Message.{Message}
 use Rattle.smart_messages.specs.declared.message.Message.TheVariants.{Ask, Propose, Reply, Vote}
-use Rattle.smart_messages.specs.declared.statement.Slot.{Slot}
+use Rattle.smart_statements.specs.declared.statement.Slot.{Slot}
 use Rattle.vote_book.proofs.Last.{last_push, latest_push}
 use Rattle.vote_book.specs.BookReports.{accept_for}
 use Rattle.vote_book.specs.Books.{Among, Follows}
@@ -29,7 +29,7 @@ use Rattle.node_laws.proofs.Stated.{may_stand}
 use Rattle.node_laws.proofs.Votes.{in_force, made_last, made_latest, place_of_some}
 use Rattle.node_laws.proofs.Voting.{drawn_at, proposal_may}
 use Rattle.node_laws.specs.Sound.{HasBatch, IsBatchAt, IsSound, place_if}
-use Rattle.smart_messages.specs.declared.statement.VoteKind.TheVariants as kinds
+use Rattle.smart_statements.specs.declared.statement.VoteKind.TheVariants as kinds
 
 -- ---- batches that are known
 

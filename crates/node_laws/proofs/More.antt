@@ -9,12 +9,12 @@ use Rattle.node_rules.specs.Steps.{votes}
 use Rattle.node_rules.specs.declared.node.Held.{Held}
 use Rattle.smart_base.specs.Views.{View}
 use Rattle.smart_base.specs.declared.party.Party.TheVariants.{Member}
-use Rattle.smart_messages.specs.Forms.{SignedBy}
-use Rattle.smart_messages.specs.Kinds.{requests}
-use Rattle.smart_messages.specs.Messages.{Batch}
+use Rattle.smart_statements.specs.Forms.{SignedBy}
+use Rattle.smart_statements.specs.Kinds.{requests}
+use Rattle.smart_statements.specs.Batches.{Batch}
 use Rattle.smart_messages.specs.declared.any.AnyMessage.TheVariants.{Change, Plain}
 use Rattle.smart_messages.specs.declared.message.Message.TheVariants.{Ask}
-use Rattle.smart_messages.specs.declared.statement.Ballot.{Ballot}
+use Rattle.smart_statements.specs.declared.statement.Ballot.{Ballot}
 use Rattle.vote_book.specs.Books.{Among}
 use Rattle.vote_book.specs.declared.entry.LogEntry.{LogEntry}
 use Rattle.vote_book.specs.declared.entry.LogEntry.TheVariants.{Accepted, Decided, Installed, Marked, Opened, Promised, Synced, Wrote}

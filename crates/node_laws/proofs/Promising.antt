@@ -11,11 +11,11 @@ use Rattle.node_rules.specs.Nodes.{Node, next_place, recording, regency_of, view
 use Rattle.smart_base.specs.Lists.{Each}
 use Rattle.smart_base.specs.Views.{View, leader}
 use Rattle.smart_base.specs.declared.party.Party.TheVariants.{Member}
-use Rattle.smart_messages.specs.Forms.{SignedBy}
-use Rattle.smart_messages.specs.Reports.{reports}
+use Rattle.smart_statements.specs.Forms.{SignedBy}
+use Rattle.smart_statements.specs.Reports.{reports}
 use Rattle.smart_messages.specs.declared.any.AnyMessage.{AnyMessage}
 use Rattle.smart_messages.specs.declared.any.AnyMessage.TheVariants.{Change}
-use Rattle.smart_messages.specs.declared.report.Report.{Report}
+use Rattle.smart_statements.specs.declared.report.Report.{Report}
 use Rattle.vote_book.proofs.Locks.{lock_is, maker_is}
 use Rattle.vote_book.specs.BookReports.{certificate_of, evidence_by, evidence_of, last_maker, lock_of}
 use Rattle.vote_book.specs.Books.{Among}

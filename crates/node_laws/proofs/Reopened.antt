@@ -12,8 +12,8 @@ use Rattle.node_rules.specs.Nodes.{Node, greatest_regency, next_place, recording
 use Rattle.node_rules.specs.Reopening.{decided_of, reopened, stopped, takes_all_back, takes_back}
 use Rattle.smart_base.specs.Lists.{Each, same_bytes}
 use Rattle.smart_base.specs.Views.{View}
-use Rattle.smart_messages.specs.Kinds.{requests}
-use Rattle.smart_messages.specs.Messages.{Batch, batch_text}
+use Rattle.smart_statements.specs.Kinds.{requests}
+use Rattle.smart_statements.specs.Batches.{Batch, batch_text}
 use Rattle.smart_service.specs.Services.{Meaning}
 use Rattle.smart_service.specs.declared.replica.Replica.{Replica}
 use Rattle.vote_book.specs.Books.{Among, Follows, last_made, latest_made}

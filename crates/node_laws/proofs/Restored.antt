@@ -8,7 +8,7 @@ use Rattle.agreement_laws.specs.Statements.{Statement}
 use Rattle.node_rules.specs.Nodes.{Node}
 use Rattle.node_rules.specs.Reopening.{decided_of}
 use Rattle.agreement_laws.specs.Fronts.{IsFront}
-use Rattle.smart_messages.specs.Messages.{Batch}
+use Rattle.smart_statements.specs.Batches.{Batch}
 use Rattle.vote_book.specs.declared.entry.LogEntry.TheVariants.{Accepted, Decided, Installed, Marked, Opened, Promised, Synced, Wrote}
 use Rattle.smart_base.specs.Views.{View}
 use Rattle.vote_book.proofs.Tidy.{front_lawful, front_tidy}

@@ -7,15 +7,15 @@ use Rattle.agreement_laws.specs.Statements.{Statement, statements}
 use Rattle.node_rules.specs.Arrivals.{is_batch_for}
 use Rattle.smart_base.specs.Lists.{Each, same_bytes}
 use Rattle.smart_base.specs.Views.{View}
-use Rattle.smart_messages.specs.Forms.{SignedBy}
-use Rattle.smart_messages.specs.Kinds.{requests}
-use Rattle.smart_messages.specs.Messages.{Batch, batch_text}
+use Rattle.smart_statements.specs.Forms.{SignedBy}
+use Rattle.smart_statements.specs.Kinds.{requests}
+use Rattle.smart_statements.specs.Batches.{Batch, batch_text}
 use Rattle.smart_messages.specs.declared.any.AnyMessage.{AnyMessage}
 use Rattle.smart_messages.specs.declared.any.AnyMessage.TheVariants.{Plain}
 use Rattle.smart_messages.specs.declared.message.Message.TheVariants.{Ask, Propose, Vote}
 use Rattle.smart_messages.specs.declared.message.Proposed.{Proposed}
-use Rattle.smart_messages.specs.declared.statement.Ballot.{Ballot}
-use Rattle.smart_messages.specs.declared.statement.Request.{Request}
+use Rattle.smart_statements.specs.declared.statement.Ballot.{Ballot}
+use Rattle.smart_statements.specs.declared.statement.Request.{Request}
 use Rattle.vote_book.proofs.Tested.{same_bytes_is}
 use Rattle.vote_book.specs.Books.{Among}
 use Rattle.node_laws.proofs.Lists.{Found, all_each, among_either, among_filter, among_flat, among_map, among_right, and_true, each_among, each_of, each_weaker}

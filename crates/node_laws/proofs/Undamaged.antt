@@ -14,7 +14,7 @@ use Rattle.node_rules.specs.Nodes.{greatest_regency}
 use Rattle.node_rules.specs.Reopening.{damage_at, damaged, damaged_from, entries_in, entry_of, may_restore, opens_first, rests}
 use Rattle.smart_base.specs.Lists.{Each}
 use Rattle.smart_base.specs.Views.{View}
-use Rattle.smart_messages.specs.declared.statement.Slot.{Slot}
+use Rattle.smart_statements.specs.declared.statement.Slot.{Slot}
 use Rattle.vote_book.proofs.Entries.{spelling_is}
 use Rattle.vote_book.proofs.Tested.{admitting}
 use Rattle.vote_book.specs.Admission.{admits}

@@ -8,8 +8,8 @@ use Rattle.node_rules.specs.Nodes.{Node, bound_at, first_start, has_begun, is_fr
 use Rattle.node_rules.specs.Steps.{opened}
 use Rattle.smart_base.specs.Lists.{Each}
 use Rattle.smart_base.specs.Views.{View, is_member, present}
-use Rattle.smart_messages.specs.Equality.{same_slot}
-use Rattle.smart_messages.specs.declared.statement.Slot.{Slot}
+use Rattle.smart_statements.specs.Equality.{same_slot}
+use Rattle.smart_statements.specs.declared.statement.Slot.{Slot}
 use Rattle.vote_book.proofs.Tested.{same_bytes_is, same_slot_self}
 use Rattle.vote_book.specs.Admission.{accepts_in, writes_in}
 use Rattle.vote_book.specs.Books.{Allows, Among, HasBegun, HasMade, IsBelow, MayVote, last_made, latest_made}

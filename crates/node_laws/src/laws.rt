@@ -2,7 +2,7 @@
 ghost use Rattle.std.specs.Prelude.{◌≡◌, ℕ, ◌+◌, List, [], ◌∷◌, ◌++◌, length, map, None, true, take};
 ghost use Rattle.smart_base.specs.Lists.{Each};
 ghost use Rattle.smart_base.specs.Views.{View, is_view};
-ghost use Rattle.smart_messages.specs.declared.entry.NodeEvent.{NodeEvent};
+ghost use Rattle.smart_statements.specs.declared.entry.NodeEvent.{NodeEvent};
 ghost use Rattle.smart_service.specs.Services.{Meaning};
 ghost use Rattle.vote_book.specs.Books.{last_made, latest_made};
 ghost use Rattle.vote_book.specs.Entries.{entry_text, FitsEntry};

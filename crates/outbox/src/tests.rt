@@ -8,8 +8,8 @@ use smart_base::sequence::Bytes;
 use smart_keys::ring::Ring;
 use smart_messages::any::AnyMessage;
 use smart_messages::message::Message;
-use smart_messages::signed::Signed;
-use smart_messages::statement::Request;
+use smart_statements::signed::Signed;
+use smart_statements::statement::Request;
 use std::alloc::Global;
 use std::test::Fail;
 

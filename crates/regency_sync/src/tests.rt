@@ -8,12 +8,12 @@ use smart_base::name::{ClientId, MemberId};
 use smart_base::number::{Place, Regency, ViewNo};
 use smart_base::sequence::Bytes;
 use smart_base::view::View;
-use smart_messages::batch::Batch;
 use smart_messages::regency::{Stop, Sync};
-use smart_messages::report::{Evidence, LockCertificate, Report};
-use smart_messages::signed::{Signed, Statement};
-use smart_messages::signed_list::SignedList;
-use smart_messages::statement::Request;
+use smart_statements::batch::Batch;
+use smart_statements::report::{Evidence, LockCertificate, Report};
+use smart_statements::signed::{Signed, Statement};
+use smart_statements::signed_list::SignedList;
+use smart_statements::statement::Request;
 use std::alloc::{AllocError, Global};
 use std::test::*;
 

@@ -4,15 +4,15 @@ use Rattle.std.specs.Prelude.{IfSome, option_map, find}
 use Rattle.std.specs.List.{list_any, list_all, filter_map}
 use Rattle.smart_base.specs.Lists.{Each, or_else, same_bytes}
 use Rattle.smart_base.specs.Views.{View, leader, is_member}
-use Rattle.smart_messages.specs.Forms.{SignedBy}
-use Rattle.smart_messages.specs.Kinds.{proposals, requests}
+use Rattle.smart_statements.specs.Forms.{SignedBy}
+use Rattle.smart_statements.specs.Kinds.{proposals, requests}
 use Rattle.smart_messages.specs.Regencies.{syncs}
-use Rattle.smart_messages.specs.Messages.{Batch}
-use Rattle.smart_messages.specs.Equality.{same_slot}
-use Rattle.smart_messages.specs.declared.statement.Request.{Request}
-use Rattle.smart_messages.specs.declared.statement.Slot.{Slot}
-use Rattle.smart_messages.specs.declared.statement.VoteKind.TheVariants.{Write, Accept}
-use Rattle.smart_messages.specs.declared.report.Report.{Report}
+use Rattle.smart_statements.specs.Batches.{Batch}
+use Rattle.smart_statements.specs.Equality.{same_slot}
+use Rattle.smart_statements.specs.declared.statement.Request.{Request}
+use Rattle.smart_statements.specs.declared.statement.Slot.{Slot}
+use Rattle.smart_statements.specs.declared.statement.VoteKind.TheVariants.{Write, Accept}
+use Rattle.smart_statements.specs.declared.report.Report.{Report}
 use Rattle.smart_messages.specs.declared.regency.Sync.{Sync}
 use Rattle.smart_messages.specs.declared.regency.Reported.{Reported}
 use Rattle.smart_messages.specs.declared.regency.RegencyMessage.TheVariants as changes
@@ -21,7 +21,7 @@ use Rattle.smart_messages.specs.declared.message.Message.TheVariants.{Ask, Propo
 use Rattle.smart_messages.specs.declared.message.Proposed.{Proposed}
 use Rattle.smart_messages.specs.declared.any.AnyMessage.{AnyMessage}
 use Rattle.smart_messages.specs.declared.any.AnyMessage.TheVariants.{Plain, Change}
-use Rattle.smart_messages.specs.declared.entry.NodeEvent.{NodeEvent}
+use Rattle.smart_statements.specs.declared.entry.NodeEvent.{NodeEvent}
 use Rattle.smart_service.specs.Services.{Meaning}
 use Rattle.smart_service.specs.declared.table.TableLine.{TableLine}
 use Rattle.vote_book.specs.Books.{last_made}

@@ -6,21 +6,21 @@ use Rattle.smart_base.specs.Lists.{Each, Distinct}
 use Rattle.smart_base.specs.Views.{View, is_view, is_member}
 use Rattle.smart_base.proofs.ViewLaws.{members-few}
 use Rattle.smart_keys.proofs.Tags.{tag_of-length, is_tag-equal}
-use Rattle.smart_messages.specs.Forms.{Form, SignedBy, party_of}
-use Rattle.smart_messages.specs.Kinds.{ballots}
-use Rattle.smart_messages.specs.Spelling as spells
-use Rattle.smart_messages.specs.Spelling.{FitsSigned}
-use Rattle.smart_messages.specs.SignedLists.{listed, optional, FitsOptional}
-use Rattle.smart_messages.specs.Reports as spells_report
-use Rattle.smart_messages.specs.Reports.{reports, votes_of, FitsVote, FitsReport, FitsEvidence, FitsLockCertificate}
-use Rattle.smart_messages.specs.declared.statement.Ballot.{Ballot}
-use Rattle.smart_messages.specs.declared.statement.VoteKind.{VoteKind}
-use Rattle.smart_messages.specs.declared.statement.VoteKind.TheVariants.{Write, Accept}
-use Rattle.smart_messages.specs.declared.report.DecisionProof.{DecisionProof}
-use Rattle.smart_messages.specs.declared.report.Evidence.{Evidence}
-use Rattle.smart_messages.specs.declared.report.Evidence.TheVariants as evidence
-use Rattle.smart_messages.specs.declared.report.LockCertificate.{LockCertificate}
-use Rattle.smart_messages.specs.declared.report.Report.{Report}
+use Rattle.smart_statements.specs.Forms.{Form, SignedBy, party_of}
+use Rattle.smart_statements.specs.Kinds.{ballots}
+use Rattle.smart_statements.specs.Spelling as spells
+use Rattle.smart_statements.specs.Spelling.{FitsSigned}
+use Rattle.smart_statements.specs.SignedLists.{listed, optional, FitsOptional}
+use Rattle.smart_statements.specs.Reports as spells_report
+use Rattle.smart_statements.specs.Reports.{reports, votes_of, FitsVote, FitsReport, FitsEvidence, FitsLockCertificate}
+use Rattle.smart_statements.specs.declared.statement.Ballot.{Ballot}
+use Rattle.smart_statements.specs.declared.statement.VoteKind.{VoteKind}
+use Rattle.smart_statements.specs.declared.statement.VoteKind.TheVariants.{Write, Accept}
+use Rattle.smart_statements.specs.declared.report.DecisionProof.{DecisionProof}
+use Rattle.smart_statements.specs.declared.report.Evidence.{Evidence}
+use Rattle.smart_statements.specs.declared.report.Evidence.TheVariants as evidence
+use Rattle.smart_statements.specs.declared.report.LockCertificate.{LockCertificate}
+use Rattle.smart_statements.specs.declared.report.Report.{Report}
 use Rattle.certificates.specs.Certificates.{AreSigned, IsDecisionProof, signers}
 use Rattle.certificates.specs.Collects.{view_holding, slot_of, EvidenceHolds, evidence_holds, has_no_false_lock}
 use Rattle.certificates.proofs.Reported.{evidence-exact, lock-exact}

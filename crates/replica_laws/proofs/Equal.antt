@@ -1,11 +1,11 @@
 -- Tests of equality that say yes.
 use Rattle.std.proofs.Common.{◌≡◌, ℕ, Bool, true, false, ◌&&◌, ◌==◌, List, [], ◌∷◌, refl, ap, ◌∙◌, eqb-true, eq-eqb, subst}
 use Rattle.smart_base.proofs.SameLists.{same_list-equal}
-use Rattle.smart_messages.specs.Equality.{same_slot, same_kind}
+use Rattle.smart_statements.specs.Equality.{same_slot, same_kind}
 use Rattle.smart_base.specs.Lists.{same_list, same_bytes}
-use Rattle.smart_messages.specs.declared.statement.Slot.{Slot}
-use Rattle.smart_messages.specs.declared.statement.VoteKind.{VoteKind}
-use Rattle.smart_messages.specs.declared.statement.VoteKind.TheVariants.{Write, Accept}
+use Rattle.smart_statements.specs.declared.statement.Slot.{Slot}
+use Rattle.smart_statements.specs.declared.statement.VoteKind.{VoteKind}
+use Rattle.smart_statements.specs.declared.statement.VoteKind.TheVariants.{Write, Accept}
 use Rattle.replica_laws.proofs.Lists.{and_true}
 
 -- bytes that are the same are equal

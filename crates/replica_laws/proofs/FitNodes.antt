@@ -9,26 +9,26 @@ use Rattle.smart_base.specs.Spelling.{IsCount, IsPayload}
 use Rattle.smart_base.specs.Views.{View, is_view, is_member, leader, present, quorum}
 use Rattle.smart_base.proofs.ViewLaws.{members-few}
 use Rattle.smart_view.specs.Sizes.{collect_size}
-use Rattle.smart_messages.specs.Equality.{same_slot, same_kind}
-use Rattle.smart_messages.specs.Forms.{SignedBy}
-use Rattle.smart_messages.specs.Kinds.{requests, ballots, proposals}
-use Rattle.smart_messages.specs.Messages.{Batch, batch_text, FitsBatch}
-use Rattle.smart_messages.specs.Spelling as spells
-use Rattle.smart_messages.specs.Spelling.{FitsSlot, FitsBallot, FitsRequest, IsSigner, FitsSigned}
-use Rattle.smart_messages.specs.SignedLists.{optional, FitsOptional}
-use Rattle.smart_messages.specs.Reports.{reports, votes_of, FitsVote, FitsReport}
+use Rattle.smart_statements.specs.Equality.{same_slot, same_kind}
+use Rattle.smart_statements.specs.Forms.{SignedBy}
+use Rattle.smart_statements.specs.Kinds.{requests, ballots, proposals}
+use Rattle.smart_statements.specs.Batches.{Batch, batch_text, FitsBatch}
+use Rattle.smart_statements.specs.Spelling as spells
+use Rattle.smart_statements.specs.Spelling.{FitsSlot, FitsBallot, FitsRequest, IsSigner, FitsSigned}
+use Rattle.smart_statements.specs.SignedLists.{optional, FitsOptional}
+use Rattle.smart_statements.specs.Reports.{reports, votes_of, FitsVote, FitsReport}
 use Rattle.smart_messages.specs.Regencies.{stops, syncs, FitsSync}
 use Rattle.smart_messages.specs.RegencyMessages.{change_spelling, FitsAny, any_decoded}
 use Rattle.smart_messages.proofs.AnyMessages.{decoded_any_is}
 use Rattle.smart_base.specs.Cuts.{IsBytes}
 use Rattle.node_rules.specs.Kept.{node_after}
-use Rattle.smart_messages.specs.declared.statement.Request.{Request}
-use Rattle.smart_messages.specs.declared.statement.Slot.{Slot}
-use Rattle.smart_messages.specs.declared.statement.Ballot.{Ballot}
-use Rattle.smart_messages.specs.declared.statement.VoteKind.{VoteKind}
-use Rattle.smart_messages.specs.declared.statement.VoteKind.TheVariants.{Write, Accept}
-use Rattle.smart_messages.specs.declared.report.LockCertificate.{LockCertificate}
-use Rattle.smart_messages.specs.declared.report.Report.{Report}
+use Rattle.smart_statements.specs.declared.statement.Request.{Request}
+use Rattle.smart_statements.specs.declared.statement.Slot.{Slot}
+use Rattle.smart_statements.specs.declared.statement.Ballot.{Ballot}
+use Rattle.smart_statements.specs.declared.statement.VoteKind.{VoteKind}
+use Rattle.smart_statements.specs.declared.statement.VoteKind.TheVariants.{Write, Accept}
+use Rattle.smart_statements.specs.declared.report.LockCertificate.{LockCertificate}
+use Rattle.smart_statements.specs.declared.report.Report.{Report}
 use Rattle.smart_messages.specs.declared.regency.Sync.{Sync}
 use Rattle.smart_messages.specs.declared.regency.Reported.{Reported}
 use Rattle.smart_messages.specs.declared.regency.RegencyMessage.TheVariants as changes
@@ -37,8 +37,8 @@ use Rattle.smart_messages.specs.declared.message.Message.TheVariants.{Ask, Propo
 use Rattle.smart_messages.specs.declared.message.Proposed.{Proposed}
 use Rattle.smart_messages.specs.declared.any.AnyMessage.{AnyMessage}
 use Rattle.smart_messages.specs.declared.any.AnyMessage.TheVariants.{Plain, Change}
-use Rattle.smart_messages.specs.declared.entry.NodeEvent.{NodeEvent}
-use Rattle.smart_messages.specs.declared.entry.NodeEvent.TheVariants.{Arrive, Tick, Deliver, Firm}
+use Rattle.smart_statements.specs.declared.entry.NodeEvent.{NodeEvent}
+use Rattle.smart_statements.specs.declared.entry.NodeEvent.TheVariants.{Arrive, Tick, Deliver, Firm}
 use Rattle.smart_service.specs.Services.{Meaning}
 use Rattle.smart_service.specs.declared.table.TableLine.{TableLine}
 use Rattle.smart_service.specs.declared.replica.Replica.{Replica}

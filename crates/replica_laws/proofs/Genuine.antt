@@ -6,30 +6,31 @@ use Rattle.smart_base.specs.Lists.{Each}
 use Rattle.smart_base.specs.Spelling.{behind}
 use Rattle.smart_keys.proofs.Digests.{digest-length}
 use Rattle.smart_keys.proofs.Tags.{tag_of-length, is_tag-tag_of}
-use Rattle.smart_messages.specs.Forms.{Form, SignedBy, party_of}
-use Rattle.smart_messages.specs.Kinds.{requests, proposals, ballots, answers}
-use Rattle.smart_messages.specs.Messages.{Batch, batch_text, spelling, FitsBatch, Fits}
-use Rattle.smart_messages.specs.Spelling as spells
-use Rattle.smart_messages.specs.Spelling.{FitsProposal, FitsBallot, FitsAnswer, FitsRequest, IsSigner, FitsSigned}
-use Rattle.smart_messages.specs.Statements.{proposal_small, ballot_small, answer_small}
-use Rattle.smart_messages.specs.SignedLists.{listed, FitsList, optional, FitsOptional}
-use Rattle.smart_messages.specs.Reports as spells_report
-use Rattle.smart_messages.specs.Reports.{reports, votes_of, FitsVote, FitsReport, FitsEvidence, FitsLockCertificate}
+use Rattle.smart_statements.specs.Forms.{Form, SignedBy, party_of}
+use Rattle.smart_statements.specs.Kinds.{requests, proposals, ballots, answers}
+use Rattle.smart_statements.specs.Batches.{Batch, batch_text, FitsBatch}
+use Rattle.smart_messages.specs.Messages.{spelling, Fits}
+use Rattle.smart_statements.specs.Spelling as spells
+use Rattle.smart_statements.specs.Spelling.{FitsProposal, FitsBallot, FitsAnswer, FitsRequest, IsSigner, FitsSigned}
+use Rattle.smart_statements.specs.Statements.{proposal_small, ballot_small, answer_small}
+use Rattle.smart_statements.specs.SignedLists.{listed, FitsList, optional, FitsOptional}
+use Rattle.smart_statements.specs.Reports as spells_report
+use Rattle.smart_statements.specs.Reports.{reports, votes_of, FitsVote, FitsReport, FitsEvidence, FitsLockCertificate}
 use Rattle.smart_messages.specs.Regencies as spells_change
 use Rattle.smart_messages.specs.Regencies.{stops, syncs, FitsStop, FitsSync}
 use Rattle.smart_messages.specs.RegencyLaws.{stop_small}
 use Rattle.smart_messages.specs.RegencyMessages.{change_spelling, FitsChangeContent, FitsChange}
 use Rattle.smart_messages.proofs.AnyMessages.{any_spelling_is}
-use Rattle.smart_messages.specs.declared.statement.Request.{Request}
-use Rattle.smart_messages.specs.declared.statement.Proposal.{Proposal}
-use Rattle.smart_messages.specs.declared.statement.Ballot.{Ballot}
-use Rattle.smart_messages.specs.declared.statement.VoteKind.{VoteKind}
-use Rattle.smart_messages.specs.declared.statement.VoteKind.TheVariants.{Write, Accept}
-use Rattle.smart_messages.specs.declared.statement.Answer.{Answer}
-use Rattle.smart_messages.specs.declared.report.Evidence.{Evidence}
-use Rattle.smart_messages.specs.declared.report.Evidence.TheVariants as evidence
-use Rattle.smart_messages.specs.declared.report.LockCertificate.{LockCertificate}
-use Rattle.smart_messages.specs.declared.report.Report.{Report}
+use Rattle.smart_statements.specs.declared.statement.Request.{Request}
+use Rattle.smart_statements.specs.declared.statement.Proposal.{Proposal}
+use Rattle.smart_statements.specs.declared.statement.Ballot.{Ballot}
+use Rattle.smart_statements.specs.declared.statement.VoteKind.{VoteKind}
+use Rattle.smart_statements.specs.declared.statement.VoteKind.TheVariants.{Write, Accept}
+use Rattle.smart_statements.specs.declared.statement.Answer.{Answer}
+use Rattle.smart_statements.specs.declared.report.Evidence.{Evidence}
+use Rattle.smart_statements.specs.declared.report.Evidence.TheVariants as evidence
+use Rattle.smart_statements.specs.declared.report.LockCertificate.{LockCertificate}
+use Rattle.smart_statements.specs.declared.report.Report.{Report}
 use Rattle.smart_messages.specs.declared.regency.Stop.{Stop}
 use Rattle.smart_messages.specs.declared.regency.Sync.{Sync}
 use Rattle.smart_messages.specs.declared.regency.RegencyMessage.TheVariants as changes

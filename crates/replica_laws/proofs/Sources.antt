@@ -6,9 +6,9 @@ use Rattle.std.specs.List.{filter_map, cons_option, list_any}
 use Rattle.std.specs.Prelude.{IfSome, find}
 use Rattle.smart_base.specs.Lists.{Each, same_bytes}
 use Rattle.smart_base.specs.Views.{View, quorum}
-use Rattle.smart_messages.specs.Equality.{same_slot, same_kind}
-use Rattle.smart_messages.specs.Forms.{SignedBy}
-use Rattle.smart_messages.specs.Messages.{Batch}
+use Rattle.smart_statements.specs.Equality.{same_slot, same_kind}
+use Rattle.smart_statements.specs.Forms.{SignedBy}
+use Rattle.smart_statements.specs.Batches.{Batch}
 use Rattle.smart_messages.specs.RegencyMessages.{any_decoded}
 use Rattle.smart_messages.specs.declared.any.AnyMessage.{AnyMessage}
 use Rattle.smart_messages.specs.declared.any.AnyMessage.TheVariants.{Plain, Change}
@@ -18,10 +18,10 @@ use Rattle.smart_messages.specs.declared.message.Proposed.{Proposed}
 use Rattle.smart_messages.specs.declared.regency.RegencyMessage.TheVariants as changes
 use Rattle.smart_messages.specs.declared.regency.Stop.{Stop}
 use Rattle.smart_messages.specs.declared.regency.Sync.{Sync}
-use Rattle.smart_messages.specs.declared.statement.Slot.{Slot}
-use Rattle.smart_messages.specs.declared.statement.VoteKind.{VoteKind}
-use Rattle.smart_messages.specs.declared.statement.VoteKind.TheVariants as kinds
-use Rattle.smart_messages.specs.declared.entry.NodeEvent.{NodeEvent}
+use Rattle.smart_statements.specs.declared.statement.Slot.{Slot}
+use Rattle.smart_statements.specs.declared.statement.VoteKind.{VoteKind}
+use Rattle.smart_statements.specs.declared.statement.VoteKind.TheVariants as kinds
+use Rattle.smart_statements.specs.declared.entry.NodeEvent.{NodeEvent}
 use Rattle.smart_service.specs.Services.{Meaning}
 use Rattle.smart_service.specs.declared.replica.Replica.{Replica}
 use Rattle.vote_book.specs.Books.{Among, Admits}

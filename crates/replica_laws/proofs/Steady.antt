@@ -6,8 +6,8 @@ use Rattle.std.specs.List.{list_any}
 use Rattle.std.specs.Option.{option_to_list}
 use Rattle.smart_base.specs.Lists.{Each}
 use Rattle.smart_base.specs.Views.{View, is_member, present}
-use Rattle.smart_messages.specs.Forms.{SignedBy}
-use Rattle.smart_messages.specs.Messages.{Batch}
+use Rattle.smart_statements.specs.Forms.{SignedBy}
+use Rattle.smart_statements.specs.Batches.{Batch}
 use Rattle.smart_messages.specs.RegencyMessages.{any_decoded}
 use Rattle.smart_messages.specs.Regencies.{stops}
 use Rattle.smart_messages.specs.declared.regency.Stop.{Stop}
@@ -17,9 +17,9 @@ use Rattle.smart_messages.specs.declared.message.Message.TheVariants.{Ask, Propo
 use Rattle.smart_messages.specs.declared.message.Proposed.{Proposed}
 use Rattle.smart_messages.specs.declared.any.AnyMessage.{AnyMessage}
 use Rattle.smart_messages.specs.declared.any.AnyMessage.TheVariants.{Plain, Change}
-use Rattle.smart_messages.specs.declared.statement.VoteKind.TheVariants.{Write}
-use Rattle.smart_messages.specs.declared.entry.NodeEvent.{NodeEvent}
-use Rattle.smart_messages.specs.declared.entry.NodeEvent.TheVariants.{Arrive, Tick, Deliver, Firm}
+use Rattle.smart_statements.specs.declared.statement.VoteKind.TheVariants.{Write}
+use Rattle.smart_statements.specs.declared.entry.NodeEvent.{NodeEvent}
+use Rattle.smart_statements.specs.declared.entry.NodeEvent.TheVariants.{Arrive, Tick, Deliver, Firm}
 use Rattle.smart_service.specs.Services.{Meaning}
 use Rattle.smart_service.specs.declared.table.TableLine.{TableLine}
 use Rattle.smart_service.specs.declared.replica.Replica.{Replica}
@@ -33,7 +33,7 @@ use Rattle.replica_rules.specs.Replicas.{is_next, delivered}
 use Rattle.replica_rules.specs.Seals.{is_verified}
 use Rattle.replica_rules.specs.Pools.{offered, settled}
 use Rattle.node_rules.specs.Votes.{has_quorum, certificate_votes, proposed_for}
-use Rattle.smart_messages.specs.declared.statement.Slot.{Slot}
+use Rattle.smart_statements.specs.declared.statement.Slot.{Slot}
 use Rattle.node_rules.specs.Rules.{reply_of, replying, lines_to_answer, deliver_batch, delivers, proposes, votable, writing, write_batch, writes, written, accepting, accept_batch, accepts, decision_in, deciding, decide_batch, decides, answers_again}
 use Rattle.node_rules.specs.Nodes.{Node, view_of, regency_of, regency_in, greatest_regency, start_by, start_in, start_of, next_place, decided_place, open_slot, is_free, is_open, has_begun, bound_at, is_within, synchronizer_of, holding, recording}
 use Rattle.node_rules.specs.Arrivals.{signer_why, view_why, wish_why, why_stop, why_dropped, kept_plain, kept_change, kept, noted}

@@ -8,14 +8,14 @@ use Rattle.smart_base.specs.Lists.{Each, Distinct, or_else, same_bytes}
 use Rattle.smart_base.specs.Views.{View, quorum, present, is_view}
 use Rattle.smart_base.proofs.ViewFacts.{view-distinct}
 use Rattle.smart_keys.proofs.Tags.{is_tag-equal}
-use Rattle.smart_messages.specs.Equality.{same_slot, same_kind}
-use Rattle.smart_messages.specs.Forms.{SignedBy, party_of}
-use Rattle.smart_messages.specs.Kinds.{ballots}
-use Rattle.smart_messages.specs.Messages.{Batch}
-use Rattle.smart_messages.specs.declared.statement.Ballot.{Ballot}
-use Rattle.smart_messages.specs.declared.statement.Slot.{Slot}
-use Rattle.smart_messages.specs.declared.statement.VoteKind.{VoteKind}
-use Rattle.smart_messages.specs.declared.statement.VoteKind.TheVariants.{Write, Accept}
+use Rattle.smart_statements.specs.Equality.{same_slot, same_kind}
+use Rattle.smart_statements.specs.Forms.{SignedBy, party_of}
+use Rattle.smart_statements.specs.Kinds.{ballots}
+use Rattle.smart_statements.specs.Batches.{Batch}
+use Rattle.smart_statements.specs.declared.statement.Ballot.{Ballot}
+use Rattle.smart_statements.specs.declared.statement.Slot.{Slot}
+use Rattle.smart_statements.specs.declared.statement.VoteKind.{VoteKind}
+use Rattle.smart_statements.specs.declared.statement.VoteKind.TheVariants.{Write, Accept}
 use Rattle.smart_messages.specs.declared.regency.Sync.{Sync}
 use Rattle.smart_messages.specs.declared.regency.RegencyMessage.TheVariants as changes
 use Rattle.smart_messages.specs.declared.message.Message.{Message}
@@ -23,7 +23,7 @@ use Rattle.smart_messages.specs.declared.message.Message.TheVariants.{Ask, Propo
 use Rattle.smart_messages.specs.declared.message.Proposed.{Proposed}
 use Rattle.smart_messages.specs.declared.any.AnyMessage.{AnyMessage}
 use Rattle.smart_messages.specs.declared.any.AnyMessage.TheVariants.{Plain, Change}
-use Rattle.smart_messages.specs.declared.entry.NodeEvent.{NodeEvent}
+use Rattle.smart_statements.specs.declared.entry.NodeEvent.{NodeEvent}
 use Rattle.smart_service.specs.Services.{Meaning}
 use Rattle.certificates.specs.Certificates.{signers}
 use Rattle.vote_book.specs.BookReports.{accept_for}

@@ -1,7 +1,7 @@
 -- What is promised of a node and its book, whatever comes to it.
 use Rattle.std.specs.Prelude.{ℕ, ◌+◌, ◌≡◌, ◌≤◌, Bool, List, [], ◌∷◌, length, if◌then◌else◌, take, slice_get}
 use Rattle.smart_base.specs.Views.{View}
-use Rattle.smart_messages.specs.declared.statement.Slot.{Slot}
+use Rattle.smart_statements.specs.declared.statement.Slot.{Slot}
 use Rattle.smart_service.specs.Services.{Meaning}
 use Rattle.vote_book.specs.Admission.{writes_in, accepts_in}
 use Rattle.vote_book.specs.declared.entry.LogEntry.{LogEntry}

@@ -2,11 +2,11 @@
 ghost use Rattle.std.specs.Prelude.{◌≡◌, ◌<◌, ◌^◌, ℕ, Bool, true, List};
 ghost use Rattle.smart_base.specs.Lists.{Each};
 ghost use Rattle.smart_base.specs.Views.{View, is_view};
-ghost use Rattle.smart_messages.specs.Forms.{SignedBy};
-ghost use Rattle.smart_messages.specs.Spelling.{IsSigner};
-ghost use Rattle.smart_messages.specs.declared.statement.Request.{Request};
-ghost use Rattle.smart_messages.specs.Messages.{Batch};
-ghost use Rattle.smart_messages.specs.declared.entry.NodeEvent.{NodeEvent};
+ghost use Rattle.smart_statements.specs.Forms.{SignedBy};
+ghost use Rattle.smart_statements.specs.Spelling.{IsSigner};
+ghost use Rattle.smart_statements.specs.declared.statement.Request.{Request};
+ghost use Rattle.smart_statements.specs.Batches.{Batch};
+ghost use Rattle.smart_statements.specs.declared.entry.NodeEvent.{NodeEvent};
 ghost use Rattle.smart_service.specs.declared.table.TableLine.{TableLine};
 ghost use Rattle.vote_book.specs.Entries.{FitsEntry};
 ghost use Rattle.replica_rules.specs.Replicas.{executions};

@@ -6,9 +6,9 @@ use smart_base::number::{Place, ViewNo};
 use smart_base::party::Party;
 use smart_base::sequence::Bytes;
 use smart_keys::ring::Ring;
-use smart_messages::signed::Signed;
-use smart_messages::statement::Request;
 use smart_service::table::{ClientTable, TableLine};
+use smart_statements::signed::Signed;
+use smart_statements::statement::Request;
 use std::alloc::{AllocError, Global};
 use std::test::Fail;
 

@@ -17,8 +17,8 @@ use Rattle.replica_rules.specs.Replicas.{state}
 use Rattle.restart_laws.proofs.InTurn.{lines_of_state}
 use Rattle.restart_laws.specs.Lives.{DecidesInTurn}
 use Rattle.smart_base.specs.Views.{View}
-use Rattle.smart_messages.specs.Messages.{Batch}
-use Rattle.smart_messages.specs.declared.entry.NodeEvent.{NodeEvent}
+use Rattle.smart_statements.specs.Batches.{Batch}
+use Rattle.smart_statements.specs.declared.entry.NodeEvent.{NodeEvent}
 use Rattle.smart_service.specs.Services.{Meaning}
 use Rattle.vote_book.specs.declared.entry.LogEntry.{LogEntry}
 

@@ -9,7 +9,7 @@ use Rattle.restart_laws.proofs.Once.{accepts_once_after, once_front, writes_once
 use Rattle.restart_laws.proofs.Turns.{turn_front, turns_after}
 use Rattle.restart_laws.specs.Lives.{DecidesInTurn, IsOrderly, Life, left_by, lives_on}
 use Rattle.smart_base.specs.Views.{View}
-use Rattle.smart_messages.specs.declared.entry.NodeEvent.{NodeEvent}
+use Rattle.smart_statements.specs.declared.entry.NodeEvent.{NodeEvent}
 use Rattle.smart_service.specs.Services.{Meaning}
 use Rattle.vote_book.specs.declared.entry.LogEntry.{LogEntry}
 

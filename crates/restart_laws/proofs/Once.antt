@@ -10,7 +10,7 @@ use Rattle.replica_laws.proofs.Once.{once_accepted, once_after, once_more}
 use Rattle.replica_laws.specs.Books.{AcceptsOnce, WritesOnce, passing}
 use Rattle.restart_laws.proofs.Writes.{one_more, one_written, written_after}
 use Rattle.smart_base.specs.Views.{View}
-use Rattle.smart_messages.specs.declared.entry.NodeEvent.{NodeEvent}
+use Rattle.smart_statements.specs.declared.entry.NodeEvent.{NodeEvent}
 use Rattle.smart_service.specs.Services.{Meaning}
 use Rattle.vote_book.proofs.Tested.{admitting}
 use Rattle.vote_book.specs.Admission.{accepts_in, may_vote, writes_in}

@@ -21,7 +21,7 @@ use Rattle.replica_laws.specs.Books.{DeliversInOrder}
 use Rattle.restart_laws.proofs.GoesOn.{in_order-reopened}
 use Rattle.restart_laws.specs.Lives.{DecidesInTurn}
 use Rattle.smart_base.specs.Views.{View}
-use Rattle.smart_messages.specs.declared.entry.NodeEvent.{NodeEvent}
+use Rattle.smart_statements.specs.declared.entry.NodeEvent.{NodeEvent}
 use Rattle.smart_messages.specs.declared.message.Proposed.{Proposed}
 use Rattle.smart_service.specs.Services.{Meaning}
 use Rattle.vote_book.proofs.Growth.{last_or_earlier}

@@ -18,15 +18,15 @@ use Rattle.restart_laws.proofs.Lives.{leaves_firm_on, orderly_on}
 use Rattle.restart_laws.proofs.Stays.{front_after, stays}
 use Rattle.restart_laws.specs.Lives.{Agree, AllKeepFirm, IsOrderly, LetsGo, Life, left_by, lives_on}
 use Rattle.smart_base.specs.Views.{View}
-use Rattle.smart_messages.specs.Equality.{same_slot}
-use Rattle.smart_messages.specs.Forms.{SignedBy}
+use Rattle.smart_statements.specs.Equality.{same_slot}
+use Rattle.smart_statements.specs.Forms.{SignedBy}
 use Rattle.smart_messages.specs.declared.any.AnyMessage.TheVariants.{Plain}
-use Rattle.smart_messages.specs.declared.entry.NodeEvent.{NodeEvent}
+use Rattle.smart_statements.specs.declared.entry.NodeEvent.{NodeEvent}
 use Rattle.smart_messages.specs.declared.message.Message.TheVariants as messages
-use Rattle.smart_messages.specs.declared.statement.Ballot.{Ballot}
-use Rattle.smart_messages.specs.declared.statement.Slot.{Slot}
-use Rattle.smart_messages.specs.declared.statement.VoteKind.{VoteKind}
-use Rattle.smart_messages.specs.declared.statement.VoteKind.TheVariants.{Accept, Write}
+use Rattle.smart_statements.specs.declared.statement.Ballot.{Ballot}
+use Rattle.smart_statements.specs.declared.statement.Slot.{Slot}
+use Rattle.smart_statements.specs.declared.statement.VoteKind.{VoteKind}
+use Rattle.smart_statements.specs.declared.statement.VoteKind.TheVariants.{Accept, Write}
 use Rattle.smart_service.specs.Services.{Meaning}
 use Rattle.vote_book.proofs.Tested.{same_slot_self}
 use Rattle.vote_book.specs.Admission.{accepts_in, writes_in}

@@ -1,11 +1,11 @@
 -- Lives of a member: it crashes and goes on from entries at the front of its book, and so on.
 use Rattle.std.specs.Prelude.{◌≡◌, ℕ, ◌+◌, ◌≤◌, List, [], ◌∷◌, ◌++◌, length, map, take}
 use Rattle.smart_base.specs.Views.{View}
-use Rattle.smart_messages.specs.Forms.{SignedBy}
+use Rattle.smart_statements.specs.Forms.{SignedBy}
 use Rattle.smart_messages.specs.declared.any.AnyMessage.TheVariants.{Plain}
-use Rattle.smart_messages.specs.declared.entry.NodeEvent.{NodeEvent}
+use Rattle.smart_statements.specs.declared.entry.NodeEvent.{NodeEvent}
 use Rattle.smart_messages.specs.declared.message.Message.TheVariants.{Vote}
-use Rattle.smart_messages.specs.declared.statement.Ballot.{Ballot}
+use Rattle.smart_statements.specs.declared.statement.Ballot.{Ballot}
 use Rattle.smart_service.specs.Services.{Meaning}
 use Rattle.vote_book.specs.Books.{Among}
 use Rattle.vote_book.specs.declared.entry.Decision.{Decision}

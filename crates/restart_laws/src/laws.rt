@@ -3,10 +3,10 @@ ghost use Rattle.std.specs.Prelude.{◌≡◌, ◌<◌, ◌≤◌, ◌↔◌, �
 ghost use Rattle.smart_base.specs.Cuts.{IsBytes};
 ghost use Rattle.smart_base.specs.Lists.{Each};
 ghost use Rattle.smart_base.specs.Views.{View, is_view};
-ghost use Rattle.smart_messages.specs.Forms.{SignedBy};
-ghost use Rattle.smart_messages.specs.Spelling.{IsSigner};
-ghost use Rattle.smart_messages.specs.declared.entry.NodeEvent.{NodeEvent};
-ghost use Rattle.smart_messages.specs.declared.statement.Ballot.{Ballot};
+ghost use Rattle.smart_statements.specs.Forms.{SignedBy};
+ghost use Rattle.smart_statements.specs.Spelling.{IsSigner};
+ghost use Rattle.smart_statements.specs.declared.entry.NodeEvent.{NodeEvent};
+ghost use Rattle.smart_statements.specs.declared.statement.Ballot.{Ballot};
 ghost use Rattle.vote_book.specs.Books.{Lawful};
 ghost use Rattle.vote_book.specs.Entries.{entry_text, entry_decoded, FitsEntry};
 ghost use Rattle.vote_book.specs.declared.entry.LogEntry.{LogEntry};

@@ -1,13 +1,8 @@
 //! Messages against a decoder that was written apart from the definitions.
 use crate::any::{AnyMessage, decode_any, encode_any};
-use crate::batch::Batch;
 use crate::codec::{decode, encode};
 use crate::message::Message;
 use crate::regency::{Stop, Sync, ViewInfo};
-use crate::report::{Evidence, Mark, Report};
-use crate::signed::{Signed, Statement};
-use crate::signed_list::SignedList;
-use crate::statement::{Request, VoteKind};
 use smart_base::bytes::{Digest32, Payload, Tag};
 use smart_base::cursor::Cursor;
 use smart_base::duplicate::Duplicate;
@@ -18,6 +13,11 @@ use smart_base::number::{Place, Regency, ViewNo};
 use smart_base::party::Party;
 use smart_base::sequence::Bytes;
 use smart_base::view::View;
+use smart_statements::batch::Batch;
+use smart_statements::report::{Evidence, Mark, Report};
+use smart_statements::signed::{Signed, Statement};
+use smart_statements::signed_list::SignedList;
+use smart_statements::statement::{Request, VoteKind};
 use std::alloc::{AllocError, Global};
 use std::test::*;
 

@@ -21,7 +21,7 @@ use crate::entry::{Accept, LogEntry, Start};
 use crate::votes::OwnVotes;
 use smart_base::bytes::Digest32;
 use smart_base::number::{Place, Regency, ViewNo};
-use smart_messages::statement::Slot;
+use smart_statements::statement::Slot;
 use std::alloc::{AllocError, Global};
 use std::marker::Model;
 

@@ -2,8 +2,8 @@
 use Rattle.std.proofs.Common.{◌≡◌, ℕ, zero, suc, ◌<◌, Bool, true, false, List, [], ◌∷◌, ◌++◌, Option, Some, None, refl, ap, cond, length, ◌∙◌, arith}
 use Rattle.std.specs.Prelude.{slice_get, slice_set, nat_lt, ◌-◌}
 use Rattle.std.specs.List.{flat_map}
-use Rattle.smart_messages.specs.declared.entry.NodeEvent.{NodeEvent}
-use Rattle.smart_messages.specs.declared.entry.NodeEvent.TheVariants.{Firm}
+use Rattle.smart_statements.specs.declared.entry.NodeEvent.{NodeEvent}
+use Rattle.smart_statements.specs.declared.entry.NodeEvent.TheVariants.{Firm}
 use Rattle.node_rules.specs.Nodes.{next_place}
 use Rattle.node_rules.specs.Steps.{Outcome, leaving}
 use Rattle.world_rules.specs.Worlds.{Course, Host, World, disk_called, stepped, sends_all, hears_firm, host_after, chosen_with, told_drop, told_fired}

@@ -1,7 +1,7 @@
 -- What is given to one member.
 use Rattle.std.proofs.Common.{◌≡◌, ℕ, List, Option, Some, None, refl}
 use Rattle.std.specs.Prelude.{slice_get}
-use Rattle.smart_messages.specs.declared.entry.NodeEvent.TheVariants.{Arrive}
+use Rattle.smart_statements.specs.declared.entry.NodeEvent.TheVariants.{Arrive}
 use Rattle.world_rules.specs.Worlds.{Course, Host, World, node_takes, settle, where_listed, at_listed, at_index, host_index, gives, give_one}
 
 listed : {S : Type 0} (course : Course S) (members bytes : List ℕ) (i : ℕ) (w : World S) (found : Option (Host S))

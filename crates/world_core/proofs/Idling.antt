@@ -1,7 +1,7 @@
 -- What idle nodes tell.
 use Rattle.std.proofs.Common.{◌≡◌, ℕ, Bool, List, [], ◌∷◌, Some, refl, ap}
 use Rattle.std.specs.Prelude.{slice_get}
-use Rattle.smart_messages.specs.declared.entry.NodeEvent.{NodeEvent}
+use Rattle.smart_statements.specs.declared.entry.NodeEvent.{NodeEvent}
 use Rattle.node_rules.specs.declared.node.Fired.{Fired}
 use Rattle.world_rules.specs.Worlds.{Course, Host, World, stepped, telling_all, told_idle}
 use Rattle.world_rules.specs.declared.line.OutLine.{OutLine}

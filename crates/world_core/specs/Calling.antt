@@ -1,7 +1,7 @@
 -- What a node hears of its store.
 use Rattle.std.specs.Prelude.{ℕ, ◌-◌, nat_lt, Option, Some, None, if◌then◌else◌}
-use Rattle.smart_messages.specs.declared.entry.NodeEvent.{NodeEvent}
-use Rattle.smart_messages.specs.declared.entry.NodeEvent.TheVariants.{Firm}
+use Rattle.smart_statements.specs.declared.entry.NodeEvent.{NodeEvent}
+use Rattle.smart_statements.specs.declared.entry.NodeEvent.TheVariants.{Firm}
 use Rattle.world_rules.specs.Worlds.{Course, Host, World, hears_firm, disk_called}
 use Rattle.world_core.specs.Idling.{steps}
 

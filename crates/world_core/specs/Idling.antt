@@ -1,6 +1,6 @@
 -- Nodes that take a step, and have nothing to do.
 use Rattle.std.specs.Prelude.{ℕ, Bool, true, false, List, [], ◌∷◌, Option, Some, None}
-use Rattle.smart_messages.specs.declared.entry.NodeEvent.{NodeEvent}
+use Rattle.smart_statements.specs.declared.entry.NodeEvent.{NodeEvent}
 use Rattle.node_rules.specs.declared.node.Fired.{Fired}
 use Rattle.world_rules.specs.Worlds.{Course, Host, World, stepped, telling_all, told_idle}
 use Rattle.world_rules.specs.declared.line.OutLine.{OutLine}

@@ -1,7 +1,7 @@
 -- What a client makes of bytes.
 use Rattle.std.specs.Prelude.{ℕ, Option, Some, None, is_some, slice_get, if◌then◌else◌}
-use Rattle.smart_messages.specs.Forms.{SignedBy}
-use Rattle.smart_messages.specs.declared.statement.Answer.{Answer}
+use Rattle.smart_statements.specs.Forms.{SignedBy}
+use Rattle.smart_statements.specs.declared.statement.Answer.{Answer}
 use Rattle.world_rules.specs.Clients.{heard}
 use Rattle.world_rules.specs.Worlds.{World, telling, hearing}
 use Rattle.client_quorum.specs.declared.client.Client.{Client}

@@ -1,6 +1,6 @@
 //! Deliveries one by one, and time that passes.
 ghost use Rattle.std.specs.Prelude.{◌≡◌, ◌<◌, true, IfOk, OnOk, length, slice_get};
-ghost use Rattle.smart_messages.specs.declared.entry.NodeEvent.TheVariants.{Arrive};
+ghost use Rattle.smart_statements.specs.declared.entry.NodeEvent.TheVariants.{Arrive};
 ghost use Rattle.world_rules.specs.Worlds.{core_course, node_takes, calls_disk, settle, at_host, at_index, at_member, arrives, arrives_at, give_number, telling_all, tries_at, tries_each, deliver_each, tick_each};
 ghost use Rattle.world_rules.specs.Repeats.{repeated};
 ghost use Rattle.world_core.specs.Crashes.{runs};
@@ -11,8 +11,8 @@ use crate::state::WorldState;
 use smart_base::duplicate::Duplicate;
 use smart_base::name::MemberId;
 use smart_base::party::Party;
-use smart_messages::entry::NodeEvent;
 use smart_service::service::Service;
+use smart_statements::entry::NodeEvent;
 use std::alloc::AllocError;
 use world_ledger::content::content_bytes;
 use world_rules::line::OutLine;

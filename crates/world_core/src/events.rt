@@ -10,8 +10,8 @@ use crate::host::{call_disk, host_index, is_among, step_host};
 use crate::state::WorldState;
 use smart_base::name::MemberId;
 use smart_base::sequence::Bytes;
-use smart_messages::entry::NodeEvent;
 use smart_service::service::Service;
+use smart_statements::entry::NodeEvent;
 use std::alloc::AllocError;
 use world_rules::line::OutLine;
 

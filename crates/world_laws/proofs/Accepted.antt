@@ -2,10 +2,10 @@
 use Rattle.std.proofs.Common.{◌≤◌, ◌&&◌, Bool, true, false, filter, eqb-true, inl, inr, ◌≡◌, ℕ, ◌+◌, ◌<◌, ◌==◌, ◌++◌, List, [], ◌∷◌, length, refl, ap, ◌∙◌, sym, Option, Some, None, subst, append-nil, ◌⊎◌}
 use Rattle.smart_base.specs.Lists.{Each, same_bytes}
 use Rattle.smart_base.specs.Views.{View, quorum}
-use Rattle.smart_messages.specs.Forms.{SignedBy}
-use Rattle.smart_messages.specs.Messages.{Batch}
-use Rattle.smart_messages.specs.declared.statement.Request.{Request}
-use Rattle.smart_messages.specs.declared.statement.Answer.{Answer}
+use Rattle.smart_statements.specs.Forms.{SignedBy}
+use Rattle.smart_statements.specs.Batches.{Batch}
+use Rattle.smart_statements.specs.declared.statement.Request.{Request}
+use Rattle.smart_statements.specs.declared.statement.Answer.{Answer}
 use Rattle.smart_messages.specs.declared.message.Message.TheVariants.{Reply}
 use Rattle.smart_service.specs.Services.{Meaning}
 use Rattle.smart_service.specs.declared.table.TableLine.{TableLine}
@@ -25,7 +25,7 @@ use Rattle.world_laws.proofs.Lists.{and_true, either, each_end, each_weaker, eac
 use Rattle.world_laws.proofs.Equal.{same_bytes-equal}
 use Rattle.std.proofs.lemmas.Bool.{leb-true}
 use Rattle.std.specs.Prelude.{slice_get}
-use Rattle.smart_messages.specs.Kinds.{answers}
+use Rattle.smart_statements.specs.Kinds.{answers}
 use Rattle.replica_rules.specs.Seals.{is_verified}
 use Rattle.world_rules.specs.Secrets.{group_secret}
 use Rattle.world_rules.specs.Premises.{is_among}

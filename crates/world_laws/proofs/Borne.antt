@@ -16,8 +16,8 @@ use Rattle.std.specs.Prelude.{slice_get, slice_set}
 use Rattle.smart_base.specs.Lists.{Each}
 use Rattle.smart_base.specs.Views.{View, is_view}
 use Rattle.smart_messages.specs.declared.any.AnyMessage.{AnyMessage}
-use Rattle.smart_messages.specs.declared.entry.NodeEvent.{NodeEvent}
-use Rattle.smart_messages.specs.declared.entry.NodeEvent.TheVariants.{Arrive, Tick, Deliver, Firm}
+use Rattle.smart_statements.specs.declared.entry.NodeEvent.{NodeEvent}
+use Rattle.smart_statements.specs.declared.entry.NodeEvent.TheVariants.{Arrive, Tick, Deliver, Firm}
 use Rattle.smart_service.specs.Services.{Meaning}
 use Rattle.vote_book.specs.declared.entry.LogEntry.{LogEntry}
 use Rattle.node_rules.specs.Nodes.{Node}

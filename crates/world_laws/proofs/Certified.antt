@@ -3,7 +3,7 @@ use Rattle.std.proofs.Common.{◌≡◌, ℕ, suc, ◌+◌, ◌≤◌, ◌++◌,
 use Rattle.std.specs.Prelude.{slice_get}
 use Rattle.smart_base.specs.Lists.{Each}
 use Rattle.smart_base.specs.Views.{View}
-use Rattle.smart_messages.specs.Messages.{Batch}
+use Rattle.smart_statements.specs.Batches.{Batch}
 use Rattle.replica_rules.specs.Seals.{digest_of}
 use Rattle.agreement_laws.specs.Statements.{Statement}
 use Rattle.agreement_laws.specs.Certificates.{IsDecision}
@@ -11,8 +11,8 @@ use Rattle.certificates.specs.Certificates.{accept_of}
 use Rattle.certificates.specs.Collects.{slot_of}
 use Rattle.agreement_laws.proofs.Growing.{IsDrawn-more}
 use Rattle.world_rules.specs.Secrets.{group_secret}
-use Rattle.smart_messages.specs.Forms.{SignedBy}
-use Rattle.smart_messages.specs.declared.statement.Ballot.{Ballot}
+use Rattle.smart_statements.specs.Forms.{SignedBy}
+use Rattle.smart_statements.specs.declared.statement.Ballot.{Ballot}
 use Rattle.world_laws.specs.Stated.{Certified, AllCertified}
 use Rattle.world_laws.proofs.Lists.{some-equal}
 

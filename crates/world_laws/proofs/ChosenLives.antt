@@ -4,7 +4,7 @@ use Rattle.std.proofs.lemmas.List.{drop-map}
 use Rattle.std.proofs.Math.Seq.{drop-append_seam}
 use Rattle.smart_base.specs.Lists.{Each}
 use Rattle.smart_base.specs.Views.{View}
-use Rattle.smart_messages.specs.Messages.{Batch}
+use Rattle.smart_statements.specs.Batches.{Batch}
 use Rattle.smart_service.specs.Services.{Meaning}
 use Rattle.vote_book.specs.Entries.{entry_text, FitsEntry}
 use Rattle.vote_book.specs.declared.entry.LogEntry.{LogEntry}

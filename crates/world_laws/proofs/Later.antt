@@ -3,21 +3,21 @@ use Rattle.std.proofs.Common.{◌≡◌, ℕ, ◌+◌, ◌-◌, ◌++◌, ◌≤
 use Rattle.std.specs.Prelude.{⊤, slice_get, slice_set, is_none, map}
 use Rattle.smart_base.specs.Lists.{or_else, same_bytes}
 use Rattle.smart_base.specs.declared.party.Party.TheVariants as parties
-use Rattle.smart_messages.specs.Kinds.{requests, proposals, ballots}
-use Rattle.smart_messages.specs.Reports.{reports}
-use Rattle.smart_messages.specs.Reports as spellings
+use Rattle.smart_statements.specs.Kinds.{requests, proposals, ballots}
+use Rattle.smart_statements.specs.Reports.{reports}
+use Rattle.smart_statements.specs.Reports as spellings
 use Rattle.smart_messages.specs.Regencies.{stops, syncs}
-use Rattle.smart_messages.specs.Messages.{batch_text}
+use Rattle.smart_statements.specs.Batches.{batch_text}
 use Rattle.smart_messages.specs.RegencyMessages.{any_spelling, any_decoded}
-use Rattle.smart_messages.specs.Spelling.{FitsSlot}
+use Rattle.smart_statements.specs.Spelling.{FitsSlot}
 use Rattle.smart_messages.proofs.Messages.{spelling_is}
-use Rattle.smart_messages.specs.declared.statement.Ballot.{Ballot}
-use Rattle.smart_messages.specs.declared.statement.Proposal.{Proposal}
-use Rattle.smart_messages.specs.declared.statement.Slot.{Slot}
-use Rattle.smart_messages.specs.declared.statement.VoteKind.{VoteKind}
-use Rattle.smart_messages.specs.declared.statement.VoteKind.TheVariants.{Write, Accept}
-use Rattle.smart_messages.specs.declared.report.Report.{Report}
-use Rattle.smart_messages.specs.declared.report.Evidence.TheVariants as evidence
+use Rattle.smart_statements.specs.declared.statement.Ballot.{Ballot}
+use Rattle.smart_statements.specs.declared.statement.Proposal.{Proposal}
+use Rattle.smart_statements.specs.declared.statement.Slot.{Slot}
+use Rattle.smart_statements.specs.declared.statement.VoteKind.{VoteKind}
+use Rattle.smart_statements.specs.declared.statement.VoteKind.TheVariants.{Write, Accept}
+use Rattle.smart_statements.specs.declared.report.Report.{Report}
+use Rattle.smart_statements.specs.declared.report.Evidence.TheVariants as evidence
 use Rattle.smart_messages.specs.declared.regency.Stop.{Stop}
 use Rattle.smart_messages.specs.declared.regency.Sync.{Sync}
 use Rattle.smart_messages.specs.declared.regency.RegencyMessage.TheVariants as changes
@@ -26,7 +26,7 @@ use Rattle.smart_messages.specs.declared.message.Message.{Message}
 use Rattle.smart_messages.specs.declared.message.Message.TheVariants.{Propose, Vote, Reply}
 use Rattle.smart_messages.specs.declared.any.AnyMessage.{AnyMessage}
 use Rattle.smart_messages.specs.declared.any.AnyMessage.TheVariants.{Plain, Change}
-use Rattle.smart_messages.specs.declared.entry.NodeEvent.TheVariants.{Arrive, Deliver, Firm}
+use Rattle.smart_statements.specs.declared.entry.NodeEvent.TheVariants.{Arrive, Deliver, Firm}
 use Rattle.smart_service.specs.Services.{Meaning}
 use Rattle.vote_book.specs.declared.entry.Decision.{Decision}
 use Rattle.regency_sync.specs.Choices as choices

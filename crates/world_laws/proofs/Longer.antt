@@ -1,12 +1,12 @@
 -- A node keeps its name and its secret, and its book only grows.
 use Rattle.std.proofs.Common.{◌≡◌, ℕ, ◌++◌, false, List, [], ◌∷◌, refl, ap, ◌∙◌, sym, Option, Some, None, Result, Ok, Err, append-nil, append_assoc}
-use Rattle.smart_messages.specs.Messages.{Batch}
+use Rattle.smart_statements.specs.Batches.{Batch}
 use Rattle.smart_messages.specs.RegencyMessages.{any_decoded}
 use Rattle.smart_messages.specs.declared.message.Proposed.{Proposed}
 use Rattle.smart_messages.specs.declared.any.AnyMessage.{AnyMessage}
 use Rattle.smart_messages.specs.declared.any.AnyMessage.TheVariants.{Plain}
-use Rattle.smart_messages.specs.declared.entry.NodeEvent.{NodeEvent}
-use Rattle.smart_messages.specs.declared.entry.NodeEvent.TheVariants.{Arrive, Tick, Deliver, Firm}
+use Rattle.smart_statements.specs.declared.entry.NodeEvent.{NodeEvent}
+use Rattle.smart_statements.specs.declared.entry.NodeEvent.TheVariants.{Arrive, Tick, Deliver, Firm}
 use Rattle.smart_service.specs.Services.{Meaning}
 use Rattle.smart_service.specs.declared.table.TableLine.{TableLine}
 use Rattle.vote_book.specs.declared.entry.Decision.{Decision}

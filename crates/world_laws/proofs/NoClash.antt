@@ -5,14 +5,14 @@ use Rattle.std.proofs.lemmas.Grind.{flat_map-append}
 use Rattle.std.specs.List.{list_any}
 use Rattle.smart_base.specs.Cuts.{Cut}
 use Rattle.smart_base.specs.Lists.{Each, same_bytes}
-use Rattle.smart_messages.specs.Kinds.{requests}
-use Rattle.smart_messages.specs.Messages.{Batch, batch_text, FitsBatch}
-use Rattle.smart_messages.specs.Reading.{batch_at}
+use Rattle.smart_statements.specs.Kinds.{requests}
+use Rattle.smart_statements.specs.Batches.{Batch, batch_text, FitsBatch}
+use Rattle.smart_statements.specs.Reading.{batch_at}
 use Rattle.smart_messages.proofs.Messages.{batch_law}
 use Rattle.smart_messages.specs.declared.message.Message.TheVariants.{Ask, Propose, Vote, Reply}
 use Rattle.smart_messages.specs.declared.regency.RegencyMessage.TheVariants as changes
 use Rattle.smart_messages.specs.declared.any.AnyMessage.TheVariants.{Plain, Change}
-use Rattle.smart_messages.specs.SignedLists.{FitsOptional}
+use Rattle.smart_statements.specs.SignedLists.{FitsOptional}
 use Rattle.replica_rules.specs.Seals.{digest_of}
 use Rattle.world_rules.specs.Premises.{met, clash, collides, batches}
 use Rattle.world_rules.specs.declared.message.Sent.{Sent}

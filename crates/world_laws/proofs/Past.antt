@@ -3,9 +3,9 @@ use Rattle.std.proofs.Common.{◌≡◌, ℕ, zero, suc, ◌≤◌, ◌++◌, Li
 use Rattle.std.specs.Prelude.{slice_get, slice_set}
 use Rattle.smart_base.specs.Lists.{Each}
 use Rattle.smart_base.specs.Views.{View}
-use Rattle.smart_messages.specs.Forms.{SignedBy}
-use Rattle.smart_messages.specs.declared.statement.Request.{Request}
-use Rattle.smart_messages.specs.declared.statement.Answer.{Answer}
+use Rattle.smart_statements.specs.Forms.{SignedBy}
+use Rattle.smart_statements.specs.declared.statement.Request.{Request}
+use Rattle.smart_statements.specs.declared.statement.Answer.{Answer}
 use Rattle.smart_service.specs.Services.{Meaning}
 use Rattle.node_rules.specs.Steps.{Outcome, leaving}
 use Rattle.client_quorum.specs.Clients.{request_of, asking, learning, after_heard}

@@ -3,8 +3,8 @@ use Rattle.std.proofs.Common.{◌≡◌, ℕ, ◌+◌, ◌^◌, ◌<◌, ◌==�
 use Rattle.std.proofs.lemmas.List.{take_all}
 use Rattle.smart_base.specs.Lists.{Each}
 use Rattle.smart_base.specs.Views.{View, is_view, present}
-use Rattle.smart_messages.specs.Messages.{Batch, FitsBatch}
-use Rattle.smart_messages.specs.Spelling.{IsSigner}
+use Rattle.smart_statements.specs.Batches.{Batch, FitsBatch}
+use Rattle.smart_statements.specs.Spelling.{IsSigner}
 use Rattle.smart_service.specs.Services.{Meaning}
 use Rattle.smart_service.specs.declared.replica.Replica.{Replica}
 use Rattle.vote_book.specs.Entries.{FitsEntry}

@@ -7,8 +7,8 @@ use Rattle.smart_base.specs.Views.{View, is_view}
 use Rattle.smart_messages.specs.RegencyMessages.{any_decoded}
 use Rattle.smart_messages.specs.declared.any.AnyMessage.TheVariants.{Plain}
 use Rattle.smart_messages.specs.declared.message.Message.{Message}
-use Rattle.smart_messages.specs.declared.entry.NodeEvent.{NodeEvent}
-use Rattle.smart_messages.specs.declared.entry.NodeEvent.TheVariants.{Arrive, Tick, Deliver, Firm}
+use Rattle.smart_statements.specs.declared.entry.NodeEvent.{NodeEvent}
+use Rattle.smart_statements.specs.declared.entry.NodeEvent.TheVariants.{Arrive, Tick, Deliver, Firm}
 use Rattle.smart_service.specs.Services.{Meaning}
 use Rattle.vote_book.specs.Entries.{entry_text}
 use Rattle.vote_book.specs.declared.entry.LogEntry.{LogEntry}

@@ -8,26 +8,26 @@ use Rattle.smart_base.specs.Spelling.{Law, u8}
 use Rattle.smart_base.specs.declared.party.Party.{Party}
 use Rattle.smart_base.specs.declared.party.Party.TheVariants as parties
 use Rattle.smart_keys.proofs.Tags.{is_tag-equal}
-use Rattle.smart_messages.specs.Forms.{Form, SignedBy, party_of}
-use Rattle.smart_messages.specs.Kinds.{requests, proposals, ballots, answers}
-use Rattle.smart_messages.specs.Messages.{Batch, FitsBatch}
-use Rattle.smart_messages.specs.SignedLists.{FitsOptional}
-use Rattle.smart_messages.specs.Reports.{reports, report, FitsReport, marks, mark, FitsMark, FitsVote, votes_of, FitsEvidence, FitsLockCertificate}
+use Rattle.smart_statements.specs.Forms.{Form, SignedBy, party_of}
+use Rattle.smart_statements.specs.Kinds.{requests, proposals, ballots, answers}
+use Rattle.smart_statements.specs.Batches.{Batch, FitsBatch}
+use Rattle.smart_statements.specs.SignedLists.{FitsOptional}
+use Rattle.smart_statements.specs.Reports.{reports, report, FitsReport, marks, mark, FitsMark, FitsVote, votes_of, FitsEvidence, FitsLockCertificate}
 use Rattle.smart_messages.specs.Regencies.{stops, stop, FitsStop, syncs, sync, FitsSync, view_infos, view_info, FitsViewInfo}
-use Rattle.smart_messages.specs.Spelling as spells
-use Rattle.smart_messages.specs.Spelling.{FitsProposal, FitsBallot, FitsAnswer, FitsRequest, FitsSigned}
-use Rattle.smart_messages.specs.Statements.{request_law, proposal_law, ballot_law, answer_law}
-use Rattle.smart_messages.specs.ReportLaws.{report_law, mark_law}
+use Rattle.smart_statements.specs.Spelling as spells
+use Rattle.smart_statements.specs.Spelling.{FitsProposal, FitsBallot, FitsAnswer, FitsRequest, FitsSigned}
+use Rattle.smart_statements.specs.Statements.{request_law, proposal_law, ballot_law, answer_law}
+use Rattle.smart_statements.specs.ReportLaws.{report_law, mark_law}
 use Rattle.smart_messages.specs.RegencyLaws.{stop_law, sync_law, view_info_law}
-use Rattle.smart_messages.specs.declared.statement.Request.{Request}
-use Rattle.smart_messages.specs.declared.statement.VoteKind.{VoteKind}
-use Rattle.smart_messages.specs.declared.statement.VoteKind.TheVariants.{Write, Accept}
-use Rattle.smart_messages.specs.declared.statement.Ballot.{Ballot}
-use Rattle.smart_messages.specs.declared.report.Mark.{Mark}
-use Rattle.smart_messages.specs.declared.report.Report.{Report}
-use Rattle.smart_messages.specs.declared.report.Evidence.{Evidence}
-use Rattle.smart_messages.specs.declared.report.Evidence.TheVariants as evidence
-use Rattle.smart_messages.specs.declared.report.LockCertificate.{LockCertificate}
+use Rattle.smart_statements.specs.declared.statement.Request.{Request}
+use Rattle.smart_statements.specs.declared.statement.VoteKind.{VoteKind}
+use Rattle.smart_statements.specs.declared.statement.VoteKind.TheVariants.{Write, Accept}
+use Rattle.smart_statements.specs.declared.statement.Ballot.{Ballot}
+use Rattle.smart_statements.specs.declared.report.Mark.{Mark}
+use Rattle.smart_statements.specs.declared.report.Report.{Report}
+use Rattle.smart_statements.specs.declared.report.Evidence.{Evidence}
+use Rattle.smart_statements.specs.declared.report.Evidence.TheVariants as evidence
+use Rattle.smart_statements.specs.declared.report.LockCertificate.{LockCertificate}
 use Rattle.smart_messages.specs.declared.regency.RegencyMessage.TheVariants as changes
 use Rattle.smart_messages.specs.declared.message.Message.TheVariants.{Ask, Propose, Vote, Reply}
 use Rattle.smart_messages.specs.declared.any.AnyMessage.{AnyMessage}

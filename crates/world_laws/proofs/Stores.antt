@@ -1,8 +1,8 @@
 -- What a host's store has of its node's book.
 use Rattle.std.proofs.Common.{◌≡◌, ℕ, ◌+◌, ◌-◌, ◌^◌, ◌≤◌, min, cond, List, [], length, drop, refl, ap, ◌∙◌, arith, Some, None, subst, ◌&&◌, ◌∷◌}
 use Rattle.std.proofs.lemmas.List.{length-append, length-drop}
-use Rattle.smart_messages.specs.declared.entry.NodeEvent.{NodeEvent}
-use Rattle.smart_messages.specs.declared.entry.NodeEvent.TheVariants.{Arrive, Tick, Deliver, Firm}
+use Rattle.smart_statements.specs.declared.entry.NodeEvent.{NodeEvent}
+use Rattle.smart_statements.specs.declared.entry.NodeEvent.TheVariants.{Arrive, Tick, Deliver, Firm}
 use Rattle.smart_service.specs.Services.{Meaning}
 use Rattle.smart_base.specs.Views.{View}
 use Rattle.agreement_laws.specs.Fronts.{IsFront}

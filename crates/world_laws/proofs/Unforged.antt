@@ -5,16 +5,16 @@ use Rattle.std.specs.List.{list_any}
 use Rattle.smart_base.specs.Lists.{Each}
 use Rattle.smart_base.specs.declared.party.Party.{Party}
 use Rattle.smart_base.specs.declared.party.Party.TheVariants as parties
-use Rattle.smart_messages.specs.Forms.{SignedBy}
-use Rattle.smart_messages.specs.Messages.{Batch}
-use Rattle.smart_messages.specs.declared.statement.Request.{Request}
-use Rattle.smart_messages.specs.declared.statement.Ballot.{Ballot}
-use Rattle.smart_messages.specs.declared.statement.Answer.{Answer}
-use Rattle.smart_messages.specs.declared.report.Mark.{Mark}
-use Rattle.smart_messages.specs.declared.report.Report.{Report}
-use Rattle.smart_messages.specs.declared.report.Evidence.{Evidence}
-use Rattle.smart_messages.specs.declared.report.Evidence.TheVariants as evidence
-use Rattle.smart_messages.specs.declared.report.LockCertificate.{LockCertificate}
+use Rattle.smart_statements.specs.Forms.{SignedBy}
+use Rattle.smart_statements.specs.Batches.{Batch}
+use Rattle.smart_statements.specs.declared.statement.Request.{Request}
+use Rattle.smart_statements.specs.declared.statement.Ballot.{Ballot}
+use Rattle.smart_statements.specs.declared.statement.Answer.{Answer}
+use Rattle.smart_statements.specs.declared.report.Mark.{Mark}
+use Rattle.smart_statements.specs.declared.report.Report.{Report}
+use Rattle.smart_statements.specs.declared.report.Evidence.{Evidence}
+use Rattle.smart_statements.specs.declared.report.Evidence.TheVariants as evidence
+use Rattle.smart_statements.specs.declared.report.LockCertificate.{LockCertificate}
 use Rattle.smart_messages.specs.declared.regency.RegencyMessage.TheVariants as changes
 use Rattle.smart_messages.specs.declared.message.Message.TheVariants.{Ask, Propose, Vote, Reply}
 use Rattle.smart_messages.specs.declared.any.AnyMessage.{AnyMessage}

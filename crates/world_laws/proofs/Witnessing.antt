@@ -8,8 +8,8 @@ use Rattle.smart_base.specs.Lists.{Each, Distinct}
 use Rattle.smart_base.specs.Views.{View, ascends, is_view}
 use Rattle.smart_base.specs.declared.party.Party.TheVariants.{Member}
 use Rattle.smart_messages.specs.declared.any.AnyMessage.{AnyMessage}
-use Rattle.smart_messages.specs.declared.entry.NodeEvent.{NodeEvent}
-use Rattle.smart_messages.specs.declared.entry.NodeEvent.TheVariants.{Arrive, Tick, Deliver, Firm}
+use Rattle.smart_statements.specs.declared.entry.NodeEvent.{NodeEvent}
+use Rattle.smart_statements.specs.declared.entry.NodeEvent.TheVariants.{Arrive, Tick, Deliver, Firm}
 use Rattle.vote_book.specs.Books.{Among, Lawful}
 use Rattle.vote_book.specs.declared.entry.LogEntry.{LogEntry}
 use Rattle.replica_rules.specs.Seals.{digest_of}

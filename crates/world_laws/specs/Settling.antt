@@ -1,7 +1,7 @@
 -- The worlds of a play in which a node settles.
 use Rattle.std.specs.Prelude.{ℕ, ◌+◌, ◌≡◌, List, slice_get}
 use Rattle.smart_base.specs.Views.{View}
-use Rattle.smart_messages.specs.declared.entry.NodeEvent.TheVariants.{Arrive}
+use Rattle.smart_statements.specs.declared.entry.NodeEvent.TheVariants.{Arrive}
 use Rattle.smart_service.specs.Services.{Meaning}
 use Rattle.world_rules.specs.Repeats.{repeated, each_from}
 use Rattle.world_rules.specs.Worlds.{course_of, World, node_takes, settle_once, at_listed, settle_present, settle_all, gives, flow_once, begun}

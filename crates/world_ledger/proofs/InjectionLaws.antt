@@ -5,11 +5,11 @@ use Rattle.std.specs.List.{flat_map}
 use Rattle.std.specs.Option.{option_and_then}
 use Rattle.std.proofs.lemmas.Bool.Decides.{nat_tests}
 use Rattle.smart_base.specs.Spelling.{u16}
-use Rattle.smart_messages.specs.Forms.{SignedBy}
-use Rattle.smart_messages.specs.Kinds.{requests}
-use Rattle.smart_messages.specs.Messages.{Batch, batch_text}
-use Rattle.smart_messages.specs.Spelling.{signed}
-use Rattle.smart_messages.specs.declared.statement.Request.{Request}
+use Rattle.smart_statements.specs.Forms.{SignedBy}
+use Rattle.smart_statements.specs.Kinds.{requests}
+use Rattle.smart_statements.specs.Batches.{Batch, batch_text}
+use Rattle.smart_statements.specs.Spelling.{signed}
+use Rattle.smart_statements.specs.declared.statement.Request.{Request}
 use Rattle.world_rules.specs.Injections.{request_at, requests_at, are_bytes}
 use Rattle.world_rules.specs.declared.message.Sent.{Sent}
 use Rattle.world_ledger.specs.Proposals.{is_proposable, proposable}

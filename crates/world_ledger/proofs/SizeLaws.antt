@@ -7,17 +7,17 @@ use Rattle.std.specs.Option.{option_and_then}
 use Rattle.smart_base.specs.Spelling.{u8, u16, u32, u64, behind}
 use Rattle.smart_keys.specs.Keys.{tag_of}
 use Rattle.smart_keys.proofs.Tags.{tag_of-length}
-use Rattle.smart_messages.specs.Forms.{Form, SignedBy, party_of}
-use Rattle.smart_messages.specs.Kinds.{ballots}
-use Rattle.smart_messages.specs.Messages.{batch_text}
+use Rattle.smart_statements.specs.Forms.{Form, SignedBy, party_of}
+use Rattle.smart_statements.specs.Kinds.{ballots}
+use Rattle.smart_statements.specs.Batches.{batch_text}
 use Rattle.smart_messages.specs.RegencyMessages.{any_spelling, change_spelling}
-use Rattle.smart_messages.specs.Spelling as spelling
-use Rattle.smart_messages.specs.SignedLists.{optional, listed}
-use Rattle.smart_messages.specs.Reports.{lock_certificate, reports, report}
+use Rattle.smart_statements.specs.Spelling as spelling
+use Rattle.smart_statements.specs.SignedLists.{optional, listed}
+use Rattle.smart_statements.specs.Reports.{lock_certificate, reports, report}
 use Rattle.smart_messages.specs.Regencies.{syncs, sync}
-use Rattle.smart_messages.specs.declared.report.Evidence.TheVariants as evidence
-use Rattle.smart_messages.specs.declared.report.LockCertificate.{LockCertificate}
-use Rattle.smart_messages.specs.declared.report.Report.{Report}
+use Rattle.smart_statements.specs.declared.report.Evidence.TheVariants as evidence
+use Rattle.smart_statements.specs.declared.report.LockCertificate.{LockCertificate}
+use Rattle.smart_statements.specs.declared.report.Report.{Report}
 use Rattle.smart_messages.specs.declared.regency.Reported.{Reported}
 use Rattle.smart_messages.specs.declared.regency.Sync.{Sync}
 use Rattle.smart_messages.specs.declared.regency.RegencyMessage.TheVariants as changes

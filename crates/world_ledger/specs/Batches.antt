@@ -1,8 +1,8 @@
 -- The batches that stand in messages.
 use Rattle.std.specs.Prelude.{Option, Some, None}
-use Rattle.smart_messages.specs.Forms.{SignedBy}
-use Rattle.smart_messages.specs.Messages.{Batch}
-use Rattle.smart_messages.specs.declared.statement.Request.{Request}
+use Rattle.smart_statements.specs.Forms.{SignedBy}
+use Rattle.smart_statements.specs.Batches.{Batch}
+use Rattle.smart_statements.specs.declared.statement.Request.{Request}
 use Rattle.smart_messages.specs.declared.regency.Reported.{Reported}
 use Rattle.world_rules.specs.Injections as worlds
 use Rattle.world_ledger.specs.declared.injection.Locked.{Locked}

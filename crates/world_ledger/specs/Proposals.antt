@@ -1,7 +1,7 @@
 -- Which requests a script may have proposed.
 use Rattle.std.specs.Prelude.{nat_le, Bool, ◌&&◌, length, if◌then◌else◌, Option, Some, None}
 use Rattle.std.specs.Option.{option_and_then}
-use Rattle.smart_messages.specs.Messages.{Batch, batch_text}
+use Rattle.smart_statements.specs.Batches.{Batch, batch_text}
 
 -- 1 to 64 requests of at most 262,144 bytes
 abbrev pub is_proposable : Batch → Bool

@@ -1,12 +1,12 @@
 -- Which reports a script may inject, and which beginnings of regencies: those that pass no limit of a message.
 use Rattle.std.specs.Prelude.{ℕ, ◌+◌, ◌^◌, nat_lt, nat_le, Bool, false, ◌&&◌, List, length, Option, Some, None}
 use Rattle.std.specs.List.{flat_map}
-use Rattle.smart_messages.specs.Forms.{SignedBy}
-use Rattle.smart_messages.specs.Messages.{batch_text}
-use Rattle.smart_messages.specs.Spelling.{signed}
-use Rattle.smart_messages.specs.SignedLists.{optional}
-use Rattle.smart_messages.specs.Reports.{lock_certificate, reports}
-use Rattle.smart_messages.specs.declared.report.Report.{Report}
+use Rattle.smart_statements.specs.Forms.{SignedBy}
+use Rattle.smart_statements.specs.Batches.{batch_text}
+use Rattle.smart_statements.specs.Spelling.{signed}
+use Rattle.smart_statements.specs.SignedLists.{optional}
+use Rattle.smart_statements.specs.Reports.{lock_certificate, reports}
+use Rattle.smart_statements.specs.declared.report.Report.{Report}
 use Rattle.world_rules.specs.Injections.{Locked}
 
 -- a report that takes this over is 60 bytes longer than that

@@ -1,14 +1,14 @@
 //! How many bytes parts of messages have. It takes no memory to count them.
 ghost use Rattle.std.specs.Prelude.{◌≡◌, ◌<◌, ◌^◌, length};
 ghost use Rattle.std.specs.List.{flat_map};
-ghost use Rattle.smart_messages.specs.Messages.{batch_text};
-ghost use Rattle.smart_messages.specs.Reports.{lock_certificate};
-ghost use Rattle.smart_messages.specs.SignedLists.{optional};
-ghost use Rattle.smart_messages.specs.Spelling.{signed};
+ghost use Rattle.smart_statements.specs.Batches.{batch_text};
+ghost use Rattle.smart_statements.specs.Reports.{lock_certificate};
+ghost use Rattle.smart_statements.specs.SignedLists.{optional};
+ghost use Rattle.smart_statements.specs.Spelling.{signed};
 
-use smart_messages::batch::Batch;
-use smart_messages::report::LockCertificate;
-use smart_messages::signed::{Signed, Statement};
+use smart_statements::batch::Batch;
+use smart_statements::report::LockCertificate;
+use smart_statements::signed::{Signed, Statement};
 
 /// The bytes of statements.
 fn each_len<S: Statement>(items: &[Signed<S>]) -> usize
@@ -36,7 +36,7 @@ pub fn lock_len(lock: &Option<LockCertificate>) -> usize
 }
 
 /// The bytes of a batch behind a 1, or of a 0 where there is none.
-#[tactic(auto, unfolding(smart_messages::specs::Messages::batch_text))]
+#[tactic(auto, unfolding(smart_statements::specs::Batches::batch_text))]
 pub fn batch_len(batch: &Option<Batch>) -> usize
     ensures value { result ≡ length (optional batch_text batch.now) }
     ensures small { result < 2 ^ 51 }

@@ -2,7 +2,7 @@ use crate::reading::{app_line, line_of};
 use crate::text::{app_text, text_of};
 use smart_base::name::{ClientId, MemberId};
 use smart_base::number::{Place, Regency, ViewNo};
-use smart_messages::statement::{Slot, VoteKind};
+use smart_statements::statement::{Slot, VoteKind};
 use std::alloc::{AllocError, Global};
 use std::fmt::Write;
 use std::process::Abort;

@@ -6,10 +6,10 @@ use crate::fault::CertFault;
 use smart_base::number::{Place, Regency, ViewNo};
 use smart_base::view::View;
 use smart_keys::ring::Ring;
-use smart_messages::report::{DecisionProof, Evidence, LockCertificate, MarkCertificate, Report};
-use smart_messages::signed::Signed;
-use smart_messages::signed_list::SignedList;
-use smart_messages::statement::{Ballot, VoteKind};
+use smart_statements::report::{DecisionProof, Evidence, LockCertificate, MarkCertificate, Report};
+use smart_statements::signed::Signed;
+use smart_statements::signed_list::SignedList;
+use smart_statements::statement::{Ballot, VoteKind};
 use std::alloc::Global;
 use std::test::Fail;
 

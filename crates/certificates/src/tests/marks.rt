@@ -4,8 +4,8 @@ use crate::fault::CertFault;
 use smart_base::number::Place;
 use smart_base::view::View;
 use smart_keys::ring::Ring;
-use smart_messages::report::Mark;
-use smart_messages::signed::Signed;
+use smart_statements::report::Mark;
+use smart_statements::signed::Signed;
 use std::alloc::Global;
 use std::test::Fail;
 

@@ -5,8 +5,8 @@ use smart_base::number::{Place, Regency, ViewNo};
 use smart_base::sequence::Bytes;
 use smart_base::view::View;
 use smart_keys::ring::Ring;
-use smart_messages::signed::Signed;
-use smart_messages::statement::{Ballot, Slot, VoteKind};
+use smart_statements::signed::Signed;
+use smart_statements::statement::{Ballot, Slot, VoteKind};
 use std::alloc::Global;
 use std::test::Fail;
 

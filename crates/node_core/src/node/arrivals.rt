@@ -20,9 +20,9 @@ use smart_base::number::{Place, Regency, ViewNo};
 use smart_base::sequence::Sequence;
 use smart_messages::any::AnyMessage;
 use smart_messages::message::{Message, Proposed};
-use smart_messages::signed::{Signed, Statement};
-use smart_messages::statement::{Answer, Ballot, Slot};
 use smart_service::service::Service;
+use smart_statements::signed::{Signed, Statement};
+use smart_statements::statement::{Answer, Ballot, Slot};
 use std::alloc::AllocError;
 
 impl<S: Service> NodeState<S> {

@@ -16,10 +16,10 @@ use node_rules::node::Why;
 use request_pool::pool::Offer;
 use smart_base::duplicate::Duplicate;
 use smart_base::name::ClientId;
-use smart_messages::signed::Signed;
-use smart_messages::statement::Request;
 use smart_service::service::Service;
 use smart_service::table::TableLine;
+use smart_statements::signed::Signed;
+use smart_statements::statement::Request;
 use std::alloc::AllocError;
 
 /// Why a request is dropped that the pool answers so, where its number is less than that of its

@@ -3,8 +3,8 @@ ghost use Rattle.std.specs.Prelude.{◌≡◌, ◌+◌, ◌||◌, ◌&&◌, is_n
 ghost use Rattle.std.specs.List.{list_any};
 ghost use Rattle.smart_messages.specs.declared.any.AnyMessage.TheVariants as messages;
 ghost use Rattle.smart_messages.specs.declared.regency.RegencyMessage.TheVariants as changes;
-ghost use Rattle.smart_messages.specs.Forms.{SignedBy};
-ghost use Rattle.smart_messages.specs.declared.report.Report.{Report};
+ghost use Rattle.smart_statements.specs.Forms.{SignedBy};
+ghost use Rattle.smart_statements.specs.declared.report.Report.{Report};
 ghost use Rattle.replica_rules.specs.Seals.{is_verified};
 ghost use Rattle.node_rules.specs.Arrivals.{signer_why, wish_why, why_stop, is_marks, rests_on_marks, bears_lock, is_proven, why_report, is_collect, why_sync, why_dropped, is_newer, noted};
 ghost use Rattle.node_rules.specs.Steps.{arrival_outcome};
@@ -17,11 +17,11 @@ use node_restart::batch::is_batch_for;
 use node_rules::node::Why;
 use regency_sync::choosing::choice;
 use smart_base::number::{Place, Regency, ViewNo};
-use smart_messages::batch::Batch;
 use smart_messages::regency::{RegencyMessage, Reported, Stop, Sync};
-use smart_messages::report::{Evidence, LockCertificate, Report};
-use smart_messages::signed::{Signed, Statement};
 use smart_service::service::Service;
+use smart_statements::batch::Batch;
+use smart_statements::report::{Evidence, LockCertificate, Report};
+use smart_statements::signed::{Signed, Statement};
 use std::alloc::AllocError;
 
 fn is_marks(evidence: &Evidence) -> bool

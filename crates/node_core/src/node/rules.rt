@@ -2,9 +2,9 @@
 //! it, and both.
 ghost use Rattle.std.specs.Prelude.{◌≡◌, None, ◌==◌, if◌then◌else◌, ◌+◌, ◌<◌, ◌^◌, ◌++◌, true, IfOk, IfSome, OnOk, IsSome, Some, option_map, filter_map, OnErr, ◌∷◌, []};
 ghost use Rattle.std.specs.Option.{option_copied};
-ghost use Rattle.smart_messages.specs.Kinds.{proposals};
+ghost use Rattle.smart_statements.specs.Kinds.{proposals};
 ghost use Rattle.smart_messages.specs.declared.message.Proposed.{Proposed};
-ghost use Rattle.smart_messages.specs.declared.statement.VoteKind.TheVariants as kinds;
+ghost use Rattle.smart_statements.specs.declared.statement.VoteKind.TheVariants as kinds;
 ghost use Rattle.smart_messages.specs.declared.any.AnyMessage.TheVariants as messages;
 ghost use Rattle.smart_base.specs.Lists.{or_else};
 ghost use Rattle.vote_book.specs.declared.entry.Accept.{Accept};
@@ -33,12 +33,12 @@ use smart_base::duplicate::Duplicate;
 use smart_base::number::{Place, Regency};
 use smart_base::sequence::Sequence;
 use smart_messages::any::AnyMessage;
-use smart_messages::batch::Batch;
 use smart_messages::message::{Message, Proposed};
-use smart_messages::signed::Signed;
-use smart_messages::statement::{Answer, Ballot, Proposal, Slot, VoteKind};
 use smart_service::service::Service;
 use smart_service::table::TableLine;
+use smart_statements::batch::Batch;
+use smart_statements::signed::Signed;
+use smart_statements::statement::{Answer, Ballot, Proposal, Slot, VoteKind};
 use std::alloc::AllocError;
 use vote_book::entry::{Accept, Decision, LogEntry, Write};
 

@@ -7,11 +7,11 @@ use smart_base::name::{ClientId, MemberId};
 use smart_base::number::{Place, Regency, ViewNo};
 use smart_base::sequence::Bytes;
 use smart_base::view::View;
-use smart_messages::batch::Batch;
-use smart_messages::report::Mark;
-use smart_messages::signed::Signed;
-use smart_messages::signed_list::SignedList;
-use smart_messages::statement::{Request, Slot};
+use smart_statements::batch::Batch;
+use smart_statements::report::Mark;
+use smart_statements::signed::Signed;
+use smart_statements::signed_list::SignedList;
+use smart_statements::statement::{Request, Slot};
 use std::alloc::Global;
 use std::test::Fail;
 

@@ -1,6 +1,6 @@
 use Rattle.std.proofs.Common.{filter_map, ap, sym, ◌∙◌}
 use Rattle.std.specs.Option.{option_copied}
-use Rattle.smart_messages.specs.declared.statement.VoteKind.TheVariants as kinds
+use Rattle.smart_statements.specs.declared.statement.VoteKind.TheVariants as kinds
 use Rattle.node_rules.specs.Votes.{has_quorum}
 use Rattle.vote_book.specs.BookReports.{accept_for}
 use Rattle.vote_book.specs.declared.entry.Accept.{Accept}

@@ -1,5 +1,5 @@
 use Rattle.std.proofs.Common.{◌≡◌, drop, find, filter_map}
-use Rattle.smart_messages.specs.declared.statement.VoteKind.TheVariants as kinds
+use Rattle.smart_statements.specs.declared.statement.VoteKind.TheVariants as kinds
 use Rattle.vote_book.specs.BookReports.{accept_for}
 use Rattle.vote_book.specs.declared.entry.Accept.{Accept}
 use Rattle.node_rules.specs.Votes.{has_quorum}

@@ -1,6 +1,6 @@
 use Rattle.std.proofs.Common.{◌≡◌, true}
-use Rattle.smart_messages.specs.Forms.{SignedBy}
-use Rattle.smart_messages.specs.declared.statement.Request.{Request}
+use Rattle.smart_statements.specs.Forms.{SignedBy}
+use Rattle.smart_statements.specs.declared.statement.Request.{Request}
 use Rattle.node_rules.specs.Steps.{opened}
 use Rattle.replica_laws.proofs.Authentic.{authentic_after, authentic-opened}
 use Rattle.replica_laws.proofs.laws.holds_what_was_asked.Goals as goal

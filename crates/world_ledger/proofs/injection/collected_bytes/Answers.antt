@@ -1,7 +1,7 @@
 use Rattle.std.proofs.Common.{◌≡◌, ◌∙◌, List, ℕ, ap}
-use Rattle.smart_messages.specs.Forms.{SignedBy}
+use Rattle.smart_statements.specs.Forms.{SignedBy}
 use Rattle.smart_messages.specs.Regencies.{syncs}
-use Rattle.smart_messages.specs.declared.report.Report.{Report}
+use Rattle.smart_statements.specs.declared.report.Report.{Report}
 use Rattle.smart_messages.specs.declared.regency.Sync.{Sync}
 use Rattle.replica_rules.specs.Seals.{signed}
 use Rattle.world_rules.specs.Secrets.{group_secret}

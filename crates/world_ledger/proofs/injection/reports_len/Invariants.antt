@@ -1,7 +1,7 @@
 use Rattle.std.proofs.Common.{◌≡◌, ◌+◌, ◌*◌, ◌^◌, ◌≤◌, drop, length, option_map}
 use Rattle.std.specs.List.{flat_map}
-use Rattle.smart_messages.specs.Reports.{reports}
-use Rattle.smart_messages.specs.Spelling.{signed}
+use Rattle.smart_statements.specs.Reports.{reports}
+use Rattle.smart_statements.specs.Spelling.{signed}
 use Rattle.world_rules.specs.Injections.{reports_at}
 use Rattle.world_ledger.proofs.injection.reports_len.Given as goal
 

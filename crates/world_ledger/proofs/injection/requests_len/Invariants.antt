@@ -1,7 +1,7 @@
 use Rattle.std.proofs.Common.{◌≡◌, ◌+◌, ◌*◌, ◌^◌, ◌≤◌, drop, length, option_map}
 use Rattle.std.specs.List.{flat_map}
-use Rattle.smart_messages.specs.Kinds.{requests}
-use Rattle.smart_messages.specs.Spelling.{signed}
+use Rattle.smart_statements.specs.Kinds.{requests}
+use Rattle.smart_statements.specs.Spelling.{signed}
 use Rattle.world_rules.specs.Injections.{requests_at}
 use Rattle.world_ledger.proofs.injection.requests_len.Given as goal
 

@@ -1,6 +1,6 @@
 use Rattle.std.proofs.Common.{◌≡◌, ◌+◌, ◌*◌, ◌^◌, ◌≤◌, drop, length}
 use Rattle.std.specs.List.{flat_map}
-use Rattle.smart_messages.specs.Spelling.{signed}
+use Rattle.smart_statements.specs.Spelling.{signed}
 use Rattle.world_ledger.proofs.size.each_len.Given as goal
 
 -- the bytes so far and those of the statements left are all

@@ -1,5 +1,5 @@
 use Rattle.std.proofs.Common.{refl, ap, ◌∙◌}
-use Rattle.smart_messages.specs.declared.statement.VoteKind.TheVariants.{Write}
+use Rattle.smart_statements.specs.declared.statement.VoteKind.TheVariants.{Write}
 use Rattle.vote_book.specs.Books.{Book}
 use Rattle.vote_book.specs.declared.entry.LogEntry.TheVariants.{Accepted}
 use Rattle.node_rules.specs.Nodes.{Node, view_of, open_slot}

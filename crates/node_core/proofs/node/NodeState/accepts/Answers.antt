@@ -1,5 +1,5 @@
 use Rattle.std.proofs.Common.{refl, ap, ◌∙◌}
-use Rattle.smart_messages.specs.declared.statement.Proposal.{Proposal}
+use Rattle.smart_statements.specs.declared.statement.Proposal.{Proposal}
 use Rattle.node_core.proofs.Changes.{accepts_where}
 use Rattle.node_core.proofs.Broken.{on_err, accept_stops, accepted_stops}
 use Rattle.node_core.proofs.node.NodeState.accepts.Goals as goal

@@ -1,5 +1,5 @@
 use Rattle.std.proofs.Common.{refl, ap, ◌∙◌}
-use Rattle.smart_messages.specs.declared.statement.Slot.{Slot}
+use Rattle.smart_statements.specs.declared.statement.Slot.{Slot}
 use Rattle.vote_book.specs.Books.{Book}
 use Rattle.vote_book.specs.declared.entry.LogEntry.TheVariants.{Wrote}
 use Rattle.node_rules.specs.Nodes.{Node, open_slot}

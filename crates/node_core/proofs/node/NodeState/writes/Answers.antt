@@ -1,5 +1,5 @@
 use Rattle.std.proofs.Common.{refl, ap, ◌∙◌}
-use Rattle.smart_messages.specs.declared.statement.Proposal.{Proposal}
+use Rattle.smart_statements.specs.declared.statement.Proposal.{Proposal}
 use Rattle.node_core.proofs.Changes.{writes_where}
 use Rattle.node_core.proofs.Broken.{on_err, write_stops, wrote_stops}
 use Rattle.node_core.proofs.node.NodeState.writes.Goals as goal

@@ -1,5 +1,5 @@
 use Rattle.std.proofs.Common.{◌≡◌, ◌-◌}
-use Rattle.smart_messages.specs.declared.entry.NodeEvent.TheVariants.{Arrive}
+use Rattle.smart_statements.specs.declared.entry.NodeEvent.TheVariants.{Arrive}
 use Rattle.world_rules.specs.Repeats.{each_from}
 use Rattle.world_rules.specs.Worlds.{core_course, gives, at_listed, give_all}
 use Rattle.world_core.proofs.state.WorldState.give_all.Given as goal
