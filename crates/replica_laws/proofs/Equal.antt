@@ -1,5 +1,5 @@
 -- Tests of equality that say yes.
-use Rattle.std.proofs.Common.{◌≡◌, ℕ, Bool, true, false, ◌&&◌, ◌==◌, List, [], ◌∷◌, refl, ap, ◌∙◌, eqb-true, eq-eqb, subst}
+use Rattle.std.proofs.Common.{◌≡◌, ℕ, Bool, true, false, ◌&&◌, ◌==◌, List, [], ◌∷◌, refl, ap, ◌∙◌, eqb-true, eq-eqb}
 use Rattle.smart_base.proofs.SameLists.{same_list-equal}
 use Rattle.smart_statements.specs.Equality.{same_slot, same_kind}
 use Rattle.smart_base.specs.Lists.{same_list, same_bytes}
@@ -36,17 +36,6 @@ same_slot-equal a b same =
 pub and_intro : (a b : Bool) → a ≡ true → b ≡ true → (a && b) ≡ true
 and_intro true b ea eb = eb
 and_intro false b ea eb = absurd (cc)
-
--- a slot is the same as itself
-pub slot-itself : (slot : Slot) → same_slot slot slot ≡ true
-slot-itself slot =
-    and_intro ((slot.view == slot.view) && (slot.place == slot.place)) (slot.regency == slot.regency)
-    (and_intro (slot.view == slot.view) (slot.place == slot.place) (eq-eqb slot.view slot.view refl) (eq-eqb slot.place slot.place refl))
-    (eq-eqb slot.regency slot.regency refl)
-
--- slots that are equal are the same
-pub slot-same : (s slot : Slot) → s ≡ slot → same_slot s slot ≡ true
-slot-same s slot same = subst (λ (x : Slot). same_slot s x ≡ true) same (slot-itself s)
 
 -- lists are alike themselves where each value is
 same_list-itself : {A : Type 0} (alike : A → A → Bool) → ((x : A) → alike x x ≡ true) → (xs : List A) → same_list alike xs xs ≡ true

@@ -11,7 +11,6 @@ pub mod InOrder
 pub mod Follows
 pub mod Entered
 pub mod Steady
-pub mod SteadyAgain
 pub mod Counted
 pub mod Waiting
 pub mod Onward

@@ -3,7 +3,6 @@ pub mod Rests
 pub mod Keeps
 pub mod Numbered
 pub mod Hearing
-pub mod Bounded
 pub mod CoreWorlds
 pub mod Fronts
 pub mod Equal
@@ -37,9 +36,6 @@ pub mod Accepted
 pub mod Told
 pub mod Kept
 pub mod OneListLaw
-pub mod Calls
-pub mod Supplied
-pub mod Settles
 pub mod Example
 pub mod Later
 pub mod Survived
