@@ -36,6 +36,3 @@ pub mod Accepted
 pub mod Told
 pub mod Kept
 pub mod OneListLaw
-pub mod Example
-pub mod Later
-pub mod Survived
