@@ -104,10 +104,6 @@ pub each_from : {A : Type 0} (P : A → Type 0) (xs : List A) → ((x : A) → A
 each_from P [] all = tt
 each_from P (x ∷ xs) all = (all x (inl refl), each_from P xs (λ y there. all y (inr there)))
 
-pub each_left : {A : Type 0} (P : A → Type 0) (xs ys : List A) → Each P (xs ++ ys) → Each P xs
-each_left P [] ys each = tt
-each_left P (x ∷ xs) ys each = (each.0, each_left P xs ys each.1)
-
 pub each_append : {A : Type 0} (P : A → Type 0) (xs ys : List A) → Each P xs → Each P ys → Each P (xs ++ ys)
 each_append P [] ys left right = right
 each_append P (x ∷ xs) ys left right = (left.0, each_append P xs ys left.1 right)

@@ -134,10 +134,6 @@ pub each_map : {A B : Type 0} (P : B → Type 0) (f : A → B) (xs : List A) →
 each_map P f [] each = tt
 each_map P f (x ∷ xs) each = (each.0, each_map P f xs each.1)
 
-pub each_flat : {A B : Type 0} (P : B → Type 0) (f : A → List B) (xs : List A) → Each (λ x. Each P (f x)) xs → Each P (flat_map f xs)
-each_flat P f [] each = tt
-each_flat P f (x ∷ xs) each = each_append P (f x) (flat_map f xs) each.0 (each_flat P f xs each.1)
-
 -- what holds of a value, if there is one, as each value gives it
 pub each_filter_map : {A B : Type 0} (P : B → Type 0) (f : A → Option B) (xs : List A) → ((x : A) (y : B) → f x ≡ Some y → P y) → Each P (filter_map f xs)
 each_filter_map P f [] all = tt

@@ -1,6 +1,5 @@
 -- What a longer list executes, and what a line of a list's executions says.
-use Rattle.std.proofs.Common.{◌≡◌, ℕ, zero, suc, ◌+◌, ◌-◌, ◌≤◌, ◌++◌, Bool, true, false, List, [], ◌∷◌, length, refl, ap, ◌∙◌, sym, cond, Some, None, inl, inr, subst, take, arith, append_assoc, add-one}
-use Rattle.std.proofs.lemmas.Option.{slice_get_within}
+use Rattle.std.proofs.Common.{◌≡◌, ℕ, zero, suc, ◌+◌, ◌-◌, ◌++◌, Bool, true, false, List, [], ◌∷◌, refl, ap, ◌∙◌, sym, cond, Some, None, inl, inr, subst, take, arith, append_assoc, add-one}
 use Rattle.std.specs.Prelude.{slice_get}
 use Rattle.std.specs.Option.{option_to_list}
 use Rattle.smart_base.specs.Lists.{Each}
@@ -42,27 +41,6 @@ pub executions-more : {S : Type 0} (m : Meaning S) (v : View) (list more : List 
 executions-more m v list more l has =
     subst (λ lines. HasLine lines l) (sym (executions-append m (empty m v) list more))
     (has_left (executions m v list) (executions_from m (state m v list) more) l has)
-
--- one more batch is delivered last
-after_end : {S : Type 0} (m : Meaning S) (r : Replica S) (list : List Batch) (batch : Batch) → after_batches m r (list ++ batch ∷ []) ≡ delivered m (after_batches m r list) batch
-after_end m r [] batch = refl
-after_end m r (b ∷ list) batch = after_end m (delivered m r b) list batch
-
--- one more batch is delivered to the state before it
-pub state-end : {S : Type 0} (m : Meaning S) (v : View) (list : List Batch) (batch : Batch) → state m v (list ++ batch ∷ []) ≡ delivered m (state m v list) batch
-state-end m v list batch = after_end m (empty m v) list batch
-
--- each batch takes a place behind the replica's
-after_place : {S : Type 0} (m : Meaning S) (r : Replica S) (list : List Batch) → (after_batches m r list).place ≡ r.place + length list
-after_place m r [] = omega arith
-after_place m r (batch ∷ list) =
-    let place = place-delivered m r batch in
-    let rest = after_place m (delivered m r batch) list in
-    omega (arith, place, rest)
-
--- each batch takes a place
-pub state-place : {S : Type 0} (m : Meaning S) (v : View) (list : List Batch) → (state m v list).place ≡ length list
-state-place m v list = let place = after_place m (empty m v) list in omega (arith, place)
 
 -- of two replicas with the same views, a choice has them
 views_if : {S : Type 0} (b : Bool) (x y : Replica S) → x.views ≡ y.views → (cond b x y).views ≡ y.views
@@ -207,13 +185,6 @@ batch_all m r (batch ∷ list) =
 -- a line of a list's executions is of one of its batches
 of_line : {S : Type 0} (m : Meaning S) (v : View) (list : List Batch) (l : TableLine) → HasLine (executions m v list) l → OfBatch (empty m v) list l
 of_line m v list l has = each_line (OfBatch (empty m v) list) (executions m v list) l (batch_all m (empty m v) list) has
-
--- a line stands at a place of the list
-pub place-line : {S : Type 0} (m : Meaning S) (v : View) (list : List Batch) (l : TableLine) → HasLine (executions m v list) l → (1 ≤ l.place) × (l.place ≤ length list)
-place-line m v list l has =
-    let is = of_line m v list l has in
-    let within = slice_get_within list is.step is.batch is.batch_there in
-    (omega (arith, is.at_place), omega (arith, is.at_place, within))
 
 -- the request of a line: it stands at the line's place and index
 pub record IsOfRequest (list : List Batch) (l : TableLine) : Type 0 where

@@ -2,7 +2,7 @@
 use Rattle.std.proofs.Common.{◌≡◌, ℕ, zero, suc, ◌+◌, ◌≤◌, ◌^◌, ◌++◌, Bool, true, false, List, [], ◌∷◌, length, refl, ap, ◌∙◌, sym, arith, cond, Option, Some, None, is_some, is_none, nat_lt, take, length-append}
 use Rattle.std.proofs.lemmas.List.{take-append-le}
 use Rattle.std.specs.Prelude.{slice_get}
-use Rattle.smart_base.specs.Views.{View, present}
+use Rattle.smart_base.specs.Views.{View}
 use Rattle.smart_statements.specs.Batches.{Batch}
 use Rattle.smart_statements.specs.declared.statement.Request.{Request}
 use Rattle.smart_messages.specs.declared.message.Proposed.{Proposed}
@@ -19,18 +19,18 @@ use Rattle.replica_rules.specs.Replicas.{is_next, execute, execute_all, at_next,
 use Rattle.replica_rules.specs.Pools.{settled}
 use Rattle.node_rules.specs.Rules.{reply_of, replying, lines_to_answer, deliver_batch, delivers, proposes, writing, write_batch, writes, accepting, accept_batch, accepts, deciding, decide_batch, decides, answers_again}
 use Rattle.node_rules.specs.declared.node.Target.TheVariants as targets
-use Rattle.node_rules.specs.Nodes.{Node, holding, view_of, next_place, open_slot, is_free}
+use Rattle.node_rules.specs.Nodes.{Node, holding, next_place, open_slot, is_free}
 use Rattle.node_rules.specs.Arrivals.{kept, noted}
 use Rattle.node_rules.specs.Changes.{adoption, adopts, joins, next_promise, promising, promise_next, promises, leads, times}
 use Rattle.node_rules.specs.Kept.{node_after}
-use Rattle.node_rules.specs.Steps.{votes, step_of, opened, released}
+use Rattle.node_rules.specs.Steps.{step_of, opened, released}
 use Rattle.node_rules.specs.Reopening.{decided_of}
 use Rattle.replica_laws.specs.Books.{DeliversInOrder}
 use Rattle.replica_laws.proofs.Lists.{and_true, either}
 use Rattle.replica_laws.proofs.Again.{entries-noted, entries-answers_again}
 use Rattle.replica_laws.proofs.Once.{guard_passed, entries-kept, entries-joins, entries-leads, entries-proposes, entries-times, entries_adopted}
 use Rattle.replica_laws.proofs.Leaves.{Leaves, leaves-adopts, leaves-joins, leaves-promises, leaves-leads, leaves-proposes, leaves-writes, leaves-accepts, leaves-times, leaves-answers_again, leaves-noted, leaves-kept}
-use Rattle.replica_laws.proofs.Rulewise.{KeptByRules, KeptInSteps, free-event, keeps_step, keeps_votes}
+use Rattle.replica_laws.proofs.Rulewise.{KeptByRules, KeptInSteps, free-event, keeps_step}
 
 -- lists
 
@@ -94,40 +94,10 @@ pub place-delivered : {S : Type 0} (m : Meaning S) (r : Replica S) (batch : Batc
 unfolding delivered
 place-delivered m r batch = place-execute_all m (at_next r) 0 batch
 
--- both branches keep the views
-views-if : {S : Type 0} (b : Bool) (x y : Replica S) → x.views ≡ y.views → (cond b x y).views ≡ y.views
-views-if true x y same = same
-views-if false x y same = refl
-
--- a request changes no view
-views-execute : {S : Type 0} (m : Meaning S) (r : Replica S) (i : ℕ) (q : Request) → (execute m r i q).views ≡ r.views
-unfolding execute
-views-execute m r i q = views-if (is_next r.table q) _ r refl
-
--- requests change no view
-views-execute_all : {S : Type 0} (m : Meaning S) (r : Replica S) (i : ℕ) (qs : Batch) → (execute_all m r i qs).views ≡ r.views
-views-execute_all m r i [] = refl
-views-execute_all m r i (q ∷ qs) = views-execute_all m (execute m r i q.statement) (i + 1) qs ∙ views-execute m r i q.statement
-
--- a batch changes no view
-pub views-delivered : {S : Type 0} (m : Meaning S) (r : Replica S) (batch : Batch) → (delivered m r batch).views ≡ r.views
-unfolding delivered
-views-delivered m r batch = views-execute_all m (at_next r) 0 batch
-
--- batches change no view
-pub views-after_batches : {S : Type 0} (m : Meaning S) (r : Replica S) (bs : List Batch) → (after_batches m r bs).views ≡ r.views
-views-after_batches m r [] = refl
-views-after_batches m r (b ∷ bs) = views-after_batches m (delivered m r b) bs ∙ views-delivered m r b
-
 -- the state after one more batch
 pub after_end : {S : Type 0} (m : Meaning S) (r : Replica S) (bs : List Batch) (b : Batch) → after_batches m r (bs ++ b ∷ []) ≡ delivered m (after_batches m r bs) b
 after_end m r [] b = refl
 after_end m r (c ∷ bs) b = after_end m (delivered m r c) bs b
-
--- the view of a node that delivers in order is the one that it began with
-pub view-in_order : {S : Type 0} (m : Meaning S) (view : View) (n : Node S) → DeliversInOrder m view n → view_of n ≡ view
-view-in_order {S = S} m view n d =
-    ap present (ap (λ (r : Replica S). r.views) d.replica ∙ views-after_batches m (empty m view) (take n.replica.place (decided_of n.entries)))
 
 -- rules that leave the replica, the batch that waits and the decided batches
 
@@ -249,10 +219,6 @@ in_order-kept m view n message d = in_order_as m view n (kept n message) (leaves
 pub in_order-noted : {S : Type 0} (m : Meaning S) (view : View) (n : Node S) (message : AnyMessage) → DeliversInOrder m view n → DeliversInOrder m view (noted n message)
 in_order-noted m view n message d = in_order_as m view n (noted n message) (leaves-noted n message) (decided_as n (noted n message) (entries-noted n message)) d
 
--- and that keeps the arrival
-pub in_order-arrives : {S : Type 0} (m : Meaning S) (view : View) (n : Node S) (message : AnyMessage) → DeliversInOrder m view n → DeliversInOrder m view (kept (noted n message) message)
-in_order-arrives m view n message d = in_order-kept m view (noted n message) message (in_order-noted m view n message d)
-
 pub in_order-rules : {S : Type 0} (m : Meaning S) (view : View) → KeptByRules (λ (n : Node S). DeliversInOrder m view n)
 in_order-rules m view = record {
   by_adopts = λ n d. in_order_as m view n (adopts n) (leaves-adopts n) (decided-adopts n) d;
@@ -275,10 +241,6 @@ in_order-in_steps m view = record {
   by_kept = λ n message fine may d. in_order-kept m view n message d;
   by_delivers = λ n d. in_order-delivers m view n d;
 }
-
--- the voting rules
-pub in_order-votes : {S : Type 0} (m : Meaning S) (view : View) (n : Node S) → DeliversInOrder m view n → DeliversInOrder m view (votes n)
-in_order-votes m view n d = keeps_votes (λ x. DeliversInOrder m view x) n (in_order-rules m view) d
 
 -- a step
 pub in_order-step : {S : Type 0} (m : Meaning S) (view : View) (n : Node S) (event : NodeEvent) → DeliversInOrder m view n → DeliversInOrder m view (step_of m n event).node

@@ -5,7 +5,6 @@ pub mod Executions
 pub mod Rulewise
 pub mod Again
 pub mod Once
-pub mod WritesOnce
 pub mod Leaves
 pub mod InOrder
 pub mod Follows
@@ -20,5 +19,4 @@ pub mod Genuine
 pub mod Collected
 pub mod FitNodes
 pub mod FitBooks
-pub mod Voters
 pub mod Sources

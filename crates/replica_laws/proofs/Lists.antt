@@ -1,6 +1,6 @@
 -- Facts on lists and tests.
-use Rattle.std.proofs.Common.{◌≡◌, ℕ, zero, suc, ◌++◌, Bool, true, false, not, ◌&&◌, ◌||◌, List, [], ◌∷◌, refl, cond, Option, Some, None, subst, inl, inr, ◌⊎◌}
-use Rattle.std.specs.Prelude.{IfSome, slice_get, slice_set, option_map, find, filter}
+use Rattle.std.proofs.Common.{◌≡◌, ◌++◌, Bool, true, false, not, ◌&&◌, ◌||◌, List, [], ◌∷◌, refl, cond, Option, Some, None}
+use Rattle.std.specs.Prelude.{IfSome, option_map, find, filter}
 use Rattle.std.specs.List.{filter_map, cons_option}
 use Rattle.smart_base.specs.Lists.{Each, or_else}
 
@@ -13,18 +13,6 @@ and_true false b is = absurd (cc)
 pub or_false : (a b : Bool) → (a || b) ≡ false → (a ≡ false) × (b ≡ false)
 or_false true b is = absurd (cc)
 or_false false b is = (refl, is)
-
-pub or_true : (a b : Bool) → (a || b) ≡ true → (a ≡ true) ⊎ (b ≡ true)
-or_true true b is = inl refl
-or_true false b is = inr is
-
-pub or_left : (a b : Bool) → a ≡ true → (a || b) ≡ true
-or_left true b is = refl
-or_left false b is = absurd (cc)
-
-pub or_right : (a b : Bool) → b ≡ true → (a || b) ≡ true
-or_right true b is = refl
-or_right false b is = is
 
 pub not_true : (a : Bool) → not a ≡ true → a ≡ false
 not_true true is = absurd (cc)
@@ -61,16 +49,6 @@ pub each_both : {A : Type 0} (P Q R : A → Type 0) → ((x : A) → P x → Q x
 each_both P Q R both [] ep eq = tt
 each_both P Q R both (x ∷ xs) ep eq = (both x ep.0 eq.0, each_both P Q R both xs ep.1 eq.1)
 
-pub each_set : {A : Type 0} (P : A → Type 0) (xs : List A) (i : ℕ) (x : A) → Each P xs → P x → Each P (slice_set xs i x)
-each_set P [] i x each is = tt
-each_set P (y ∷ xs) zero x each is = (is, each.1)
-each_set P (y ∷ xs) (suc i) x each is = (each.0, each_set P xs i x each.1 is)
-
-pub each_get : {A : Type 0} (P : A → Type 0) (xs : List A) (i : ℕ) (x : A) → Each P xs → slice_get xs i ≡ Some x → P x
-each_get P [] i x each at = absurd (cc)
-each_get P (y ∷ xs) zero x each at = subst P (some-equal y x at) each.0
-each_get P (y ∷ xs) (suc i) x each at = each_get P xs i x each.1 at
-
 -- what the first of two gives that is there
 
 pub or_else-none : {A : Type 0} (x y : Option A) → or_else x y ≡ None → y ≡ None
@@ -86,11 +64,6 @@ pub third-none : {A : Type 0} (a b : Bool) (x y : A) (rest : Option A) → cond 
 third-none true b x y rest none = absurd (cc)
 third-none false true x y rest none = refl
 third-none false false x y rest none = absurd (cc)
-
--- and its tests have failed
-pub passes-on : {A : Type 0} (b : Bool) (why : A) (rest : Option A) → cond b (Some why) rest ≡ None → (b ≡ false) × (rest ≡ None)
-passes-on true why rest is = absurd (cc)
-passes-on false why rest is = (refl, is)
 
 -- what holds of a value, if there is one
 

@@ -44,7 +44,6 @@ use Rattle.node_rules.specs.Changes.{start_by_sync, promised_for, adopts_by, ado
 use Rattle.node_rules.specs.Steps.{step_of, released, opened}
 use Rattle.node_rules.specs.Reopening.{decided_of, stopped, reopened}
 use Rattle.node_laws.specs.Restored.{IsSoundBook}
-use Rattle.node_laws.specs.Sound.{IsBegun}
 use Rattle.node_laws.proofs.Deciding.{due_is}
 use Rattle.node_laws.proofs.Lists.{each_filter_map_in}
 use Rattle.node_laws.proofs.Reopened.{reopened_is, in_turn, count_is}
@@ -537,11 +536,6 @@ from-step {S = S} sources m n event came some from =
     keeps_step m (λ (x : Node S). IsFrom sources x) (λ message. HasSource sources message) n event (from_steps sources m) (λ x count good. is_from-as sources x _ refl refl refl refl good) came
     (record { from = from; some = some }) in
     is.from
-
--- a book that begins with its opening has an entry
-pub begun_some : (entries : List LogEntry) → IsBegun entries → 0 < length entries
-begun_some [] begun = absurd begun
-begun_some (e ∷ es) begun = omega arith
 
 -- what leaves is of no matter
 pub from-released : {S : Type 0} (sources : List (List ℕ)) (n : Node S) → FromSources sources n → FromSources sources (released n)

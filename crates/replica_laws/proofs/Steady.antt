@@ -1,63 +1,21 @@
 -- A node whose rules have passed: one more pass writes nothing down.
-use Rattle.std.proofs.Common.{◌≡◌, ◌⊎◌, inl, inr, ⊎_elim, ℕ, ◌+◌, ◌<◌, Bool, true, false, List, [], ◌∷◌, refl, ap, ◌∙◌, Option, Some, None, is_some}
-use Rattle.smart_statements.specs.Forms.{SignedBy}
+use Rattle.std.proofs.Common.{◌≡◌, ◌+◌, true, false, List, [], ◌∷◌, refl, ap, ◌∙◌, Option, Some, None, is_some}
 use Rattle.smart_statements.specs.Batches.{Batch}
-use Rattle.smart_messages.specs.declared.regency.Sync.{Sync}
-use Rattle.smart_messages.specs.declared.message.Proposed.{Proposed}
 use Rattle.smart_messages.specs.declared.any.AnyMessage.TheVariants.{Plain}
-use Rattle.smart_statements.specs.declared.statement.VoteKind.TheVariants.{Write}
 use Rattle.smart_service.specs.Services.{Meaning}
 use Rattle.smart_service.specs.declared.table.TableLine.{TableLine}
 use Rattle.smart_service.specs.declared.replica.Replica.{Replica}
 use Rattle.vote_book.specs.declared.entry.Decision.{Decision}
-use Rattle.vote_book.specs.declared.entry.LogEntry.{LogEntry}
-use Rattle.vote_book.specs.declared.entry.LogEntry.TheVariants.{Wrote, Accepted}
 use Rattle.replica_rules.specs.Replicas.{delivered}
 use Rattle.replica_rules.specs.Pools.{settled}
-use Rattle.node_rules.specs.Votes.{certificate_votes}
-use Rattle.node_rules.specs.Rules.{reply_of, replying, lines_to_answer, deliver_batch, write_batch, writes, accept_batch, deciding, decide_batch, decides}
-use Rattle.node_rules.specs.Nodes.{Node, view_of, open_slot, holding, recording}
+use Rattle.node_rules.specs.Rules.{reply_of, replying, lines_to_answer, deliver_batch, deciding, decide_batch, decides}
+use Rattle.node_rules.specs.Nodes.{Node, holding}
 use Rattle.node_rules.specs.Steps.{passes}
 use Rattle.node_rules.specs.declared.node.Target.TheVariants as targets
 use Rattle.replica_laws.proofs.OnePlace.{place-delivered}
 use Rattle.replica_laws.proofs.Leaves.{leaves-adopts, leaves-joins, leaves-promises, leaves-leads, leaves-proposes, leaves-writes, leaves-accepts}
 use Rattle.replica_laws.proofs.Entered.{Aside, aside-same, aside-then}
 use Rattle.replica_laws.proofs.Rulewise.{KeptByRules, keeps_passes}
-
--- ---- what came and has its time behind it
-
-past-synced : (view regency : ℕ) (synced : Bool) (x : SignedBy Sync) → IsPast view regency synced x → IsPast view regency true x
-past-synced view regency synced x past of_view =
-    ⊎_elim
-    (λ (before : x.statement.regency < regency). inl before)
-    (λ (both : (x.statement.regency ≡ regency) × (synced ≡ true)). inr (both.0, refl))
-    (past of_view)
-
--- ---- what the other rules leave of it
-
--- the entry that is written down, and then the vote that is held
-
-pub aside-wrote : {S : Type 0} (n : Node S) (p : Proposed) → Aside (recording n (Wrote (record { slot = open_slot n; digest = p.head.statement.digest }))) (write_batch n (Some p))
-unfolding write_batch
-aside-wrote {S = S} n p =
-    let x : Node S = write_batch n (Some p) in
-    record { holds = x.held; slots = n.proposed; stopped = n.stop_made; led = n.sync_made; pressed = n.impatient; told = n.behind; same = refl }
-
-abbrev pub accept_entry : {S : Type 0} → Node S → Proposed → LogEntry
-accept_entry n p = Accepted (record {
-  slot = open_slot n;
-  digest = p.head.statement.digest;
-  writes = certificate_votes n.arrivals (view_of n) Write (open_slot n) p.head.statement.digest;
-  batch = p.batch;
-})
-
-pub aside-accepted : {S : Type 0} (n : Node S) (p : Proposed) → Aside (recording n (accept_entry n p)) (accept_batch n (Some p))
-unfolding accept_batch
-aside-accepted {S = S} n p =
-    let x : Node S = accept_batch n (Some p) in
-    record { holds = x.held; slots = n.proposed; stopped = n.stop_made; led = n.sync_made; pressed = n.impatient; told = n.behind; same = refl }
-
--- ---- what is due to write and to accept
 
 -- ---- events
 

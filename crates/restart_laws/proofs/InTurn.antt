@@ -4,12 +4,10 @@ use Rattle.std.proofs.lemmas.Bool.{ltb-true}
 use Rattle.std.specs.List.{list_all, list_any}
 use Rattle.std.specs.Prelude.{is_none}
 use Rattle.certificates.specs.Certificates.{accept_of, votes_fault}
-use Rattle.node_laws.proofs.Delivering.{Answered, decided_requests, delivered_table}
 use Rattle.node_laws.proofs.Lists.{among_left, among_right, and_true, each_among, each_of}
 use Rattle.node_rules.specs.Arrivals.{is_batch_for}
 use Rattle.node_rules.specs.Reopening.{decided_of, rests}
-use Rattle.replica_laws.proofs.InOrder.{decided-append, decided-none, place-delivered}
-use Rattle.replica_rules.specs.Replicas.{after_batches, empty, state}
+use Rattle.replica_laws.proofs.InOrder.{decided-append, decided-none}
 use Rattle.replica_rules.specs.Seals.{digest_of, fits, is_managers, is_verified, request_fits}
 use Rattle.restart_laws.proofs.Certified.{each_of_three}
 use Rattle.restart_laws.specs.Lives.{DecidesInTurn}
@@ -17,13 +15,11 @@ use Rattle.smart_base.specs.Lists.{Each, same_bytes}
 use Rattle.smart_base.specs.Views.{View}
 use Rattle.smart_statements.specs.Kinds.{requests}
 use Rattle.smart_statements.specs.Batches.{Batch, batch_text}
-use Rattle.smart_service.specs.Services.{Meaning}
-use Rattle.smart_service.specs.declared.replica.Replica.{Replica}
 use Rattle.vote_book.proofs.Last.{latest_push}
 use Rattle.vote_book.proofs.Tested.{admitting}
 use Rattle.vote_book.proofs.Tidy.{front_lawful}
 use Rattle.vote_book.specs.Admission.{is_above}
-use Rattle.vote_book.specs.Books.{Admits, Among, Follows, Lawful, last_made, latest_made}
+use Rattle.vote_book.specs.Books.{Admits, Follows, Lawful, last_made, latest_made}
 use Rattle.vote_book.specs.declared.entry.Decision.{Decision}
 use Rattle.vote_book.specs.declared.entry.LogEntry.{LogEntry}
 use Rattle.vote_book.specs.declared.entry.LogEntry.TheVariants.{Accepted, Decided, Installed, Marked, Opened, Promised, Synced, Wrote}
@@ -134,56 +130,3 @@ decided_in_turn secret view entries lawful all before d after split =
     turns_at secret view (length (before ++ Decided d ∷ after)) before d after (omega arith)
     (subst (λ (xs : List LogEntry). Lawful 0 (length xs) xs) split lawful)
     (subst (λ (xs : List LogEntry). Each (λ (e : LogEntry). rests secret view e ≡ true) xs) split all)
-
--- ---- what the replica remembers
-
--- the replica behind one entry and then others
-after_one : {S : Type 0} (m : Meaning S) (r : Replica S) (e : LogEntry) (es : List LogEntry)
-    → after_batches m (after_batches m r (decided_of (e ∷ []))) (decided_of es) ≡ after_batches m r (decided_of (e ∷ es))
-after_one m r (Opened o) es = refl
-after_one m r (Wrote w) es = refl
-after_one m r (Accepted a) es = refl
-after_one m r (Promised p) es = refl
-after_one m r (Synced s) es = refl
-after_one m r (Decided d) es = refl
-after_one m r (Installed i) es = refl
-after_one m r (Marked k) es = refl
-
-place_one : {S : Type 0} (m : Meaning S) (r : Replica S) (e : LogEntry) → (after_batches m r (decided_of (e ∷ []))).place ≡ r.place + length (decided_of (e ∷ []))
-place_one m r (Opened o) = omega arith
-place_one m r (Wrote w) = omega arith
-place_one m r (Accepted a) = omega arith
-place_one m r (Promised p) = omega arith
-place_one m r (Synced s) = omega arith
-place_one m r (Decided d) = place-delivered m r d.batch
-place_one m r (Installed i) = omega arith
-place_one m r (Marked k) = omega arith
-
-lines_step : {S : Type 0} (m : Meaning S) (r : Replica S) (before : List LogEntry) (e : LogEntry) (es whole : List LogEntry) → whole ≡ before ++ e ∷ es → DecidesInTurn whole
-    → r.place ≡ length (decided_of before) → Each (Answered whole) r.table → Each (Answered whole) (after_batches m r (decided_of (e ∷ []))).table
-lines_step m r before (Opened o) es whole split turn at table = table
-lines_step m r before (Wrote w) es whole split turn at table = table
-lines_step m r before (Accepted a) es whole split turn at table = table
-lines_step m r before (Promised p) es whole split turn at table = table
-lines_step m r before (Synced s) es whole split turn at table = table
-lines_step m r before (Decided d) es whole split turn at table =
-    let place : d.slot.place ≡ length (decided_of before) + 1 = turn before d es split in
-    let there : Among (Decided d) whole = subst (λ (xs : List LogEntry). Among (Decided d) xs) (sym split) (among_right (Decided d) before (Decided d ∷ es) (inl refl)) in
-    delivered_table m r whole d.batch
-    (decided_requests whole (r.place + 1) d.batch (record { decision = d; there = there; place_is = omega (arith, place, at); batch_is = refl })) table
-lines_step m r before (Installed i) es whole split turn at table = table
-lines_step m r before (Marked k) es whole split turn at table = table
-
-lines_on : {S : Type 0} (m : Meaning S) (r : Replica S) (before es whole : List LogEntry) → whole ≡ before ++ es → DecidesInTurn whole → r.place ≡ length (decided_of before)
-    → Each (Answered whole) r.table → Each (Answered whole) (after_batches m r (decided_of es)).table
-lines_on m r before [] whole split turn at table = table
-lines_on {S = S} m r before (e ∷ es) whole split turn at table =
-    let next : Replica S = after_batches m r (decided_of (e ∷ [])) in
-    let count : length (decided_of (before ++ e ∷ [])) ≡ length (decided_of before ++ decided_of (e ∷ [])) = ap (λ (bs : List Batch). length bs) (decided-append before e) in
-    let place : next.place ≡ length (decided_of (before ++ e ∷ [])) =
-    omega (arith, place_one m r e, at, count, length-append (decided_of before) (decided_of (e ∷ []))) in
-    subst (λ (x : Replica S). Each (Answered whole) x.table) (after_one m r e es)
-    (lines_on m next (before ++ e ∷ []) es whole (split ∙ sym (append_assoc before (e ∷ []) es)) turn place (lines_step m r before e es whole split turn at table))
-
-pub lines_of_state : {S : Type 0} (m : Meaning S) (view : View) (es : List LogEntry) → DecidesInTurn es → Each (Answered es) (state m view (decided_of es)).table
-lines_of_state m view es turn = lines_on m (empty m view) [] es es refl turn refl tt

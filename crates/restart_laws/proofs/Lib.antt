@@ -1,11 +1,3 @@
 pub mod Certified
 pub mod InTurn
 pub mod Restored
-pub mod Writes
-pub mod Once
-pub mod GoesOn
-pub mod Turns
-pub mod Lives
-pub mod Stays
-pub mod Votes
-pub mod AlwaysGoes

@@ -369,9 +369,6 @@ keeps-both course P Q k l =
       same = λ w mark told is. (k.same w mark told is.0, l.same w mark told is.1);
     }
 
-pub all-both : {S : Type 0} (course : Course S) (P Q : World S → Type 0) → KeepsAll course P → KeepsAll course Q → KeepsAll course (λ w. P w × Q w)
-all-both course P Q k l = record { kept = keeps-both course P Q k.kept l.kept; resume = λ w i h down at is. (k.resume w i h down at is.0, l.resume w i h down at is.1) }
-
 -- each event keeps the base
 keeps-based : {S : Type 0} (m : Meaning S) → IsBrief m → Keeps (course_of m) Based
 keeps-based m brief = keeps-both (course_of m) Grounded Unforged (keeps-grounded m brief) (keeps-unforged (course_of m)).kept

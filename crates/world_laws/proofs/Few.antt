@@ -14,19 +14,19 @@ use Rattle.durable_store.specs.Restored.{Images}
 use Rattle.durable_store.specs.States.{StoreState}
 use Rattle.world_rules.specs.Crashes.{is_unclosed, still_aside}
 use Rattle.node_rules.specs.Nodes.{Node}
-use Rattle.node_rules.specs.Reopening.{decided_of, entries_in, reopened}
+use Rattle.node_rules.specs.Reopening.{decided_of, reopened}
 use Rattle.node_rules.specs.Steps.{Outcome, step_of, opened}
 use Rattle.node_laws.specs.Restored.{IsSoundBook}
 use Rattle.node_laws.proofs.Reopened.{reopened_is}
 use Rattle.replica_laws.specs.Sending.{ForRead, ForEvent}
-use Rattle.replica_laws.proofs.Sources.{HasSource, FromBook, FromSources, from-take, book-more, from-more, from-step, from-released, from-opened, from-reopened, few_entries}
+use Rattle.replica_laws.proofs.Sources.{HasSource, FromBook, FromSources, from-take, book-more, from-more, from-step, from-released, from-opened, few_entries}
 use Rattle.world_rules.specs.Premises.{bytes_of}
 use Rattle.world_rules.specs.Secrets.{group_secret}
-use Rattle.world_rules.specs.Worlds.{course_of, Host, World, life_firm, life_crashed, host_of_node, host_after, host_crashed, host_resumed}
+use Rattle.world_rules.specs.Worlds.{course_of, Host, World, life_firm, life_crashed, host_of_node, host_after, host_crashed}
 use Rattle.world_rules.specs.declared.message.Content.{Content}
 use Rattle.world_rules.specs.declared.message.Sent.{Sent}
 use Rattle.world_laws.proofs.Lists.{map_length, either}
-use Rattle.world_laws.proofs.Keeps.{HasContent, MayCome, after_call, entries_left, node_resumed}
+use Rattle.world_laws.proofs.Keeps.{HasContent, MayCome, after_call}
 use Rattle.world_laws.proofs.Lives.{book_left}
 use Rattle.world_laws.proofs.Longer.{longer-step, told_firm}
 
@@ -141,16 +141,6 @@ pub begun-reopened : {S : Type 0} (m : Meaning S) (secret : List ℕ) (id : ℕ)
 unfolding reopened
 begun-reopened m secret id view period [] = omega arith
 begun-reopened {S = S} m secret id view period (e ∷ es) = subst (λ (n : Node S). 0 < length n.entries) (sym (reopened_is m secret id view period e es)) (omega arith)
-
--- and goes on from its diary
-pub few-resumed : {S : Type 0} (m : Meaning S) (w : World S) (h : Host S) → entries_in (entries_left h) ≡ h.life.diary → FewHost w.sent h
-    → FewHost w.sent (host_resumed h (node_resumed (course_of m) w h))
-few-resumed {S = S} m w h same is = record {
-  node = from-reopened (sources w.sent) m group_secret h.node.id w.view 1024 (entries_in (entries_left h)) (subst (λ (es : List LogEntry). FromBook (sources w.sent) es) (sym same) is.diary);
-  begun = begun-reopened m group_secret h.node.id w.view 1024 (entries_in (entries_left h));
-  diary = is.diary;
-  aside = is.aside;
-}
 
 -- a host that has just opened
 pub few-opened : {S : Type 0} (m : Meaning S) (sent : List Sent) (id : ℕ) (view : View) → FewHost sent (host_of_node (opened m group_secret id view 1024))
