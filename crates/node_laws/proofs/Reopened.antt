@@ -52,7 +52,7 @@ some_fits secret place batch is =
     let sizes = and_true (nat_le 1 (length batch) && nat_le (length batch) 64) (nat_le (length (batch_text batch)) 262144) all.0 in
     some_batch secret place batch (and_true (nat_le 1 (length batch)) (nat_le (length batch) 64) sizes.0).0 all.1
 
-some_place : (secret : List ℕ) (place : ℕ) (digest : List ℕ) (batch : Batch) → is_batch_for secret place digest batch ≡ true → 0 < place
+pub some_place : (secret : List ℕ) (place : ℕ) (digest : List ℕ) (batch : Batch) → is_batch_for secret place digest batch ≡ true → 0 < place
 unfolding is_batch_for
 some_place secret place digest batch is =
     let outer = and_true (fits secret batch place && not (list_any is_managers batch)) (same_bytes (digest_of batch) digest) is in

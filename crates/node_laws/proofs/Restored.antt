@@ -55,7 +55,7 @@ front_of secret stated view front rest is =
 
 -- ---- what a front decides
 
-decided_append : (front rest : List LogEntry) → decided_of (front ++ rest) ≡ decided_of front ++ decided_of rest
+pub decided_append : (front rest : List LogEntry) → decided_of (front ++ rest) ≡ decided_of front ++ decided_of rest
 decided_append [] rest = refl
 decided_append (Opened o ∷ es) rest = decided_append es rest
 decided_append (Wrote w ∷ es) rest = decided_append es rest

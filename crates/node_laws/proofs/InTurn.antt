@@ -1,20 +1,17 @@
--- Entries that may be restored decide one place after the other, and what the replica behind them remembers of a client they have decided.
-use Rattle.std.proofs.Common.{List, None, Option, Some, ap, append-nil, append_assoc, arith, inl, length, length-append, nat_le, nat_lt, not, refl, subst, sym, true, ℕ, ◌≡◌, ◌≤◌, ◌<◌, ◌∙◌, ◌+◌, ◌++◌, ◌∷◌, [], ◌&&◌, ◌||◌, ◌==◌}
+-- Entries that may be restored decide one place after the other.
+use Rattle.std.proofs.Common.{List, None, Option, Some, ap, append-nil, append_assoc, arith, inl, length, length-append, nat_le, nat_lt, not, refl, subst, sym, true, ℕ, ◌≡◌, ◌≤◌, ◌<◌, ◌∙◌, ◌+◌, ◌++◌, ◌∷◌, [], ◌||◌, ◌==◌}
 use Rattle.std.proofs.lemmas.Bool.{ltb-true}
-use Rattle.std.specs.List.{list_all, list_any}
 use Rattle.std.specs.Prelude.{is_none}
 use Rattle.certificates.specs.Certificates.{accept_of, votes_fault}
 use Rattle.node_laws.proofs.Lists.{among_left, among_right, and_true, each_among, each_of}
 use Rattle.node_rules.specs.Arrivals.{is_batch_for}
 use Rattle.node_rules.specs.Reopening.{decided_of, rests}
-use Rattle.replica_laws.proofs.InOrder.{decided-append, decided-none}
-use Rattle.replica_rules.specs.Seals.{digest_of, fits, is_managers, is_verified, request_fits}
-use Rattle.restart_laws.proofs.Certified.{each_of_three}
-use Rattle.restart_laws.specs.Lives.{DecidesInTurn}
-use Rattle.smart_base.specs.Lists.{Each, same_bytes}
+use Rattle.replica_rules.specs.Seals.{digest_of}
+use Rattle.node_laws.proofs.Resting.{each_of_three}
+use Rattle.node_laws.specs.Restoring.{DecidesInTurn}
+use Rattle.smart_base.specs.Lists.{Each}
 use Rattle.smart_base.specs.Views.{View}
-use Rattle.smart_statements.specs.Kinds.{requests}
-use Rattle.smart_statements.specs.Batches.{Batch, batch_text}
+use Rattle.smart_statements.specs.Batches.{Batch}
 use Rattle.vote_book.proofs.Last.{latest_push}
 use Rattle.vote_book.proofs.Tested.{admitting}
 use Rattle.vote_book.proofs.Tidy.{front_lawful}
@@ -24,31 +21,11 @@ use Rattle.vote_book.specs.declared.entry.Decision.{Decision}
 use Rattle.vote_book.specs.declared.entry.LogEntry.{LogEntry}
 use Rattle.vote_book.specs.declared.entry.LogEntry.TheVariants.{Accepted, Decided, Installed, Marked, Opened, Promised, Synced, Wrote}
 
--- ---- the place of a batch
+-- ---- the place of a decision
 
--- a batch stands at no place before the first
-some_batch : (secret : List ℕ) (place : ℕ) (batch : Batch) → nat_le 1 (length batch) ≡ true → list_all (request_fits secret place) batch ≡ true → 0 < place
-some_batch secret place [] one all = absurd (cc)
-some_batch secret place (q ∷ qs) one all =
-    let first = and_true (request_fits secret place q) (list_all (request_fits secret place) qs) all in
-    let limits = and_true (nat_le q.statement.client 1024 && nat_lt q.statement.after place) (is_verified requests secret q) first.0 in
-    let after = ltb-true q.statement.after place (and_true (nat_le q.statement.client 1024) (nat_lt q.statement.after place) limits.0).1 in
-    omega (arith, after)
-
-some_fits : (secret : List ℕ) (place : ℕ) (batch : Batch) → fits secret batch place ≡ true → 0 < place
-unfolding fits
-some_fits secret place batch is =
-    let front = and_true (nat_le 1 (length batch) && nat_le (length batch) 64 && nat_le (length (batch_text batch)) 262144 && list_all (request_fits secret place) batch)
-    (nat_le (length batch) 1 || not (list_any is_managers batch)) is in
-    let all = and_true (nat_le 1 (length batch) && nat_le (length batch) 64 && nat_le (length (batch_text batch)) 262144) (list_all (request_fits secret place) batch) front.0 in
-    let sizes = and_true (nat_le 1 (length batch) && nat_le (length batch) 64) (nat_le (length (batch_text batch)) 262144) all.0 in
-    some_batch secret place batch (and_true (nat_le 1 (length batch)) (nat_le (length batch) 64) sizes.0).0 all.1
-
-some_place : (secret : List ℕ) (place : ℕ) (digest : List ℕ) (batch : Batch) → is_batch_for secret place digest batch ≡ true → 0 < place
-unfolding is_batch_for
-some_place secret place digest batch is =
-    let outer = and_true (fits secret batch place && not (list_any is_managers batch)) (same_bytes (digest_of batch) digest) is in
-    some_fits secret place batch (and_true (fits secret batch place) (not (list_any is_managers batch)) outer.0).0
+-- an entry that decides nothing leaves the decided batches
+decided_none : (es : List LogEntry) (e : LogEntry) → decided_of (e ∷ []) ≡ [] → decided_of (es ++ e ∷ []) ≡ decided_of es
+decided_none es e none = decided_append es (e ∷ []) ∙ (ap (λ (bs : List Batch). decided_of es ++ bs) none ∙ append-nil (decided_of es))
 
 decided_some : (secret : List ℕ) (view : View) (d : Decision) → rests secret view (Decided d) ≡ true → 0 < d.slot.place
 decided_some secret view d rest =
@@ -85,14 +62,14 @@ turn_place secret view before d follows rest is = turn_next (latest_made before)
 
 turn_step : (secret : List ℕ) (view : View) (restored : ℕ) (before : List LogEntry) (e : LogEntry) → length before < restored → Admits 0 restored before e
     → rests secret view e ≡ true → InTurn before → InTurn (before ++ e ∷ [])
-turn_step secret view restored before (Opened o) few may rest is = keeps_turn before (before ++ Opened o ∷ []) (latest_push before (Opened o)) (decided-none before (Opened o) refl) is
-turn_step secret view restored before (Wrote w) few may rest is = keeps_turn before (before ++ Wrote w ∷ []) (latest_push before (Wrote w)) (decided-none before (Wrote w) refl) is
-turn_step secret view restored before (Accepted a) few may rest is = keeps_turn before (before ++ Accepted a ∷ []) (latest_push before (Accepted a)) (decided-none before (Accepted a) refl) is
-turn_step secret view restored before (Promised p) few may rest is = keeps_turn before (before ++ Promised p ∷ []) (latest_push before (Promised p)) (decided-none before (Promised p) refl) is
-turn_step secret view restored before (Synced s) few may rest is = keeps_turn before (before ++ Synced s ∷ []) (latest_push before (Synced s)) (decided-none before (Synced s) refl) is
+turn_step secret view restored before (Opened o) few may rest is = keeps_turn before (before ++ Opened o ∷ []) (latest_push before (Opened o)) (decided_none before (Opened o) refl) is
+turn_step secret view restored before (Wrote w) few may rest is = keeps_turn before (before ++ Wrote w ∷ []) (latest_push before (Wrote w)) (decided_none before (Wrote w) refl) is
+turn_step secret view restored before (Accepted a) few may rest is = keeps_turn before (before ++ Accepted a ∷ []) (latest_push before (Accepted a)) (decided_none before (Accepted a) refl) is
+turn_step secret view restored before (Promised p) few may rest is = keeps_turn before (before ++ Promised p ∷ []) (latest_push before (Promised p)) (decided_none before (Promised p) refl) is
+turn_step secret view restored before (Synced s) few may rest is = keeps_turn before (before ++ Synced s ∷ []) (latest_push before (Synced s)) (decided_none before (Synced s) refl) is
 turn_step secret view restored before (Decided d) few may rest is =
     let place : d.slot.place ≡ length (decided_of before) + 1 = turn_place secret view before d may rest is in
-    let more : length (decided_of (before ++ Decided d ∷ [])) ≡ length (decided_of before ++ d.batch ∷ []) = ap (λ (bs : List Batch). length bs) (decided-append before (Decided d)) in
+    let more : length (decided_of (before ++ Decided d ∷ [])) ≡ length (decided_of before ++ d.batch ∷ []) = ap (λ (bs : List Batch). length bs) (decided_append before (Decided d ∷ [])) in
     let same : d.slot.place ≡ length (decided_of (before ++ Decided d ∷ [])) = omega (arith, place, more, length-append (decided_of before) (d.batch ∷ [])) in
     subst (λ (o : Option ℕ). TurnAt o (length (decided_of (before ++ Decided d ∷ [])))) (sym (latest_push before (Decided d))) same
 turn_step secret view restored before (Installed i) few may rest is =
@@ -100,9 +77,9 @@ turn_step secret view restored before (Installed i) few may rest is =
     (admitting 0 restored before (Installed i) may)).0 in
     let same : i.place ≡ length (decided_of before) = turn_same (latest_made before) (length (decided_of before)) (last_made before) i.place is above (may.within few) in
     let all : i.place ≡ length (decided_of (before ++ Installed i ∷ [])) =
-    same ∙ ap (λ (bs : List Batch). length bs) (sym (decided-none before (Installed i) refl)) in
+    same ∙ ap (λ (bs : List Batch). length bs) (sym (decided_none before (Installed i) refl)) in
     subst (λ (o : Option ℕ). TurnAt o (length (decided_of (before ++ Installed i ∷ [])))) (sym (latest_push before (Installed i))) all
-turn_step secret view restored before (Marked m) few may rest is = keeps_turn before (before ++ Marked m ∷ []) (latest_push before (Marked m)) (decided-none before (Marked m) refl) is
+turn_step secret view restored before (Marked m) few may rest is = keeps_turn before (before ++ Marked m ∷ []) (latest_push before (Marked m)) (decided_none before (Marked m) refl) is
 
 turns_on : (secret : List ℕ) (view : View) (restored : ℕ) (before es : List LogEntry) → length before + length es ≤ restored → Lawful 0 restored (before ++ es)
     → Each (λ e. rests secret view e ≡ true) es → InTurn before → InTurn (before ++ es)

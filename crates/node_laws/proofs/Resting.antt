@@ -8,7 +8,7 @@ use Rattle.node_laws.proofs.Lists.{and_true}
 use Rattle.node_rules.specs.Arrivals.{is_batch_for}
 use Rattle.node_rules.specs.Reopening.{rests}
 use Rattle.replica_rules.specs.Seals.{digest_of}
-use Rattle.restart_laws.specs.Restoring.{IsCertified}
+use Rattle.node_laws.specs.Restoring.{IsCertified}
 use Rattle.smart_base.specs.Views.{View}
 use Rattle.vote_book.specs.declared.entry.LogEntry.{LogEntry}
 use Rattle.vote_book.specs.declared.entry.LogEntry.TheVariants.{Accepted, Decided, Installed, Marked, Opened, Promised, Synced, Wrote}

@@ -7,10 +7,10 @@ use Rattle.std.specs.Prelude.{map, ◌↔◌}
 use Rattle.node_laws.proofs.Lists.{each_weaker}
 use Rattle.node_laws.specs.Sound.{IsBegun}
 use Rattle.node_rules.specs.Reopening.{damage_at, damaged, damaged_from, entries_in, entry_of, is_opening, may_restore, opens_first, rests}
-use Rattle.restart_laws.proofs.Certified.{all_three, certified, each_of_three, resting}
-use Rattle.restart_laws.proofs.InTurn.{decided_in_turn}
-use Rattle.restart_laws.specs.Lives.{DecidesInTurn}
-use Rattle.restart_laws.specs.Restoring.{IsCertified, IsDamage, IsFirstDamage}
+use Rattle.node_laws.proofs.Resting.{all_three, certified, each_of_three, resting}
+use Rattle.node_laws.proofs.InTurn.{decided_in_turn}
+use Rattle.node_laws.specs.Restoring.{DecidesInTurn}
+use Rattle.node_laws.specs.Restoring.{IsCertified, IsDamage, IsFirstDamage}
 use Rattle.smart_base.specs.Cuts.{IsBytes}
 use Rattle.smart_base.specs.Lists.{Each}
 use Rattle.smart_base.specs.Views.{View}
@@ -122,7 +122,7 @@ taken secret view before behind (Ok e) none =
 abbrev AreRead : List (List ℕ) → List LogEntry → Type 0
 AreRead restored es = map entry_decoded restored ≡ map (λ (e : LogEntry). Ok e) es
 
-one_read : (e : LogEntry) (rest : List LogEntry) (read : Result LogEntry ℕ) → read ≡ Ok e → cons_option (entry_of read) rest ≡ e ∷ rest
+pub one_read : (e : LogEntry) (rest : List LogEntry) (read : Result LogEntry ℕ) → read ≡ Ok e → cons_option (entry_of read) rest ≡ e ∷ rest
 one_read e rest read at = ap (λ (r : Result LogEntry ℕ). cons_option (entry_of r) rest) at
 
 all_read : (bytes : List ℕ) (rest : List (List ℕ)) (e : LogEntry) (es all : List LogEntry) → entry_decoded bytes ≡ Ok e → AreRead rest es → all ≡ e ∷ es → AreRead (bytes ∷ rest) all

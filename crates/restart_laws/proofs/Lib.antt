@@ -1,3 +1,0 @@
-pub mod Certified
-pub mod InTurn
-pub mod Restored
