@@ -38,7 +38,7 @@ last-more : (book more : List LogEntry) → last_made book ≤ last_made (book +
 last-more [] more = omega arith
 last-more (e ∷ es) more = let rest = last-more es more in omega (arith, rest)
 
-HasVoted-more : (book more : List LogEntry) (kind : VoteKind) (slot : Slot) (digest : List ℕ) → HasVoted book kind slot digest → HasVoted (book ++ more) kind slot digest
+pub HasVoted-more : (book more : List LogEntry) (kind : VoteKind) (slot : Slot) (digest : List ℕ) → HasVoted book kind slot digest → HasVoted (book ++ more) kind slot digest
 HasVoted-more book more Write slot digest voted = among_left (entries.Wrote (record { slot = slot; digest = digest })) book more voted
 HasVoted-more book more Accept slot digest voted = record {
   entry = voted.entry;

@@ -1,5 +1,5 @@
 -- Batches delivered one after another: the state, the lines, and the answers.
-use Rattle.std.proofs.Common.{◌≡◌, ℕ, ◌+◌, ◌<◌, ◌≤◌, ◌==◌, ◌++◌, Bool, true, false, ◌&&◌, List, [], ◌∷◌, length, refl, ap, ◌∙◌, sym, subst, cond, Option, Some, None, arith, append_assoc}
+use Rattle.std.proofs.Common.{◌≡◌, ℕ, ◌+◌, ◌<◌, ◌≤◌, ◌==◌, ◌++◌, Bool, true, false, ◌&&◌, List, [], ◌∷◌, refl, ap, ◌∙◌, sym, subst, cond, Option, Some, None, arith}
 use Rattle.std.proofs.lemmas.Bool.{eq-eqb}
 use Rattle.std.proofs.lemmas.Bool.Decides.{nat_tests}
 use Rattle.std.proofs.lemmas.List.{append-nil}
@@ -12,39 +12,9 @@ use Rattle.smart_statements.specs.declared.statement.Request.{Request}
 use Rattle.smart_service.specs.Services.{Meaning}
 use Rattle.smart_service.specs.declared.table.TableLine.{TableLine}
 use Rattle.smart_service.specs.declared.replica.Replica.{Replica}
-use Rattle.replica_rules.specs.Replicas.{is_next, line_of, execute, execute_all, line_made, lines_of, at_next, delivered, executed_lines, empty, after_batches, state, executions_from, executions, first_line, answer}
+use Rattle.replica_rules.specs.Replicas.{is_next, line_of, execute, line_made, lines_of, at_next, delivered, executed_lines, empty, after_batches, state, executions_from, executions, first_line, answer}
 use Rattle.delivery.proofs.Lists.{each_append, each_right, each_weaker, each_both}
-
--- the place
-
--- of two replicas at one place, a choice is at that place
-place_if : {S : Type 0} (b : Bool) (x y : Replica S) → x.place ≡ y.place → (cond b x y).place ≡ y.place
-place_if true x y same = same
-place_if false x y same = refl
-
-place-execute : {S : Type 0} (m : Meaning S) (r : Replica S) (i : ℕ) (q : Request) → (execute m r i q).place ≡ r.place
-unfolding execute
-place-execute m r i q = place_if (is_next r.table q) _ r refl
-
-place-execute_all : {S : Type 0} (m : Meaning S) (r : Replica S) (i : ℕ) (qs : Batch) → (execute_all m r i qs).place ≡ r.place
-place-execute_all m r i [] = refl
-place-execute_all m r i (q ∷ qs) = place-execute_all m (execute m r i q.statement) (i + 1) qs ∙ place-execute m r i q.statement
-
--- a batch takes the next place
-place-delivered : {S : Type 0} (m : Meaning S) (r : Replica S) (batch : Batch) → (delivered m r batch).place ≡ r.place + 1
-unfolding delivered
-place-delivered m r batch = place-execute_all m (at_next r) 0 batch
-
-after-place : {S : Type 0} (m : Meaning S) (r : Replica S) (list : List Batch) → (after_batches m r list).place ≡ r.place + length list
-after-place m r [] = omega arith
-after-place m r (batch ∷ list) =
-    let place = place-delivered m r batch in
-    let rest = after-place m (delivered m r batch) list in
-    omega (arith, place, rest)
-
--- each batch takes a place
-pub state-place : {S : Type 0} (m : Meaning S) (v : View) (list : List Batch) → (state m v list).place ≡ length list
-state-place m v list = let place = after-place m (empty m v) list in omega (arith, place)
+use Rattle.replica_rules.proofs.Places.{place_execute, place_delivered, executions_append}
 
 -- one more batch
 
@@ -56,17 +26,10 @@ after-end m r (b ∷ list) batch = after-end m (delivered m r b) list batch
 pub state-end : {S : Type 0} (m : Meaning S) (v : View) (list : List Batch) (batch : Batch) → delivered m (state m v list) batch ≡ state m v (list ++ batch ∷ [])
 state-end m v list batch = after-end m (empty m v) list batch
 
--- a longer list executes what the shorter one does, and then more
-executions-append : {S : Type 0} (m : Meaning S) (r : Replica S) (list more : List Batch) → executions_from m r (list ++ more) ≡ executions_from m r list ++ executions_from m (after_batches m r list) more
-executions-append m r [] more = refl
-executions-append m r (batch ∷ list) more =
-    ap (λ lines. executed_lines m r batch ++ lines) (executions-append m (delivered m r batch) list more)
-    ∙ sym (append_assoc (executed_lines m r batch) (executions_from m (delivered m r batch) list) (executions_from m (after_batches m (delivered m r batch) list) more))
-
 -- the executions grow by the lines of one more batch
 pub executions-end : {S : Type 0} (m : Meaning S) (v : View) (list : List Batch) (batch : Batch) → executions m v list ++ executed_lines m (state m v list) batch ≡ executions m v (list ++ batch ∷ [])
 executions-end m v list batch =
-    sym (executions-append m (empty m v) list (batch ∷ []) ∙ ap (λ lines. executions m v list ++ lines) (append-nil (executed_lines m (state m v list) batch)))
+    sym (executions_append m (empty m v) list (batch ∷ []) ∙ ap (λ lines. executions m v list ++ lines) (append-nil (executed_lines m (state m v list) batch)))
 
 -- no two lines at one place and index
 
@@ -112,7 +75,7 @@ at_one m r i q false = tt
 
 -- a request leaves the place at which later lines stand
 at_rest : {S : Type 0} (m : Meaning S) (r : Replica S) (i : ℕ) (q : Request) (lines : List TableLine) → Each (At (execute m r i q).place (i + 1)) lines → Each (At r.place (i + 1)) lines
-at_rest m r i q lines = subst (λ place. Each (At place (i + 1)) lines) (place-execute m r i q)
+at_rest m r i q lines = subst (λ place. Each (At place (i + 1)) lines) (place_execute m r i q)
 
 -- the lines of requests stand at one place
 at_lines : {S : Type 0} (m : Meaning S) (r : Replica S) (i : ℕ) (qs : Batch) → Each (At r.place i) (lines_of m r i qs)
@@ -146,7 +109,7 @@ apart_delivered m r batch = apart_lines m (at_next r) 0 batch
 
 -- what stands behind a batch stands behind its place
 beyond_next : {S : Type 0} (m : Meaning S) (r : Replica S) (batch : Batch) (lines : List TableLine) → Each (λ l. (delivered m r batch).place < l.place) lines → Each (λ l. r.place + 1 < l.place) lines
-beyond_next m r batch lines = subst (λ (place : ℕ). Each (λ l. place < l.place) lines) (place-delivered m r batch)
+beyond_next m r batch lines = subst (λ (place : ℕ). Each (λ l. place < l.place) lines) (place_delivered m r batch)
 
 -- the lines of batches stand behind the replica's place
 beyond : {S : Type 0} (m : Meaning S) (r : Replica S) (list : List Batch) → Each (λ l. r.place < l.place) (executions_from m r list)
@@ -221,5 +184,5 @@ pub answer-more : {S : Type 0} (m : Meaning S) (v : View) (list more : List Batc
     → answer m v list place index ≡ Some reply → answer m v (list ++ more) place index ≡ Some reply
 answer-more m v list more place index reply =
     mapped (λ line. line.reply) (first_line (here place index) (executions m v list)) (first_line (here place index) (executions m v (list ++ more))) reply
-    (λ l found. subst (λ lines. first_line (here place index) lines ≡ Some l) (sym (executions-append m (empty m v) list more))
+    (λ l found. subst (λ lines. first_line (here place index) lines ≡ Some l) (sym (executions_append m (empty m v) list more))
     (first_front (here place index) (executions m v list) (executions_from m (state m v list) more) l found))

@@ -22,7 +22,8 @@ use Rattle.node_rules.specs.Kept.{trimmed, Stands, core_step, StepStands, core_a
 use Rattle.kept_arrivals.proofs.Needed.{trimmed_twice}
 use Rattle.kept_arrivals.proofs.Rules.{Keeps, proposing_same, proposes_same, writing_same, writes_same, accepting_same, accepts_same, deciding_same, decides_same, delivers_same, delivery_same, answering_same, answers_same}
 use Rattle.kept_arrivals.proofs.Changes.{adoption_same, adopts_same, joining_same, joins_same, next_promise_same, promising_same, promises_same, leading_same, leads_same, timing_same, times_same}
-use Rattle.kept_arrivals.proofs.Arrivals.{why_same, why_noted, noted_same, kept_same}
+use Rattle.kept_arrivals.proofs.Arrivals.{why_same, noted_same, kept_same}
+use Rattle.node_rules.proofs.Rulewise.{why_noted}
 
 -- Two nodes need the same. A rule of a pass may raise the regency and a decision the place, so what goes on behind it is what two nodes that
 -- need the same do, and neither of them has to be the trimmed of the other.

@@ -27,7 +27,7 @@ use Rattle.vote_book.specs.declared.entry.LogEntry.TheVariants.{Promised, Synced
 use Rattle.vote_book.specs.declared.entry.Promise.{Promise}
 use Rattle.vote_book.specs.declared.entry.Start.{Start}
 use Rattle.node_laws.proofs.Books.{none_begins}
-use Rattle.node_laws.proofs.Lists.{among_either, among_flat, among_left, and_true, each_among, each_of, each_weaker, found, not_true, or_false}
+use Rattle.node_laws.proofs.Lists.{among_flat, found}
 use Rattle.node_laws.proofs.Nodes.{SyncKept, aside}
 use Rattle.node_laws.proofs.Promised.{records_promise, records_start, regency_then}
 use Rattle.node_laws.proofs.Stated.{covers}
@@ -35,19 +35,19 @@ use Rattle.node_laws.proofs.Votes.{in_force}
 use Rattle.node_laws.specs.Sound.{IsSound, IsStated, IsWithin}
 use Rattle.smart_messages.specs.declared.regency.RegencyMessage.TheVariants as changes
 use Rattle.agreement_laws.specs.Statements as says
+use Rattle.agreement_laws.proofs.Lists.{among_either, among_left, each_among, each_from, not_true, or_false}
+use Rattle.smart_base.proofs.SameLists.{and_true}
+use Rattle.smart_base.proofs.ViewFacts.{each-weaken}
+use Rattle.node_rules.proofs.Options.{none_is}
 
 -- ---- the choice of a collect that has been stated
-
-none_is : {A : Type 0} (o : Option A) → is_none o ≡ true → o ≡ None
-none_is None is = refl
-none_is (Some x) is = absurd (cc)
 
 locked_of : (secret : List ℕ) (v : View) (views : List View) (regency : ℕ) (items : List (SignedBy Report)) → AreSigned Report secret reports v (IsReportOf secret v views regency) items
     → AreSigned Report secret reports v (IsLockedReport secret v regency) items
 locked_of secret v views regency items is = record {
   members = is.members;
   distinct = is.distinct;
-  stated = each_weaker (λ (r : SignedBy Report). IsReportOf secret v views regency r.statement) (λ (r : SignedBy Report). IsLockedReport secret v regency r.statement)
+  stated = each-weaken (λ (r : SignedBy Report). IsReportOf secret v views regency r.statement) (λ (r : SignedBy Report). IsLockedReport secret v regency r.statement)
       (λ r of. record { of_view = of.of_view; of_regency = of.of_regency; lock = of.lock }) items is.stated;
   verified = is.verified;
 }
@@ -70,7 +70,7 @@ chosen_by secret stated view views s same was collect =
     record {
       items = items;
       collect = subst (λ (v : View). IsLockedCollect secret v s.statement.regency items) same locked;
-      drawn = each_of (λ r. Among (says.Reported r) stated) items
+      drawn = each_from (λ r. Among (says.Reported r) stated) items
           (λ r there. covers secret stated (Change (changes.Sync s)) was (says.Reported r) (report_within s r there)
           (each_among (λ r. is_verified reports secret r ≡ true) items r collect.0.verified there));
       choice_is = refl;

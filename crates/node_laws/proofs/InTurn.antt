@@ -3,7 +3,6 @@ use Rattle.std.proofs.Common.{List, None, Option, Some, ap, append-nil, append_a
 use Rattle.std.proofs.lemmas.Bool.{ltb-true}
 use Rattle.std.specs.Prelude.{is_none}
 use Rattle.certificates.specs.Certificates.{accept_of, votes_fault}
-use Rattle.node_laws.proofs.Lists.{among_left, among_right, and_true, each_among, each_of}
 use Rattle.node_rules.specs.Arrivals.{is_batch_for}
 use Rattle.node_rules.specs.Reopening.{decided_of, rests}
 use Rattle.replica_rules.specs.Seals.{digest_of}
@@ -20,11 +19,13 @@ use Rattle.vote_book.specs.Books.{Admits, Follows, Lawful, last_made, latest_mad
 use Rattle.vote_book.specs.declared.entry.Decision.{Decision}
 use Rattle.vote_book.specs.declared.entry.LogEntry.{LogEntry}
 use Rattle.vote_book.specs.declared.entry.LogEntry.TheVariants.{Accepted, Decided, Installed, Marked, Opened, Promised, Synced, Wrote}
+use Rattle.agreement_laws.proofs.Lists.{among_left, among_right, each_among, each_from}
+use Rattle.smart_base.proofs.SameLists.{and_true}
 
 -- ---- the place of a decision
 
 -- an entry that decides nothing leaves the decided batches
-decided_none : (es : List LogEntry) (e : LogEntry) → decided_of (e ∷ []) ≡ [] → decided_of (es ++ e ∷ []) ≡ decided_of es
+pub decided_none : (es : List LogEntry) (e : LogEntry) → decided_of (e ∷ []) ≡ [] → decided_of (es ++ e ∷ []) ≡ decided_of es
 decided_none es e none = decided_append es (e ∷ []) ∙ (ap (λ (bs : List Batch). decided_of es ++ bs) none ∙ append-nil (decided_of es))
 
 decided_some : (secret : List ℕ) (view : View) (d : Decision) → rests secret view (Decided d) ≡ true → 0 < d.slot.place
@@ -97,7 +98,7 @@ turns_at : (secret : List ℕ) (view : View) (restored : ℕ) (before : List Log
 turns_at secret view restored before d after few lawful all =
     let P : LogEntry → Type 0 = λ e. rests secret view e ≡ true in
     let es : List LogEntry = before ++ Decided d ∷ after in
-    let front : Each P before = each_of P before (λ x there. each_among P es x all (among_left x before (Decided d ∷ after) there)) in
+    let front : Each P before = each_from P before (λ x there. each_among P es x all (among_left x before (Decided d ∷ after) there)) in
     let short : 0 + length before ≤ restored = omega (arith, few, length-append before (Decided d ∷ after)) in
     let turn : InTurn before = turns_on secret view restored [] before short (front_lawful 0 restored before (Decided d ∷ after) lawful) front refl in
     turn_place secret view before d (lawful before (Decided d) after refl) (each_among P es (Decided d) all (among_right (Decided d) before (Decided d ∷ after) (inl refl))) turn

@@ -18,10 +18,10 @@ use Rattle.vote_book.specs.Entries.{FitsEntry, entry_decoded, entry_text}
 use Rattle.vote_book.specs.declared.entry.LogEntry.{LogEntry}
 use Rattle.vote_book.specs.declared.entry.LogEntry.TheVariants.{Accepted, Decided, Installed, Marked, Opened, Promised, Synced, Wrote}
 use Rattle.node_laws.proofs.Damage.{back, one_read}
-use Rattle.node_laws.proofs.Lists.{among_right, each_among}
 use Rattle.node_laws.proofs.Resting.{resting}
 use Rattle.node_laws.specs.Restored.{IsSoundBook}
 use Rattle.node_laws.specs.Sound.{HasBatch, IsWithin}
+use Rattle.agreement_laws.proofs.Lists.{among_right, each_among}
 
 -- ---- what an entry rests on
 

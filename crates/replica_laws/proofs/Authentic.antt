@@ -5,7 +5,7 @@ use Rattle.std.specs.List.{list_any, list_all}
 use Rattle.smart_base.specs.Lists.{Each, or_else, same_bytes}
 use Rattle.smart_base.specs.Views.{leader, is_member}
 use Rattle.smart_statements.specs.Forms.{SignedBy}
-use Rattle.smart_statements.specs.Kinds.{proposals, requests}
+use Rattle.smart_statements.specs.Kinds.{proposals}
 use Rattle.smart_statements.specs.Batches.{Batch}
 use Rattle.smart_statements.specs.declared.statement.Request.{Request}
 use Rattle.smart_statements.specs.declared.statement.VoteKind.TheVariants.{Accept}
@@ -16,10 +16,12 @@ use Rattle.replica_rules.specs.Seals.{is_verified, digest_of, request_fits, is_m
 use Rattle.replica_rules.specs.Pools.{offered}
 use Rattle.node_rules.specs.Rules.{votable, written}
 use Rattle.node_rules.specs.Nodes.{Node, view_of}
-use Rattle.node_rules.specs.Arrivals.{slot_why, signer_why, is_batch_for, why_ask, why_propose}
+use Rattle.node_rules.specs.Arrivals.{slot_why, signer_why, is_batch_for, why_propose}
 use Rattle.node_rules.specs.declared.node.Why.TheVariants.{NotMember, BadTag, NotLeader, InvalidBatch}
-use Rattle.replica_laws.proofs.Lists.{and_true, either, or_else-none, third-none, if_cond}
+use Rattle.replica_laws.proofs.Lists.{or_else-none, third-none, if_cond}
 use Rattle.replica_laws.specs.Sending.{ForBatch}
+use Rattle.smart_base.proofs.SameLists.{and_true}
+use Rattle.agreement_laws.proofs.Lists.{either}
 
 -- ---- more counts as asked
 
@@ -34,11 +36,6 @@ for_batch-weaker P Q weaker (Some batch) p = weaker batch p
 pub verified_where_signed : {S : Type 0} (n : Node S) (verified : Bool) (signer : ℕ) → signer_why n verified signer ≡ None → verified ≡ true
 unfolding signer_why
 verified_where_signed n verified signer none = third-none (not (is_member (view_of n) n.id)) verified NotMember BadTag _ none
-
--- nor is a request
-pub verified_where_asked : {S : Type 0} (n : Node S) (q : SignedBy Request) → why_ask n q ≡ None → is_verified requests n.secret q ≡ true
-unfolding why_ask
-verified_where_asked n q none = third-none (not (is_member (view_of n) n.id)) (is_verified requests n.secret q) NotMember BadTag _ none
 
 -- a proposal that is not dropped has a batch that it may have
 pub valid_where_kept : {S : Type 0} (n : Node S) (p : Proposed) → why_propose n p ≡ None → is_batch_for n.secret p.head.statement.slot.place p.head.statement.digest p.batch ≡ true

@@ -27,8 +27,10 @@ use Rattle.certificates.proofs.Reported.{evidence-exact, lock-exact}
 use Rattle.replica_rules.specs.Seals.{is_verified}
 use Rattle.node_rules.specs.Arrivals.{rests_on_marks}
 use Rattle.replica_laws.specs.Sending.{IsTerse}
-use Rattle.replica_laws.proofs.Lists.{or_false, either, if_or, if_cond}
+use Rattle.replica_laws.proofs.Lists.{if_or, if_cond}
 use Rattle.replica_laws.proofs.Genuine.{signed-length}
+use Rattle.agreement_laws.proofs.Groups.{signers_length}
+use Rattle.agreement_laws.proofs.Lists.{or_false, either}
 
 -- ---- distinct members are few
 
@@ -85,15 +87,11 @@ signed_members : {S : Type 0} (v : View) (items : List (SignedBy S)) → Each (�
 signed_members v [] each = tt
 signed_members v (item ∷ items) each = (each.0, signed_members v items each.1)
 
-signers-length : {S : Type 0} (items : List (SignedBy S)) → length (signers items) ≡ length items
-signers-length [] = refl
-signers-length (item ∷ items) = let rest = signers-length items in omega (arith, rest)
-
 -- statements of distinct members of a view
 signed-few : (secret : List ℕ) (v : View) (Wanted : Ballot → Type 0) (votes : List (SignedBy Ballot)) → is_view v ≡ true → AreSigned Ballot secret ballots v Wanted votes → length votes ≤ 31
 signed-few secret v Wanted votes is signed =
     let few = distinct_few (signers votes) v.members signed.distinct (signed_members v votes signed.members) in
-    let same = signers-length votes in
+    let same = signers_length votes in
     let members = members-few v is in
     omega (arith, few, same, members)
 

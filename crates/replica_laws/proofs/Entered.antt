@@ -1,5 +1,5 @@
 -- Entries that are no promise and no beginning leave a node's regency, and where it began. And what of a node no rule reads that writes an entry.
-use Rattle.std.proofs.Common.{◌≡◌, ℕ, ◌++◌, max, Bool, true, List, [], ◌∷◌, refl, ap, ◌∙◌, arith, Option, Some, None}
+use Rattle.std.proofs.Common.{◌≡◌, ℕ, Bool, true, List, [], ◌∷◌, refl, ap, ◌∙◌, arith, Option, Some, None}
 use Rattle.smart_statements.specs.Forms.{SignedBy}
 use Rattle.smart_statements.specs.Batches.{Batch}
 use Rattle.smart_statements.specs.declared.statement.Request.{Request}
@@ -12,12 +12,13 @@ use Rattle.vote_book.specs.declared.entry.Decision.{Decision}
 use Rattle.vote_book.specs.declared.entry.Write.{Write}
 use Rattle.vote_book.specs.declared.entry.LogEntry.{LogEntry}
 use Rattle.vote_book.specs.declared.entry.LogEntry.TheVariants.{Wrote, Accepted, Decided}
-use Rattle.node_rules.specs.Nodes.{Node, view_of, regency_of, regency_in, greatest_regency, start_by, recording}
+use Rattle.node_rules.specs.Nodes.{Node, view_of, regency_of, regency_in, start_by, recording}
 use Rattle.node_rules.specs.Arrivals.{noted}
 use Rattle.node_rules.specs.Rules.{proposing, propose_batch, proposes, answering, answer_line, answers_again}
 use Rattle.node_rules.specs.Changes.{asks_next, joining, joins, leading, lead_with, leads, timing, passes_on, presses, times}
 use Rattle.node_rules.specs.declared.node.Held.{Held}
-use Rattle.replica_laws.proofs.Lists.{either}
+use Rattle.node_laws.proofs.Books.{greatest_push}
+use Rattle.agreement_laws.proofs.Lists.{either}
 
 -- an entry that is no promise and no beginning
 pub record IsQuiet (e : LogEntry) : Type 0 where
@@ -33,14 +34,10 @@ quiet-accepted a = record { no_promise = λ view. refl; no_start = λ view regen
 pub quiet-decided : (d : Decision) → IsQuiet (Decided d)
 quiet-decided d = record { no_promise = λ view. refl; no_start = λ view regency. refl }
 
-pub greatest-end : (view : ℕ) (es : List LogEntry) (e : LogEntry) → greatest_regency view (es ++ e ∷ []) ≡ max (greatest_regency view es) (regency_in view e)
-greatest-end view [] e = omega arith
-greatest-end view (y ∷ ys) e = let rest = greatest-end view ys e in omega arith
-
 pub regency-quiet : {S : Type 0} (n : Node S) (e : LogEntry) → IsQuiet e → regency_of (recording n e) ≡ regency_of n
 unfolding regency_of
 regency-quiet n e quiet =
-    let grown = greatest-end (view_of n).number n.entries e in
+    let grown = greatest_push (view_of n).number n.entries e in
     let none = quiet.no_promise (view_of n).number in
     omega (arith, grown, none)
 

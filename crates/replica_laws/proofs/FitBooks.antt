@@ -32,14 +32,14 @@ use Rattle.node_rules.specs.Rules.{delivers, proposes, writing, write_batch, wri
 use Rattle.node_rules.specs.Changes.{start_by_sync, promised_for, adopts_by, adoption, adopts, joins, next_promise, promising, promise_next, promises, leads, times}
 use Rattle.node_rules.specs.Kept.{node_after}
 use Rattle.node_rules.specs.Steps.{step_of, opened}
-use Rattle.replica_laws.proofs.Lists.{either, either_by, each_end, each_append, if_find}
+use Rattle.replica_laws.proofs.Lists.{if_find}
 use Rattle.replica_laws.proofs.Genuine.{FitVotes}
-use Rattle.replica_laws.proofs.Again.{entries-noted, entries-answers_again}
-use Rattle.replica_laws.proofs.Once.{entries-kept, entries-delivers, entries-proposes, entries-joins, entries-leads, entries-times}
-use Rattle.replica_laws.proofs.Rulewise.{KeptByRules, KeptInSteps, keeps_step}
+use Rattle.node_rules.proofs.Rulewise.{KeptByRules, KeptInSteps, keeps_step}
 use Rattle.replica_laws.proofs.FitNodes.{FitNode, FitsBegun, FitsVoted, IsBrief, FitsEvent, view-low, certificate-fits, open-fits, writing-fits, accepting-fits, deciding-fits, promising-low, fit-as, fit-adopts, fit-joins, fit-promises, fit-leads, fit-proposes, fit-writes, fit-accepts, fit-decides, fit-times, fit-answers_again, fit-noted, fit-kept, fit-delivers, fit-opened, event-fits}
 use Rattle.replica_laws.proofs.FitNodes as nodes
 use Rattle.replica_laws.specs.Sending.{IsByteEvent}
+use Rattle.agreement_laws.proofs.Lists.{either, either_by, each_end, each_append}
+use Rattle.node_rules.proofs.Entries.{noted_same, answers_again_same, kept_same, delivers_same, proposes_same, joins_same, leads_same, times_same}
 
 -- what a node holds has a spelling, and so has each entry of its book
 pub record FitBook {S : Type 0} (secret : List ℕ) (n : Node S) : Type 0 where
@@ -162,10 +162,10 @@ spelled-decides secret n is each = spelled-decide_batch n (deciding n) (deciding
 spelled-rules : {S : Type 0} (secret : List ℕ) → KeptByRules {S = S} (λ n. FitBook secret n)
 spelled-rules secret = record {
   by_adopts = λ n is. record { node = fit-adopts secret n is.node; book = spelled-adopts secret n is.node is.book };
-  by_joins = λ n is. record { node = fit-joins secret n is.node; book = book-as n.entries (joins n).entries (entries-joins n) is.book };
+  by_joins = λ n is. record { node = fit-joins secret n is.node; book = book-as n.entries (joins n).entries (joins_same n) is.book };
   by_promises = λ n is. record { node = fit-promises secret n is.node; book = spelled-promises secret n is.node is.book };
-  by_leads = λ n is. record { node = fit-leads secret n is.node; book = book-as n.entries (leads n).entries (entries-leads n) is.book };
-  by_proposes = λ n is. record { node = fit-proposes secret n is.node; book = book-as n.entries (proposes n).entries (entries-proposes n) is.book };
+  by_leads = λ n is. record { node = fit-leads secret n is.node; book = book-as n.entries (leads n).entries (leads_same n) is.book };
+  by_proposes = λ n is. record { node = fit-proposes secret n is.node; book = book-as n.entries (proposes n).entries (proposes_same n) is.book };
   by_writes = λ n is. record { node = fit-writes secret n is.node; book = spelled-writes secret n is.node is.book };
   by_accepts = λ n is. record { node = fit-accepts secret n is.node; book = spelled-accepts secret n is.node is.book };
   by_decides = λ n is. record { node = fit-decides secret n is.node; book = spelled-decides secret n is.node is.book };
@@ -174,11 +174,11 @@ spelled-rules secret = record {
 spelled-in_steps : {S : Type 0} (secret : List ℕ) (m : Meaning S) → IsBrief m → KeptInSteps m (λ n. FitBook secret n) FitsAny
 spelled-in_steps secret m brief = record {
   by_rules = spelled-rules secret;
-  by_times = λ n is. record { node = fit-times secret n is.node; book = book-as n.entries (times n).entries (entries-times n) is.book };
-  by_answers = λ n message is. record { node = fit-answers_again secret n message is.node; book = book-as n.entries (answers_again n message).entries (entries-answers_again n message) is.book };
-  by_noted = λ n message is. record { node = fit-noted secret n message is.node; book = book-as n.entries (noted n message).entries (entries-noted n message) is.book };
-  by_kept = λ n message fine fit is. record { node = fit-kept secret n message fine fit is.node; book = book-as n.entries (kept n message).entries (entries-kept n message) is.book };
-  by_delivers = λ n is. record { node = fit-delivers secret m brief n is.node; book = book-as n.entries (delivers m n).entries (entries-delivers m n) is.book };
+  by_times = λ n is. record { node = fit-times secret n is.node; book = book-as n.entries (times n).entries (times_same n) is.book };
+  by_answers = λ n message is. record { node = fit-answers_again secret n message is.node; book = book-as n.entries (answers_again n message).entries (answers_again_same n message) is.book };
+  by_noted = λ n message is. record { node = fit-noted secret n message is.node; book = book-as n.entries (noted n message).entries (noted_same n message) is.book };
+  by_kept = λ n message fine fit is. record { node = fit-kept secret n message fine fit is.node; book = book-as n.entries (kept n message).entries (kept_same n message) is.book };
+  by_delivers = λ n is. record { node = fit-delivers secret m brief n is.node; book = book-as n.entries (delivers m n).entries (delivers_same m n) is.book };
 }
 
 -- each event keeps it

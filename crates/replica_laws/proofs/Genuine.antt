@@ -39,8 +39,8 @@ use Rattle.smart_messages.specs.declared.any.AnyMessage.{AnyMessage}
 use Rattle.smart_messages.specs.declared.any.AnyMessage.TheVariants.{Plain, Change}
 use Rattle.replica_rules.specs.Seals.{signed, is_verified, digest_of}
 use Rattle.replica_laws.specs.Sending.{all_tagged, is_tagged, IsTerse, IsReadBack, IsGenuine}
-use Rattle.replica_laws.proofs.Lists.{and_true}
-use Rattle.replica_laws.proofs.Equal.{and_intro}
+use Rattle.smart_base.proofs.SameLists.{and_true}
+use Rattle.agreement_laws.proofs.Lists.{and_intro}
 
 -- it has a spelling. Of the beginning of a regency all parts have one
 abbrev pub FitsHeld : AnyMessage → Type 0

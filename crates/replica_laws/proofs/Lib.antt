@@ -1,8 +1,6 @@
 pub mod Lists
-pub mod Equal
 pub mod OnePlace
 pub mod Executions
-pub mod Rulewise
 pub mod Again
 pub mod Once
 pub mod Leaves

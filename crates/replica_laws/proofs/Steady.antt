@@ -12,10 +12,10 @@ use Rattle.node_rules.specs.Rules.{reply_of, replying, lines_to_answer, deliver_
 use Rattle.node_rules.specs.Nodes.{Node, holding}
 use Rattle.node_rules.specs.Steps.{passes}
 use Rattle.node_rules.specs.declared.node.Target.TheVariants as targets
-use Rattle.replica_laws.proofs.OnePlace.{place-delivered}
 use Rattle.replica_laws.proofs.Leaves.{leaves-adopts, leaves-joins, leaves-promises, leaves-leads, leaves-proposes, leaves-writes, leaves-accepts}
 use Rattle.replica_laws.proofs.Entered.{Aside, aside-same, aside-then}
-use Rattle.replica_laws.proofs.Rulewise.{KeptByRules, keeps_passes}
+use Rattle.node_rules.proofs.Rulewise.{KeptByRules, keeps_passes}
+use Rattle.replica_rules.proofs.Places.{place_delivered}
 
 -- ---- events
 
@@ -40,7 +40,7 @@ unfolding decide_batch
 replica-decide_batch n None = refl
 replica-decide_batch n (Some d) = refl
 
-replica-decides : {S : Type 0} (n : Node S) → (decides n).replica ≡ n.replica
+pub replica-decides : {S : Type 0} (n : Node S) → (decides n).replica ≡ n.replica
 unfolding decides
 replica-decides n = replica-decide_batch n (deciding n)
 
@@ -67,4 +67,4 @@ place-deliver_batch m n None waits = absurd (cc)
 place-deliver_batch {S = S} m n (Some batch) waits =
     let r : Replica S = delivered m n.replica batch in
     ap (λ (x : Replica S). x.place) (replica-replying (record n { replica = r; waiting = None; pool = settled r.table n.pool; impatient = false }) (lines_to_answer m n batch))
-    ∙ place-delivered m n.replica batch
+    ∙ place_delivered m n.replica batch

@@ -1,5 +1,5 @@
 -- Whose a message is that a node holds, and the entries on which it rests.
-use Rattle.std.specs.Prelude.{ℕ, ◌≡◌, Bool, true, ◌&&◌, List, take, Option, Some, None, Result, Ok, Err}
+use Rattle.std.specs.Prelude.{ℕ, ◌≡◌, Bool, true, ◌&&◌, List, take, Option, Some, None, Ok}
 use Rattle.std.specs.List.{list_all}
 use Rattle.smart_base.specs.Cuts.{IsBytes}
 use Rattle.smart_base.specs.Lists.{Each}
@@ -102,18 +102,6 @@ IsByteEvent Deliver = Unit {0}
 IsByteEvent (Firm count) = Unit {0}
 
 -- ---- what comes
-
--- what holds of a message that bytes are
-abbrev pub ForRead : (AnyMessage → Type 0) → Result AnyMessage ℕ → Type 0
-ForRead A (Ok message) = A message
-ForRead A (Err at) = Unit {0}
-
--- what holds of a message that comes
-abbrev pub ForEvent : (AnyMessage → Type 0) → NodeEvent → Type 0
-ForEvent A (Arrive bytes) = ForRead A (any_decoded bytes)
-ForEvent A Tick = Unit {0}
-ForEvent A Deliver = Unit {0}
-ForEvent A (Firm count) = Unit {0}
 
 -- what holds of a batch, if there is one
 abbrev pub ForBatch : Option Batch → (Batch → Type 0) → Type 0

@@ -18,17 +18,18 @@ use Rattle.node_rules.specs.Reopening.{decided_of, reopened}
 use Rattle.node_rules.specs.Steps.{Outcome, step_of, opened}
 use Rattle.node_laws.specs.Restored.{IsSoundBook}
 use Rattle.node_laws.proofs.Reopened.{reopened_is}
-use Rattle.replica_laws.specs.Sending.{ForRead, ForEvent}
 use Rattle.replica_laws.proofs.Sources.{HasSource, FromBook, FromSources, from-take, book-more, from-more, from-step, from-released, from-opened, few_entries}
 use Rattle.world_rules.specs.Premises.{bytes_of}
 use Rattle.world_rules.specs.Secrets.{group_secret}
 use Rattle.world_rules.specs.Worlds.{course_of, Host, World, life_firm, life_crashed, host_of_node, host_after, host_crashed}
 use Rattle.world_rules.specs.declared.message.Content.{Content}
 use Rattle.world_rules.specs.declared.message.Sent.{Sent}
-use Rattle.world_laws.proofs.Lists.{map_length, either}
+use Rattle.world_laws.proofs.Lists.{map_length}
 use Rattle.world_laws.proofs.Keeps.{HasContent, MayCome, after_call}
 use Rattle.world_laws.proofs.Lives.{book_left}
 use Rattle.world_laws.proofs.Longer.{longer-step, told_firm}
+use Rattle.agreement_laws.proofs.Lists.{either}
+use Rattle.node_rules.proofs.Rulewise.{ForRead, ForEvent}
 
 -- ---- the bytes of what was sent
 

@@ -5,7 +5,6 @@ pub mod Numbered
 pub mod Hearing
 pub mod CoreWorlds
 pub mod Fronts
-pub mod Equal
 pub mod Given
 pub mod Asks
 pub mod Asking

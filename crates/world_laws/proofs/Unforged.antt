@@ -24,7 +24,7 @@ use Rattle.vote_book.proofs.Tested.{passing}
 use Rattle.node_rules.specs.Steps.{Outcome, leaving}
 use Rattle.node_rules.specs.declared.node.Target.{Target}
 use Rattle.agreement_laws.specs.Statements.{Statement, Asked, Proposed, Voted, Stopped, Reported, Synced, Marked, Replied, Informed, signer_of, within, in_report, parts_of_evidence, parts_of_lock, requests_of, said}
-use Rattle.agreement_laws.proofs.Lists.{among_either, each_among, given, within_one}
+use Rattle.agreement_laws.proofs.Lists.{among_either, each_among, given, within_one, or_false, each_end}
 use Rattle.world_rules.specs.Premises.{Claim, claim_of, claims, same_claim, is_among, is_from, is_stated, is_excused, is_forgery, is_forged}
 use Rattle.world_rules.specs.Worlds.{Course, Host, World, posts, stepped, hearing}
 use Rattle.world_rules.specs.declared.message.Content.{Content}
@@ -34,9 +34,10 @@ use Rattle.world_rules.specs.declared.message.Origin.TheVariants as origins
 use Rattle.world_rules.specs.declared.message.Sent.{Sent}
 use Rattle.world_laws.specs.Sending.{IsNodes, IsClients, IsOwnSent}
 use Rattle.world_laws.specs.Stated.{stated_in, stated}
-use Rattle.world_laws.proofs.Lists.{and_true, or_false, each_end, each_weaker}
 use Rattle.world_laws.proofs.Keeps.{IsRead, ask_of, asked_by, by-posts, KeepsAll, keeps-sends_all, signed_by, from_node, from_client, from_script}
 use Rattle.world_laws.proofs.Stating.{Proper, claims_stated, same_claim-one, message_proper, IsSaid, message_says}
+use Rattle.smart_base.proofs.SameLists.{and_true}
+use Rattle.smart_base.proofs.ViewFacts.{each-weaken}
 
 -- what is injected
 
@@ -120,7 +121,7 @@ unforged-posts {S = S} w s fine is =
     by-posts (λ (v : World S). Unforged v) w s (λ ending. record { each = is.each })
     (λ free room. record {
       each = each_end (λ (t : Sent). IsFine w.faulty w.rogue (w.sent ++ s ∷ []) t.origin t.content) w.sent s
-          (each_weaker (λ (t : Sent). IsFine w.faulty w.rogue w.sent t.origin t.content) (λ (t : Sent). IsFine w.faulty w.rogue (w.sent ++ s ∷ []) t.origin t.content)
+          (each-weaken (λ (t : Sent). IsFine w.faulty w.rogue w.sent t.origin t.content) (λ (t : Sent). IsFine w.faulty w.rogue (w.sent ++ s ∷ []) t.origin t.content)
           (λ t. more t.origin t.content) w.sent is.each)
           (more s.origin s.content fine);
     })
@@ -147,7 +148,7 @@ keeps-unforged course =
         inject = λ w x read fine is. unforged-posts w (from_script x) fine is;
         declare = λ w faulty rogue ending how is.
             record {
-              each = each_weaker (λ (s : Sent). IsFine w.faulty w.rogue w.sent s.origin s.content) (λ (s : Sent). IsFine faulty rogue w.sent s.origin s.content)
+              each = each-weaken (λ (s : Sent). IsFine w.faulty w.rogue w.sent s.origin s.content) (λ (s : Sent). IsFine faulty rogue w.sent s.origin s.content)
                   (λ s. fine_more w.faulty w.rogue faulty rogue w.sent w.sent (excused_more w.faulty w.rogue faulty rogue how.more_faulty how.more_rogue) (λ c is. is) s.origin s.content)
                   w.sent is.each;
             };
