@@ -1,5 +1,5 @@
 -- What stands where in a list.
-use Rattle.std.proofs.Common.{◌≡◌, ◌⊎◌, inl, inr, ⊎_elim, ℕ, Bool, true, false, ◌==◌, cond, List, [], ◌∷◌, ◌++◌, map, refl, sym, ap, subst, eq-eqb, eqb-true, ◌||◌, not, Some, suc, take, zero, None, Option, ◌&&◌}
+use Rattle.std.proofs.Common.{◌≡◌, ◌⊎◌, inl, inr, ⊎_elim, ℕ, Bool, true, false, ◌==◌, cond, List, [], ◌∷◌, ◌++◌, map, refl, sym, ap, subst, eq-eqb, eqb-true, ◌||◌, not, Some, suc, take, zero, None, Option}
 use Rattle.std.specs.Prelude.{filter}
 use Rattle.std.specs.List.{list_any, flat_map}
 use Rattle.smart_base.specs.Lists.{Each, or_else}
@@ -8,26 +8,9 @@ use Rattle.vote_book.proofs.Tested.{passing, among_any}
 
 -- ---- tests and choices
 
--- two tests that say yes
-pub and_intro : (a b : Bool) → a ≡ true → b ≡ true → (a && b) ≡ true
-and_intro true b ea eb = eb
-and_intro false b ea eb = absurd (cc)
-
 pub or_true : (a b : Bool) → (a || b) ≡ true → (a ≡ true) ⊎ (b ≡ true)
 or_true true b is = inl refl
 or_true false b is = inr is
-
-pub or_false : (a b : Bool) → (a || b) ≡ false → (a ≡ false) × (b ≡ false)
-or_false true b is = absurd (cc)
-or_false false b is = (refl, is)
-
-pub or_left : (a b : Bool) → a ≡ true → (a || b) ≡ true
-or_left true b is = refl
-or_left false b is = absurd (cc)
-
-pub or_right : (a b : Bool) → b ≡ true → (a || b) ≡ true
-or_right true b is = refl
-or_right false b is = is
 
 pub not_true : (a : Bool) → not a ≡ true → a ≡ false
 not_true true is = absurd (cc)

@@ -13,8 +13,9 @@ use Rattle.smart_service.specs.Services.{Meaning}
 use Rattle.smart_service.specs.declared.table.TableLine.{TableLine}
 use Rattle.smart_service.specs.declared.replica.Replica.{Replica}
 use Rattle.replica_rules.specs.Replicas.{is_next, line_of, execute, line_made, lines_of, at_next, delivered, executed_lines, empty, after_batches, state, executions_from, executions, first_line, answer}
-use Rattle.delivery.proofs.Lists.{each_append, each_right, each_weaker, each_both}
+use Rattle.delivery.proofs.Lists.{each_append, each_right, each_both}
 use Rattle.replica_rules.proofs.Places.{place_execute, place_delivered, executions_append}
+use Rattle.smart_base.proofs.ViewFacts.{each-weaken}
 
 -- one more batch
 
@@ -83,13 +84,13 @@ at_lines m r i [] = tt
 at_lines m r i (q ∷ qs) =
     each_append (At r.place i) (option_to_list (line_made m r i q.statement)) (lines_of m (execute m r i q.statement) (i + 1) qs)
     (at_one m r i q.statement (is_next r.table q.statement))
-    (each_weaker (At r.place (i + 1)) (At r.place i) (λ l at. record { there = at.there; behind = omega (arith, at.behind) }) _
+    (each-weaken (At r.place (i + 1)) (At r.place i) (λ l at. record { there = at.there; behind = omega (arith, at.behind) }) _
     (at_rest m r i q.statement _ (at_lines m (execute m r i q.statement) (i + 1) qs)))
 
 apart_one : {S : Type 0} (m : Meaning S) (r : Replica S) (i : ℕ) (q : Request) (rest : List TableLine) (next : Bool) → Each (At r.place (i + 1)) rest → Apart rest
     → Apart (option_to_list (cond next (Some (line_of m r i q)) None) ++ rest)
 apart_one m r i q rest true at apart =
-    (each_weaker (At r.place (i + 1)) (Elsewhere (line_of m r i q)) (λ l at. by_index (line_of m r i q) l (omega (arith, at.behind))) rest at, apart)
+    (each-weaken (At r.place (i + 1)) (Elsewhere (line_of m r i q)) (λ l at. by_index (line_of m r i q) l (omega (arith, at.behind))) rest at, apart)
 apart_one m r i q rest false at apart = apart
 
 apart_lines : {S : Type 0} (m : Meaning S) (r : Replica S) (i : ℕ) (qs : Batch) → Apart (lines_of m r i qs)
@@ -116,15 +117,15 @@ beyond : {S : Type 0} (m : Meaning S) (r : Replica S) (list : List Batch) → Ea
 beyond m r [] = tt
 beyond m r (batch ∷ list) =
     each_append (λ l. r.place < l.place) (executed_lines m r batch) (executions_from m (delivered m r batch) list)
-    (each_weaker (At (r.place + 1) 0) (λ l. r.place < l.place) (λ l at. omega (arith, at.there)) _ (at_delivered m r batch))
-    (each_weaker (λ l. r.place + 1 < l.place) (λ l. r.place < l.place) (λ l less. omega (arith, less)) _ (beyond_next m r batch _ (beyond m (delivered m r batch) list)))
+    (each-weaken (At (r.place + 1) 0) (λ l. r.place < l.place) (λ l at. omega (arith, at.there)) _ (at_delivered m r batch))
+    (each-weaken (λ l. r.place + 1 < l.place) (λ l. r.place < l.place) (λ l less. omega (arith, less)) _ (beyond_next m r batch _ (beyond m (delivered m r batch) list)))
 
 apart_from : {S : Type 0} (m : Meaning S) (r : Replica S) (list : List Batch) → Apart (executions_from m r list)
 apart_from m r [] = tt
 apart_from m r (batch ∷ list) =
     apart-append (executed_lines m r batch) (executions_from m (delivered m r batch) list) (apart_delivered m r batch) (apart_from m (delivered m r batch) list)
-    (each_weaker (At (r.place + 1) 0) (λ a. Each (Elsewhere a) (executions_from m (delivered m r batch) list))
-    (λ a at. each_weaker (λ l. r.place + 1 < l.place) (Elsewhere a) (λ l less. by_place a l (omega (arith, at.there, less))) _ (beyond_next m r batch _ (beyond m (delivered m r batch) list)))
+    (each-weaken (At (r.place + 1) 0) (λ a. Each (Elsewhere a) (executions_from m (delivered m r batch) list))
+    (λ a at. each-weaken (λ l. r.place + 1 < l.place) (Elsewhere a) (λ l less. by_place a l (omega (arith, at.there, less))) _ (beyond_next m r batch _ (beyond m (delivered m r batch) list)))
     _ (at_delivered m r batch))
 
 -- the first line that passes a test
@@ -165,7 +166,7 @@ first_front p (x ∷ xs) ys l found = first_front-step p x xs ys l (p x) refl (f
 -- the answer at the place and index of each line is its reply
 answers : {S : Type 0} (m : Meaning S) (v : View) (list : List Batch) → Each (λ l. answer m v list l.place l.index ≡ Some l.reply) (executions m v list)
 answers m v list =
-    each_weaker (λ l. first_line (here l.place l.index) (executions m v list) ≡ Some l) (λ l. answer m v list l.place l.index ≡ Some l.reply)
+    each-weaken (λ l. first_line (here l.place l.index) (executions m v list) ≡ Some l) (λ l. answer m v list l.place l.index ≡ Some l.reply)
     (λ l found. ap (option_map (λ (line : TableLine). line.reply)) found) (executions m v list) (first_here (executions m v list) (apart_from m (empty m v) list))
 
 -- so it is of the lines of the last batch

@@ -18,11 +18,11 @@ use Rattle.smart_statements.specs.declared.statement.Ballot.{Ballot}
 use Rattle.smart_statements.specs.declared.statement.Request.{Request}
 use Rattle.vote_book.proofs.Tested.{same_bytes_is}
 use Rattle.vote_book.specs.Books.{Among}
-use Rattle.node_laws.proofs.Lists.{Found, all_each, among_filter, among_flat, among_map}
+use Rattle.node_laws.proofs.Lists.{Found, all_each}
 use Rattle.node_laws.proofs.Nodes.{Arrived}
 use Rattle.node_laws.specs.Sound.{AreAmong, AreAsked, IsStated}
 use Rattle.agreement_laws.specs.Statements as says
-use Rattle.agreement_laws.proofs.Lists.{among_either, among_right, each_among, each_from}
+use Rattle.agreement_laws.proofs.Lists.{among_either, among_right, each_among, each_from, among_filter, among_flat, among_map}
 use Rattle.smart_base.proofs.SameLists.{and_true}
 use Rattle.smart_base.proofs.ViewFacts.{each-weaken}
 
@@ -44,7 +44,7 @@ passed p x (y ∷ ys) there = passed_step p x y ys (filter p ys) (p y) refl (λ 
 
 pub covers : (secret : List ℕ) (stated : List Statement) (m : AnyMessage) → IsStated secret stated m → Covers secret stated (flat_map says.within (says.said m))
 covers secret stated m is s there ok =
-    each_among (λ s. Among s stated) (statements secret m) s is (among_filter (says.verifies secret) s (flat_map says.within (says.said m)) there ok)
+    each_among (λ s. Among s stated) (statements secret m) s is (among_filter (says.verifies secret) (flat_map says.within (says.said m)) s there ok)
 
 pub covered : (secret : List ℕ) (stated parts : List Statement) → Covers secret stated parts → AreAmong (filter (says.verifies secret) parts) stated
 covered secret stated parts all =
@@ -73,7 +73,7 @@ asked_of secret stated q is = covers secret stated (Plain (Ask q)) is
 
 -- the requests of a batch stand in what a message says that bears it
 ask_within : (q : SignedBy Request) (batch : Batch) → Among q batch → Among (says.Asked q) (flat_map says.within (map says.Asked batch))
-ask_within q batch there = among_flat says.within (says.Asked q) (map says.Asked batch) (says.Asked q) (among_map says.Asked q batch there) (inl refl)
+ask_within q batch there = among_flat says.within (map says.Asked batch) (says.Asked q) (says.Asked q) (among_map says.Asked batch q there) (inl refl)
 
 pub batch_asked : (secret : List ℕ) (stated parts : List Statement) (batch : Batch) → Covers secret stated (parts ++ flat_map says.within (map says.Asked batch))
     → Each (λ q. is_verified requests secret q ≡ true) batch → AreAsked secret stated batch

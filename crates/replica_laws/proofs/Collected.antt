@@ -30,7 +30,8 @@ use Rattle.replica_laws.specs.Sending.{IsTerse}
 use Rattle.replica_laws.proofs.Lists.{if_or, if_cond}
 use Rattle.replica_laws.proofs.Genuine.{signed-length}
 use Rattle.agreement_laws.proofs.Groups.{signers_length}
-use Rattle.agreement_laws.proofs.Lists.{or_false, either}
+use Rattle.agreement_laws.proofs.Lists.{either}
+use Rattle.std.proofs.lemmas.Bool.{or_parts}
 
 -- ---- distinct members are few
 
@@ -73,7 +74,7 @@ all_stay : (x : ℕ) (names members : List ℕ) → list_any (λ y. y == x) name
     → Each (λ s. list_any (λ m. m == s) (without x members) ≡ true) names
 all_stay x [] members apart each = tt
 all_stay x (s ∷ names) members apart each =
-    let parts = or_false (s == x) (list_any (λ y. y == x) names) apart in
+    let parts = or_parts (s == x) (list_any (λ y. y == x) names) apart in
     (stays x s members parts.0 each.0, all_stay x names members parts.1 each.1)
 
 distinct_few : (names members : List ℕ) → Distinct names → Each (λ s. list_any (λ m. m == s) members ≡ true) names → length names ≤ length members

@@ -6,12 +6,11 @@ use Rattle.smart_base.specs.Lists.{Each}
 use Rattle.smart_base.specs.Views.{View, is_view}
 use Rattle.smart_statements.specs.Forms.{SignedBy}
 use Rattle.smart_statements.specs.Spelling.{IsSigner, FitsSigned}
-use Rattle.smart_statements.specs.SignedLists.{FitsList, FitsOptional}
-use Rattle.smart_statements.specs.Reports.{reports, votes_of, FitsVote, FitsReport, FitsLockCertificate}
+use Rattle.smart_statements.specs.SignedLists.{FitsOptional}
+use Rattle.smart_statements.specs.Reports.{reports, FitsReport, FitsLockCertificate}
 use Rattle.smart_messages.specs.Regencies.{FitsSync}
 use Rattle.smart_messages.specs.RegencyMessages.{FitsAny}
 use Rattle.smart_statements.specs.declared.statement.Ballot.{Ballot}
-use Rattle.smart_statements.specs.declared.statement.VoteKind.{VoteKind}
 use Rattle.smart_statements.specs.declared.statement.VoteKind.TheVariants.{Write, Accept}
 use Rattle.smart_statements.specs.declared.report.LockCertificate.{LockCertificate}
 use Rattle.smart_statements.specs.declared.report.Report.{Report}
@@ -33,7 +32,7 @@ use Rattle.node_rules.specs.Changes.{start_by_sync, promised_for, adopts_by, ado
 use Rattle.node_rules.specs.Kept.{node_after}
 use Rattle.node_rules.specs.Steps.{step_of, opened}
 use Rattle.replica_laws.proofs.Lists.{if_find}
-use Rattle.replica_laws.proofs.Genuine.{FitVotes}
+use Rattle.replica_laws.proofs.Genuine.{votes-list}
 use Rattle.node_rules.proofs.Rulewise.{KeptByRules, KeptInSteps, keeps_step}
 use Rattle.replica_laws.proofs.FitNodes.{FitNode, FitsBegun, FitsVoted, IsBrief, FitsEvent, view-low, certificate-fits, open-fits, writing-fits, accepting-fits, deciding-fits, promising-low, fit-as, fit-adopts, fit-joins, fit-promises, fit-leads, fit-proposes, fit-writes, fit-accepts, fit-decides, fit-times, fit-answers_again, fit-noted, fit-kept, fit-delivers, fit-opened, event-fits}
 use Rattle.replica_laws.proofs.FitNodes as nodes
@@ -120,9 +119,6 @@ spelled-writes : {S : Type 0} (secret : List ℕ) (n : Node S) → FitNode secre
 unfolding writes
 spelled-writes secret n is each = spelled-write_batch secret n (writing n) (writing-fits secret n is) is each
 
-votes-fit : (kind : VoteKind) (votes : List (SignedBy Ballot)) → FitVotes kind votes → FitsList (votes_of kind) (λ signer. FitsVote kind) votes
-votes-fit kind votes fit = let few = fit.few in (omega (arith, few), fit.all)
-
 spelled-accept_batch : {S : Type 0} (secret : List ℕ) (n : Node S) (p : Option Proposed) → IfSome p (FitsVoted secret (next_place n)) → FitNode secret n → Each FitsEntry n.entries
     → Each FitsEntry (accept_batch n p).entries
 unfolding accept_batch
@@ -134,7 +130,7 @@ spelled-accept_batch secret n (Some p) fit is each =
     (record {
       slot_fits = open-fits secret n is fit.low;
       digest_fits = fit.digest_fits;
-      writes_fit = votes-fit Write votes (certificate-fits secret n.arrivals (view_of n) Write (open_slot n) p.head.statement.digest is.view is.arrivals);
+      writes_fit = votes-list Write votes (certificate-fits secret n.arrivals (view_of n) Write (open_slot n) p.head.statement.digest is.view is.arrivals);
       batch_fits = fit.batch_fits.0;
     })
 
@@ -150,7 +146,7 @@ spelled-decide_batch n (Some d) fit each =
     (record {
       slot_fits = record { view_fits = fit.0.view_fits; place_fits = fit.0.place_fits; regency_fits = fit.0.regency_fits };
       batch_fits = fit.0.batch_fits;
-      accepts_fit = votes-fit Accept d.accepts fit.0.accepts_fit;
+      accepts_fit = votes-list Accept d.accepts fit.0.accepts_fit;
     })
 
 spelled-decides : {S : Type 0} (secret : List ℕ) (n : Node S) → FitNode secret n → Each FitsEntry n.entries → Each FitsEntry (decides n).entries

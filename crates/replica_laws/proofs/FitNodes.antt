@@ -63,9 +63,9 @@ use Rattle.node_rules.specs.declared.node.Why.TheVariants.{NotLeader, BadProof}
 use Rattle.node_rules.specs.declared.node.Held.{Held}
 use Rattle.node_rules.specs.declared.node.Target.{Target}
 use Rattle.node_rules.specs.declared.node.Target.TheVariants as targets
-use Rattle.replica_laws.proofs.Lists.{each_given, if_weaker, if_or, if_cond, if_map, if_find, if_found, or_else-none, or_else-first, third-none}
+use Rattle.replica_laws.proofs.Lists.{each_given, if_weaker, if_or, if_cond, if_map, if_find, if_found, third-none}
 use Rattle.replica_laws.proofs.Entered.{IsQuiet, quiet-wrote, quiet-accepted, quiet-decided, regency-quiet}
-use Rattle.replica_laws.proofs.Authentic.{for_batch-weaker, for_batch-or, each_offered, verified_where_signed, valid_where_kept, fits_where_valid, fits_each, greater-if, votable-if, written-if}
+use Rattle.replica_laws.proofs.Checked.{for_batch-weaker, for_batch-or, each_offered, verified_where_signed, valid_where_kept, fits_where_valid, fits_each, greater-if, votable-if, written-if}
 use Rattle.certificates.specs.Collects.{evidence_holds, has_no_false_lock}
 use Rattle.replica_laws.proofs.Collected.{report-short}
 use Rattle.replica_laws.proofs.Genuine.{IsGood, good-genuine, AreVerified, FitVotes, FitEvidence, FitLock, FitReport, FitsSome, FitsCollected, digest_of-length, ask-good, vote-good, reply-good, propose-good, stop-good, report-good, sync-good, single-fits, single-verified, longer-fits, longer-verified}
@@ -81,6 +81,7 @@ use Rattle.node_laws.proofs.Passes.{each_staying}
 use Rattle.node_laws.proofs.Books.{greatest_push}
 use Rattle.node_laws.proofs.Arriving.{ask_tagged}
 use Rattle.replica_rules.proofs.Places.{views_execute, views_delivered, place_execute}
+use Rattle.node_rules.proofs.Options.{else_none}
 
 -- ---- what has a spelling
 
@@ -287,13 +288,13 @@ proven_where_kept : {S : Type 0} (n : Node S) (r : Reported) → why_report n r 
 unfolding why_report
 proven_where_kept n r none =
     third-none (not (leader (view_of n) r.head.statement.regency == n.id)) (is_proven n r) NotLeader BadProof _
-    (or_else-none (regency_why n r.head.statement.regency) _
-    (or_else-none (view_why n r.head.statement.view) _ (or_else-none (signer_why n (is_verified reports n.secret r.head) r.head.signer) _ none)))
+    (else_none (regency_why n r.head.statement.regency) _
+    (else_none (view_why n r.head.statement.view) _ (else_none (signer_why n (is_verified reports n.secret r.head) r.head.signer) _ none).1).1).1
 
 -- and bears its member's tag
 report_verified : {S : Type 0} (n : Node S) (r : Reported) → why_report n r ≡ None → is_verified reports n.secret r.head ≡ true
 unfolding why_report
-report_verified n r none = verified_where_signed n (is_verified reports n.secret r.head) r.head.signer (or_else-first (signer_why n (is_verified reports n.secret r.head) r.head.signer) _ none)
+report_verified n r none = verified_where_signed n (is_verified reports n.secret r.head) r.head.signer (else_none (signer_why n (is_verified reports n.secret r.head) r.head.signer) _ none).0
 
 -- and with its lock comes a batch of it
 lock_borne : {S : Type 0} (n : Node S) (r : Reported) → is_proven n r ≡ true → bears_lock n.secret (r.head.statement.last + 1) r.head.statement.lock r.batch ≡ true

@@ -7,12 +7,12 @@ pub mod Leaves
 pub mod InOrder
 pub mod Follows
 pub mod Entered
-pub mod Steady
+pub mod Replying
 pub mod Counted
 pub mod Waiting
 pub mod Onward
 pub mod Leaving
-pub mod Authentic
+pub mod Checked
 pub mod Genuine
 pub mod Collected
 pub mod FitNodes

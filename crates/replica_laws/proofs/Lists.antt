@@ -7,14 +7,6 @@ use Rattle.agreement_laws.proofs.Lists.{either, either_by}
 
 -- what the first of two gives that is there
 
-pub or_else-none : {A : Type 0} (x y : Option A) → or_else x y ≡ None → y ≡ None
-or_else-none None y none = none
-or_else-none (Some x) y none = absurd (cc)
-
-pub or_else-first : {A : Type 0} (x y : Option A) → or_else x y ≡ None → x ≡ None
-or_else-first None y none = refl
-or_else-first (Some x) y none = absurd (cc)
-
 -- where a chain of reasons gives none, its second test has passed
 pub third-none : {A : Type 0} (a b : Bool) (x y : A) (rest : Option A) → cond a (Some x) (cond (not b) (Some y) rest) ≡ None → b ≡ true
 third-none true b x y rest none = absurd (cc)

@@ -26,9 +26,10 @@ use Rattle.replica_laws.specs.Books.{passing, AcceptsOnce}
 use Rattle.node_rules.proofs.Rulewise.{KeptByRules, KeptInSteps, free-event, keeps_step}
 use Rattle.node_rules.proofs.Entries.{kept_same, delivers_same, proposes_same, joins_same, leads_same, times_same, noted_same, answers_again_same}
 use Rattle.smart_base.proofs.SameLists.{and_true}
-use Rattle.agreement_laws.proofs.Lists.{or_false, not_true, either}
+use Rattle.agreement_laws.proofs.Lists.{not_true, either}
 use Rattle.vote_book.proofs.Tested.{slot_is}
 use Rattle.node_rules.proofs.Options.{guard_passed}
+use Rattle.std.proofs.lemmas.Bool.{or_parts}
 
 -- rules that record nothing
 
@@ -64,7 +65,7 @@ once_more entries entry none once slot = omega (arith, passing-end (accepts_in s
 pub none_passes : {A : Type 0} (p : A → Bool) (xs : List A) → list_any p xs ≡ false → passing p xs ≡ 0
 none_passes p [] none = refl
 none_passes p (x ∷ xs) none =
-    let parts = or_false (p x) (list_any p xs) none in
+    let parts = or_parts (p x) (list_any p xs) none in
     omega (arith, ap (λ b. passed b) parts.0, none_passes p xs parts.1)
 
 -- an entry that accepts at a slot where none was accepted

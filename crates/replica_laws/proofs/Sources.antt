@@ -51,8 +51,8 @@ use Rattle.node_laws.proofs.Restored.{front_of}
 use Rattle.replica_laws.proofs.Lists.{each_given, if_or, if_cond, if_found}
 use Rattle.replica_laws.proofs.Entered.{Aside, aside-joins, aside-leads, aside-proposes, aside-times, aside-answers_again, aside-noted}
 use Rattle.node_rules.proofs.Rulewise.{KeptByRules, KeptInSteps, keeps_step, ForEvent}
-use Rattle.replica_laws.proofs.Steady.{aside-replying}
-use Rattle.replica_laws.proofs.Authentic.{votable-if, written-if}
+use Rattle.replica_laws.proofs.Replying.{aside-replying}
+use Rattle.replica_laws.proofs.Checked.{votable-if, written-if}
 use Rattle.vote_book.proofs.Tested.{slot_is}
 use Rattle.smart_base.proofs.SameLists.{and_true}
 use Rattle.agreement_laws.proofs.Lists.{some_equal, either, either_by, each_end, each_both}

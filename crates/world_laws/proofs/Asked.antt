@@ -57,7 +57,7 @@ use Rattle.world_laws.proofs.Longer.{secret-step}
 use Rattle.world_laws.proofs.Witnessing.{stated_event, stated-grows, stated-either}
 use Rattle.world_laws.proofs.Chosen.{HostRight, ChosenRight}
 use Rattle.world_laws.proofs.ChosenKept.{asks_alone, chosen-kept, chosen-begun}
-use Rattle.replica_laws.proofs.Authentic.{fits_each}
+use Rattle.replica_laws.proofs.Checked.{fits_each}
 use Rattle.smart_base.proofs.SameLists.{and_true}
 use Rattle.smart_base.proofs.ViewFacts.{each-weaken}
 

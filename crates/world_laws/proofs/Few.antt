@@ -24,12 +24,12 @@ use Rattle.world_rules.specs.Secrets.{group_secret}
 use Rattle.world_rules.specs.Worlds.{course_of, Host, World, life_firm, life_crashed, host_of_node, host_after, host_crashed}
 use Rattle.world_rules.specs.declared.message.Content.{Content}
 use Rattle.world_rules.specs.declared.message.Sent.{Sent}
-use Rattle.world_laws.proofs.Lists.{map_length}
 use Rattle.world_laws.proofs.Keeps.{HasContent, MayCome, after_call}
 use Rattle.world_laws.proofs.Lives.{book_left}
 use Rattle.world_laws.proofs.Longer.{longer-step, told_firm}
 use Rattle.agreement_laws.proofs.Lists.{either}
 use Rattle.node_rules.proofs.Rulewise.{ForRead, ForEvent}
+use Rattle.std.proofs.lemmas.List.{length-map}
 
 -- ---- the bytes of what was sent
 
@@ -157,7 +157,7 @@ pub few-book : (secret : List ℕ) (stated : List Statement) (view : View) (sent
     → length es < 2 ^ 28
 few-book secret stated view sent es book from few =
     let most = few_entries secret stated view (sources sent) es book from in
-    let long = map_length (λ (s : Sent). bytes_of s.content) sent in
+    let long = length-map sent (λ (s : Sent). bytes_of s.content) in
     omega (arith, most, long, few)
 
 -- no more of them are decisions

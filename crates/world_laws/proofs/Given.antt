@@ -1,6 +1,6 @@
 -- What a client accepts, a quorum of members gave it, whatever it hears.
 use Rattle.std.proofs.Common.{◌≡◌, ℕ, ◌≤◌, ◌++◌, ◌==◌, Bool, true, false, ◌&&◌, List, [], ◌∷◌, length, filter, refl, ap, ◌∙◌, sym, arith, Option, Some, None, nat_le, subst, eq-eqb, eqb-true, inl, inr}
-use Rattle.std.proofs.lemmas.Bool.{leb-true}
+use Rattle.std.proofs.lemmas.Bool.{leb-true, or_left, or_right, and_from}
 use Rattle.std.specs.List.{list_any}
 use Rattle.smart_base.specs.Lists.{Each, same_bytes}
 use Rattle.smart_base.specs.Views.{View, quorum}
@@ -23,7 +23,7 @@ use Rattle.world_laws.specs.Sending.{is_reply, has_given, hears_all, IsGiven}
 use Rattle.world_laws.proofs.Hearing.{CountsFor, Accepts, counts_where_not_ignored, accepts_waiting}
 use Rattle.agreement_laws.proofs.Shared.{weaker_passes}
 use Rattle.smart_base.proofs.SameLists.{and_true}
-use Rattle.agreement_laws.proofs.Lists.{either, some_equal, each_end, or_true, or_left, or_right, and_intro}
+use Rattle.agreement_laws.proofs.Lists.{either, some_equal, each_end, or_true}
 use Rattle.smart_base.proofs.ViewFacts.{each-weaken}
 
 -- a reply that a client keeps is one that counts as given, with its signer's tag, to the request that waits
@@ -69,7 +69,7 @@ kept_reply Given test q a gives member (r ∷ rs) kept is =
 counts_waited : (v : View) (c : Client) (a : SignedBy Answer) (q : Request) → CountsFor v c a q → is_waited_for c.waiting a.statement ≡ true
 counts_waited v c a q counts =
     subst (λ (waiting : Option Request). is_waited_for waiting a.statement ≡ true) (sym counts.waits)
-    (and_intro (q.client == a.statement.client) (q.seq == a.statement.seq) (eq-eqb q.client a.statement.client counts.client) (eq-eqb q.seq a.statement.seq counts.seq))
+    (and_from (q.client == a.statement.client) (q.seq == a.statement.seq) (eq-eqb q.client a.statement.client counts.client) (eq-eqb q.seq a.statement.seq counts.seq))
 
 -- so it is kept
 pub kept_last : (Given : SignedBy Answer → Type 0) (v : View) (c : Client) (a : SignedBy Answer) (q : Request) → Given a → CountsFor v c a q → IsKept Given c.waiting a
@@ -154,7 +154,7 @@ quorum_given view c q answers a acc is =
       enough = quorum_gave Given (has_given (answers ++ a ∷ []))
           (λ q' a' r among tagged own is_it.
           among (λ x. (x.signer == r.signer) && is_verified kinds.answers group_secret x && is_reply (acceptance q' a') (Reply x))
-          (and_intro ((r.signer == r.signer) && is_verified kinds.answers group_secret r) (is_reply (acceptance q' a') (Reply r))
-          (and_intro (r.signer == r.signer) (is_verified kinds.answers group_secret r) (eq-eqb r.signer r.signer refl) tagged) is_it))
+          (and_from ((r.signer == r.signer) && is_verified kinds.answers group_secret r) (is_reply (acceptance q' a') (Reply r))
+          (and_from (r.signer == r.signer) (is_verified kinds.answers group_secret r) (eq-eqb r.signer r.signer refl) tagged) is_it))
           view client a acc parts.1 kept.0 taken;
     }

@@ -1,6 +1,6 @@
 -- What each event of a world keeps, the lines of a script keep.
 use Rattle.std.proofs.Common.{◌≡◌, not, ℕ, zero, suc, ◌+◌, ◌^◌, ◌<◌, ◌≤◌, ◌++◌, ◌∙◌, ◌&&◌, ◌||◌, ◌==◌, arith, Bool, true, false, List, [], ◌∷◌, length, refl, ap, cond, Option, Some, None, is_some, nat_lt, nat_le, inl, inr, ◌⊎◌, subst, Result, Ok, Err, ◌-◌, sym, append-nil, append_assoc, take, drop, eqb-true}
-use Rattle.std.proofs.lemmas.Bool.{ltb-true, leb-true, leb-false}
+use Rattle.std.proofs.lemmas.Bool.{ltb-true, leb-true, leb-false, or_parts}
 use Rattle.std.specs.Prelude.{slice_get, slice_set, get_or}
 use Rattle.std.specs.Option.{option_and_then}
 use Rattle.std.specs.Int.{w8}
@@ -71,7 +71,7 @@ use Rattle.smart_base.specs.declared.party.Party.TheVariants as parties
 use Rattle.node_rules.specs.declared.node.Fired.{Fired}
 use Rattle.node_rules.specs.declared.node.Fired.TheVariants as fires
 use Rattle.node_rules.specs.declared.node.Why.{Why}
-use Rattle.agreement_laws.proofs.Lists.{not_false, not_true, or_false, either_by, some_equal, either, each_append}
+use Rattle.agreement_laws.proofs.Lists.{not_false, not_true, either_by, some_equal, either, each_append}
 use Rattle.smart_base.proofs.SameLists.{and_true}
 
 -- what is sent
@@ -879,7 +879,7 @@ live-host_resumes : {S : Type 0} (course : Course S) (P : World S → Type 0) �
 live-host_resumes course P k i w None on at p = p
 live-host_resumes course P k i w (Some h) on at p =
     either_by P (h.up || is_gone w h.node.id) w _ (λ up. p)
-    (λ down. live-resumes_from course P k i w h (damaged group_secret w.view (entries_left h)) on (or_false h.up (is_gone w h.node.id) down) at p)
+    (λ down. live-resumes_from course P k i w h (damaged group_secret w.view (entries_left h)) on (or_parts h.up (is_gone w h.node.id) down) at p)
 
 live-resumes : {S : Type 0} (course : Course S) (P : World S → Type 0) → KeepsLives course P → (i : ℕ) (w : World S) → P w → P (resumes course i w)
 unfolding resumes

@@ -1,16 +1,9 @@
 -- Facts on lists, tests and repeated steps.
-use Rattle.std.proofs.Common.{◌≡◌, ℕ, zero, suc, ◌+◌, List, [], ◌∷◌, length, map, refl, ap, Some, subst}
+use Rattle.std.proofs.Common.{◌≡◌, ℕ, zero, suc, ◌+◌, List, [], ◌∷◌, Some, subst}
 use Rattle.std.specs.Prelude.{slice_get, slice_set}
 use Rattle.smart_base.specs.Lists.{Each}
 use Rattle.world_rules.specs.Repeats.{repeated, turns, until_rest, each_from}
 use Rattle.agreement_laws.proofs.Lists.{some_equal}
-
--- tests that are joined
-
--- the mapped list is as long
-pub map_length : {A B : Type 0} (t : A → B) (xs : List A) → length (map t xs) ≡ length xs
-map_length t [] = refl
-map_length t (x ∷ xs) = ap (λ k. suc k) (map_length t xs)
 
 -- what holds of each value of a list
 

@@ -17,8 +17,8 @@ use Rattle.world_rules.specs.declared.message.Content.{Content}
 use Rattle.world_rules.specs.declared.message.Content.TheVariants as contents
 use Rattle.world_laws.proofs.Keeps.{IsRead}
 use Rattle.smart_statements.proofs.Batches.{batch_is}
-use Rattle.agreement_laws.proofs.Lists.{or_false}
 use Rattle.vote_book.proofs.Tested.{same_bytes_is, same_bytes_self}
+use Rattle.std.proofs.lemmas.Bool.{or_parts}
 
 -- a batch is among batches
 abbrev pub HasBatch : List Batch → Batch → Type 0
@@ -74,7 +74,7 @@ no_clash a b none same =
 none_passes : (p : Batch → Bool) (bs : List Batch) (b : Batch) → list_any p bs ≡ false → HasBatch bs b → p b ≡ false
 none_passes p [] b none has = absurd has
 none_passes p (x ∷ xs) b none has =
-    let parts = or_false (p x) (list_any p xs) none in
+    let parts = or_parts (p x) (list_any p xs) none in
     elim has [ inl here ↦ subst (λ (y : Batch). p y ≡ false) here parts.0 | inr later ↦ none_passes p xs b parts.1 later ]
 
 -- a batch that may be there is one at most

@@ -33,7 +33,7 @@ use Rattle.world_laws.specs.Sending.{IsOwnSent, is_reply, is_of, is_for, is_repl
 use Rattle.world_laws.proofs.Lists.{each_set, each_get}
 use Rattle.world_laws.proofs.Keeps.{HasContent, HasMessage, ask_of, asked_by, by-posts, keeps-sends_all, has_end, heard_has, KeepsAll, keeps-world_after, signed_by, from_node, from_client, from_script}
 use Rattle.replica_laws.proofs.FitNodes.{IsBrief}
-use Rattle.agreement_laws.proofs.Lists.{each_among, each_end, or_left, or_right, or_true, and_intro}
+use Rattle.agreement_laws.proofs.Lists.{each_among, each_end, or_true}
 use Rattle.world_laws.proofs.Hearing.{accepts_waiting}
 use Rattle.world_laws.proofs.Given.{IsKept, ClientKeeps, keeps_heard, quorum_gave}
 use Rattle.smart_messages.specs.declared.any.AnyMessage.TheVariants.{Plain}
@@ -49,6 +49,7 @@ use Rattle.world_laws.proofs.ChosenKept.{right-reads, chosen-begun}
 use Rattle.smart_base.proofs.SameLists.{and_true}
 use Rattle.smart_base.proofs.ViewFacts.{each-weaken}
 use Rattle.agreement_laws.proofs.Shared.{weaker_passes}
+use Rattle.std.proofs.lemmas.Bool.{or_left, or_right, and_from}
 
 -- the list is right, and what was sent is each one's own
 abbrev pub RightBorne : {S : Type 0} → Meaning S → World S → Type 0
@@ -87,7 +88,7 @@ replied_faulty faulty more sent a grows member is =
     any_where _ _
     (λ s passes.
     let both = and_true (is_reply_of member a s.content) (is_among faulty member || (is_of member s.origin && is_for a.request.client s.to)) passes in
-    and_intro (is_reply_of member a s.content) (is_among more member || (is_of member s.origin && is_for a.request.client s.to)) both.0
+    and_from (is_reply_of member a s.content) (is_among more member || (is_of member s.origin && is_for a.request.client s.to)) both.0
     (⊎_elim (λ breaks. or_left (is_among more member) (is_of member s.origin && is_for a.request.client s.to) (grows member breaks))
     (λ own. or_right (is_among more member) (is_of member s.origin && is_for a.request.client s.to) own)
     (or_true (is_among faulty member) (is_of member s.origin && is_for a.request.client s.to) both.1))) sent is
@@ -150,11 +151,11 @@ sent_reply {S = S} m w r a right has tagged client is = by (is_among w.faulty r.
     test s = is_reply_of r.signer a s.content && (is_among w.faulty r.signer || (is_of r.signer s.origin && is_for a.request.client s.to))
 
     reply : is_reply_of r.signer a (contents.Message (Plain (Reply r))) ≡ true
-    reply = and_intro ((r.signer == r.signer) && is_verified answers group_secret r) (is_reply a (Reply r)) (and_intro (r.signer == r.signer) (is_verified answers group_secret r) (eq-eqb r.signer r.signer refl) tagged) is
+    reply = and_from ((r.signer == r.signer) && is_verified answers group_secret r) (is_reply a (Reply r)) (and_from (r.signer == r.signer) (is_verified answers group_secret r) (eq-eqb r.signer r.signer refl) tagged) is
 
     passes : (s : Sent) → s.content ≡ contents.Message (Plain (Reply r)) → (is_among w.faulty r.signer || (is_of r.signer s.origin && is_for a.request.client s.to)) ≡ true → test s ≡ true
     passes s same fine =
-        and_intro (is_reply_of r.signer a s.content) (is_among w.faulty r.signer || (is_of r.signer s.origin && is_for a.request.client s.to))
+        and_from (is_reply_of r.signer a s.content) (is_among w.faulty r.signer || (is_of r.signer s.origin && is_for a.request.client s.to))
         (subst (λ (x : Content). is_reply_of r.signer a x ≡ true) (sym same) reply) fine
 
     mine : NodeStates w.sent r.signer (statements.Replied r) → has_replied w.faulty w.sent a r.signer ≡ true
@@ -167,7 +168,7 @@ sent_reply {S = S} m w r a right has tagged client is = by (is_among w.faulty r.
         among_any test s w.sent source.there
         (passes s same
         (or_right (is_among w.faulty r.signer) (is_of r.signer s.origin && is_for a.request.client s.to)
-        (and_intro (is_of r.signer s.origin) (is_for a.request.client s.to)
+        (and_from (is_of r.signer s.origin) (is_for a.request.client s.to)
         (subst (λ (o : Origin). is_of r.signer o ≡ true) (sym source.from) (eq-eqb r.signer r.signer refl))
         (own_for r.signer s.to r a.request.client own_node client))))
 

@@ -57,7 +57,7 @@ use Rattle.world_laws.proofs.Lists.{each_set, each_get}
 use Rattle.world_laws.proofs.Keeps.{after_call, with_host, entries_left, node_resumed, ask_of, asked_by, by-posts, KeepsAll, signed_by, from_node, from_client, from_script}
 use Rattle.world_laws.proofs.Unforged.{NodeStates, reply_content}
 use Rattle.world_laws.proofs.Aligned.{Aligned, AllAligned, line_told, IsExecuted}
-use Rattle.replica_laws.proofs.Steady.{replica-decides}
+use Rattle.replica_laws.proofs.Replying.{replica-decides}
 use Rattle.node_laws.proofs.Passes.{each_staying}
 use Rattle.smart_base.proofs.ViewFacts.{each-weaken}
 

@@ -24,7 +24,7 @@ use Rattle.vote_book.proofs.Tested.{passing}
 use Rattle.node_rules.specs.Steps.{Outcome, leaving}
 use Rattle.node_rules.specs.declared.node.Target.{Target}
 use Rattle.agreement_laws.specs.Statements.{Statement, Asked, Proposed, Voted, Stopped, Reported, Synced, Marked, Replied, Informed, signer_of, within, in_report, parts_of_evidence, parts_of_lock, requests_of, said}
-use Rattle.agreement_laws.proofs.Lists.{among_either, each_among, given, within_one, or_false, each_end}
+use Rattle.agreement_laws.proofs.Lists.{among_either, each_among, given, within_one, each_end}
 use Rattle.world_rules.specs.Premises.{Claim, claim_of, claims, same_claim, is_among, is_from, is_stated, is_excused, is_forgery, is_forged}
 use Rattle.world_rules.specs.Worlds.{Course, Host, World, posts, stepped, hearing}
 use Rattle.world_rules.specs.declared.message.Content.{Content}
@@ -38,6 +38,7 @@ use Rattle.world_laws.proofs.Keeps.{IsRead, ask_of, asked_by, by-posts, KeepsAll
 use Rattle.world_laws.proofs.Stating.{Proper, claims_stated, same_claim-one, message_proper, IsSaid, message_says}
 use Rattle.smart_base.proofs.SameLists.{and_true}
 use Rattle.smart_base.proofs.ViewFacts.{each-weaken}
+use Rattle.std.proofs.lemmas.Bool.{or_parts}
 
 -- what is injected
 
@@ -81,7 +82,7 @@ stated_fine a false is = absurd (cc)
 none_more : (p q : Claim → Bool) → ((c : Claim) → p c ≡ false → q c ≡ false) → (cs : List Claim) → list_any p cs ≡ false → list_any q cs ≡ false
 none_more p q more [] none = refl
 none_more p q more (c ∷ cs) none =
-    let parts = or_false (p c) (list_any p cs) none in
+    let parts = or_parts (p c) (list_any p cs) none in
     neither (q c) (list_any q cs) (more c parts.0) (none_more p q more cs parts.1)
   where
     neither : (a b : Bool) → a ≡ false → b ≡ false → (a || b) ≡ false
@@ -210,8 +211,8 @@ claim_own sent x read proper is =
 -- a claim of a content that is not forged is of one who is excused, or it is stated
 none_claims : (p : Claim → Bool) (xs : List Statement) (x : Statement) → list_any p (map claim_of xs) ≡ false → Among x xs → p (claim_of x) ≡ false
 none_claims p [] x none there = absurd there
-none_claims p (y ∷ ys) x none (inl is) = subst (λ (z : Statement). p (claim_of z) ≡ false) (sym is) (or_false (p (claim_of y)) (list_any p (map claim_of ys)) none).0
-none_claims p (y ∷ ys) x none (inr there) = none_claims p ys x (or_false (p (claim_of y)) (list_any p (map claim_of ys)) none).1 there
+none_claims p (y ∷ ys) x none (inl is) = subst (λ (z : Statement). p (claim_of z) ≡ false) (sym is) (or_parts (p (claim_of y)) (list_any p (map claim_of ys)) none).0
+none_claims p (y ∷ ys) x none (inr there) = none_claims p ys x (or_parts (p (claim_of y)) (list_any p (map claim_of ys)) none).1 there
 
 -- so a statement in it that is read is of one who is excused, or stands in a message that its signer has sent
 pub fine_own : (faulty rogue : List ℕ) (sent : List Sent) (content : Content) (x : Statement) → is_forged faulty rogue sent content ≡ false → Each (λ s. IsRead s.content) sent → IsRead content

@@ -1,6 +1,6 @@
 -- What members have stated is witnessed by what became firm at them.
 use Rattle.std.proofs.Common.{◌≡◌, ⊎_elim, ◌⊎◌, ℕ, zero, suc, ◌+◌, ◌*◌, ◌^◌, ◌≤◌, ◌==◌, ◌&&◌, ◌||◌, Bool, true, false, List, [], ◌∷◌, ◌++◌, take, length, filter, refl, ap, sym, ◌∙◌, subst, inl, inr, Option, Some, eqb-true, eq-eqb, nat_le, append-nil}
-use Rattle.std.proofs.lemmas.Bool.{ltb-false, leb-true}
+use Rattle.std.proofs.lemmas.Bool.{ltb-false, leb-true, or_parts}
 use Rattle.std.proofs.lemmas.Grind.{flat_map-append}
 use Rattle.std.specs.Prelude.{map, slice_get, slice_set}
 use Rattle.std.specs.List.{list_any, flat_map}
@@ -20,7 +20,7 @@ use Rattle.agreement_laws.specs.Statements.{Statement, signer_of, statements, Is
 use Rattle.agreement_laws.specs.Diaries.{IsShown}
 use Rattle.agreement_laws.specs.Certificates.{IsBacked}
 use Rattle.agreement_laws.specs.Law.{FewFaulty, Witnessed}
-use Rattle.agreement_laws.proofs.Lists.{among_left, among_right, among_either, each_from, or_false, either, either_by, some_equal}
+use Rattle.agreement_laws.proofs.Lists.{among_left, among_right, among_either, each_from, either, either_by, some_equal}
 use Rattle.agreement_laws.proofs.Growing.{take-longer, IsShown-front}
 use Rattle.agreement_laws.proofs.Closed.{closed}
 use Rattle.node_laws.specs.Sound.{AreAmong, IsStated, IsStatedEvent, IsHeld}
@@ -182,7 +182,7 @@ members_same a b same = cc
 shows_none : {S : Type 0} (faulty : List ℕ) (x : Statement) (id : ℕ) (hs : List (Host S)) → signer_of x ≡ Member id → list_any (λ y. y == id) (map (λ g. g.node.id) hs) ≡ false → Each (ShowsOwn faulty x) hs
 shows_none faulty x id [] who none = tt
 shows_none faulty x id (g ∷ hs) who none =
-    let parts = or_false (g.node.id == id) (list_any (λ y. y == id) (map (λ k. k.node.id) hs)) none in
+    let parts = or_parts (g.node.id == id) (list_any (λ y. y == id) (map (λ k. k.node.id) hs)) none in
     (λ own correct. absurd (no_other (sym (eq-eqb g.node.id id (members_same g.node.id id (sym own ∙ who))) ∙ parts.0)), shows_none faulty x id hs who parts.1)
   where
     no_other : true ≡ false → ⊥

@@ -1,4 +1,4 @@
--- Each request at a node was asked, and each batch at a node fits its place: rule by rule, over what counts as asked.
+-- What is not dropped has passed its checks, and what is picked of it has what all of it has.
 use Rattle.std.proofs.Common.{◌≡◌, ℕ, Bool, true, not, ◌&&◌, ◌==◌, List, [], ◌∷◌, Option, Some, None, nat_lt}
 use Rattle.std.specs.Prelude.{IfSome}
 use Rattle.std.specs.List.{list_any, list_all}
@@ -18,17 +18,23 @@ use Rattle.node_rules.specs.Rules.{votable, written}
 use Rattle.node_rules.specs.Nodes.{Node, view_of}
 use Rattle.node_rules.specs.Arrivals.{slot_why, signer_why, is_batch_for, why_propose}
 use Rattle.node_rules.specs.declared.node.Why.TheVariants.{NotMember, BadTag, NotLeader, InvalidBatch}
-use Rattle.replica_laws.proofs.Lists.{or_else-none, third-none, if_cond}
+use Rattle.replica_laws.proofs.Lists.{third-none, if_cond}
 use Rattle.replica_laws.specs.Sending.{ForBatch}
 use Rattle.smart_base.proofs.SameLists.{and_true}
 use Rattle.agreement_laws.proofs.Lists.{either}
+use Rattle.node_rules.proofs.Options.{else_none}
 
--- ---- more counts as asked
+-- ---- a batch, if there is one
 
 -- what follows from what holds of a batch, if there is one
 pub for_batch-weaker : (P Q : Batch → Type 0) → ((batch : Batch) → P batch → Q batch) → (batch : Option Batch) → ForBatch batch P → ForBatch batch Q
 for_batch-weaker P Q weaker None p = tt
 for_batch-weaker P Q weaker (Some batch) p = weaker batch p
+
+-- the first of two batches that is there
+pub for_batch-or : (P : Batch → Type 0) (x y : Option Batch) → ForBatch x P → ForBatch y P → ForBatch (or_else x y) P
+for_batch-or P None y px py = py
+for_batch-or P (Some batch) y px py = px
 
 -- ---- arrivals
 
@@ -42,7 +48,7 @@ pub valid_where_kept : {S : Type 0} (n : Node S) (p : Proposed) → why_propose 
 unfolding why_propose
 valid_where_kept n p none =
     third-none (not (p.head.signer == leader (view_of n) p.head.statement.slot.regency)) (is_batch_for n.secret p.head.statement.slot.place p.head.statement.digest p.batch) NotLeader InvalidBatch _
-    (or_else-none (slot_why n p.head.statement.slot) _ (or_else-none (signer_why n (is_verified proposals n.secret p.head) p.head.signer) _ none))
+    (else_none (slot_why n p.head.statement.slot) _ (else_none (signer_why n (is_verified proposals n.secret p.head) p.head.signer) _ none).1).1
 
 -- such a batch fits its place
 pub fits_where_valid : (secret : List ℕ) (place : ℕ) (digest : List ℕ) (batch : Batch) → is_batch_for secret place digest batch ≡ true → fits secret batch place ≡ true
@@ -70,12 +76,7 @@ greater-if P None y px py = py
 greater-if P (Some a) None px py = px
 greater-if P (Some a) (Some b) px py = either (λ (o : Option accept.Accept). IfSome o P) (nat_lt a.slot.regency b.slot.regency) (Some b) (Some a) py px
 
--- ---- propose, write and accept
-
--- the first of two batches that is there
-pub for_batch-or : (P : Batch → Type 0) (x y : Option Batch) → ForBatch x P → ForBatch y P → ForBatch (or_else x y) P
-for_batch-or P None y px py = py
-for_batch-or P (Some batch) y px py = px
+-- ---- votes
 
 -- what may get votes, and what is written, is what was proposed
 pub votable-if : {S : Type 0} (P : Proposed → Type 0) (n : Node S) (found : Option Proposed) → IfSome found P → IfSome (votable n found) P

@@ -1,4 +1,4 @@
--- A node whose rules have passed: one more pass writes nothing down.
+-- What replies, the rules of a pass and a delivery leave of a replica.
 use Rattle.std.proofs.Common.{◌≡◌, ◌+◌, true, false, List, [], ◌∷◌, refl, ap, ◌∙◌, Option, Some, None, is_some}
 use Rattle.smart_statements.specs.Batches.{Batch}
 use Rattle.smart_messages.specs.declared.any.AnyMessage.TheVariants.{Plain}
@@ -17,17 +17,16 @@ use Rattle.replica_laws.proofs.Entered.{Aside, aside-same, aside-then}
 use Rattle.node_rules.proofs.Rulewise.{KeptByRules, keeps_passes}
 use Rattle.replica_rules.proofs.Places.{place_delivered}
 
--- ---- events
+-- ---- replies
 
--- a delivery
-
+-- they change what is held alone
 pub aside-replying : {S : Type 0} (n : Node S) (lines : List TableLine) → Aside n (replying n lines)
 aside-replying n [] = aside-same n
 aside-replying {S = S} n (l ∷ ls) =
     let x : Node S = holding n (targets.Client l.client) (Plain (reply_of n.secret n.id l)) in
     aside-then n x (replying x ls) (record { holds = x.held; slots = n.proposed; stopped = n.stop_made; led = n.sync_made; pressed = n.impatient; told = n.behind; same = refl }) (aside-replying x ls)
 
--- replies leave the replica
+-- and leave the replica
 pub replica-replying : {S : Type 0} (n : Node S) (lines : List TableLine) → (replying n lines).replica ≡ n.replica
 replica-replying n [] = refl
 replica-replying n (l ∷ ls) = replica-replying (holding n (targets.Client l.client) (Plain (reply_of n.secret n.id l))) ls
