@@ -6,7 +6,9 @@ use Rattle.certificates.specs.Certificates.{accept_of, votes_fault}
 use Rattle.node_rules.specs.Arrivals.{is_batch_for}
 use Rattle.node_rules.specs.Reopening.{decided_of, rests}
 use Rattle.replica_rules.specs.Seals.{digest_of}
+use Rattle.node_laws.proofs.Reopened.{some_place}
 use Rattle.node_laws.proofs.Resting.{each_of_three}
+use Rattle.node_laws.proofs.Restored.{decided_append}
 use Rattle.node_laws.specs.Restoring.{DecidesInTurn}
 use Rattle.smart_base.specs.Lists.{Each}
 use Rattle.smart_base.specs.Views.{View}
