@@ -10,7 +10,7 @@ use Rattle.vote_book.specs.declared.entry.LogEntry.{LogEntry}
 use Rattle.vote_book.specs.declared.entry.LogEntry.TheVariants.{Opened, Wrote, Accepted, Promised, Synced, Decided, Installed, Marked}
 use Rattle.replica_rules.specs.Seals.{digest_of}
 use Rattle.node_rules.specs.Arrivals.{is_batch_for}
-use Rattle.node_rules.specs.Reopening.{is_opening, damaged, entries_in}
+use Rattle.node_rules.specs.Reopening.{is_opening, damaged, decided_of, entries_in}
 
 -- ---- what an entry rests on
 
@@ -55,3 +55,10 @@ pub record IsFirstDamage (secret : List ℕ) (view : View) (restored : List (Lis
   pub numbered : number ≡ length front + 1
   pub undamaged : damaged secret view front ≡ None
   pub damage : IsDamage secret view (entries_in front) (entry_decoded bytes)
+
+-- ---- the order of decisions
+
+-- entries decide one place after the other, from the first on
+abbrev pub DecidesInTurn : List LogEntry → Type 0
+DecidesInTurn entries =
+    (before : List LogEntry) (d : Decision) (after : List LogEntry) → entries ≡ before ++ Decided d ∷ after → d.slot.place ≡ length (decided_of before) + 1

@@ -1,6 +1,6 @@
-use Rattle.restart_laws.proofs.Certified.{certified_exact}
-use Rattle.restart_laws.proofs.Restored.{all_certified, back, begun, decoded, first_exact, fits, in_turn, lawful, read, rest, within}
-use Rattle.restart_laws.proofs.laws.what_is_undamaged_is_lawful.Goals as goal
+use Rattle.node_laws.proofs.Resting.{certified_exact}
+use Rattle.node_laws.proofs.Damage.{all_certified, back, begun, decoded, first_exact, fits, in_turn, lawful, read, rest, within}
+use Rattle.node_laws.proofs.laws.what_is_undamaged_is_lawful.Goals as goal
 
 pub returns-clause-decoded : goal.returns-clause-decoded
 returns-clause-decoded c = λ secret view restored none. decoded secret view restored none

@@ -4,13 +4,12 @@ use Rattle.std.proofs.lemmas.Bool.{both_ways, false_from_ne_true}
 use Rattle.std.proofs.Math.Seq.{take-append_seam}
 use Rattle.std.specs.List.{cons_option}
 use Rattle.std.specs.Prelude.{map, ◌↔◌}
-use Rattle.node_laws.proofs.Lists.{each_weaker}
 use Rattle.node_laws.specs.Sound.{IsBegun}
 use Rattle.node_rules.specs.Reopening.{damage_at, damaged, damaged_from, entries_in, entry_of, is_opening, may_restore, opens_first, rests}
-use Rattle.restart_laws.proofs.Certified.{all_three, certified, each_of_three, resting}
-use Rattle.restart_laws.proofs.InTurn.{decided_in_turn}
-use Rattle.restart_laws.specs.Lives.{DecidesInTurn}
-use Rattle.restart_laws.specs.Restoring.{IsCertified, IsDamage, IsFirstDamage}
+use Rattle.node_laws.proofs.Resting.{all_three, certified, each_of_three, resting}
+use Rattle.node_laws.proofs.InTurn.{decided_in_turn}
+use Rattle.node_laws.specs.Restoring.{DecidesInTurn}
+use Rattle.node_laws.specs.Restoring.{IsCertified, IsDamage, IsFirstDamage}
 use Rattle.smart_base.specs.Cuts.{IsBytes}
 use Rattle.smart_base.specs.Lists.{Each}
 use Rattle.smart_base.specs.Views.{View}
@@ -22,6 +21,7 @@ use Rattle.vote_book.specs.Admission.{admits}
 use Rattle.vote_book.specs.Books.{Lawful}
 use Rattle.vote_book.specs.Entries.{FitsEntry, entry_decoded, entry_text}
 use Rattle.vote_book.specs.declared.entry.LogEntry.{LogEntry}
+use Rattle.smart_base.proofs.ViewFacts.{each-weaken}
 
 -- ---- entries that may be restored
 
@@ -122,7 +122,7 @@ taken secret view before behind (Ok e) none =
 abbrev AreRead : List (List ℕ) → List LogEntry → Type 0
 AreRead restored es = map entry_decoded restored ≡ map (λ (e : LogEntry). Ok e) es
 
-one_read : (e : LogEntry) (rest : List LogEntry) (read : Result LogEntry ℕ) → read ≡ Ok e → cons_option (entry_of read) rest ≡ e ∷ rest
+pub one_read : (e : LogEntry) (rest : List LogEntry) (read : Result LogEntry ℕ) → read ≡ Ok e → cons_option (entry_of read) rest ≡ e ∷ rest
 one_read e rest read at = ap (λ (r : Result LogEntry ℕ). cons_option (entry_of r) rest) at
 
 all_read : (bytes : List ℕ) (rest : List (List ℕ)) (e : LogEntry) (es all : List LogEntry) → entry_decoded bytes ≡ Ok e → AreRead rest es → all ≡ e ∷ es → AreRead (bytes ∷ rest) all
@@ -198,7 +198,7 @@ rest secret view restored none = rest_on secret view [] (entries_in restored) (u
 
 pub all_certified : (secret : List ℕ) (view : View) (restored : List (List ℕ)) → damaged secret view restored ≡ None → Each (IsCertified secret view) (entries_in restored)
 all_certified secret view restored none =
-    each_weaker (λ (e : LogEntry). rests secret view e ≡ true) (IsCertified secret view) (λ e is. certified secret view e is) (entries_in restored) (rest secret view restored none)
+    each-weaken (λ (e : LogEntry). rests secret view e ≡ true) (IsCertified secret view) (λ e is. certified secret view e is) (entries_in restored) (rest secret view restored none)
 
 pub back : (secret : List ℕ) (view : View) (entries : List LogEntry) → Each FitsEntry entries → (entries ≡ []) ⊎ IsBegun entries → Lawful 0 (length entries) entries
     → Each (λ e. rests secret view e ≡ true) entries → damaged secret view (map entry_text entries) ≡ None

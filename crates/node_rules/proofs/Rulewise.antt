@@ -1,18 +1,19 @@
 -- What each rule of a node keeps, a pass of the rules and a step keep.
-use Rattle.std.proofs.Common.{◌≡◌, ℕ, Option, Some, None, Result, Ok, Err, refl, ◌∙◌}
+use Rattle.std.proofs.Common.{◌≡◌, ℕ, Bool, Option, Some, None, Result, Ok, Err, refl, ◌∙◌}
 use Rattle.smart_messages.specs.RegencyMessages.{any_decoded}
 use Rattle.smart_messages.specs.declared.any.AnyMessage.{AnyMessage}
+use Rattle.smart_messages.specs.declared.any.AnyMessage.TheVariants.{Plain, Change}
+use Rattle.smart_messages.specs.declared.message.Message.TheVariants.{Ask, Propose, Vote, Reply}
+use Rattle.smart_messages.specs.declared.regency.RegencyMessage.TheVariants as changes
 use Rattle.smart_statements.specs.declared.entry.NodeEvent.{NodeEvent}
 use Rattle.smart_statements.specs.declared.entry.NodeEvent.TheVariants.{Arrive, Tick, Deliver, Firm}
 use Rattle.smart_service.specs.Services.{Meaning}
-use Rattle.node_rules.specs.Nodes.{Node}
-use Rattle.node_rules.specs.Arrivals.{why_dropped, kept, noted}
+use Rattle.node_rules.specs.Nodes.{Node, regency_of, start_of}
+use Rattle.node_rules.specs.Arrivals.{signer_why, slot_why, why_ask, why_propose, why_vote, why_reply, why_stop, is_proven, why_report, is_collect, why_sync, why_dropped, kept, noted}
 use Rattle.node_rules.specs.Rules.{delivers, proposes, writes, accepts, decides, answers_again}
 use Rattle.node_rules.specs.Changes.{adopts, joins, promises, leads, times}
 use Rattle.node_rules.specs.Steps.{made_firm, turns, votes, passes, arrival_outcome, reading_outcome, step_of}
 use Rattle.node_rules.specs.declared.node.Why.{Why}
-use Rattle.kept_arrivals.proofs.Arrivals.{why_noted}
-use Rattle.replica_laws.specs.Sending.{ForRead, ForEvent}
 
 -- what the rules of a pass keep
 pub record KeptByRules {S : Type 0} (P : Node S → Type 0) : Type 0 where
@@ -47,10 +48,34 @@ pub keeps_passes : {S : Type 0} (P : Node S → Type 0) (n : Node S) → KeptByR
 unfolding passes
 keeps_passes P n by is = by.by_decides (votes (turns n)) (keeps_votes P (turns n) by (keeps_turns P n by is))
 
--- what a message is judged by is not whether the node is behind
+-- that a node is behind gives no reason
+pub why_noted : {S : Type 0} (n : Node S) (behind : Bool) (message : AnyMessage) → why_dropped (record n { behind = behind }) message ≡ why_dropped n message
+unfolding why_ask why_propose why_vote why_reply why_stop why_report why_sync is_proven is_collect signer_why slot_why regency_of start_of
+why_noted n behind (Plain (Ask q)) = refl
+why_noted n behind (Plain (Propose p)) = refl
+why_noted n behind (Plain (Vote b)) = refl
+why_noted n behind (Plain (Reply a)) = refl
+why_noted n behind (Change (changes.Stop s)) = refl
+why_noted n behind (Change (changes.StopData r)) = refl
+why_noted n behind (Change (changes.Sync s)) = refl
+
 pub why-noted : {S : Type 0} (n : Node S) (message : AnyMessage) → why_dropped (noted n message) message ≡ why_dropped n message
 unfolding noted
 why-noted n message = why_noted n _ message
+
+-- ---- what comes
+
+-- what holds of a message that was read
+abbrev pub ForRead : (AnyMessage → Type 0) → Result AnyMessage ℕ → Type 0
+ForRead A (Ok message) = A message
+ForRead A (Err at) = Unit {0}
+
+-- and of one that an event brings
+abbrev pub ForEvent : (AnyMessage → Type 0) → NodeEvent → Type 0
+ForEvent A (Arrive bytes) = ForRead A (any_decoded bytes)
+ForEvent A Tick = Unit {0}
+ForEvent A Deliver = Unit {0}
+ForEvent A (Firm count) = Unit {0}
 
 -- of which nothing is asked
 pub free-read : (read : Result AnyMessage ℕ) → ForRead (λ message. Unit {0}) read

@@ -1,21 +1,18 @@
 -- What an entry rests on, by the test and in the terms of certificates.
-use Rattle.std.proofs.Common.{Bool, List, None, Option, Some, ap, refl, true, ℕ, ◌≡◌, ◌&&◌, ◌==◌}
+use Rattle.std.proofs.Common.{Bool, List, ap, refl, true, ℕ, ◌≡◌, ◌&&◌, ◌==◌}
 use Rattle.std.proofs.lemmas.Bool.{and_from, eq-eqb, eqb-true}
 use Rattle.std.specs.Prelude.{is_none, ◌↔◌}
 use Rattle.certificates.proofs.Equal.{votes-exact}
 use Rattle.certificates.specs.Certificates.{accept_of, votes_fault, write_of}
-use Rattle.node_laws.proofs.Lists.{and_true}
 use Rattle.node_rules.specs.Arrivals.{is_batch_for}
 use Rattle.node_rules.specs.Reopening.{rests}
 use Rattle.replica_rules.specs.Seals.{digest_of}
-use Rattle.restart_laws.specs.Restoring.{IsCertified}
+use Rattle.node_laws.specs.Restoring.{IsCertified}
 use Rattle.smart_base.specs.Views.{View}
 use Rattle.vote_book.specs.declared.entry.LogEntry.{LogEntry}
 use Rattle.vote_book.specs.declared.entry.LogEntry.TheVariants.{Accepted, Decided, Installed, Marked, Opened, Promised, Synced, Wrote}
-
-none_is : {A : Type 0} (o : Option A) → is_none o ≡ true → o ≡ None
-none_is None is = refl
-none_is (Some x) is = absurd (cc)
+use Rattle.smart_base.proofs.SameLists.{and_true}
+use Rattle.node_rules.proofs.Options.{none_is}
 
 pub all_three : (a b c : Bool) → a ≡ true → b ≡ true → c ≡ true → (a && b && c) ≡ true
 all_three a b c x y z = and_from (a && b) c (and_from a b x y) z
