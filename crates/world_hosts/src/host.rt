@@ -60,7 +60,7 @@ impl<S> Model for Host<S> {
     } };
 }
 
-impl<S> Drop for Host<S> {
+impl<S: Drop> Drop for Host<S> {
     fn drop(self) {
         let Host {
             node: _node,

@@ -51,7 +51,7 @@ pub struct WorldState<S> {
     pub ending: Option<Ending>,
 }
 
-impl<S> Drop for WorldState<S> {
+impl<S: Drop> Drop for WorldState<S> {
     fn drop(self) {
         let WorldState {
             alloc: _alloc,
