@@ -1,5 +1,5 @@
 //! What becomes of a client's request that arrives.
-ghost use Rattle.std.specs.Prelude.{◌≡◌, ◌==◌, true, false, None, if◌then◌else◌, IfOk, OnErr};
+ghost use Rattle.std.specs.Prelude.{◌≡◌, ◌==◌, true, false, IfOk, OnErr};
 ghost use Rattle.smart_base.specs.Views.{is_member};
 ghost use Rattle.node_judging.specs.Asking.{asked_by, line_asked};
 ghost use Rattle.node_rules.specs.Nodes.{view_of};

@@ -1,16 +1,12 @@
 //! What a node decides: what is due, what the rule does with it, and both.
-ghost use Rattle.std.specs.Prelude.{◌≡◌, None, ◌==◌, ◌+◌, ◌<◌, ◌++◌, true, IfOk, IfSome, OnOk, IsSome, Some, option_map, filter_map, OnErr};
+ghost use Rattle.std.specs.Prelude.{◌≡◌, ◌++◌, true, IfOk, IfSome, OnOk, IsSome, Some, option_map, filter_map, OnErr};
 ghost use Rattle.std.specs.Option.{option_copied};
-ghost use Rattle.smart_messages.specs.declared.message.Proposed.{Proposed};
 ghost use Rattle.smart_base.specs.Lists.{or_else};
-ghost use Rattle.vote_book.specs.declared.entry.Accept.{Accept};
 ghost use Rattle.node_state.specs.Following.{named};
-ghost use Rattle.node_rules.specs.Rules.{accepts, slot_in, decision_in, decision_ahead, deciding, decide_batch, decides, fired_if};
+ghost use Rattle.node_rules.specs.Rules.{slot_in, decision_in, decision_ahead, deciding, decide_batch, decides, fired_if};
 ghost use Rattle.node_rules.specs.Nodes.{next_place, is_free, view_of, regency_of};
 ghost use Rattle.node_rules.specs.Votes.{named_in, named_by, accepted_in, decision_by};
-ghost use Rattle.node_rules.specs.Steps.{votes};
 ghost use Rattle.consensus_instance.specs.Instances.{name_of};
-ghost use Rattle.vote_book.specs.declared.entry.LogEntry.TheVariants as entries;
 ghost use Rattle.node_rules.specs.declared.node.Fired.TheVariants as fires;
 
 use node_rules::node::Fired;

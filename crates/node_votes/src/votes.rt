@@ -1,11 +1,10 @@
 //! What a node proposes, writes for and accepts: what is due, what the rule does with it, and both.
-ghost use Rattle.std.specs.Prelude.{◌≡◌, None, ◌+◌, ◌<◌, ◌++◌, true, IfOk, OnOk, IsSome, Some, option_map, OnErr, ◌∷◌, []};
+ghost use Rattle.std.specs.Prelude.{◌≡◌, ◌++◌, true, IfOk, OnOk, IsSome, Some, option_map, OnErr, ◌∷◌, []};
 ghost use Rattle.std.specs.Option.{option_copied};
 ghost use Rattle.smart_statements.specs.Kinds.{proposals};
-ghost use Rattle.smart_messages.specs.declared.message.Proposed.{Proposed};
 ghost use Rattle.vote_book.specs.declared.entry.Accept.{Accept};
-ghost use Rattle.replica_rules.specs.Seals.{signed, digest_of};
-ghost use Rattle.node_rules.specs.Rules.{batch_under, proposing, propose_batch, proposes, ballot, writing, write_batch, writes, accepting, accept_batch, accepts, fired_if};
+ghost use Rattle.replica_rules.specs.Seals.{signed};
+ghost use Rattle.node_rules.specs.Rules.{batch_under, proposing, propose_batch, proposes, ballot, writing, writes, accepting, accepts, fired_if};
 ghost use Rattle.node_rules.specs.Nodes.{next_place, open_slot, is_free, holding, recording, view_of, bound_at, start_of};
 ghost use Rattle.node_rules.specs.Votes.{accepted_under, certificate_votes};
 ghost use Rattle.node_rules.specs.Steps.{votes, fired_votes};
