@@ -2,7 +2,7 @@
 ghost use Rattle.std.specs.Prelude.{◌≡◌, IfOk, OnOk, OnErr, ◌++◌};
 ghost use Rattle.node_rules.specs.Steps.{outcome_from, passes, fired_pass};
 ghost use Rattle.node_state.specs.Broken.{IsPartly};
-ghost use Rattle.node_state.specs.Arriving.{passed};
+ghost use Rattle.node_core.specs.Passing.{passed};
 
 use crate::node::Outcome;
 use node_rules::node::{Fired, Why};

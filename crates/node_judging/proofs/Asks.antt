@@ -24,7 +24,7 @@ use Rattle.node_rules.specs.Arrivals.{why_ask, noted, kept, kept_plain}
 use Rattle.node_rules.specs.declared.node.Why.{Why}
 use Rattle.node_rules.specs.declared.node.Why.TheVariants.{BadTag, Stranger, OldSeq, FarSeq}
 use Rattle.node_rules.specs.Rules.{answering}
-use Rattle.node_state.specs.Arriving.{why_offered, kept_unless}
+use Rattle.node_judging.specs.Arriving.{why_offered, kept_unless}
 use Rattle.node_judging.specs.Asking.{asked_by, line_asked}
 
 -- a request that was read is its signer's

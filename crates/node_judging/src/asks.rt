@@ -4,7 +4,7 @@ ghost use Rattle.smart_base.specs.Views.{is_member};
 ghost use Rattle.node_judging.specs.Asking.{asked_by, line_asked};
 ghost use Rattle.node_rules.specs.Nodes.{view_of};
 ghost use Rattle.node_rules.specs.Arrivals.{why_ask};
-ghost use Rattle.node_state.specs.Arriving.{why_offered, kept_unless};
+ghost use Rattle.node_judging.specs.Arriving.{why_offered, kept_unless};
 ghost use Rattle.smart_messages.specs.declared.any.AnyMessage.TheVariants as messages;
 ghost use Rattle.smart_messages.specs.declared.message.Message.TheVariants as plain;
 

@@ -4,7 +4,7 @@ ghost use Rattle.smart_messages.specs.Messages.{Fits};
 ghost use Rattle.smart_messages.specs.RegencyMessages.{FitsAny};
 ghost use Rattle.smart_messages.specs.declared.any.AnyMessage.TheVariants as messages;
 ghost use Rattle.node_rules.specs.Arrivals.{why_dropped, noted};
-ghost use Rattle.node_state.specs.Arriving.{kept_unless};
+ghost use Rattle.node_judging.specs.Arriving.{kept_unless};
 
 use crate::arrivals::{take_proposal, take_vote, why_reply};
 use crate::asks::take_request;

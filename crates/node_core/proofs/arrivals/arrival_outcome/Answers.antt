@@ -1,6 +1,7 @@
 use Rattle.std.proofs.Common.{refl}
 use Rattle.node_rules.specs.Arrivals.{why_dropped}
-use Rattle.node_state.proofs.Broken.{on_err, taken_stops, passed_stops, answered_stops}
+use Rattle.node_state.proofs.Broken.{on_err}
+use Rattle.node_core.proofs.Broken.{taken_stops, passed_stops, answered_stops}
 use Rattle.node_core.proofs.arrivals.arrival_outcome.Goals as goal
 
 pub returns-in_err-dropped-clause-err : goal.returns-in_err-dropped-clause-err
