@@ -58,7 +58,7 @@ fn decision_of<S: Service>(
 
 /// The first proposal for the place of a slot, in the regency in force or a later one, whose batch
 /// a quorum accepted in that slot.
-fn proposed_by_quorum<S: Service>(node: &NodeState<S>, slot: &Slot) -> Option<&Proposed>
+fn proposed_by_quorum<'a, S: Service>(node: &'a NodeState<S>, slot: &Slot) -> Option<&'a Proposed>
     ensures { option_map name_of (option_copied result) ≡ accepted_in (view_of node.now) slot.now node.now.arrivals (filter_map (named_in slot.now.view slot.now.place (regency_of node.now)) node.now.arrivals) }
 {
     node.instance.accepted_proposal(node.view(), slot)
@@ -83,7 +83,7 @@ fn proposed_decision<S: Service>(
 
 /// The first batch that the node accepted at the place of a slot, in whatever regency, and that a
 /// quorum accepted in that slot.
-fn accepted_by_quorum<S: Service>(node: &NodeState<S>, slot: &Slot) -> Option<&Accept>
+fn accepted_by_quorum<'a, S: Service>(node: &'a NodeState<S>, slot: &Slot) -> Option<&'a Accept>
     requires free { is_free node.now ≡ true }
     requires place { slot.now.place ≡ next_place node.now }
     ensures { option_map named (option_copied result) ≡ accepted_in (view_of node.now) slot.now node.now.arrivals (filter_map (named_by slot.now.view slot.now.place) node.now.entries) }

@@ -50,7 +50,7 @@ pub fn votes<S: Service>(
 }
 
 /// The first batch of a digest that the node accepted at the next place, in whatever regency.
-fn accepted_under<S: Service>(node: &NodeState<S>, digest: &Digest32) -> Option<&Accept>
+fn accepted_under<'a, S: Service>(node: &'a NodeState<S>, digest: &Digest32) -> Option<&'a Accept>
     requires { is_free node.now ≡ true }
     ensures { option_map (λ (a : Accept). a.batch) (option_copied result) ≡ accepted_under (view_of node.now).number (next_place node.now) digest.now node.now.entries }
 {
@@ -61,7 +61,7 @@ fn accepted_under<S: Service>(node: &NodeState<S>, digest: &Digest32) -> Option<
 
 /// The batch that binds under a digest: one that a report brought, or that the node accepted.
 #[tactic(auto, unfolding(node_rules::specs::Rules::batch_under))]
-fn bound_batch<S: Service>(node: &NodeState<S>, digest: &Digest32) -> Option<&Batch>
+fn bound_batch<'a, S: Service>(node: &'a NodeState<S>, digest: &Digest32) -> Option<&'a Batch>
     requires { is_free node.now ≡ true }
     ensures { option_copied result ≡ batch_under node.now (Some digest.now) }
 {
