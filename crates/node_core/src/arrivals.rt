@@ -16,7 +16,7 @@ use smart_service::service::Service;
 use std::alloc::AllocError;
 
 /// Drops an arrival for its first reason, or keeps it, passes the rules and answers it.
-#[tactic(auto, unfolding(node_rules::specs::Rules::answers_again), using(node_judging::proofs::Asks::asked_answering))]
+#[tactic(auto, unfolding(node_rules::specs::Rules::answers_again), using(node_judging::proofs::Requests::asked_answering))]
 pub fn arrival_outcome<S: Service>(
     node: &mut NodeState<S>,
     message: AnyMessage,

@@ -33,7 +33,7 @@ pub fn take<S: Service>(
 }
 
 /// Keeps a message that orders requests, or tells why it is dropped.
-#[tactic(auto, using(crate::proofs::Asks::own_request, crate::proofs::Asks::ask_noted, crate::proofs::Asks::reply_kept))]
+#[tactic(auto, using(crate::proofs::Requests::own_request, crate::proofs::Requests::ask_noted, crate::proofs::Requests::reply_kept))]
 fn take_plain<S: Service>(
     node: &mut NodeState<S>,
     message: Message,

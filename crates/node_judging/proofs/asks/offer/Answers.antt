@@ -1,4 +1,4 @@
-use Rattle.node_judging.proofs.Asks.{why_where, kept_where}
+use Rattle.node_judging.proofs.Requests.{why_where, kept_where}
 use Rattle.node_judging.proofs.asks.offer.Goals as goal
 
 pub returns-clause-why : goal.returns-clause-why
