@@ -1,9 +1,7 @@
 //! What a node delivers, and the replies to what it executed.
-ghost use Rattle.std.specs.Prelude.{◌≡◌, None, ◌+◌, ◌<◌, ◌++◌, IfOk, OnOk, Some, OnErr};
+ghost use Rattle.std.specs.Prelude.{◌≡◌, ◌++◌, IfOk, OnOk, OnErr};
 ghost use Rattle.node_rules.specs.Rules.{reply_of, replying, delivers, delivery, answer_line, fired_if};
-ghost use Rattle.node_rules.specs.Steps.{votes};
 ghost use Rattle.smart_messages.specs.declared.any.AnyMessage.TheVariants as messages;
-ghost use Rattle.vote_book.specs.declared.entry.LogEntry.TheVariants as entries;
 ghost use Rattle.node_rules.specs.declared.node.Fired.TheVariants as fires;
 
 use delivery::replica::deliver;

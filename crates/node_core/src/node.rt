@@ -1,5 +1,5 @@
 //! The node of a member, and what leaves it.
-ghost use Rattle.std.specs.Prelude.{◌≡◌, ◌<◌, ℕ, false, true, length, IfOk, OnOk, OnErr, IsErrOf, Some, None, is_some};
+ghost use Rattle.std.specs.Prelude.{◌≡◌, ℕ, false, length, IfOk, OnOk, OnErr, IsErrOf, Some, None, is_some};
 ghost use Rattle.std.specs.Option.{option_copied};
 ghost use Rattle.std.specs.Result.{is_err};
 ghost use Rattle.vote_book.specs.BookReports.{lock_of};

@@ -1,10 +1,8 @@
 //! One pass of the rules.
-ghost use Rattle.std.specs.Prelude.{◌≡◌, ◌+◌, ◌<◌, IfOk, OnOk, OnErr, None, is_some, ◌++◌};
-ghost use Rattle.node_rules.specs.Steps.{outcome_from, votes, passes, fired_pass};
+ghost use Rattle.std.specs.Prelude.{◌≡◌, IfOk, OnOk, OnErr, ◌++◌};
+ghost use Rattle.node_rules.specs.Steps.{outcome_from, passes, fired_pass};
 ghost use Rattle.node_state.specs.Broken.{IsPartly};
-ghost use Rattle.node_rules.specs.Rules.{delivery, decides};
-ghost use Rattle.node_state.specs.Arriving.{passed};
-ghost use Rattle.vote_book.specs.declared.entry.LogEntry.TheVariants as entries;
+ghost use Rattle.node_core.specs.Passing.{passed};
 
 use crate::node::Outcome;
 use node_rules::node::{Fired, Why};

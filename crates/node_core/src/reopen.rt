@@ -1,6 +1,5 @@
 //! A node that begins, and one that goes on after a crash.
-ghost use Rattle.std.specs.Prelude.{◌≡◌, ℕ, [], false, None, Some, IfOk, OnOk, IsErrOf, ◌+◌, ◌<◌, true, is_some};
-ghost use Rattle.smart_base.specs.Views.{present};
+ghost use Rattle.std.specs.Prelude.{◌≡◌, ℕ, [], false, None, Some, IfOk, OnOk, IsErrOf};
 ghost use Rattle.vote_book.specs.Books.{last_made};
 ghost use Rattle.node_rules.specs.Reopening.{damaged, entries_in, reopened};
 ghost use Rattle.node_restart.specs.declared.fault.ReopenFault.TheVariants.{Damaged};

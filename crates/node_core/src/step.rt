@@ -1,12 +1,9 @@
 //! What happens to a node at an event.
-ghost use Rattle.std.specs.Prelude.{◌≡◌, ◌<◌, [], IfOk, OnOk, OnErr, Some};
+ghost use Rattle.std.specs.Prelude.{◌≡◌, [], IfOk, OnOk, OnErr};
 ghost use Rattle.smart_messages.specs.RegencyMessages.{any_decoded};
-ghost use Rattle.node_rules.specs.Nodes.{decided_place};
 ghost use Rattle.node_rules.specs.Kept.{trimmed, core_step};
-ghost use Rattle.node_rules.specs.Steps.{step_of, outcome_from, reading_outcome, timed, passes};
+ghost use Rattle.node_rules.specs.Steps.{step_of, outcome_from, reading_outcome, timed};
 ghost use Rattle.node_state.specs.Broken.{IsPartly};
-ghost use Rattle.node_rules.specs.Rules.{delivers};
-ghost use Rattle.vote_book.specs.declared.entry.LogEntry.TheVariants as entries;
 
 use crate::arrivals::arrival_outcome;
 use crate::delivers::delivers;

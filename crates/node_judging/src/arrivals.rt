@@ -1,8 +1,8 @@
 //! Which of the messages that order requests a node drops, and what it keeps of the others.
 ghost use Rattle.std.specs.Prelude.{◌≡◌, ◌||◌, ◌&&◌, is_none, IfOk, OnErr};
 ghost use Rattle.replica_rules.specs.Seals.{is_verified};
-ghost use Rattle.node_rules.specs.Arrivals.{slot_why, signer_why, is_unbound, why_propose, why_vote, why_reply, is_beyond, noted};
-ghost use Rattle.node_state.specs.Arriving.{kept_unless};
+ghost use Rattle.node_rules.specs.Arrivals.{signer_why, is_unbound, why_propose, why_vote, why_reply, is_beyond, noted};
+ghost use Rattle.node_judging.specs.Arriving.{kept_unless};
 ghost use Rattle.smart_messages.specs.declared.any.AnyMessage.TheVariants as messages;
 ghost use Rattle.smart_messages.specs.declared.message.Message.TheVariants as plain;
 

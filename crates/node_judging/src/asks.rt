@@ -1,10 +1,10 @@
 //! What becomes of a client's request that arrives.
-ghost use Rattle.std.specs.Prelude.{◌≡◌, ◌==◌, true, false, None, if◌then◌else◌, IfOk, OnErr};
+ghost use Rattle.std.specs.Prelude.{◌≡◌, ◌==◌, true, false, IfOk, OnErr};
 ghost use Rattle.smart_base.specs.Views.{is_member};
-ghost use Rattle.smart_service.specs.Tables.{last_seq, line_for};
+ghost use Rattle.node_judging.specs.Asking.{asked_by, line_asked};
 ghost use Rattle.node_rules.specs.Nodes.{view_of};
 ghost use Rattle.node_rules.specs.Arrivals.{why_ask};
-ghost use Rattle.node_state.specs.Arriving.{why_offered, kept_unless};
+ghost use Rattle.node_judging.specs.Arriving.{why_offered, kept_unless};
 ghost use Rattle.smart_messages.specs.declared.any.AnyMessage.TheVariants as messages;
 ghost use Rattle.smart_messages.specs.declared.message.Message.TheVariants as plain;
 
@@ -14,6 +14,8 @@ use node_state::state::NodeState;
 use request_pool::pool::Offer;
 use smart_base::duplicate::Duplicate;
 use smart_base::name::ClientId;
+use smart_messages::any::AnyMessage;
+use smart_messages::message::Message;
 use smart_service::service::Service;
 use smart_service::table::TableLine;
 use smart_statements::signed::Signed;
@@ -78,20 +80,55 @@ fn offer<S: Service>(
     Ok(why_offered(offer, older))
 }
 
-/// A copy of a client's line, where the number is that of its last executed request.
-pub fn asked_again<S: Service>(
+/// What a client asked: who it is, and the number of its request.
+#[derive(Clone, Copy, Debug)]
+pub struct Asked {
+    pub client: ClientId,
+    pub seq: u64,
+}
+
+/// What an arrival asks, if it is a request.
+pub fn asked_by(message: &AnyMessage) -> Option<Asked>
+    ensures { result ≡ asked_by message.now }
+{
+    match message {
+        AnyMessage::Plain(Message::Ask(request)) => {
+            let asked = request.statement();
+            Some(Asked {
+                client: asked.client,
+                seq: asked.seq,
+            })
+        }
+        AnyMessage::Plain(_) | AnyMessage::Change(_) => None,
+    }
+}
+
+/// A copy of a client's line, where the number that it asked is that of its last executed request.
+fn asked_again<S: Service>(
     node: &NodeState<S>,
-    client: ClientId,
-    seq: u64,
+    asked: Asked,
 ) -> Result<Option<TableLine>, AllocError>
-    ensures { IfOk result (λ line. line ≡ if seq == last_seq node.now.replica.table client then line_for node.now.replica.table client else None) }
+    ensures { IfOk result (λ line. line ≡ line_asked node.now (Some asked)) }
 {
     let table = &node.replica.replica().table;
-    if seq != table.last_seq(client) {
+    if asked.seq != table.last_seq(asked.client) {
         return Ok(None);
     }
-    match table.line(client) {
+    match table.line(asked.client) {
         None => Ok(None),
         Some(line) => Ok(Some(line.duplicate(node.alloc)?)),
+    }
+}
+
+/// The line by which an arrival is answered, if it asks again.
+pub fn line_asked<S: Service>(
+    node: &NodeState<S>,
+    asked: Option<Asked>,
+) -> Result<Option<TableLine>, AllocError>
+    ensures { IfOk result (λ line. line ≡ line_asked node.now asked) }
+{
+    match asked {
+        None => Ok(None),
+        Some(asked) => asked_again(node, asked),
     }
 }

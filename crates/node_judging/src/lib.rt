@@ -1,7 +1,8 @@
 //! How a member's node judges what arrives: why it drops a message, and what it keeps of the others.
 #![tactic(auto)]
 
-pub mod arrivals;
+mod arrivals;
 pub mod asks;
 mod reasons;
-pub mod reports;
+mod reports;
+pub mod taking;

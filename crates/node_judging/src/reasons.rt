@@ -1,5 +1,5 @@
 //! The reasons that several kinds of messages share.
-ghost use Rattle.std.specs.Prelude.{◌≡◌, ◌||◌, ◌&&◌, ◌+◌};
+ghost use Rattle.std.specs.Prelude.{◌≡◌};
 ghost use Rattle.replica_rules.specs.Seals.{is_verified};
 ghost use Rattle.node_rules.specs.Arrivals.{view_why, place_why, regency_why, slot_why, signer_why, is_newer, is_beyond, wish_why};
 

@@ -1,11 +1,11 @@
 //! Which of the messages that change the regency a node drops, and what it keeps of the others.
-ghost use Rattle.std.specs.Prelude.{◌≡◌, ◌+◌, ◌||◌, ◌&&◌, is_none, IfOk, OnErr};
+ghost use Rattle.std.specs.Prelude.{◌≡◌, ◌||◌, ◌&&◌, is_none, IfOk, OnErr};
 ghost use Rattle.std.specs.List.{list_any};
 ghost use Rattle.smart_statements.specs.Forms.{SignedBy};
 ghost use Rattle.smart_statements.specs.declared.report.Report.{Report};
 ghost use Rattle.replica_rules.specs.Seals.{is_verified};
-ghost use Rattle.node_rules.specs.Arrivals.{signer_why, wish_why, why_stop, is_marks, rests_on_marks, bears_lock, is_proven, why_report, is_collect, why_sync, why_dropped, is_newer, noted};
-ghost use Rattle.node_state.specs.Arriving.{kept_unless};
+ghost use Rattle.node_rules.specs.Arrivals.{signer_why, why_stop, is_marks, rests_on_marks, bears_lock, is_proven, why_report, is_collect, why_sync, why_dropped, is_newer, noted};
+ghost use Rattle.node_judging.specs.Arriving.{kept_unless};
 ghost use Rattle.smart_messages.specs.declared.any.AnyMessage.TheVariants as messages;
 ghost use Rattle.smart_messages.specs.declared.regency.RegencyMessage.TheVariants as changes;
 

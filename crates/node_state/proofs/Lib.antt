@@ -1,5 +1,4 @@
 pub mod Following
-pub mod Accepts
-pub mod Changes
+pub mod Walks
 pub mod Broken
 pub mod Starts

@@ -1,4 +1,3 @@
 pub mod Keyrings
-pub mod Arriving
 pub mod Following
 pub mod Broken

@@ -1,5 +1,5 @@
 //! The node itself.
-ghost use Rattle.std.specs.Prelude.{◌≡◌, ◌<◌, true, length, IfOk, OnOk, OnErr};
+ghost use Rattle.std.specs.Prelude.{◌≡◌, true, length, IfOk, OnOk, OnErr};
 ghost use Rattle.std.specs.Option.{option_copied};
 ghost use Rattle.vote_book.specs.BookReports.{lock_of};
 ghost use Rattle.vote_book.specs.Standing.{own_votes};

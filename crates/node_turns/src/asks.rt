@@ -1,6 +1,5 @@
 //! How a node asks for the next regency.
 ghost use Rattle.std.specs.Prelude.{◌≡◌, ◌+◌, ◌<◌, ◌^◌, IfOk, OnOk, OnErr};
-ghost use Rattle.replica_rules.specs.Seals.{signed};
 ghost use Rattle.node_rules.specs.Nodes.{regency_of};
 ghost use Rattle.node_rules.specs.Changes.{stop_for, asks_next};
 

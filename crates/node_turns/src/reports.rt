@@ -1,6 +1,6 @@
 //! What a node reports to the leader of a regency.
-ghost use Rattle.std.specs.Prelude.{◌≡◌, ◌<◌, IfOk, Some, option_map};
-ghost use Rattle.replica_rules.specs.Seals.{signed, digest_of};
+ghost use Rattle.std.specs.Prelude.{◌≡◌, IfOk, option_map};
+ghost use Rattle.replica_rules.specs.Seals.{digest_of};
 ghost use Rattle.vote_book.specs.BookReports.{last_maker, evidence_of, evidence_by, lock_of, certificate_of};
 ghost use Rattle.node_rules.specs.Nodes.{view_of};
 ghost use Rattle.node_rules.specs.Changes.{report_of, reported_by};

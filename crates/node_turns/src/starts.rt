@@ -1,7 +1,6 @@
 //! How a node promises a regency, and takes part in it from where it begins.
-ghost use Rattle.std.specs.Prelude.{◌≡◌, ◌+◌, ◌<◌, true, false, OnOk, option_map, OnErr};
+ghost use Rattle.std.specs.Prelude.{◌≡◌, ◌<◌, true, OnOk, option_map, OnErr};
 ghost use Rattle.vote_book.specs.Standing.{first_start};
-ghost use Rattle.regency_sync.specs.Choices.{choice};
 ghost use Rattle.consensus_instance.specs.Nodes.{start_by};
 ghost use Rattle.node_rules.specs.Nodes.{view_of, regency_of};
 ghost use Rattle.node_rules.specs.Changes.{start_by_sync};

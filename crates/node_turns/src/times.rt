@@ -1,7 +1,7 @@
 //! What time does where something waits.
-ghost use Rattle.std.specs.Prelude.{◌≡◌, ◌+◌, ◌<◌, ◌^◌, ◌++◌, true, IfOk, OnOk, Some, slice_get, OnErr};
+ghost use Rattle.std.specs.Prelude.{◌≡◌, ◌+◌, ◌<◌, ◌^◌, ◌++◌, true, IfOk, OnOk, slice_get, OnErr};
 ghost use Rattle.node_rules.specs.Nodes.{regency_of, is_synced};
-ghost use Rattle.node_rules.specs.Changes.{fired_when, asks_next, is_pressed, timing, passes_on, presses, times};
+ghost use Rattle.node_rules.specs.Changes.{fired_when, is_pressed, timing, passes_on, presses, times};
 ghost use Rattle.node_rules.specs.declared.node.Fired.TheVariants as fires;
 
 use crate::asks::asks_next;

@@ -1,10 +1,9 @@
 //! What a node adopts, joins, promises and leads: what is due, what the rule does with it, and both.
 ghost use Rattle.std.specs.Prelude.{◌≡◌, ◌+◌, ◌<◌, ◌^◌, ◌++◌, true, IfOk, IfSome, OnOk, Some, OnErr};
 ghost use Rattle.std.specs.Option.{option_copied};
-ghost use Rattle.replica_rules.specs.Seals.{signed};
 ghost use Rattle.node_rules.specs.Nodes.{view_of, regency_of};
 ghost use Rattle.node_rules.specs.Rules.{fired_if};
-ghost use Rattle.node_rules.specs.Changes.{fired_when, start_by_sync, adopts_by, fired_adopt, adoption, adopts, asks_next, joining, joins, reported_by, next_promise, promising, promise_next, promises, leading, lead_with, leads};
+ghost use Rattle.node_rules.specs.Changes.{fired_when, fired_adopt, adoption, adopts, joining, joins, next_promise, promising, promise_next, promises, leading, lead_with, leads};
 ghost use Rattle.node_rules.specs.Steps.{turns, fired_turns};
 ghost use Rattle.node_state.specs.Following.{is_unbegun};
 ghost use Rattle.node_state.specs.Broken.{IsPartly};

@@ -1,16 +1,12 @@
 //! What a node decides: what is due, what the rule does with it, and both.
-ghost use Rattle.std.specs.Prelude.{◌≡◌, None, ◌==◌, ◌+◌, ◌<◌, ◌++◌, true, IfOk, IfSome, OnOk, IsSome, Some, option_map, filter_map, OnErr};
+ghost use Rattle.std.specs.Prelude.{◌≡◌, ◌++◌, true, IfOk, IfSome, OnOk, IsSome, Some, option_map, filter_map, OnErr};
 ghost use Rattle.std.specs.Option.{option_copied};
-ghost use Rattle.smart_messages.specs.declared.message.Proposed.{Proposed};
 ghost use Rattle.smart_base.specs.Lists.{or_else};
-ghost use Rattle.vote_book.specs.declared.entry.Accept.{Accept};
 ghost use Rattle.node_state.specs.Following.{named};
-ghost use Rattle.node_rules.specs.Rules.{accepts, slot_in, decision_in, decision_ahead, deciding, decide_batch, decides, fired_if};
+ghost use Rattle.node_rules.specs.Rules.{slot_in, decision_in, decision_ahead, deciding, decide_batch, decides, fired_if};
 ghost use Rattle.node_rules.specs.Nodes.{next_place, is_free, view_of, regency_of};
 ghost use Rattle.node_rules.specs.Votes.{named_in, named_by, accepted_in, decision_by};
-ghost use Rattle.node_rules.specs.Steps.{votes};
 ghost use Rattle.consensus_instance.specs.Instances.{name_of};
-ghost use Rattle.vote_book.specs.declared.entry.LogEntry.TheVariants as entries;
 ghost use Rattle.node_rules.specs.declared.node.Fired.TheVariants as fires;
 
 use node_rules::node::Fired;
@@ -62,7 +58,7 @@ fn decision_of<S: Service>(
 
 /// The first proposal for the place of a slot, in the regency in force or a later one, whose batch
 /// a quorum accepted in that slot.
-fn proposed_by_quorum<S: Service>(node: &NodeState<S>, slot: &Slot) -> Option<&Proposed>
+fn proposed_by_quorum<'a, S: Service>(node: &'a NodeState<S>, slot: &Slot) -> Option<&'a Proposed>
     ensures { option_map name_of (option_copied result) ≡ accepted_in (view_of node.now) slot.now node.now.arrivals (filter_map (named_in slot.now.view slot.now.place (regency_of node.now)) node.now.arrivals) }
 {
     node.instance.accepted_proposal(node.view(), slot)
@@ -87,7 +83,7 @@ fn proposed_decision<S: Service>(
 
 /// The first batch that the node accepted at the place of a slot, in whatever regency, and that a
 /// quorum accepted in that slot.
-fn accepted_by_quorum<S: Service>(node: &NodeState<S>, slot: &Slot) -> Option<&Accept>
+fn accepted_by_quorum<'a, S: Service>(node: &'a NodeState<S>, slot: &Slot) -> Option<&'a Accept>
     requires free { is_free node.now ≡ true }
     requires place { slot.now.place ≡ next_place node.now }
     ensures { option_map named (option_copied result) ≡ accepted_in (view_of node.now) slot.now node.now.arrivals (filter_map (named_by slot.now.view slot.now.place) node.now.entries) }

@@ -1,11 +1,10 @@
 //! What a node proposes, writes for and accepts: what is due, what the rule does with it, and both.
-ghost use Rattle.std.specs.Prelude.{◌≡◌, None, ◌+◌, ◌<◌, ◌++◌, true, IfOk, OnOk, IsSome, Some, option_map, OnErr, ◌∷◌, []};
+ghost use Rattle.std.specs.Prelude.{◌≡◌, ◌++◌, true, IfOk, OnOk, IsSome, Some, option_map, OnErr, ◌∷◌, []};
 ghost use Rattle.std.specs.Option.{option_copied};
 ghost use Rattle.smart_statements.specs.Kinds.{proposals};
-ghost use Rattle.smart_messages.specs.declared.message.Proposed.{Proposed};
 ghost use Rattle.vote_book.specs.declared.entry.Accept.{Accept};
-ghost use Rattle.replica_rules.specs.Seals.{signed, digest_of};
-ghost use Rattle.node_rules.specs.Rules.{batch_under, proposing, propose_batch, proposes, ballot, writing, write_batch, writes, accepting, accept_batch, accepts, fired_if};
+ghost use Rattle.replica_rules.specs.Seals.{signed};
+ghost use Rattle.node_rules.specs.Rules.{batch_under, proposing, propose_batch, proposes, ballot, writing, writes, accepting, accepts, fired_if};
 ghost use Rattle.node_rules.specs.Nodes.{next_place, open_slot, is_free, holding, recording, view_of, bound_at, start_of};
 ghost use Rattle.node_rules.specs.Votes.{accepted_under, certificate_votes};
 ghost use Rattle.node_rules.specs.Steps.{votes, fired_votes};
@@ -51,7 +50,7 @@ pub fn votes<S: Service>(
 }
 
 /// The first batch of a digest that the node accepted at the next place, in whatever regency.
-fn accepted_under<S: Service>(node: &NodeState<S>, digest: &Digest32) -> Option<&Accept>
+fn accepted_under<'a, S: Service>(node: &'a NodeState<S>, digest: &Digest32) -> Option<&'a Accept>
     requires { is_free node.now ≡ true }
     ensures { option_map (λ (a : Accept). a.batch) (option_copied result) ≡ accepted_under (view_of node.now).number (next_place node.now) digest.now node.now.entries }
 {
@@ -62,7 +61,7 @@ fn accepted_under<S: Service>(node: &NodeState<S>, digest: &Digest32) -> Option<
 
 /// The batch that binds under a digest: one that a report brought, or that the node accepted.
 #[tactic(auto, unfolding(node_rules::specs::Rules::batch_under))]
-fn bound_batch<S: Service>(node: &NodeState<S>, digest: &Digest32) -> Option<&Batch>
+fn bound_batch<'a, S: Service>(node: &'a NodeState<S>, digest: &Digest32) -> Option<&'a Batch>
     requires { is_free node.now ≡ true }
     ensures { option_copied result ≡ batch_under node.now (Some digest.now) }
 {

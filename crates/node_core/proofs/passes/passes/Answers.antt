@@ -1,7 +1,8 @@
 use Rattle.std.proofs.Common.{ap, ◌∙◌}
 use Rattle.node_rules.specs.Nodes.{Node}
 use Rattle.node_rules.specs.Steps.{votes}
-use Rattle.node_state.proofs.Broken.{on_err, turns_stops, votes_stops, decides_stops}
+use Rattle.node_state.proofs.Broken.{on_err}
+use Rattle.node_core.proofs.Broken.{turns_stops, votes_stops, decides_stops}
 use Rattle.node_core.proofs.passes.passes.Goals as goal
 
 pub returns-in_err-turns-clause-err : goal.returns-in_err-turns-clause-err

@@ -1,5 +1,5 @@
 use Rattle.smart_messages.specs.RegencyMessages.{any_decoded}
-use Rattle.node_state.proofs.Broken.{unread_stops}
+use Rattle.node_core.proofs.Broken.{unread_stops}
 use Rattle.node_core.proofs.step.reading_outcome.Goals as goal
 
 pub returns-in-Err-NoMemory-clause-err : goal.returns-in-Err-NoMemory-clause-err

@@ -1,4 +1,5 @@
-use Rattle.node_state.proofs.Broken.{on_err, core_stops}
+use Rattle.node_state.proofs.Broken.{on_err}
+use Rattle.node_core.proofs.Broken.{core_stops}
 use Rattle.node_core.proofs.step.step.Goals as goal
 
 pub returns-in_err-outcome-clause-err : goal.returns-in_err-outcome-clause-err

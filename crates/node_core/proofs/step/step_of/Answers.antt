@@ -1,4 +1,5 @@
-use Rattle.node_state.proofs.Broken.{on_err, undelivered_stops, delivered_stops}
+use Rattle.node_state.proofs.Broken.{on_err}
+use Rattle.node_core.proofs.Broken.{undelivered_stops, delivered_stops}
 use Rattle.node_core.proofs.step.step_of.Goals as goal
 
 pub returns-in_err-fired-in-Deliver-clause-err : goal.returns-in_err-fired-in-Deliver-clause-err

@@ -1,4 +1,5 @@
-use Rattle.node_state.proofs.Broken.{on_err, tick_stops, times_stops}
+use Rattle.node_state.proofs.Broken.{on_err}
+use Rattle.node_core.proofs.Broken.{tick_stops, times_stops}
 use Rattle.node_core.proofs.step.tick_outcome.Goals as goal
 
 pub returns-in_err-outcome-clause-err : goal.returns-in_err-outcome-clause-err

@@ -4,7 +4,7 @@ use Rattle.smart_statements.specs.declared.statement.VoteKind.TheVariants as kin
 use Rattle.node_rules.specs.Votes.{has_quorum}
 use Rattle.vote_book.specs.BookReports.{accept_for}
 use Rattle.vote_book.specs.declared.entry.Accept.{Accept}
-use Rattle.node_state.proofs.Accepts.{none_there, walk_ends, walk_finds, walk_passes, walk_past}
+use Rattle.node_state.proofs.Walks.{none_there, walk_ends, walk_finds, walk_passes, walk_past}
 use Rattle.node_state.proofs.find.accept_by_quorum.Goals as goal
 
 pub returns-in_err-accept : goal.returns-in_err-accept

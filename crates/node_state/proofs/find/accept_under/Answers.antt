@@ -3,7 +3,7 @@ use Rattle.std.specs.Option.{option_copied}
 use Rattle.smart_base.specs.Lists.{same_bytes}
 use Rattle.vote_book.specs.BookReports.{accept_for}
 use Rattle.vote_book.specs.declared.entry.Accept.{Accept}
-use Rattle.node_state.proofs.Accepts.{none_there, walk_ends, walk_finds, walk_passes, walk_past}
+use Rattle.node_state.proofs.Walks.{none_there, walk_ends, walk_finds, walk_passes, walk_past}
 use Rattle.node_state.proofs.find.accept_under.Goals as goal
 
 pub returns-in_err-accept : goal.returns-in_err-accept

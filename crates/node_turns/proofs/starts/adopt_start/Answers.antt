@@ -1,4 +1,5 @@
-use Rattle.node_state.proofs.Broken.{on_err, reach_stops, begin_stops}
+use Rattle.node_state.proofs.Broken.{on_err}
+use Rattle.node_turns.proofs.Broken.{reach_stops, begin_stops}
 use Rattle.node_turns.proofs.starts.adopt_start.Goals as goal
 
 pub returns-in_err-reach-clause-err : goal.returns-in_err-reach-clause-err

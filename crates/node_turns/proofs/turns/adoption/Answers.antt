@@ -1,4 +1,4 @@
-use Rattle.node_state.proofs.Changes.{adoption_view, adoption_later}
+use Rattle.node_turns.proofs.Changes.{adoption_view, adoption_later}
 use Rattle.node_turns.proofs.turns.adoption.Goals as goal
 
 pub returns-clause-view : goal.returns-clause-view

@@ -1,8 +1,9 @@
 use Rattle.std.proofs.Common.{refl, ap, ◌∙◌}
 use Rattle.smart_messages.specs.declared.regency.Sync.{Sync}
 use Rattle.node_rules.specs.Changes.{start_by_sync}
-use Rattle.node_state.proofs.Changes.{adopts_where}
-use Rattle.node_state.proofs.Broken.{on_err, adopt_stops, start_stops}
+use Rattle.node_turns.proofs.Changes.{adopts_where}
+use Rattle.node_state.proofs.Broken.{on_err}
+use Rattle.node_turns.proofs.Broken.{adopt_stops, start_stops}
 use Rattle.node_turns.proofs.turns.adopts.Goals as goal
 
 pub returns-in_ok-adopt_start-in-Some-clause-node : goal.returns-in_ok-adopt_start-in-Some-clause-node

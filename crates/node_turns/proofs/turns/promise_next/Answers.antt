@@ -1,6 +1,7 @@
 use Rattle.std.proofs.Common.{refl, ap, ◌∙◌}
 use Rattle.node_rules.specs.Nodes.{Node}
-use Rattle.node_state.proofs.Broken.{on_err, next_none, next_made}
+use Rattle.node_state.proofs.Broken.{on_err}
+use Rattle.node_turns.proofs.Broken.{next_none, next_made}
 use Rattle.node_turns.proofs.turns.promise_next.Goals as goal
 
 pub returns-in_err-reported-clause-err : goal.returns-in_err-reported-clause-err

@@ -1,5 +1,6 @@
 use Rattle.std.proofs.Common.{refl, sym, ◌∙◌}
-use Rattle.node_state.proofs.Broken.{on_err, promise_stops, promised_stops}
+use Rattle.node_state.proofs.Broken.{on_err}
+use Rattle.node_turns.proofs.Broken.{promise_stops, promised_stops}
 use Rattle.node_turns.proofs.turns.promises.Goals as goal
 
 pub returns-in_err-push-clause-err : goal.returns-in_err-push-clause-err

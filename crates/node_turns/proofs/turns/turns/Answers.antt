@@ -1,7 +1,8 @@
 use Rattle.std.proofs.Common.{ap, ◌∙◌}
 use Rattle.node_rules.specs.Nodes.{Node}
 use Rattle.node_rules.specs.Changes.{joins, promises}
-use Rattle.node_state.proofs.Broken.{on_err, adopts_stops, joins_stops, promises_stops, leads_stops}
+use Rattle.node_state.proofs.Broken.{on_err}
+use Rattle.node_turns.proofs.Broken.{adopts_stops, joins_stops, promises_stops, leads_stops}
 use Rattle.node_turns.proofs.turns.turns.Goals as goal
 
 pub returns-in_err-adopts-clause-err : goal.returns-in_err-adopts-clause-err

@@ -1,4 +1,4 @@
-use Rattle.node_state.proofs.Accepts.{quorum_after}
+use Rattle.node_votes.proofs.Accepts.{quorum_after}
 use Rattle.node_votes.proofs.decisions.accepted_by_quorum.Goals as goal
 
 pub returns : goal.returns

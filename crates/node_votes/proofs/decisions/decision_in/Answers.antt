@@ -1,4 +1,4 @@
-use Rattle.node_state.proofs.Accepts.{decided_where}
+use Rattle.node_votes.proofs.Accepts.{decided_where}
 use Rattle.node_votes.proofs.decisions.decision_in.Goals as goal
 
 pub returns-clause-decision : goal.returns-clause-decision

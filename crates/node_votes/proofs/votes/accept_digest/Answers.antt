@@ -4,7 +4,8 @@ use Rattle.vote_book.specs.Books.{Book}
 use Rattle.vote_book.specs.declared.entry.LogEntry.TheVariants.{Accepted}
 use Rattle.node_rules.specs.Nodes.{Node, view_of, open_slot}
 use Rattle.node_rules.specs.Votes.{certificate_votes}
-use Rattle.node_state.proofs.Broken.{on_err, entry_none, entry_made, made_same, accept_same}
+use Rattle.node_state.proofs.Broken.{on_err, entry_none, entry_made, made_same}
+use Rattle.node_votes.proofs.Broken.{accept_same}
 use Rattle.node_state.proofs.Following.{accepted_after, slot_is}
 use Rattle.node_votes.proofs.votes.accept_digest.Goals as goal
 

@@ -1,6 +1,6 @@
 use Rattle.std.proofs.Common.{ℕ, ◌+◌, ap, ◌∙◌}
 use Rattle.smart_base.specs.Views.{View}
-use Rattle.node_state.proofs.Accepts.{under_after}
+use Rattle.node_votes.proofs.Accepts.{under_after}
 use Rattle.node_votes.proofs.votes.accepted_under.Goals as goal
 
 pub returns : goal.returns

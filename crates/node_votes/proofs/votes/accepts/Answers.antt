@@ -1,7 +1,8 @@
 use Rattle.std.proofs.Common.{refl, ap, ◌∙◌}
 use Rattle.smart_statements.specs.declared.statement.Proposal.{Proposal}
-use Rattle.node_state.proofs.Changes.{accepts_where}
-use Rattle.node_state.proofs.Broken.{on_err, accept_stops, accepted_stops}
+use Rattle.node_votes.proofs.Due.{accepts_where}
+use Rattle.node_state.proofs.Broken.{on_err}
+use Rattle.node_votes.proofs.Broken.{accept_stops, accepted_stops}
 use Rattle.node_votes.proofs.votes.accepts.Goals as goal
 
 pub returns-in_ok-accept_digest-in-Some-clause-node : goal.returns-in_ok-accept_digest-in-Some-clause-node

@@ -1,7 +1,8 @@
 use Rattle.std.proofs.Common.{ap, ◌∙◌}
 use Rattle.node_rules.specs.Nodes.{Node}
 use Rattle.node_rules.specs.Rules.{writes}
-use Rattle.node_state.proofs.Broken.{on_err, proposes_stops, writes_stops, accepts_stops}
+use Rattle.node_state.proofs.Broken.{on_err}
+use Rattle.node_votes.proofs.Broken.{proposes_stops, writes_stops, accepts_stops}
 use Rattle.node_votes.proofs.votes.votes.Goals as goal
 
 pub returns-in_err-proposes-clause-err : goal.returns-in_err-proposes-clause-err

@@ -1,7 +1,8 @@
 use Rattle.std.proofs.Common.{refl, ap, ◌∙◌}
 use Rattle.smart_statements.specs.declared.statement.Proposal.{Proposal}
-use Rattle.node_state.proofs.Changes.{writes_where}
-use Rattle.node_state.proofs.Broken.{on_err, write_stops, wrote_stops}
+use Rattle.node_votes.proofs.Due.{writes_where}
+use Rattle.node_state.proofs.Broken.{on_err}
+use Rattle.node_votes.proofs.Broken.{write_stops, wrote_stops}
 use Rattle.node_votes.proofs.votes.writes.Goals as goal
 
 pub returns-in_ok-write_digest-in-Some-clause-node : goal.returns-in_ok-write_digest-in-Some-clause-node

@@ -11,17 +11,10 @@ use Rattle.smart_messages.specs.declared.regency.Sync.{Sync}
 use Rattle.vote_book.specs.declared.entry.Promise.{Promise}
 use Rattle.vote_book.specs.declared.entry.Start.{Start}
 use Rattle.vote_book.specs.declared.entry.LogEntry.{LogEntry}
-use Rattle.vote_book.specs.declared.entry.LogEntry.TheVariants.{Wrote, Accepted, Promised, Synced}
+use Rattle.vote_book.specs.declared.entry.LogEntry.TheVariants.{Promised, Synced}
 use Rattle.regency_sync.specs.Synchronizers.{Synchronizer, adopting, is_adoptable, needs_sync, is_synced_in}
 use Rattle.regency_sync.specs.Synchronizers as sync
-use Rattle.node_rules.specs.Nodes.{Node, view_of, regency_of, open_slot, holding, recording, start_of, start_in, first_start, is_synced, synchronizer_of}
-use Rattle.smart_statements.specs.Batches.{Batch}
-use Rattle.smart_messages.specs.declared.message.Proposed.{Proposed}
-use Rattle.smart_statements.specs.declared.statement.VoteKind.TheVariants as kinds
-use Rattle.smart_statements.specs.declared.statement.VoteKind.TheVariants.{Write}
-use Rattle.node_rules.specs.declared.node.Target.TheVariants as targets
-use Rattle.node_rules.specs.Votes.{certificate_votes}
-use Rattle.node_rules.specs.Rules.{ballot, writing, write_batch, writes, accepting, accept_batch, accepts}
+use Rattle.node_rules.specs.Nodes.{Node, view_of, regency_of, start_of, start_in, first_start, is_synced, synchronizer_of}
 use Rattle.node_rules.specs.Changes.{is_pressed, timing, start_by_sync, adopts_by, adoption, adopts}
 use Rattle.node_state.specs.Following.{is_unbegun, promised_by, reached, begun_at}
 
@@ -118,20 +111,6 @@ next_by false impatient regency is here = absurd (cc)
 pub next_where : {S : Type 0} (n : Node S) → timing n ≡ true → n.impatient ≡ true → regency_of n + 1 < 2 ^ 32
 unfolding timing
 next_where n is here = next_by (is_pressed n) n.impatient (regency_of n) is here
-
--- what is written, and accepted, for a proposal that is due
-
-pub writes_where : {S : Type 0} (n : Node S) (p : Proposed) (digest : List ℕ) → Some p ≡ writing n → digest ≡ p.head.statement.digest
-    → holding (recording n (Wrote (record { slot = open_slot n; digest = digest }))) targets.View (ballot n Write digest) ≡ writes n
-unfolding writes write_batch
-writes_where n p digest due is = rw (is, ← due) refl
-
-pub accepts_where : {S : Type 0} (n : Node S) (p : Proposed) (digest : List ℕ) (batch : Batch) → Some p ≡ accepting n → digest ≡ p.head.statement.digest → batch ≡ p.batch
-    → holding (recording n (Accepted (record { slot = open_slot n; digest = digest; writes = certificate_votes n.arrivals (view_of n) Write (open_slot n) digest; batch = batch }))) targets.View (ballot n kinds.Accept digest) ≡ accepts n
-unfolding accepts accept_batch
-accepts_where n p digest batch due is same = rw (same, is, ← due) refl
-
--- what is adopted is of the view in force, and of a regency that has not begun
 
 adoption_at : {S : Type 0} (n : Node S) (view : View) (turn : Synchronizer) → view ≡ view_of n → turn ≡ synchronizer_of n → adopting view turn ≡ adoption n
 unfolding adoption

@@ -1,6 +1,5 @@
 -- What a node's own accepts are among the batches that it knows.
-use Rattle.std.proofs.Common.{◌≡◌, ℕ, zero, suc, ◌+◌, ◌≤◌, Bool, true, false, List, [], ◌∷◌, length, drop, filter_map, find, refl, ap, sym, ◌∙◌, cond, arith, Option, Some, None, option_map}
-use Rattle.std.specs.Prelude.{slice_get}
+use Rattle.std.proofs.Common.{◌≡◌, ℕ, Bool, true, false, List, [], ◌∷◌, filter_map, find, refl, ap, sym, ◌∙◌, cond, Option, Some, None, option_map}
 use Rattle.std.specs.List.{cons_option}
 use Rattle.std.proofs.lemmas.List.Folds.{find-append}
 use Rattle.std.specs.Option.{option_or}
@@ -17,37 +16,6 @@ use Rattle.node_rules.specs.Votes.{has_quorum, Named, named_in, named_by, known,
 use Rattle.node_rules.specs.Nodes.{Node, view_of, regency_of, next_place}
 use Rattle.node_rules.specs.Rules.{slot_in, decision_in}
 use Rattle.node_state.specs.Following.{named}
-
--- a list from an index on, by what stands there
-pub none_there : {A : Type 0} (xs : List A) (i : ℕ) → slice_get xs i ≡ None → drop i xs ≡ []
-none_there [] zero none = refl
-none_there [] (suc i) none = refl
-none_there (x ∷ xs) zero none = absurd (cc)
-none_there (x ∷ xs) (suc i) none = none_there xs i none
-
-pub some_there : {A : Type 0} (xs : List A) (i : ℕ) (x : A) → slice_get xs i ≡ Some x → drop i xs ≡ x ∷ drop (suc i) xs
-some_there [] zero x some = absurd (cc)
-some_there [] (suc i) x some = absurd (cc)
-some_there (y ∷ ys) zero x some = let e : y ≡ x = cc in ap (λ (z : _). z ∷ ys) e
-some_there (y ∷ ys) (suc i) x some = some_there ys i x some
-
--- past the end nothing stands
-pub drop_past : {A : Type 0} (xs : List A) (i : ℕ) → length xs ≤ i → drop i xs ≡ []
-drop_past [] zero past = refl
-drop_past [] (suc i) past = refl
-drop_past (x ∷ xs) zero past = absurd (omega (arith, past))
-drop_past (x ∷ xs) (suc i) past = drop_past xs i (omega (arith, past))
-
-few_step : {A : Type 0} (o : Option A) (ys : List A) (n : ℕ) → length ys ≤ n → length (cons_option o ys) ≤ suc n
-few_step None ys n few = omega (arith, few)
-few_step (Some y) ys n few = omega (arith, few)
-
--- no more than the list are mapped
-pub few_mapped : {A B : Type 0} (f : A → Option B) (xs : List A) → length (filter_map f xs) ≤ length xs
-few_mapped f [] = omega arith
-few_mapped f (x ∷ xs) = few_step (f x) (filter_map f xs) (length xs) (few_mapped f xs)
-
--- the names of a node's accepts for a place
 
 find_step : (p : List ℕ → Bool) (o : Option Accept) (names : List Named) (accepts : List Accept)
     → find (λ (x : Named). p x.digest) names ≡ option_map named (find (λ (a : Accept). p a.digest) accepts)
@@ -97,8 +65,6 @@ decision_same view slot arrivals entries number place regency =
     (find-append (λ (x : Named). has_quorum arrivals view kinds.Accept slot x.digest) (filter_map (named_in number place regency) arrivals) (filter_map (named_by number place) entries))
     ∙ or_decided view slot arrivals _ _
 
--- what is found is what a node's rules look for
-
 pub quorum_after : {S : Type 0} (n inside : Node S) (view : View) (slot : Slot) (found : Option Accept) → inside ≡ n → view ≡ view_of n
     → found ≡ find (λ (a : Accept). has_quorum inside.arrivals view kinds.Accept slot a.digest) (filter_map (accept_for slot.view slot.place) inside.entries)
     → option_map named found ≡ accepted_in (view_of n) slot n.arrivals (filter_map (named_by slot.view slot.place) n.entries)
@@ -116,29 +82,3 @@ pub decided_where : {S : Type 0} (n : Node S) (regency : ℕ) (slot : Slot) (fir
 unfolding decision_in
 decided_where n regency slot first d at is or =
     rw (or, is, at) (sym (decision_same (view_of n) (slot_in n regency) n.arrivals n.entries (view_of n).number (next_place n) (regency_of n)))
-
--- a walk over accepts
-
-pub walk_ends : {A : Type 0} (p : A → Bool) (xs : List A) (i : ℕ) → find p (drop i xs) ≡ find p xs → drop i xs ≡ [] → None ≡ find p xs
-walk_ends p xs i so is = ap (λ ys. find p ys) (sym is) ∙ so
-
-found_first : {A : Type 0} (p : A → Bool) (x : A) (ys : List A) → p x ≡ true → find p (x ∷ ys) ≡ Some x
-found_first p x ys is = rw is refl
-
-passed_first : {A : Type 0} (p : A → Bool) (x : A) (ys : List A) → p x ≡ false → find p (x ∷ ys) ≡ find p ys
-passed_first p x ys is = rw is refl
-
-pub walk_finds : {A : Type 0} (p : A → Bool) (xs : List A) (i : ℕ) (x : A) → find p (drop i xs) ≡ find p xs → slice_get xs i ≡ Some x → p x ≡ true → Some x ≡ find p xs
-walk_finds p xs i x so there is = sym (ap (λ ys. find p ys) (some_there xs i x there) ∙ found_first p x (drop (suc i) xs) is) ∙ so
-
-pub walk_passes : {A : Type 0} (p : A → Bool) (xs : List A) (i : ℕ) (x : A) → find p (drop i xs) ≡ find p xs → slice_get xs i ≡ Some x → p x ≡ false → find p (drop (i + 1) xs) ≡ find p xs
-walk_passes p xs i x so there is =
-    let next : i + 1 ≡ suc i = omega arith in
-    ap (λ j. find p (drop j xs)) next ∙ (sym (ap (λ ys. find p ys) (some_there xs i x there) ∙ passed_first p x (drop (suc i) xs) is) ∙ so)
-
-pub walk_past : {A B : Type 0} (p : B → Bool) (f : A → Option B) (xs ys : List A) (i : ℕ) → find p (drop i (filter_map f xs)) ≡ find p (filter_map f xs) → ys ≡ xs → length ys ≤ i
-    → None ≡ find p (filter_map f xs)
-walk_past p f xs ys i so same over =
-    let few : length (filter_map f xs) ≤ length xs = few_mapped f xs in
-    let all : length ys ≡ length xs = ap (λ zs. length zs) same in
-    walk_ends p (filter_map f xs) i so (drop_past (filter_map f xs) i (omega (arith, few, all, over)))

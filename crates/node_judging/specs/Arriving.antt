@@ -1,11 +1,10 @@
 -- What becomes of an arrival before the rules pass.
-use Rattle.std.specs.Prelude.{[], Bool, if◌then◌else◌, Option, Some, None}
+use Rattle.std.specs.Prelude.{Bool, if◌then◌else◌, Option, Some, None}
 use Rattle.smart_messages.specs.declared.any.AnyMessage.{AnyMessage}
 use Rattle.request_pool.specs.declared.pool.Offer.{Offer}
 use Rattle.request_pool.specs.declared.pool.Offer.TheVariants as offers
 use Rattle.node_rules.specs.Nodes.{Node}
 use Rattle.node_rules.specs.Arrivals.{kept}
-use Rattle.node_rules.specs.Steps.{Outcome, outcome_from}
 use Rattle.node_rules.specs.declared.node.Why.{Why}
 use Rattle.node_rules.specs.declared.node.Why.TheVariants.{BadTag, Stranger, OldSeq, FarSeq}
 
@@ -22,8 +21,3 @@ why_offered offers.Stranger older = Some Stranger
 abbrev pub kept_unless : {S : Type 0} → Option Why → Node S → AnyMessage → Node S
 kept_unless None n message = kept n message
 kept_unless (Some why) n message = n
-
--- an arrival that is dropped passes no rule
-abbrev pub passed : {S : Type 0} → Node S → Option Why → Outcome S
-passed n None = outcome_from n []
-passed n (Some why) = record { node = n; fired = []; dropped = Some why }

@@ -8,8 +8,10 @@ use Rattle.smart_statements.specs.Kinds.{requests}
 use Rattle.smart_statements.specs.Batches.{Batch}
 use Rattle.smart_messages.specs.Messages.{Fits}
 use Rattle.smart_statements.specs.declared.statement.Request.{Request}
-use Rattle.smart_messages.specs.declared.any.AnyMessage.TheVariants.{Plain}
-use Rattle.smart_messages.specs.declared.message.Message.TheVariants.{Ask}
+use Rattle.smart_statements.specs.declared.statement.Answer.{Answer}
+use Rattle.smart_messages.specs.declared.any.AnyMessage.{AnyMessage}
+use Rattle.smart_messages.specs.declared.any.AnyMessage.TheVariants.{Plain, Change}
+use Rattle.smart_messages.specs.declared.message.Message.TheVariants.{Ask, Propose, Vote, Reply}
 use Rattle.smart_service.specs.Tables.{last_seq}
 use Rattle.smart_service.specs.declared.replica.Replica.{Replica}
 use Rattle.request_pool.specs.Offers.{has_client, offer_of, pool_after}
@@ -21,7 +23,9 @@ use Rattle.node_rules.specs.Nodes.{Node, view_of}
 use Rattle.node_rules.specs.Arrivals.{why_ask, noted, kept, kept_plain}
 use Rattle.node_rules.specs.declared.node.Why.{Why}
 use Rattle.node_rules.specs.declared.node.Why.TheVariants.{BadTag, Stranger, OldSeq, FarSeq}
-use Rattle.node_state.specs.Arriving.{why_offered, kept_unless}
+use Rattle.node_rules.specs.Rules.{answering}
+use Rattle.node_judging.specs.Arriving.{why_offered, kept_unless}
+use Rattle.node_judging.specs.Asking.{asked_by, line_asked}
 
 -- a request that was read is its signer's
 pub own_request : (q : SignedBy Request) → Fits (Ask q) → q.signer ≡ q.statement.client
@@ -31,6 +35,25 @@ own_request q fits = sym fits.content_fits.statement_fits.client_is
 pub ask_noted : {S : Type 0} (n : Node S) (q : SignedBy Request) → noted n (Plain (Ask q)) ≡ n
 unfolding noted
 ask_noted {S = S} n q = ap (λ (b : Bool). record n { behind = b }) (or-false n.behind)
+
+-- no reply is kept, and none tells a node that it is behind
+pub reply_noted : {S : Type 0} (n : Node S) (a : SignedBy Answer) → noted n (Plain (Reply a)) ≡ n
+unfolding noted
+reply_noted {S = S} n a = ap (λ (b : Bool). record n { behind = b }) (or-false n.behind)
+
+pub reply_kept : {S : Type 0} (n : Node S) (a : SignedBy Answer) (why : Option Why) → kept_unless why (noted n (Plain (Reply a))) (Plain (Reply a)) ≡ n
+unfolding kept_plain
+reply_kept n a None = reply_noted n a
+reply_kept n a (Some why) = reply_noted n a
+
+-- the line of what was asked is that by which a node answers
+pub asked_answering : {S : Type 0} (n : Node S) (m : AnyMessage) → line_asked n (asked_by m) ≡ answering n m
+unfolding answering
+asked_answering n (Plain (Ask q)) = refl
+asked_answering n (Plain (Propose p)) = refl
+asked_answering n (Plain (Vote b)) = refl
+asked_answering n (Plain (Reply a)) = refl
+asked_answering n (Change m) = refl
 
 -- the answer to a request, and why it is dropped, by what is found of it
 
