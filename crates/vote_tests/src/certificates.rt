@@ -88,14 +88,14 @@ fn votes(
     rt: &impl Abort,
     alloc: Global,
     kind: VoteKind,
-    slot: Slot,
+    slot: &Slot,
     text: &str,
 ) -> SignedList<Ballot> {
     let ring = ring(rt, alloc);
     let mut list = SignedList::new(alloc);
     for pair in text.as_bytes().chunks(2) {
         let who = signer_of(pair);
-        let vote = sealed(rt, alloc, &ring, who, ballot(kind, slot, who.0));
+        let vote = sealed(rt, alloc, &ring, who, ballot(kind, *slot, who.0));
         add(rt, &mut list, vote);
     }
     list
@@ -105,7 +105,6 @@ fn votes(
 fn the_first_fault_of_votes_is_told(rt: HostRuntime) {
     let alloc = rt.alloc();
     let ring = ring(&rt, alloc);
-    let slot = slot(0, 3, 2);
     for (count, text, want) in [
         // Three of four are a quorum, whoever they are, and so are four of five.
         (4, "w4w1w3", None),
@@ -129,11 +128,11 @@ fn the_first_fault_of_votes_is_told(rt: HostRuntime) {
         (4, "t1", Some(CertFault::BadTag)),
     ] {
         let view = view(&rt, alloc, 0, 1, 1, count);
-        let writes = votes(&rt, alloc, VoteKind::Write, slot, text);
-        let fault = check_write_cert(&ring, &view, slot, digest(7), writes.as_slice());
+        let writes = votes(&rt, alloc, VoteKind::Write, &slot(0, 3, 2), text);
+        let fault = check_write_cert(&ring, &view, slot(0, 3, 2), digest(7), writes.as_slice());
         assert_eq!(rt; fault.err(), want, "{text} of {count}");
-        let accepts = votes(&rt, alloc, VoteKind::Accept, slot, text);
-        let fault = check_proof(&ring, &view, slot, digest(7), accepts.as_slice());
+        let accepts = votes(&rt, alloc, VoteKind::Accept, &slot(0, 3, 2), text);
+        let fault = check_proof(&ring, &view, slot(0, 3, 2), digest(7), accepts.as_slice());
         assert_eq!(rt; fault.err(), want, "{text} of {count}");
     }
 }
@@ -206,7 +205,7 @@ fn evidence(
             view: slot.view,
             regency: slot.regency,
             digest: digest(7),
-            accepts: votes(rt, alloc, VoteKind::Accept, slot, text),
+            accepts: votes(rt, alloc, VoteKind::Accept, &slot, text),
         }),
         b'm' => Evidence::Marked(MarkCertificate {
             view: slot.view,
@@ -266,7 +265,7 @@ fn lock(rt: &impl Abort, alloc: Global, slot: Slot, text: &str) -> LockCertifica
     LockCertificate {
         regency: slot.regency,
         digest: digest(7),
-        writes: votes(rt, alloc, VoteKind::Write, slot, text),
+        writes: votes(rt, alloc, VoteKind::Write, &slot, text),
     }
 }
 
