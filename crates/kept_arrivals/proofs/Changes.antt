@@ -17,10 +17,6 @@ pub trimmed-if : {S : Type 0} (test : Bool) (x y : Node S) → cond test (trimme
 trimmed-if true x y = refl
 trimmed-if false x y = refl
 
-view_same : {S : Type 0} (n : Node S) → view_of (trimmed n) ≡ view_of n
-unfolding trimmed
-view_same n = refl
-
 -- ADOPT
 
 pub adoption_same : {S : Type 0} (n : Node S) → adoption (trimmed n) ≡ adoption n

@@ -3,10 +3,11 @@ use Rattle.std.proofs.Common.{◌≡◌, Bool, List, refl, ap, sym, Option, Some
 use Rattle.std.proofs.lemmas.List.{append-nil}
 use Rattle.std.proofs.Math.Bool.{or-false}
 use Rattle.smart_statements.specs.Forms.{SignedBy}
+use Rattle.smart_statements.specs.declared.statement.Request.{Request}
 use Rattle.smart_statements.specs.declared.statement.Ballot.{Ballot}
 use Rattle.smart_statements.specs.declared.statement.Answer.{Answer}
 use Rattle.smart_messages.specs.declared.any.AnyMessage.TheVariants.{Plain, Change}
-use Rattle.smart_messages.specs.declared.message.Message.TheVariants.{Propose, Vote, Reply}
+use Rattle.smart_messages.specs.declared.message.Message.TheVariants.{Ask, Propose, Vote, Reply}
 use Rattle.smart_messages.specs.declared.message.Proposed.{Proposed}
 use Rattle.smart_messages.specs.declared.regency.RegencyMessage.{RegencyMessage}
 use Rattle.node_rules.specs.Nodes.{Node}
@@ -15,7 +16,8 @@ use Rattle.node_rules.specs.Rules.{answering, answer_line, answers_again}
 use Rattle.node_rules.specs.Steps.{passes, arrival_outcome}
 use Rattle.node_rules.specs.declared.node.Fired.{Fired}
 use Rattle.node_rules.specs.declared.node.Why.{Why}
-use Rattle.node_core.specs.Arriving.{kept_unless, passed}
+use Rattle.node_state.specs.Arriving.{kept_unless, passed}
+use Rattle.node_judging.proofs.Asks.{ask_noted}
 
 pub proposal_outcome : {S : Type 0} (n : Node S) (p : Proposed) (why : Option Why)
     → passed (kept_unless why (noted n (Plain (Propose p))) (Plain (Propose p))) why ≡ arrival_outcome n (Plain (Propose p)) why
@@ -44,3 +46,7 @@ pub reply_outcome : {S : Type 0} (n : Node S) (a : SignedBy Answer) (why : Optio
 unfolding answers_again answering answer_line kept_plain
 reply_outcome n a None = rw (reply_noted n a) (ap (λ (f : List Fired). record { node = passes n; fired = f; dropped = None }) (sym (append-nil _)))
 reply_outcome n a (Some why) = rw (reply_noted n a) refl
+
+-- a request does not tell a node that it is behind
+pub request_kept : {S : Type 0} (n start : Node S) (q : SignedBy Request) (why : Option Why) → start ≡ kept_unless why n (Plain (Ask q)) → start ≡ kept_unless why (noted n (Plain (Ask q))) (Plain (Ask q))
+request_kept n start q why is = rw (ask_noted n q) is

@@ -10,7 +10,7 @@ use Rattle.smart_base.specs.Lists.{Each}
 use Rattle.smart_base.specs.Views.{View, is_member, present}
 use Rattle.smart_statements.specs.Equality.{same_slot}
 use Rattle.smart_statements.specs.declared.statement.Slot.{Slot}
-use Rattle.vote_book.proofs.Tested.{same_bytes_is, same_slot_self}
+use Rattle.vote_book.proofs.Tested.{same_bytes_is, same_slot_self, latest_has}
 use Rattle.vote_book.specs.Admission.{accepts_in, writes_in}
 use Rattle.vote_book.specs.Books.{Allows, Among, HasBegun, HasMade, IsBelow, MayVote, last_made, latest_made}
 use Rattle.vote_book.specs.Tidy.{IsTidyVote}
@@ -20,9 +20,11 @@ use Rattle.vote_book.specs.declared.entry.LogEntry.TheVariants.{Accepted, Promis
 use Rattle.vote_book.specs.declared.entry.Promise.{Promise}
 use Rattle.vote_book.specs.declared.entry.Start.{Start}
 use Rattle.vote_book.specs.declared.entry.Write.{Write}
-use Rattle.node_laws.proofs.Books.{begins, latest_has, promised_greatest}
-use Rattle.node_laws.proofs.Lists.{and_true, each_among, none_of}
+use Rattle.node_laws.proofs.Books.{begins, promised_greatest}
+use Rattle.node_laws.proofs.Lists.{none_of}
 use Rattle.node_laws.specs.Sound.{IsSound, IsUpTo, IsWithin, place_if}
+use Rattle.smart_base.proofs.SameLists.{and_true}
+use Rattle.agreement_laws.proofs.Lists.{each_among}
 
 -- ---- where a node stands
 

@@ -25,7 +25,7 @@ use Rattle.vote_book.specs.declared.entry.Accept.{Accept}
 use Rattle.vote_book.specs.declared.entry.LogEntry.{LogEntry}
 use Rattle.vote_book.specs.declared.entry.LogEntry.TheVariants.{Accepted, Wrote}
 use Rattle.node_laws.proofs.Certified.{kept_certificate}
-use Rattle.node_laws.proofs.Lists.{among_last, and_true, each_among, each_filter, guard, not_true, some_equal}
+use Rattle.node_laws.proofs.Lists.{among_last, guard}
 use Rattle.node_laws.proofs.Nodes.{Arrived, MayPush, Shows, holds, records}
 use Rattle.node_laws.proofs.Stated.{proposal_asked}
 use Rattle.node_laws.proofs.Votes.{in_force, may_vote, none_accepted, none_written, open_within, opens, tidy_vote}
@@ -33,6 +33,9 @@ use Rattle.node_laws.specs.Sound.{IsBatchAt, IsSound}
 use Rattle.smart_statements.specs.declared.statement.VoteKind.TheVariants as kinds
 use Rattle.node_rules.specs.declared.node.Target.TheVariants as targets
 use Rattle.agreement_laws.specs.Statements as says
+use Rattle.smart_base.proofs.SameLists.{and_true}
+use Rattle.agreement_laws.proofs.Lists.{each_among, not_true, some_equal}
+use Rattle.regency_sync.proofs.Lists.{each_filter}
 
 -- ---- proposals
 

@@ -22,7 +22,7 @@ use Rattle.node_rules.specs.declared.node.Fired.{Fired}
 use Rattle.node_rules.specs.declared.node.Fired.TheVariants as fires
 use Rattle.node_rules.specs.Deliveries.{delivery_in, AtPlaces}
 use Rattle.replica_laws.proofs.Follows.{WasDue, due-pass}
-use Rattle.replica_laws.proofs.Steady.{replica-passes, place-deliver_batch}
+use Rattle.replica_laws.proofs.Replying.{replica-passes, place-deliver_batch}
 use Rattle.replica_laws.proofs.Leaves.{leaves-kept, leaves-times}
 use Rattle.replica_laws.proofs.Again.{replica-noted, replica-answers_again, delivers-answer}
 

@@ -14,10 +14,10 @@ use Rattle.world_rules.specs.Promises.{world_at}
 use Rattle.client_quorum.specs.declared.client.Client.{Client}
 use Rattle.client_quorum.specs.declared.client.Heard.{Heard}
 use Rattle.world_rules.specs.declared.line.Line.{Line}
-use Rattle.world_laws.proofs.Lists.{either}
 use Rattle.world_laws.proofs.Keeps.{ask_of, asked_by, by-posts, KeepsAll, keeps-world_after, signed_by, from_node, from_client, from_script, keeps-sends_all}
 use Rattle.world_laws.proofs.Fronts.{IsFront, front-same, front-append}
 use Rattle.world_rules.specs.declared.message.Sent.{Sent}
+use Rattle.agreement_laws.proofs.Lists.{either}
 
 -- messages that leave change neither the list nor the view
 

@@ -16,7 +16,7 @@ use Rattle.client_quorum.specs.declared.client.Acceptance.{Acceptance}
 use Rattle.client_quorum.specs.declared.client.Ignored.{Ignored}
 use Rattle.client_quorum.specs.declared.client.Ignored.TheVariants as reasons
 use Rattle.client_quorum.specs.declared.client.Heard.TheVariants as hears
-use Rattle.world_laws.proofs.Lists.{and_true}
+use Rattle.smart_base.proofs.SameLists.{and_true}
 
 -- the reply bears its member's tag and counts for the request that waits
 pub record CountsFor (v : View) (c : Client) (a : SignedBy Answer) (q : Request) : Type 0 where

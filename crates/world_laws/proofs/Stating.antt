@@ -41,9 +41,9 @@ use Rattle.world_rules.specs.Premises.{claim_of, bytes_stated, claims, same_part
 use Rattle.world_rules.specs.declared.message.Content.{Content}
 use Rattle.world_rules.specs.declared.message.Content.TheVariants as contents
 use Rattle.world_laws.specs.Stated.{stated_in}
-use Rattle.world_laws.proofs.Lists.{and_true}
 use Rattle.world_laws.proofs.Keeps.{FitsParts}
-use Rattle.world_laws.proofs.Equal.{same_bytes-equal}
+use Rattle.smart_base.proofs.SameLists.{and_true}
+use Rattle.vote_book.proofs.Tested.{same_bytes_is}
 
 -- statements that are alike are one
 
@@ -245,7 +245,7 @@ same_party-equal (parties.Client a) (parties.Client b) same = ap (λ (i : ℕ). 
 pub same_claim-one : (s t : Statement) → Proper s → Proper t → same_claim (claim_of s) (claim_of t) ≡ true → s ≡ t
 same_claim-one s t ps pt same =
     let both = and_true (same_party (signer_of s) (signer_of t)) (same_bytes (bytes_stated s) (bytes_stated t)) same in
-    one_claim s t ps pt (same_party-equal (signer_of s) (signer_of t) both.0) (same_bytes-equal (bytes_stated s) (bytes_stated t) both.1)
+    one_claim s t ps pt (same_party-equal (signer_of s) (signer_of t) both.0) (same_bytes_is (bytes_stated s) (bytes_stated t) both.1)
 
 -- what a content states it claims
 pub claims_stated : (x : Content) → claims x ≡ map claim_of (stated_in x)

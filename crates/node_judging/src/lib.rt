@@ -1,0 +1,7 @@
+//! How a member's node judges what arrives: why it drops a message, and what it keeps of the others.
+#![tactic(auto)]
+
+pub mod arrivals;
+pub mod asks;
+mod reasons;
+pub mod reports;

@@ -1,0 +1,4 @@
+pub mod Keyrings
+pub mod Arriving
+pub mod Following
+pub mod Broken

@@ -1,0 +1,146 @@
+//! Plays the scripts that lie in the folder where it runs, and says of each whether its transcript and its status are
+//! those of the files beside it.
+#![tactic(auto)]
+
+ghost use Rattle.std.specs.Prelude.{◌≡◌, ◌↔◌, IsNone};
+
+use smart_io::memory::{MemSink, MemSource};
+use smart_top::top::run;
+use std::io::Write;
+use std::process::ExitCode;
+use std::{fs, io};
+
+/// What a run wrote, and how it ended: its exit status and the line that it said on standard error.
+#[derive(Drop)]
+struct Ending {
+    written: Vec<u8>,
+    status: Vec<u8>,
+}
+
+/// The names of the scripts in this folder, ascending.
+fn case_names(rt: &HostRuntime) -> io::Result<Vec<String>> {
+    let mut names = Vec::new(rt.alloc());
+    for entry in fs::read_dir(rt, ".")? {
+        let entry = entry?;
+        if let Some(name) = entry.file_name().strip_suffix(".smart") {
+            names.push(String::from_str(rt.alloc(), name)?)?;
+        }
+    }
+    names.sort()?;
+    Ok(names)
+}
+
+/// The script of a case.
+fn script_of(rt: &HostRuntime, name: &str) -> io::Result<Vec<u8>> {
+    let path = format!(in rt.alloc(); "{name}.smart")?;
+    fs::read(rt, path.as_str())
+}
+
+/// A file of a case, or what it stands for where there is none.
+fn part_or(rt: &HostRuntime, name: &str, part: &str, other: &[u8]) -> io::Result<Vec<u8>> {
+    let path = format!(in rt.alloc(); "{name}.{part}")?;
+    match fs::read(rt, path.as_str()) {
+        Err(error) if error.kind() == io::ErrorKind::NotFound => Ok(other.to_vec(rt.alloc())?),
+        read => read,
+    }
+}
+
+/// What a case is to write, and how it is to end.
+fn wanted_ending(rt: &HostRuntime, name: &str) -> io::Result<Ending> {
+    Ok(Ending {
+        written: part_or(rt, name, "out", b"")?,
+        status: part_or(rt, name, "status", b"0\n")?,
+    })
+}
+
+/// The status of a run as a case's file tells it: the number, and what was said.
+fn status_line(rt: &HostRuntime, code: u8, said: &[u8]) -> io::Result<Vec<u8>> {
+    let mut line = Vec::new(rt.alloc());
+    write!(&mut line, "{code}")?;
+    if said.is_empty() {
+        line.push(b'\n')?;
+    } else {
+        line.push(b' ')?;
+        line.extend_from_slice(said)?;
+    }
+    Ok(line)
+}
+
+/// Plays a script.
+fn play(rt: &HostRuntime, script: Vec<u8>) -> io::Result<Ending> {
+    let alloc = rt.alloc();
+    let mut words = Vec::new(alloc);
+    words.push(String::from_str(alloc, "world")?)?;
+    let mut input = MemSource::new(script, Vec::new(alloc));
+    let mut output = MemSink::new(Vec::new(alloc), Vec::new(alloc));
+    let mut errors = MemSink::new(Vec::new(alloc), Vec::new(alloc));
+    let status = run(
+        rt,
+        alloc,
+        words.as_slice(),
+        &mut input,
+        &mut output,
+        &mut errors,
+    );
+    let status = status_line(rt, status.code(), errors.bytes.as_slice())?;
+    Ok(Ending {
+        written: output.bytes,
+        status,
+    })
+}
+
+/// The first line, counted from 1, in which two texts differ; none where they are equal.
+fn differing_line(played: &[u8], wanted: &[u8]) -> Option<u64>
+    ensures { IsNone result ↔ (played.now ≡ wanted.now) }
+{
+    if played == wanted {
+        return None;
+    }
+    let mut line = 1u64;
+    for (byte, other) in played.iter().zip(wanted) {
+        if byte != other {
+            break;
+        }
+        if *byte == b'\n' {
+            line = line.saturating_add(1);
+        }
+    }
+    Some(line)
+}
+
+/// Says of a case in which line its transcript differs, and how its status does, or that it is as wanted. Answers whether
+/// it is.
+fn say(rt: &HostRuntime, name: &str, played: &Ending, wanted: &Ending) -> io::Result<bool> {
+    let line = differing_line(played.written.as_slice(), wanted.written.as_slice());
+    if let Some(line) = line {
+        println!(rt; "{name} differs at line {line}")?;
+    }
+    let status = played.status.trim_ascii_end();
+    let other = wanted.status.trim_ascii_end();
+    if status != other {
+        let (status, other) = (status.escape_ascii(), other.escape_ascii());
+        println!(rt; "{name} status {status}, wanted {other}")?;
+    }
+    let is_wanted = line.is_none() && status == other;
+    if is_wanted {
+        println!(rt; "{name} ok")?;
+    }
+    Ok(is_wanted)
+}
+
+/// Plays a case and says how it ended. Answers whether it ended as its files tell.
+fn try_case(rt: &HostRuntime, name: &str) -> io::Result<bool> {
+    let wanted = wanted_ending(rt, name)?;
+    let played = play(rt, script_of(rt, name)?)?;
+    say(rt, name, &played, &wanted)
+}
+
+fn main(rt: HostRuntime) -> io::Result<ExitCode> {
+    let mut status = ExitCode::SUCCESS;
+    for name in case_names(&rt)?.iter() {
+        if !try_case(&rt, name.as_str())? {
+            status = ExitCode::FAILURE;
+        }
+    }
+    Ok(status)
+}
