@@ -114,26 +114,3 @@ fn a_long_line_is_refused_before_it_ends(rt: HostRuntime) {
     assert_eq!(rt; ended.1.as_slice(), HEADER_TOLD);
     assert_eq!(rt; ended.2.as_slice(), b"smart: line 3: Long\n".as_slice());
 }
-
-/// A comment of 65,536 bytes counts, and one of a byte more has no meaning.
-#[test]
-fn a_longer_comment_is_refused(rt: HostRuntime) {
-    let alloc = rt.alloc();
-    let mut script = long_text(&rt, alloc, b"", 65536, b'#');
-    script.push(b'\n').expect(&rt, "there is memory");
-    let longer = long_text(&rt, alloc, b"", 65537, b'#');
-    script
-        .extend_from_slice(longer.as_slice())
-        .expect(&rt, "there is memory");
-    let ended = played(&rt, rt.alloc(), "world", script, &[], &[]);
-    let kind = Kind::Long;
-    assert_eq!(rt; ended.0, Status::Script { line: 2, kind });
-}
-
-#[test]
-fn a_script_has_1048576_lines_at_most(rt: HostRuntime) {
-    let script = long_text(&rt, rt.alloc(), b"", (1 << 20) + 1, b'\n');
-    let ended = played(&rt, rt.alloc(), "world", script, &[], &[]);
-    let line = 1_048_577;
-    assert_eq!(rt; ended.0, Status::Limit { line });
-}
