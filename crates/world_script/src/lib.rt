@@ -6,7 +6,5 @@ pub mod forms;
 pub mod hex;
 pub mod numbers;
 pub mod reading;
-#[cfg(test)]
-mod tests;
 pub mod text;
 pub mod words;
