@@ -1,4 +1,4 @@
-//! The lines of a script, read, and those of its transcript, written.
+//! The lines of a script, read.
 #![tactic(auto)]
 
 pub mod crash;
@@ -6,5 +6,4 @@ pub mod forms;
 pub mod hex;
 pub mod numbers;
 pub mod reading;
-pub mod text;
 pub mod words;
