@@ -110,8 +110,6 @@ right-sends_all {S = S} m id w (h ∷ hs) each r =
     (λ x states. states-posts w (from_node id h) (contents.Message x.message) states) hs each.1)
     (right-posts m w (from_node id h) each.0 r)
 
--- who is no member
-
 -- a client is no member
 pub no_member : (i j : ℕ) → parties.Client i ≡ parties.Member j → ⊥
 no_member i j same = cc
