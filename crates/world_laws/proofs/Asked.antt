@@ -56,7 +56,7 @@ use Rattle.world_laws.proofs.Unforged.{content_proper, IsOwnStated, fine_own}
 use Rattle.world_laws.proofs.Longer.{secret-step}
 use Rattle.world_laws.proofs.Witnessing.{stated_event, stated-grows, stated-either}
 use Rattle.world_laws.proofs.Chosen.{HostRight, ChosenRight}
-use Rattle.world_laws.proofs.ChosenKept.{asks_alone, chosen-kept, chosen-begun}
+use Rattle.world_laws.proofs.ChosenKept.{asks_alone, chosen-kept, chosen-begun, no_member}
 use Rattle.replica_laws.proofs.Checked.{fits_each}
 use Rattle.smart_base.proofs.SameLists.{and_true}
 use Rattle.smart_base.proofs.ViewFacts.{each-weaken}
@@ -136,9 +136,6 @@ asked-sends_all {S = S} id w (h ∷ hs) each is =
     (asked-posts w s (λ q there. asked-sent w.rogue w.sent s q.statement (each.0 q there)) tt is)
 
 -- what a node holds states requests that have been stated
-pub no_member : (i j : ℕ) → parties.Client i ≡ parties.Member j → ⊥
-no_member i j same = cc
-
 held_asked : (id : ℕ) (T : List Statement) (es : List LogEntry) (h : Held) (q : SignedBy Request) → IsHeld group_secret id T es h → Among (Asked q) (statements group_secret h.message) → Among (Asked q) T
 held_asked id T es h q is there =
     ⊎_elim {C = Among (Asked q) T} (λ old. old) (λ own. absurd (no_member q.signer id own.0)) (each_among _ (statements group_secret h.message) (Asked q) is.shown there)

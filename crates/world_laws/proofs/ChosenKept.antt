@@ -74,7 +74,6 @@ use Rattle.world_laws.proofs.Longer.{front_same, Longer, longer-step}
 use Rattle.world_laws.proofs.Stores.{Fits, IsTold, may-told, firm-grows, fits-stepped, fits-opened, firm-heard}
 use Rattle.world_laws.proofs.Witnessing.{stated_event, stated-grows, StatesShown, ShowsOwn, Firmer, firm_of, shown-faulty, shown-sent, shown-set, leave_shown}
 use Rattle.world_laws.proofs.Chosen.{DeliveredIs, HostRight, WorldRight, Based, ChosenRight, chosen-front, within-step, certified-step, decided-step, right-witnessed, right-once, host-front, waiting-at, due-agrees, host_longer, certified_sent, host_sent, BookRight, front_right, book_longer, none_right}
-use Rattle.world_laws.proofs.Asked.{no_member}
 use Rattle.node_rules.proofs.Rulewise.{ForEvent}
 
 -- messages leave
@@ -111,7 +110,9 @@ right-sends_all {S = S} m id w (h ∷ hs) each r =
     (λ x states. states-posts w (from_node id h) (contents.Message x.message) states) hs each.1)
     (right-posts m w (from_node id h) each.0 r)
 
--- who is no member
+-- a client is no member
+pub no_member : (i j : ℕ) → parties.Client i ≡ parties.Member j → ⊥
+no_member i j same = cc
 
 -- a client's statement is no member's
 client_shows : {S : Type 0} (faulty : List ℕ) (x : Statement) (id : ℕ) (hosts : List (Host S)) → signer_of x ≡ parties.Client id → Each (ShowsOwn faulty x) hosts

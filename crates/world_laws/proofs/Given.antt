@@ -1,5 +1,5 @@
 -- What a client accepts, a quorum of members gave it, whatever it hears.
-use Rattle.std.proofs.Common.{◌≡◌, ℕ, ◌≤◌, ◌++◌, ◌==◌, Bool, true, false, ◌&&◌, List, [], ◌∷◌, length, filter, refl, ap, ◌∙◌, sym, arith, Option, Some, None, nat_le, subst, eq-eqb, eqb-true, inl, inr}
+use Rattle.std.proofs.Common.{◌≡◌, ℕ, ◌≤◌, ◌++◌, ◌==◌, Bool, true, false, ◌&&◌, List, [], ◌∷◌, length, filter, refl, ap, ◌∙◌, sym, arith, cond, Option, Some, None, nat_le, subst, eq-eqb, eqb-true, inl, inr}
 use Rattle.std.proofs.lemmas.Bool.{leb-true, or_left, or_right, and_from}
 use Rattle.std.specs.List.{list_any}
 use Rattle.smart_base.specs.Lists.{Each, same_bytes}
@@ -21,7 +21,6 @@ use Rattle.client_quorum.specs.declared.client.Heard.{Heard}
 use Rattle.client_quorum.specs.declared.client.Heard.TheVariants as hears
 use Rattle.world_laws.specs.Sending.{is_reply, has_given, hears_all, IsGiven}
 use Rattle.world_laws.proofs.Hearing.{CountsFor, Accepts, counts_where_not_ignored, accepts_waiting}
-use Rattle.agreement_laws.proofs.Shared.{weaker_passes}
 use Rattle.smart_base.proofs.SameLists.{and_true}
 use Rattle.agreement_laws.proofs.Lists.{either, some_equal, each_end, or_true}
 use Rattle.smart_base.proofs.ViewFacts.{each-weaken}
@@ -35,6 +34,22 @@ pub record IsKept (Given : SignedBy Answer → Type 0) (waiting : Option Request
 -- all replies that it keeps are
 abbrev pub ClientKeeps : (SignedBy Answer → Type 0) → Client → Type 0
 ClientKeeps Given c = Each (IsKept Given c.waiting) c.replies
+
+-- counting
+
+-- where more pass, the filter leaves no fewer
+pub filter_more : {A : Type 0} (p q : A → Bool) → ((x : A) → p x ≡ true → q x ≡ true) → (xs : List A) → length (filter p xs) ≤ length (filter q xs)
+filter_more p q more [] = omega arith
+filter_more p q more (x ∷ xs) = one (p x) (q x) (more x) (filter_more p q more xs)
+  where
+    one : (a b : Bool) → (a ≡ true → b ≡ true) → length (filter p xs) ≤ length (filter q xs) → length (cond a (x ∷ filter p xs) (filter p xs)) ≤ length (cond b (x ∷ filter q xs) (filter q xs))
+    one true true more le = omega (arith, le)
+    one true false more le = absurd (no (more refl))
+      where
+        no : false ≡ true → ⊥
+        no is = cc
+    one false true more le = omega (arith, le)
+    one false false more le = le
 
 -- a client hears
 
@@ -100,7 +115,7 @@ quorum_gave Given test gives v c a acc given kept taken =
     (omega (
       arith,
       enough,
-      weaker_passes (has_answer (c.replies ++ a ∷ []) a.statement) (test (acceptance q a.statement))
+      filter_more (has_answer (c.replies ++ a ∷ []) a.statement) (test (acceptance q a.statement))
           (λ member is. kept_reply Given (test (acceptance q a.statement)) q a.statement (gives q a.statement) member (c.replies ++ a ∷ []) all is) v.members,
     ))
 

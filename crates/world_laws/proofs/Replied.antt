@@ -35,7 +35,7 @@ use Rattle.world_laws.proofs.Keeps.{HasContent, HasMessage, ask_of, asked_by, by
 use Rattle.replica_laws.proofs.FitNodes.{IsBrief}
 use Rattle.agreement_laws.proofs.Lists.{each_among, each_end, or_true}
 use Rattle.world_laws.proofs.Hearing.{accepts_waiting}
-use Rattle.world_laws.proofs.Given.{IsKept, ClientKeeps, keeps_heard, quorum_gave}
+use Rattle.world_laws.proofs.Given.{IsKept, ClientKeeps, filter_more, keeps_heard, quorum_gave}
 use Rattle.smart_messages.specs.declared.any.AnyMessage.TheVariants.{Plain}
 use Rattle.vote_book.specs.Books.{Among}
 use Rattle.vote_book.proofs.Tested.{among_any}
@@ -48,7 +48,6 @@ use Rattle.world_laws.proofs.Chosen.{ChosenRight}
 use Rattle.world_laws.proofs.ChosenKept.{right-reads, chosen-begun}
 use Rattle.smart_base.proofs.SameLists.{and_true}
 use Rattle.smart_base.proofs.ViewFacts.{each-weaken}
-use Rattle.agreement_laws.proofs.Shared.{weaker_passes}
 use Rattle.std.proofs.lemmas.Bool.{or_left, or_right, and_from}
 
 -- the list is right, and what was sent is each one's own
@@ -97,11 +96,11 @@ replied_faulty faulty more sent a grows member is =
 quorum_faulty : (view : View) (faulty more : List ℕ) (sent : List Sent) → ((member : ℕ) → is_among faulty member ≡ true → is_among more member ≡ true) → (a : Acceptance) → QuorumReplied view faulty sent a
     → QuorumReplied view more sent a
 quorum_faulty view faulty more sent grows a enough =
-    omega (arith, enough, weaker_passes (has_replied faulty sent a) (has_replied more sent a) (replied_faulty faulty more sent a grows) view.members)
+    omega (arith, enough, filter_more (has_replied faulty sent a) (has_replied more sent a) (replied_faulty faulty more sent a grows) view.members)
 
 quorum_more : (view : View) (faulty : List ℕ) (sent : List Sent) (s : Sent) (a : Acceptance) → QuorumReplied view faulty sent a → QuorumReplied view faulty (sent ++ s ∷ []) a
 quorum_more view faulty sent s a enough =
-    omega (arith, enough, weaker_passes (has_replied faulty sent a) (has_replied faulty (sent ++ s ∷ []) a) (λ member is. any_more _ sent s is) view.members)
+    omega (arith, enough, filter_more (has_replied faulty sent a) (has_replied faulty (sent ++ s ∷ []) a) (λ member is. any_more _ sent s is) view.members)
 
 -- something is sent
 replied-posts : {S : Type 0} (w : World S) (s : Sent) → Replied w → Replied (posts w s)
