@@ -8,7 +8,6 @@ use Rattle.smart_statements.specs.Forms.{SignedBy}
 use Rattle.smart_statements.specs.Kinds.{proposals}
 use Rattle.smart_statements.specs.Batches.{Batch}
 use Rattle.smart_statements.specs.declared.statement.Request.{Request}
-use Rattle.smart_statements.specs.declared.statement.VoteKind.TheVariants.{Accept}
 use Rattle.smart_messages.specs.declared.message.Proposed.{Proposed}
 use Rattle.vote_book.specs.BookReports.{greater}
 use Rattle.vote_book.specs.declared.entry.Accept as accept
