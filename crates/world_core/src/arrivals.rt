@@ -24,14 +24,8 @@ fn arrive<S: Service>(
     ensures { OnOk result (world.new ≡ arrives (core_course S.meaning) bytes.now to.now world.old) }
 {
     match to {
-        Party::Member(id) => {
-            member_takes(world, *id, arrival)?;
-            Ok(())
-        }
-        Party::Client(id) => {
-            client_takes(world, id.get() as usize, bytes)?;
-            Ok(())
-        }
+        Party::Member(id) => member_takes(world, *id, arrival),
+        Party::Client(id) => client_takes(world, id.get() as usize, bytes),
     }
 }
 
@@ -64,6 +58,5 @@ pub fn give_number<S: Service>(
     }
     let bytes = content_bytes(world.alloc, &world.sent.as_slice()[index].content)?;
     let arrival = NodeEvent::Arrive(bytes.duplicate(world.alloc)?);
-    arrive_at(world, bytes.as_slice(), &arrival, to)?;
-    Ok(())
+    arrive_at(world, bytes.as_slice(), &arrival, to)
 }

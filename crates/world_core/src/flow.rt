@@ -34,18 +34,9 @@ fn reach<S: Service>(
     ensures { OnOk result (world.new ≡ goes (core_course S.meaning) members.now world.old bytes (Some to)) }
 {
     match to {
-        Target::View => {
-            give_all(world, members, bytes)?;
-            Ok(())
-        }
-        Target::Node(id) => {
-            give_one(world, members, bytes, id)?;
-            Ok(())
-        }
-        Target::Client(id) => {
-            client_takes(world, id.get() as usize, bytes.as_slice())?;
-            Ok(())
-        }
+        Target::View => give_all(world, members, bytes),
+        Target::Node(id) => give_one(world, members, bytes, id),
+        Target::Client(id) => client_takes(world, id.get() as usize, bytes.as_slice()),
     }
 }
 
@@ -61,10 +52,7 @@ fn go<S: Service>(
 {
     match to {
         None => Ok(()),
-        Some(to) => {
-            reach(world, members, bytes, to)?;
-            Ok(())
-        }
+        Some(to) => reach(world, members, bytes, to),
     }
 }
 
@@ -106,6 +94,5 @@ pub fn flow<S: Service>(world: &mut WorldState<S>, members: &[MemberId]) -> Resu
     ensures { OnOk result (world.new ≡ flows (core_course S.meaning) members.now world.old) }
 {
     settle_all(world, members)?;
-    flow_rest(world, members)?;
-    Ok(())
+    flow_rest(world, members)
 }

@@ -99,81 +99,27 @@ pub fn play<S: Service>(world: &mut WorldState<S>, line: &Line) -> Result<(), Al
 {
     match line {
         Line::Nothing => Ok(()),
-        Line::Ask { client, op } => {
-            ask(world, client.get() as usize, op)?;
-            Ok(())
-        }
-        Line::Again { client } => {
-            repeat(world, client.get() as usize)?;
-            Ok(())
-        }
-        Line::Tell { from, to } => {
-            tell_client(world, from.get() as usize, to.get() as usize)?;
-            Ok(())
-        }
-        Line::Flow { members } => {
-            flow(world, members.as_slice())?;
-            Ok(())
-        }
-        Line::Give { number, to } => {
-            give_number(world, *number, to.as_slice())?;
-            Ok(())
-        }
-        Line::Deliver { members } => {
-            deliver(world, members.as_slice())?;
-            Ok(())
-        }
-        Line::Tick { members } => {
-            tick(world, members.as_slice())?;
-            Ok(())
-        }
-        Line::Disk { member, count } => {
-            call_member(world, *member, *count)?;
-            Ok(())
-        }
+        Line::Ask { client, op } => ask(world, client.get() as usize, op),
+        Line::Again { client } => repeat(world, client.get() as usize),
+        Line::Tell { from, to } => tell_client(world, from.get() as usize, to.get() as usize),
+        Line::Flow { members } => flow(world, members.as_slice()),
+        Line::Give { number, to } => give_number(world, *number, to.as_slice()),
+        Line::Deliver { members } => deliver(world, members.as_slice()),
+        Line::Tick { members } => tick(world, members.as_slice()),
+        Line::Disk { member, count } => call_member(world, *member, *count),
         Line::Crash {
             member,
             image,
             patches,
-        } => {
-            crash_member(world, *member, *image, patches.as_slice())?;
-            Ok(())
-        }
-        Line::CrashAll { image } => {
-            crash_all(world, *image)?;
-            Ok(())
-        }
-        Line::Restart { member } => {
-            restart_member(world, *member)?;
-            Ok(())
-        }
-        Line::RestartAll => {
-            restart_all(world)?;
-            Ok(())
-        }
-        Line::Settle { member } => {
-            settle_member(world, *member)?;
-            Ok(())
-        }
-        Line::SettleAll => {
-            settle_all(world, &[])?;
-            Ok(())
-        }
-        Line::Show => {
-            show(world)?;
-            Ok(())
-        }
-        Line::Faulty { member } => {
-            declare_faulty(world, *member)?;
-            Ok(())
-        }
-        Line::Rogue { client } => {
-            declare_rogue(world, *client)?;
-            Ok(())
-        }
-        Line::Inject(form) => {
-            inject(world, form)?;
-            Ok(())
-        }
+        } => crash_member(world, *member, *image, patches.as_slice()),
+        Line::CrashAll { image } => crash_all(world, *image),
+        Line::Restart { member } => restart_member(world, *member),
+        Line::RestartAll => restart_all(world),
+        Line::Settle { member } => settle_member(world, *member),
+        Line::SettleAll => settle_all(world, &[]),
+        Line::Show => show(world),
+        Line::Faulty { member } => declare_faulty(world, *member),
+        Line::Rogue { client } => declare_rogue(world, *client),
+        Line::Inject(form) => inject(world, form),
     }
 }

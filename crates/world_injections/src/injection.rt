@@ -545,28 +545,28 @@ fn injected_bytes(
             seq,
             after,
             op,
-        } => Ok(ask_bytes(alloc, ring, *client, *seq, *after, op)?),
+        } => ask_bytes(alloc, ring, *client, *seq, *after, op),
         Injection::Propose { signer, slot, asks } => {
-            Ok(proposal_bytes(alloc, ring, sent, *signer, *slot, asks.as_slice())?)
+            proposal_bytes(alloc, ring, sent, *signer, *slot, asks.as_slice())
         }
         Injection::Vote {
             kind,
             signer,
             slot,
             proposal,
-        } => Ok(vote_bytes(alloc, ring, sent, *kind, *signer, *slot, *proposal)?),
+        } => vote_bytes(alloc, ring, sent, *kind, *signer, *slot, *proposal),
         Injection::Stop {
             signer,
             view,
             regency,
-        } => Ok(stop_bytes(alloc, ring, *signer, *view, *regency)?),
+        } => stop_bytes(alloc, ring, *signer, *view, *regency),
         Injection::StopData {
             signer,
             view,
             regency,
             evidence: None,
             lock,
-        } => Ok(report_bytes(alloc, ring, sent, *signer, *view, *regency, *lock)?),
+        } => report_bytes(alloc, ring, sent, *signer, *view, *regency, *lock),
         // So far no message is a decision.
         Injection::StopData {
             evidence: Some(_),
@@ -579,7 +579,7 @@ fn injected_bytes(
             reports,
         } => {
             let numbers = reports.as_slice();
-            Ok(sync_bytes(alloc, ring, sent, *signer, *view, *regency, numbers)?)
+            sync_bytes(alloc, ring, sent, *signer, *view, *regency, numbers)
         }
         Injection::Reply { signer, answer } => {
             let signed = sealed(alloc, ring, signer.get(), answer.duplicate(alloc)?)?;
