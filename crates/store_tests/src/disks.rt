@@ -1,6 +1,6 @@
 //! Disks in memory and over a file, and the room that they stand in.
 use disk_files::file::FileDisk;
-use disk_model::disk::{Disk, read_all};
+use disk_model::disk::Disk;
 use disk_model::image::{ImageFault, NotAnImage};
 use disk_model::memory::MemDisk;
 use disk_model::plain::PlainDisk;
@@ -31,49 +31,62 @@ fn letters(alloc: Global) -> Result<Bytes, AllocError> {
     Bytes::from_slice(alloc, b"abcdef")
 }
 
-#[test]
-fn a_disk_fails_where_it_is_told_to(rt: HostRuntime) -> Result<(), Fail> {
-    let alloc = rt.alloc();
+/// Which of five calls go well of a disk whose calls 2, 3 and 5 fail, how often it has failed, and how
+/// many bytes are sure then.
+fn told_to_fail(alloc: Global) -> Result<([bool; 5], u64, usize), AllocError> {
     let mut disk = MemDisk::new(alloc, letters(alloc)?, [2, 3, 5].to_vec(alloc)?)?;
-    assert_eq!(rt; put(&mut disk, 6, b"g"), Ok(()));
-    assert_eq!(rt; put(&mut disk, 7, b"h"), Err(Fault::Failed));
-    assert_eq!(rt; disk.cut(1), Err(Fault::Failed));
-    assert_eq!(rt; disk.sync(), Ok(()));
-    assert_eq!(rt; disk.sync(), Err(Fault::Failed));
-    assert_eq!(rt; disk.faults(), 3);
-    let read = read_all(alloc, &mut disk).ok().ok_or("no bytes")?;
-    assert_eq!(rt; read.as_slice(), b"abcdefg".as_slice());
-    Ok(())
+    let go_well = [
+        put(&mut disk, 6, b"g").is_ok(),
+        put(&mut disk, 7, b"h").is_ok(),
+        disk.cut(1).is_ok(),
+        disk.sync().is_ok(),
+        disk.sync().is_ok(),
+    ];
+    let sure = disk.as_synced(alloc)?.len();
+    Ok((go_well, disk.faults(), sure))
 }
 
 #[test]
-fn an_image_of_a_disk_that_remembers_keeps_what_is_sure(rt: HostRuntime) -> Result<(), Fail> {
-    let alloc = rt.alloc();
+fn a_disk_fails_where_it_is_told_to(rt: HostRuntime) -> Result<(), AllocError> {
+    let told = told_to_fail(rt.alloc())?;
+    assert_eq!(rt; told, ([true, false, false, true, false], 3, 7));
+    Ok(())
+}
+
+/// Where a text is no image of a changed disk that remembers.
+fn wrong_in_memory(alloc: Global, text: &[u8]) -> Result<Option<u64>, ImageFault> {
     let mut disk = MemDisk::new(alloc, letters(alloc)?, Vec::new(alloc))?;
-    assert_eq!(rt; change(&mut disk), Ok(()));
-    assert_eq!(rt; disk.as_synced(alloc)?.as_slice(), b"abcdef".as_slice());
-    let torn = disk.image(alloc, Bytes::from_slice(alloc, b"ab?")?).ok();
-    assert_eq!(rt; torn.ok_or("no image")?.as_read(), b"ab?".as_slice());
-    let wrong = disk.image(alloc, Bytes::from_slice(alloc, b"a?C")?).err();
-    assert_eq!(rt; wrong, Some(ImageFault::NotAnImage { at: 1 }));
-    Ok(())
+    let _answer = change(&mut disk);
+    match disk.image(alloc, Bytes::from_slice(alloc, text)?) {
+        Ok(_) => Ok(None),
+        Err(ImageFault::NotAnImage { at }) => Ok(Some(at)),
+        Err(ImageFault::NoMemory) => Err(ImageFault::NoMemory),
+    }
+}
+
+/// Where a text is no image of a changed disk that writes in place.
+fn wrong_in_place(alloc: Global, text: &[u8]) -> Result<Option<u64>, ImageFault> {
+    let mut disk = PlainDisk::new(alloc, letters(alloc)?);
+    let _answer = change(&mut disk);
+    match disk.image(alloc, Bytes::from_slice(alloc, text)?) {
+        Ok(_) => Ok(None),
+        Err(NotAnImage { at }) => Ok(Some(at)),
+    }
 }
 
 #[test]
-fn an_image_of_a_plain_disk_keeps_what_is_sure(rt: HostRuntime) -> Result<(), Fail> {
-    let alloc = rt.alloc();
-    let mut disk = PlainDisk::new(alloc, letters(alloc)?);
-    assert_eq!(rt; change(&mut disk), Ok(()));
-    assert_eq!(rt; disk.as_synced(alloc)?.as_slice(), b"abcdef".as_slice());
-    let torn = disk.image(alloc, Bytes::from_slice(alloc, b"ab?")?).ok();
-    assert_eq!(rt; torn.ok_or("no image")?.as_read(), b"ab?".as_slice());
-    let wrong = disk
-        .image(alloc, Bytes::from_slice(alloc, b"abCDefg")?)
-        .err();
-    assert_eq!(rt; wrong, Some(NotAnImage { at: 7 }));
-    assert_eq!(rt; disk.sync(), Ok(()));
-    assert_eq!(rt; disk.as_synced(alloc)?.as_slice(), b"abCD".as_slice());
-    Ok(())
+fn an_image_keeps_what_is_sure(rt: HostRuntime) {
+    let rows = [
+        ("abcdef", None),
+        ("ab?", None),
+        ("a?C", Some(1)),
+        ("abCDefg", Some(7)),
+    ];
+    for (text, wrong) in rows {
+        let bytes = text.as_bytes();
+        assert_eq!(rt; wrong_in_memory(rt.alloc(), bytes), Ok(wrong), "{text}");
+        assert_eq!(rt; wrong_in_place(rt.alloc(), bytes), Ok(wrong), "{text}");
+    }
 }
 
 /// The disk of this name, where the room gives it.
@@ -81,30 +94,23 @@ fn taken(alloc: Global, room: &mut MemRoom, device: u8) -> Result<MemDisk, Fault
     room.get(alloc, b"d", MemberId::new(2), device)
 }
 
-#[test]
-fn a_room_gives_a_disk_once(rt: HostRuntime) -> Result<(), Fail> {
-    let alloc = rt.alloc();
-    let mut room = MemRoom::new(alloc);
-    let disk = taken(alloc, &mut room, 1).ok().ok_or("no disk")?;
-    assert_eq!(rt; disk.as_read(), b"".as_slice());
-    assert_eq!(rt; taken(alloc, &mut room, 1).err(), Some(Fault::Failed));
-    assert_eq!(rt; room.faults(), 1);
-    assert!(rt; taken(alloc, &mut room, 2).is_ok());
-    Ok(())
+/// What a room answers that is asked for a disk a second time, and for another, how many bytes the
+/// disk has once it was written to, kept and taken again, and how often the room has failed.
+fn kept(alloc: Global, room: &mut MemRoom) -> Result<(bool, bool, u64, u64), Fault> {
+    let mut disk = room.get(alloc, b"d", MemberId::new(2), 1)?;
+    let is_written = put(&mut disk, 0, b"abc").is_ok();
+    room.keep(b"d", MemberId::new(2), 1, disk);
+    let mut back = taken(alloc, room, 1)?;
+    let is_given_twice = taken(alloc, room, 1).is_ok();
+    let is_other_given = is_written && taken(alloc, room, 2).is_ok();
+    let length = back.len()?;
+    Ok((is_given_twice, is_other_given, length, room.faults()))
 }
 
 #[test]
-fn a_room_gives_back_what_it_keeps(rt: HostRuntime) -> Result<(), Fail> {
-    let alloc = rt.alloc();
-    let mut room = MemRoom::new(alloc);
-    let Ok(mut disk) = room.get(alloc, b"d", MemberId::new(2), 1) else {
-        return Err("no disk".into());
-    };
-    assert_eq!(rt; put(&mut disk, 0, b"abc"), Ok(()));
-    room.keep(b"d", MemberId::new(2), 1, disk);
-    let back = taken(alloc, &mut room, 1).ok().ok_or("no disk")?;
-    assert_eq!(rt; back.as_read(), b"abc".as_slice());
-    Ok(())
+fn a_room_gives_a_disk_once_and_gives_back_what_it_keeps(rt: HostRuntime) {
+    let mut room = MemRoom::new(rt.alloc());
+    assert_eq!(rt; kept(rt.alloc(), &mut room), Ok((false, true, 3, 1)));
 }
 
 #[test]

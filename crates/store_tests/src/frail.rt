@@ -64,6 +64,7 @@ impl FrailDisk {
     /// Counts a fault.
     fn fault(&mut self) -> Fault
         ensures rose { Rose self.old.faults self.new.faults }
+        ensures later { self.old.faults ≤ self.new.faults }
         ensures failed { result ≡ Fault.Failed }
     {
         self.faults = self.faults.saturating_add(1);
@@ -97,10 +98,11 @@ impl Disk for FrailDisk {
 
     /// A write that begins past the end fails.
     fn write_at(&mut self, at: u64, bytes: &[u8]) -> Result<(), Fault> {
+        let is_to_fail = self.is_to_fail();
         if (self.inner.as_read().len() as u64) < at {
             return Err(self.fault());
         }
-        if self.is_to_fail() {
+        if is_to_fail {
             let (half, _) = bytes.split_at(bytes.len() / 2);
             let _torn = self.inner.write_at(at, half);
             return Err(self.fault());

@@ -8,7 +8,6 @@ use batch_log::reading::Groups;
 use batch_log::reopening::reopen;
 use smart_base::sequence::Bytes;
 use std::alloc::{AllocError, Global};
-use std::test::Fail;
 use store_form::ends::LogFault;
 
 /// Groups of one entry each, of byte 1 and of byte 2, and the closed gate behind them.
@@ -17,6 +16,14 @@ const TWO_GROUPS: [u8; 45] =
 
 /// A group of an entry of byte 5 behind a gate that a crash has torn.
 const TORN_GROUP: [u8; 23] = *b"\x07\0\0\0\0\0\0\0\x0d\0\0\0\0\0\0\0\x01\0\0\0\x01\x05\0";
+
+/// What a call answers.
+type Answer = Result<(), LogFault>;
+
+/// What the first call answers that fails, and each behind it.
+const FAILED: Answer = Err(LogFault::Disk { closed: false });
+
+const CLOSED: Answer = Err(LogFault::Disk { closed: true });
 
 /// A group of one entry of one byte.
 fn group(alloc: Global, byte: u8) -> Result<Vec<Bytes>, AllocError>
@@ -27,30 +34,28 @@ fn group(alloc: Global, byte: u8) -> Result<Vec<Bytes>, AllocError>
     Ok(group)
 }
 
-/// The first byte of the first entry of each group.
-fn shown(alloc: Global, groups: &Groups) -> Result<Vec<u8>, AllocError> {
-    let mut bytes = Vec::new(alloc);
+/// The first byte of the first entry of each group, as the digits of a number.
+fn shown(groups: &Groups) -> u64 {
+    let mut digits: u64 = 0;
     for group in groups.as_slice() {
         if let Some(entry) = group.as_slice().first() {
-            bytes.push(entry.as_slice().first().copied().unwrap_or(0))?;
+            let byte = entry.as_slice().first().copied().unwrap_or(0);
+            digits = digits.wrapping_mul(10).wrapping_add(u64::from(byte));
         }
     }
-    Ok(bytes)
+    digits
 }
 
-/// What a log restores.
-fn restored(alloc: Global, disk: FrailDisk) -> Result<Vec<u8>, AllocError> {
-    match reopen(alloc, disk) {
-        Ok((_, groups)) => shown(alloc, &groups),
+/// What a log restores after a crash that leaves the disk as it reads, or as at its last sync.
+fn restored(alloc: Global, left: &FrailDisk, as_read: bool) -> Result<u64, AllocError> {
+    match reopen(alloc, left.crashed(alloc, as_read)?) {
+        Ok((_, groups)) => Ok(shown(&groups)),
         Err(_) => Err(AllocError),
     }
 }
 
-/// What a call answers.
-type Answer = Result<(), LogFault>;
-
 /// What a log answers that is given the groups of byte 1 and of byte 2, and the disk that it leaves.
-fn given_two(alloc: Global, disk: FrailDisk) -> Result<(Answer, Answer, FrailDisk), AllocError> {
+fn left_by_two(alloc: Global, disk: FrailDisk) -> Result<(Answer, Answer, FrailDisk), AllocError> {
     let one = group(alloc, 1)?;
     let other = group(alloc, 2)?;
     match reopen(alloc, disk) {
@@ -63,49 +68,52 @@ fn given_two(alloc: Global, disk: FrailDisk) -> Result<(Answer, Answer, FrailDis
     }
 }
 
+/// What a log over these bytes answers to two groups where a call fails, and what it restores after a
+/// crash that leaves the disk as at its last sync, and as it reads.
+fn two_added(
+    alloc: Global,
+    bytes: &[u8],
+    failing: u64,
+) -> Result<(Answer, Answer, u64, u64), AllocError> {
+    let disk = FrailDisk::new(alloc, bytes, failing)?;
+    let (first, second, left) = left_by_two(alloc, disk)?;
+    let synced = restored(alloc, &left, false)?;
+    let read = restored(alloc, &left, true)?;
+    Ok((first, second, synced, read))
+}
+
+/// Whether what a log of two groups writes over nothing are these bytes.
+fn writes(alloc: Global, bytes: &[u8]) -> Result<bool, AllocError> {
+    let disk = FrailDisk::new(alloc, b"", 0)?;
+    let (_, _, left) = left_by_two(alloc, disk)?;
+    Ok(left.as_read() == bytes)
+}
+
 #[test]
-fn groups_are_restored_in_their_order(rt: HostRuntime) -> Result<(), Fail> {
-    let alloc = rt.alloc();
-    let empty = FrailDisk::new(alloc, b"", 0)?;
-    let (first, second, left) = given_two(alloc, empty)?;
-    assert_eq!(rt; (first, second), (Ok(()), Ok(())));
-    assert_eq!(rt; left.as_read(), TWO_GROUPS.as_slice());
-    let found = restored(alloc, left.crashed(alloc, false)?)?;
-    assert_eq!(rt; found.as_slice(), [1, 2].as_slice());
+fn groups_are_spelled_and_restored_in_their_order(rt: HostRuntime) -> Result<(), AllocError> {
+    assert!(rt; writes(rt.alloc(), &TWO_GROUPS)?);
+    let told = two_added(rt.alloc(), &TWO_GROUPS, 0)?;
+    assert_eq!(rt; told, (Ok(()), Ok(()), 1212, 1212));
     Ok(())
 }
 
 #[test]
-fn a_torn_gate_is_closed_before_a_group_is_added(rt: HostRuntime) -> Result<(), Fail> {
-    let alloc = rt.alloc();
-    let found = restored(alloc, FrailDisk::new(alloc, &TORN_GROUP, 0)?)?;
-    assert!(rt; found.is_empty());
-    // The third call writes the group; half of it comes over the one that stands there.
-    let torn = FrailDisk::new(alloc, &TORN_GROUP, 3)?;
-    let (first, _, left) = given_two(alloc, torn)?;
-    assert_eq!(rt; first, Err(LogFault::Disk { closed: false }));
-    assert_eq!(rt; left.as_read().first(), Some(&0));
-    assert!(rt; restored(alloc, left.crashed(alloc, true)?)?.is_empty());
+fn what_stands_behind_a_torn_gate_is_never_restored(rt: HostRuntime) -> Result<(), AllocError> {
+    let told = two_added(rt.alloc(), &TORN_GROUP, 0)?;
+    assert_eq!(rt; told, (Ok(()), Ok(()), 12, 12));
+    // The third call writes the first group; half of it comes over the one that stands there.
+    let told = two_added(rt.alloc(), &TORN_GROUP, 3)?;
+    assert_eq!(rt; told, (FAILED, CLOSED, 0, 0));
     Ok(())
 }
 
 #[test]
-fn a_fault_at_each_call_closes_the_log(rt: HostRuntime) -> Result<(), Fail> {
-    let alloc = rt.alloc();
+fn a_fault_at_each_call_closes_the_log(rt: HostRuntime) -> Result<(), AllocError> {
     for call in 1..7 {
-        let disk = FrailDisk::new(alloc, b"", call)?;
-        let (first, second, left) = given_two(alloc, disk)?;
-        assert_eq!(rt; first, Err(LogFault::Disk { closed: false }), "{call}");
-        assert_eq!(rt; second, Err(LogFault::Disk { closed: true }), "{call}");
-        assert_eq!(rt; left.faults(), 1);
+        let told = two_added(rt.alloc(), b"", call)?;
         // Only the last call, the sync of the open gate, leaves a group that may be there.
-        let synced = restored(alloc, left.crashed(alloc, false)?)?;
-        let read = restored(alloc, left.crashed(alloc, true)?)?;
-        assert_eq!(rt;
-            (synced.len(), read.len()),
-            (0, usize::from(call == 6)),
-            "{call}"
-        );
+        let read = u64::from(call == 6);
+        assert_eq!(rt; told, (FAILED, CLOSED, 0, read), "{call}");
     }
     Ok(())
 }

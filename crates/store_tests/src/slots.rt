@@ -6,11 +6,12 @@ use checkpoint_store::reading::slot_of;
 use checkpoint_store::reopening::reopen;
 use checkpoint_store::store::CheckpointStore;
 use std::alloc::{AllocError, Global};
-use std::test::Fail;
 use store_form::checkpoint::Checkpoint;
 use store_form::ends::LogFault;
 
-/// Generation 2 in its slot, with the snapshot `b`.
+/// Generation 1 in its slot, with the snapshot `a`, and generation 2 with the snapshot `b`.
+const FIRST: [u8; 14] = *b"\x01\0\0\0\0\0\0\0\x01\0\0\0\x01a";
+
 const SECOND: [u8; 14] = *b"\x01\0\0\0\0\0\0\0\x02\0\0\0\x01b";
 
 /// The generation of a checkpoint and the first byte of its snapshot.
@@ -42,21 +43,19 @@ fn put(
     store.gate_slot(generation)
 }
 
-/// What a call answers.
-type Answer = Result<(), LogFault>;
-
-/// Puts generation 1, and generation 2 where the even disk fails at this call. It leaves the disks.
-fn put_both(
+/// Puts generation 2 beside generation 1, where the even disk fails at this call, and answers what
+/// comes of it. It leaves the disks.
+fn put_second(
     alloc: Global,
     failing: u64,
-) -> Result<(Answer, Answer, (FrailDisk, FrailDisk)), AllocError> {
+) -> Result<(Result<(), LogFault>, FrailDisk, FrailDisk), AllocError> {
     let even = FrailDisk::new(alloc, b"", failing)?;
-    let odd = FrailDisk::new(alloc, b"", 0)?;
+    let odd = FrailDisk::new(alloc, &FIRST, 0)?;
     match reopen(alloc, even, odd) {
         Ok((mut store, _)) => {
-            let first = put(alloc, &mut store, 1, b"a");
-            let second = put(alloc, &mut store, 2, b"b");
-            Ok((first, second, store.into_disks()))
+            let answer = put(alloc, &mut store, 2, b"b");
+            let (even, odd) = store.into_disks();
+            Ok((answer, even, odd))
         }
         Err(_) => Err(AllocError),
     }
@@ -77,22 +76,53 @@ fn restored(
     }
 }
 
+/// What a checkpoint restores as: its generation, and the first byte of its snapshot.
+type Shown = (u64, u8);
+
+/// What the put of generation 2 answers where a call fails, and what is restored after a crash that
+/// leaves the disks as at their last sync, and as they read.
+fn second_put(
+    alloc: Global,
+    failing: u64,
+) -> Result<(Result<(), LogFault>, Shown, Shown), AllocError> {
+    let (answer, even, odd) = put_second(alloc, failing)?;
+    let synced = restored(alloc, &even, &odd, false)?;
+    let read = restored(alloc, &even, &odd, true)?;
+    Ok((answer, synced, read))
+}
+
+/// Whether what a put of generation 2 writes over nothing are these bytes.
+fn writes(alloc: Global, bytes: &[u8]) -> Result<bool, AllocError> {
+    let (_, even, _) = put_second(alloc, 0)?;
+    Ok(even.as_read() == bytes)
+}
+
 #[test]
-fn the_newest_of_two_generations_is_restored(rt: HostRuntime) -> Result<(), Fail> {
-    let alloc = rt.alloc();
-    let (first, second, (even, odd)) = put_both(alloc, 0)?;
-    assert_eq!(rt; (first, second), (Ok(()), Ok(())));
-    assert_eq!(rt; even.as_read(), SECOND.as_slice());
-    assert_eq!(rt; restored(alloc, &even, &odd, false)?, (2, b'b'));
+fn the_newest_of_two_generations_is_spelled_and_restored(
+    rt: HostRuntime,
+) -> Result<(), AllocError> {
+    assert!(rt; writes(rt.alloc(), &SECOND)?);
+    let told = second_put(rt.alloc(), 0)?;
+    assert_eq!(rt; told, (Ok(()), (2, b'b'), (2, b'b')));
     Ok(())
 }
 
-/// The newest checkpoint before the slot of generation 2 is closed, and after.
-fn newest_twice(
-    alloc: Global,
-    even: FrailDisk,
-    odd: FrailDisk,
-) -> Result<((u64, u8), (u64, u8)), LogFault> {
+#[test]
+fn a_fault_at_each_call_leaves_the_older_generation(rt: HostRuntime) -> Result<(), AllocError> {
+    for call in 1..7 {
+        let told = second_put(rt.alloc(), call)?;
+        let failed = Err(LogFault::Disk { closed: false });
+        // Only the last call, the sync of the open gate, leaves a generation that may be there.
+        let read = if call == 6 { (2, b'b') } else { (1, b'a') };
+        assert_eq!(rt; told, (failed, (1, b'a'), read), "{call}");
+    }
+    Ok(())
+}
+
+/// The newest checkpoint of two generations before the slot of the newer is closed, and after.
+fn newest_twice(alloc: Global) -> Result<(Shown, Shown), LogFault> {
+    let even = FrailDisk::new(alloc, &SECOND, 0)?;
+    let odd = FrailDisk::new(alloc, &FIRST, 0)?;
     match reopen(alloc, even, odd) {
         Ok((mut store, _)) => {
             let before = shown(&store.newest(alloc)?);
@@ -107,33 +137,15 @@ fn newest_twice(
 }
 
 #[test]
-fn the_older_generation_counts_where_the_newer_is_closed(rt: HostRuntime) -> Result<(), Fail> {
-    let alloc = rt.alloc();
-    let (_, _, (even, odd)) = put_both(alloc, 0)?;
-    let newest = newest_twice(alloc, even, odd);
+fn the_older_generation_counts_where_the_newer_is_closed(rt: HostRuntime) {
+    let newest = newest_twice(rt.alloc());
     assert_eq!(rt; newest, Ok(((2, b'b'), (1, b'a'))));
-    Ok(())
 }
 
 #[test]
-fn a_fault_at_each_call_closes_the_slots(rt: HostRuntime) -> Result<(), Fail> {
-    let alloc = rt.alloc();
-    for call in 1..7 {
-        let (first, second, (even, odd)) = put_both(alloc, call)?;
-        assert_eq!(rt; first, Ok(()));
-        assert_eq!(rt; second, Err(LogFault::Disk { closed: false }), "{call}");
-        assert_eq!(rt; restored(alloc, &even, &odd, false)?, (1, b'a'), "{call}");
-        // Only the last call, the sync of the open gate, leaves a generation that may be there.
-        let read = if call == 6 { (2, b'b') } else { (1, b'a') };
-        assert_eq!(rt; restored(alloc, &even, &odd, true)?, read, "{call}");
-    }
-    Ok(())
-}
-
-#[test]
-fn what_counts_in_the_slot_of_the_odd_generations(rt: HostRuntime) -> Result<(), Fail> {
+fn what_counts_in_the_slot_of_the_odd_generations(rt: HostRuntime) -> Result<(), AllocError> {
     // Gate, generation, length and snapshot, and behind it what an earlier one has left.
-    let rows: [(&[u8], (u64, u8)); 5] = [
+    let rows: [(&[u8], Shown); 5] = [
         (b"\x01\0\0\0\0\0\0\0\x05\0\0\0\x01ab", (5, b'a')),
         (b"\x01\0\0\0\0\0\0\0\x06\0\0\0\x01a", (0, 0)),
         (b"\0\0\0\0\0\0\0\0\x05\0\0\0\x01a", (0, 0)),

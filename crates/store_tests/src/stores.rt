@@ -9,7 +9,6 @@ use durable_store::reopening::reopen;
 use durable_store::store::{Job, Store, StoreFault, Tail};
 use smart_base::sequence::{Bytes, Sequence};
 use std::alloc::{AllocError, Global};
-use std::test::Fail;
 use store_form::ends::LogFault;
 
 /// A log of one entry, of byte 5, and one of byte 6.
@@ -22,13 +21,22 @@ const THIRD: [u8; 13] = *b"\x01\0\0\0\0\0\0\0\x03\0\0\0\0";
 
 const TORN: [u8; 13] = *b"\x07\0\0\0\0\0\0\0\x02\0\0\0\0";
 
-/// The first byte of each entry.
-fn shown(alloc: Global, kept: &Kept) -> Result<Vec<u8>, AllocError> {
-    let mut bytes = Vec::new(alloc);
+/// What a call answers.
+type Answer = Result<(), StoreFault>;
+
+/// What the first call answers that fails, and each behind it.
+const FAILED: Answer = Err(LogFault::Disk { closed: false });
+
+const CLOSED: Answer = Err(LogFault::Disk { closed: true });
+
+/// The first byte of each entry, as the digits of a number.
+fn shown(kept: &Kept) -> u64 {
+    let mut digits: u64 = 0;
     for entry in kept.entries.as_slice() {
-        bytes.push(entry.as_slice().first().copied().unwrap_or(0))?;
+        let byte = entry.as_slice().first().copied().unwrap_or(0);
+        digits = digits.wrapping_mul(10).wrapping_add(u64::from(byte));
     }
-    Ok(bytes)
+    digits
 }
 
 /// One entry of one byte.
@@ -61,7 +69,7 @@ fn torn_disks(alloc: Global, log: u64, slot: u64) -> Result<Disks<FrailDisk>, Al
     })
 }
 
-/// What a crash leaves of the disks.
+/// What a crash leaves of the disks: as they read, or as at their last sync.
 fn crashed(
     alloc: Global,
     disks: &Disks<FrailDisk>,
@@ -75,28 +83,24 @@ fn crashed(
     })
 }
 
-/// Opens a store. No fault is expected.
-fn opened(alloc: Global, disks: Disks<FrailDisk>) -> Result<(Store<FrailDisk>, Kept), AllocError> {
-    match reopen(alloc, disks) {
-        Ok(opened) => Ok(opened),
+/// What a store restores after such a crash.
+fn restored(alloc: Global, disks: &Disks<FrailDisk>, as_read: bool) -> Result<u64, AllocError> {
+    match reopen(alloc, crashed(alloc, disks, as_read)?) {
+        Ok((_, kept)) => Ok(shown(&kept)),
         Err(_) => Err(AllocError),
     }
-}
-
-/// The first byte of each entry that a store restores after a crash.
-fn restored(alloc: Global, disks: &Disks<FrailDisk>, as_read: bool) -> Result<Vec<u8>, AllocError> {
-    let (_, kept) = opened(alloc, crashed(alloc, disks, as_read)?)?;
-    shown(alloc, &kept)
 }
 
 /// Gives an entry, and makes so many calls.
 fn run(
     alloc: Global,
     store: &mut Store<FrailDisk>,
-    byte: u8,
+    entry: Sequence<Bytes>,
     calls: u64,
-) -> Result<(), StoreFault> {
-    store.start(alloc, Job::Append(entry(alloc, byte)?))?;
+) -> Result<(), StoreFault>
+    requires { AreEntries entry }
+{
+    store.start(alloc, Job::Append(entry))?;
     let tail = Tail {
         made: 0,
         entries: Sequence::new(alloc),
@@ -107,77 +111,66 @@ fn run(
     Ok(())
 }
 
-/// The disks after a life of so many calls, over nothing, which is given an entry of byte 1.
-fn left_after(alloc: Global, calls: u64) -> Result<(Disks<FrailDisk>, bool), AllocError> {
-    let (mut store, _) = opened(alloc, empty_disks(alloc)?)?;
-    let is_run = run(alloc, &mut store, 1, calls).is_ok();
-    let is_firm = store.firm() == 1;
-    Ok((store.into_disks(), is_run && is_firm))
+/// How many entries are firm after so many calls of a store over nothing that is given one, and what
+/// is restored after a crash that leaves the disks as at their last sync, and as they read.
+fn life(alloc: Global, calls: u64) -> Result<(u64, u64, u64), AllocError> {
+    let one = entry(alloc, 1)?;
+    match reopen(alloc, empty_disks(alloc)?) {
+        Ok((mut store, _)) => {
+            let _answer = run(alloc, &mut store, one, calls);
+            let firm = store.firm();
+            let left = store.into_disks();
+            let synced = restored(alloc, &left, false)?;
+            let read = restored(alloc, &left, true)?;
+            Ok((firm, synced, read))
+        }
+        Err(_) => Err(AllocError),
+    }
 }
 
 #[test]
-fn an_entry_is_restored_once_its_gate_is_open(rt: HostRuntime) -> Result<(), Fail> {
-    let alloc = rt.alloc();
+fn an_entry_is_restored_once_its_gate_is_open(rt: HostRuntime) -> Result<(), AllocError> {
     for calls in 0..8 {
-        let (left, is_firm) = left_after(alloc, calls)?;
-        assert_eq!(rt; is_firm, calls >= 6, "{calls}");
-        let synced = restored(alloc, &left, false)?.len();
-        let read = restored(alloc, &left, true)?.len();
-        assert_eq!(rt; synced, usize::from(calls >= 6), "{calls}");
-        assert_eq!(rt; read, usize::from(calls >= 5), "{calls}");
+        let told = life(rt.alloc(), calls)?;
+        let firm = u64::from(calls >= 6);
+        assert_eq!(rt; told, (firm, firm, u64::from(calls >= 5)), "{calls}");
     }
     Ok(())
 }
 
-/// What a call answers.
-type Answer = Result<(), StoreFault>;
-
-/// What a store answers that adds entries of byte 1 and of byte 2, how many are firm then, and the
-/// disks that it leaves.
-fn adds_two(
+/// What a store over torn disks answers that adds entries of byte 1 and of byte 2, how many are firm
+/// then, and what is restored after a crash that leaves the disks as at their last sync.
+fn two_added(
     alloc: Global,
     disks: Disks<FrailDisk>,
-) -> Result<(Answer, Answer, u64, Disks<FrailDisk>), AllocError> {
+) -> Result<(Answer, Answer, u64, u64), AllocError> {
     let one = entry(alloc, 1)?;
     let other = entry(alloc, 2)?;
-    let (mut store, _) = opened(alloc, disks)?;
-    let first = store.append(alloc, one);
-    let second = store.append(alloc, other);
-    let firm = store.firm();
-    Ok((first, second, firm, store.into_disks()))
+    match reopen(alloc, disks) {
+        Ok((mut store, _)) => {
+            let first = store.append(alloc, one);
+            let second = store.append(alloc, other);
+            let firm = store.firm();
+            let left = store.into_disks();
+            let synced = restored(alloc, &left, false)?;
+            Ok((first, second, firm, synced))
+        }
+        Err(_) => Err(AllocError),
+    }
 }
 
 #[test]
-fn entries_stand_behind_those_of_the_newest_checkpoint(rt: HostRuntime) -> Result<(), Fail> {
-    let alloc = rt.alloc();
-    let (first, second, firm, left) = adds_two(alloc, torn_disks(alloc, 0, 0)?)?;
-    assert_eq!(rt; (first, second, firm), (Ok(()), Ok(()), 3));
-    let found = restored(alloc, &left, false)?;
-    assert_eq!(rt; found.as_slice(), [6, 1, 2].as_slice());
-    // The torn gate was closed before.
-    assert_eq!(rt; left.even_slot.as_read().first(), Some(&0));
+fn entries_stand_behind_those_of_the_newest_checkpoint(rt: HostRuntime) -> Result<(), AllocError> {
+    let told = two_added(rt.alloc(), torn_disks(rt.alloc(), 0, 0)?)?;
+    assert_eq!(rt; told, (Ok(()), Ok(()), 3, 612));
     Ok(())
 }
 
 #[test]
-fn a_fault_of_a_log_or_of_a_slot_closes_the_store(rt: HostRuntime) -> Result<(), Fail> {
-    let alloc = rt.alloc();
+fn a_fault_of_a_log_or_of_a_slot_closes_the_store(rt: HostRuntime) -> Result<(), AllocError> {
     for (log, slot) in [(1, 0), (2, 0), (3, 0), (4, 0), (0, 1), (0, 2)] {
-        let (first, second, firm, left) = adds_two(alloc, torn_disks(alloc, log, slot)?)?;
-        assert_eq!(rt;
-            first,
-            Err(LogFault::Disk { closed: false }),
-            "{log} {slot}"
-        );
-        assert_eq!(rt;
-            second,
-            Err(LogFault::Disk { closed: true }),
-            "{log} {slot}"
-        );
-        assert_eq!(rt; firm, 1);
-        assert_eq!(rt; left.odd_log.faults() + left.even_slot.faults(), 1);
-        let found = restored(alloc, &left, false)?;
-        assert_eq!(rt; found.as_slice(), [6].as_slice(), "{log} {slot}");
+        let told = two_added(rt.alloc(), torn_disks(rt.alloc(), log, slot)?)?;
+        assert_eq!(rt; told, (FAILED, CLOSED, 1, 6), "{log} {slot}");
     }
     Ok(())
 }
