@@ -39,40 +39,48 @@ fn is_refused<S: Service>(alloc: Global, bytes: &[u8]) -> bool {
     matches!(S::restore(alloc, bytes), Err(RestoreError::BadSnapshot))
 }
 
+/// Operations on a count and its replies, and the snapshot behind them.
+const SUMS: [(&str, &str); 4] = [("5", "5"), ("253", "258"), ("07", "?"), ("0", "258")];
+
+const SUM: [u8; 8] = *b"\0\0\0\0\0\0\x01\x02";
+
+/// The greatest sum stays.
+const MOST: [(&str, &str); 1] = [("18446744073709551615", "18446744073709551615")];
+
 #[test]
 fn a_count_replies_its_sum_and_comes_back(rt: HostRuntime) -> Result<(), Fail> {
     let alloc = rt.alloc();
     let mut count = Count::first(alloc)?;
-    let turns = [("5", "5"), ("253", "258"), ("07", "?"), ("0", "258")];
-    replies(&rt, alloc, &mut count, turns.as_slice())?;
-    comes_back(&rt, alloc, &count, b"\0\0\0\0\0\0\x01\x02")?;
-    let turns = [("18446744073709551615", "18446744073709551615")];
-    replies(&rt, alloc, &mut count, turns.as_slice())?;
+    replies(&rt, alloc, &mut count, &SUMS)?;
+    comes_back(&rt, alloc, &count, &SUM)?;
+    replies(&rt, alloc, &mut count, &MOST)?;
     assert!(rt; is_refused::<Count>(alloc, b"0000007"));
     Ok(())
 }
 
+/// Operations on a key-value store and its replies, and the snapshot behind them.
+const TURNS: [(&str, &str); 12] = [
+    ("get b", "none"),
+    ("put b 2", "new"),
+    ("put c 3 and 4", "new"),
+    ("put a  1", "new"),
+    ("get a", "= 1"),
+    ("get c", "=3 and 4"),
+    ("put b 5", "old"),
+    ("del c", "gone"),
+    ("del c", "none"),
+    ("get b", "=5"),
+    ("Put a 2", "?"),
+    ("get a ", "?"),
+];
+
+const PAIRS: [u8; 23] = *b"\0\x02\0\0\0\x01a\0\0\0\x02 1\0\0\0\x01b\0\0\0\x015";
+
 #[test]
 fn keys_are_put_told_and_taken_out(rt: HostRuntime) -> Result<(), Fail> {
-    let alloc = rt.alloc();
-    let mut store = KeyValueStore::first(alloc)?;
-    let turns = [
-        ("get b", "none"),
-        ("put b 2", "new"),
-        ("put c 3 and 4", "new"),
-        ("put a  1", "new"),
-        ("get a", "= 1"),
-        ("get c", "=3 and 4"),
-        ("put b 5", "old"),
-        ("del c", "gone"),
-        ("del c", "none"),
-        ("get b", "=5"),
-        ("Put a 2", "?"),
-        ("get a ", "?"),
-    ];
-    replies(&rt, alloc, &mut store, turns.as_slice())?;
-    let want = b"\0\x02\0\0\0\x01a\0\0\0\x02 1\0\0\0\x01b\0\0\0\x015";
-    comes_back(&rt, alloc, &store, want.as_slice())
+    let mut store = KeyValueStore::first(rt.alloc())?;
+    replies(&rt, rt.alloc(), &mut store, &TURNS)?;
+    comes_back(&rt, rt.alloc(), &store, &PAIRS)
 }
 
 #[test]

@@ -10,8 +10,9 @@ use smart_base::name::MemberId;
 use smart_base::sequence::Bytes;
 use std::alloc::{AllocError, Global};
 use std::fs::OpenOptions;
+use std::path::PathBuf;
 use std::test::Fail;
-use std::{env, fs, process};
+use std::{env, fs, io, process};
 
 /// Writes where there is something, or at the end.
 fn put<D: Disk>(disk: &mut D, at: u64, bytes: &[u8]) -> Result<(), Fault> {
@@ -113,34 +114,56 @@ fn a_room_gives_a_disk_once_and_gives_back_what_it_keeps(rt: HostRuntime) {
     assert_eq!(rt; kept(rt.alloc(), &mut room), Ok((false, true, 3, 1)));
 }
 
-#[test]
-fn a_file_is_read_written_and_cut_in_place(rt: HostRuntime) -> Result<(), Fail> {
-    let alloc = rt.alloc();
-    // A folder of this test's own.
+/// The path of a file of this test's own.
+fn own_path(rt: &HostRuntime) -> Result<PathBuf, Fail> {
     let id = process::id(rt.process());
-    let name = format!(in alloc; "smart-file-disk-{id}")?;
-    let folder = env::temp_dir(&rt)?.join(alloc, name.as_str())?;
-    fs::create_dir_all(&rt, &folder)?;
-    let path = folder.join(alloc, "disk")?;
+    let name = format!(in rt.alloc(); "smart-file-disk-{id}")?;
+    let path = env::temp_dir(rt)?.join(rt.alloc(), name.as_str())?;
+    Ok(path)
+}
+
+/// A disk over a file that is made anew.
+fn over_file(rt: &HostRuntime, path: &PathBuf) -> io::Result<FileDisk> {
     let file = OpenOptions::new()
         .read(true)
         .write(true)
         .create(true)
         .truncate(true)
-        .open(&rt, &path)?;
-    let mut disk = FileDisk::new(file);
-    assert_eq!(rt; disk.write_at(0, b"abcdef"), Ok(()));
-    assert_eq!(rt; disk.write_at(4, b"EFGH"), Ok(()));
-    // A cut past the end changes nothing, and no file has bytes past 2^63.
-    assert_eq!(rt; disk.cut(7), Ok(()));
-    assert_eq!(rt; disk.cut(9), Ok(()));
-    assert_eq!(rt; disk.sync(), Ok(()));
-    assert_eq!(rt; disk.len(), Ok(7));
-    assert_eq!(rt; disk.write_at(1 << 63, b"a"), Err(Fault::Failed));
-    for (at, count, want) in [(0, 3, "abc"), (3, 100, "dEFG"), (9, 1, "")] {
-        let read = disk.read(alloc, at, count).ok().ok_or("no bytes")?;
-        assert_eq!(rt; read.as_slice(), want.as_bytes());
+        .open(rt, path)?;
+    Ok(FileDisk::new(file))
+}
+
+/// Which calls go well of a disk over an empty file, and how many bytes it has then.
+fn written_and_cut(disk: &mut FileDisk) -> ([bool; 6], Result<u64, Fault>) {
+    let go_well = [
+        disk.write_at(0, b"abcdef").is_ok(),
+        disk.write_at(4, b"EFGH").is_ok(),
+        // A cut past the end changes nothing, and no file has bytes past 2^63.
+        disk.cut(7).is_ok(),
+        disk.cut(9).is_ok(),
+        disk.write_at(1 << 63, b"a").is_ok(),
+        disk.sync().is_ok(),
+    ];
+    (go_well, disk.len())
+}
+
+/// Whether the disk reads so.
+fn reads(alloc: Global, disk: &mut FileDisk, at: u64, count: u64, want: &[u8]) -> bool {
+    match disk.read(alloc, at, count) {
+        Ok(bytes) => bytes.as_slice() == want,
+        Err(_) => false,
     }
-    fs::remove_dir_all(&rt, &folder)?;
+}
+
+#[test]
+fn a_file_is_read_written_and_cut_in_place(rt: HostRuntime) -> Result<(), Fail> {
+    let path = own_path(&rt)?;
+    let mut disk = over_file(&rt, &path)?;
+    let told = written_and_cut(&mut disk);
+    assert_eq!(rt; told, ([true, true, true, true, false, true], Ok(7)));
+    assert!(rt; reads(rt.alloc(), &mut disk, 0, 3, b"abc"));
+    assert!(rt; reads(rt.alloc(), &mut disk, 3, 100, b"dEFG"));
+    assert!(rt; reads(rt.alloc(), &mut disk, 9, 1, b""));
+    fs::remove_file(&rt, &path)?;
     Ok(())
 }

@@ -119,26 +119,32 @@ fn a_fault_at_each_call_leaves_the_older_generation(rt: HostRuntime) -> Result<(
     Ok(())
 }
 
-/// The newest checkpoint of two generations before the slot of the newer is closed, and after.
-fn newest_twice(alloc: Global) -> Result<(Shown, Shown), LogFault> {
+/// The newest checkpoint before the slot of generation 2 is closed, and after.
+fn newest_twice(
+    alloc: Global,
+    store: &mut CheckpointStore<FrailDisk>,
+) -> Result<(Shown, Shown), LogFault> {
+    let before = shown(&store.newest(alloc)?);
+    if store.is_idle(2) {
+        store.close_slot(2)?;
+    }
+    let after = shown(&store.newest(alloc)?);
+    Ok((before, after))
+}
+
+/// That of two generations.
+fn newest_of_both(alloc: Global) -> Result<(Shown, Shown), LogFault> {
     let even = FrailDisk::new(alloc, &SECOND, 0)?;
     let odd = FrailDisk::new(alloc, &FIRST, 0)?;
     match reopen(alloc, even, odd) {
-        Ok((mut store, _)) => {
-            let before = shown(&store.newest(alloc)?);
-            if store.is_idle(2) {
-                store.close_slot(2)?;
-            }
-            let after = shown(&store.newest(alloc)?);
-            Ok((before, after))
-        }
+        Ok((mut store, _)) => newest_twice(alloc, &mut store),
         Err((fault, _)) => Err(fault),
     }
 }
 
 #[test]
 fn the_older_generation_counts_where_the_newer_is_closed(rt: HostRuntime) {
-    let newest = newest_twice(rt.alloc());
+    let newest = newest_of_both(rt.alloc());
     assert_eq!(rt; newest, Ok(((2, b'b'), (1, b'a'))));
 }
 
