@@ -5,8 +5,6 @@ pub mod laws;
 pub mod operation;
 pub mod snapshot;
 pub mod store;
-#[cfg(test)]
-mod tests;
 
 use crate::operation::{Operation, operation_of};
 use crate::snapshot::{put_store, read_store};

@@ -7,5 +7,3 @@ pub mod laws;
 pub mod log;
 pub mod reading;
 pub mod reopening;
-#[cfg(test)]
-mod tests;

@@ -7,5 +7,3 @@ pub mod laws;
 pub mod reading;
 pub mod reopening;
 pub mod store;
-#[cfg(test)]
-mod tests;

@@ -2,5 +2,3 @@
 #![tactic(auto)]
 
 pub mod file;
-#[cfg(test)]
-mod tests;

@@ -7,5 +7,3 @@ pub mod memory;
 pub mod plain;
 pub mod platter;
 pub mod room;
-#[cfg(test)]
-mod tests;

@@ -8,5 +8,3 @@ pub mod kept;
 pub mod laws;
 pub mod reopening;
 pub mod store;
-#[cfg(test)]
-mod tests;

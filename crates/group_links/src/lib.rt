@@ -4,5 +4,3 @@
 pub mod ends;
 pub mod inward;
 pub mod outward;
-#[cfg(test)]
-mod tests;

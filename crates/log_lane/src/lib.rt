@@ -6,6 +6,4 @@ pub mod ends;
 pub mod inward;
 pub mod outward;
 pub mod stored;
-#[cfg(test)]
-mod tests;
 pub mod word;

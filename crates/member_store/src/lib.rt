@@ -6,5 +6,3 @@ pub mod crash;
 pub mod laws;
 mod left;
 pub mod store;
-#[cfg(test)]
-mod tests;

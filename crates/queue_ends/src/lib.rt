@@ -5,6 +5,4 @@ pub mod ends;
 pub mod put_end;
 pub mod rule;
 pub mod take_end;
-#[cfg(test)]
-mod tests;
 pub mod told;

@@ -13,7 +13,5 @@ pub mod name;
 pub mod number;
 pub mod party;
 pub mod sequence;
-#[cfg(test)]
-mod tests;
 pub mod view;
 pub mod view_bytes;

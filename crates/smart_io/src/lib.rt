@@ -4,5 +4,3 @@
 pub mod memory;
 pub mod standard;
 pub mod stream;
-#[cfg(test)]
-mod tests;

@@ -4,5 +4,3 @@
 pub mod hash;
 pub mod laws;
 pub mod ring;
-#[cfg(test)]
-mod tests;

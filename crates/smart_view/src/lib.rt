@@ -6,5 +6,3 @@ pub mod fault;
 pub mod laws;
 pub mod making;
 pub mod size;
-#[cfg(test)]
-mod tests;

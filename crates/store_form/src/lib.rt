@@ -5,5 +5,3 @@
 pub mod checkpoint;
 pub mod ends;
 pub mod group;
-#[cfg(test)]
-mod tests;

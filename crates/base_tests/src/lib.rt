@@ -1,0 +1,12 @@
+//! Tests of what every layer stands on: views and their bytes, digests and tags, sources and sinks,
+//! and services.
+#![tactic(auto)]
+
+#[cfg(test)]
+mod keys;
+#[cfg(test)]
+mod services;
+#[cfg(test)]
+mod streams;
+#[cfg(test)]
+mod views;

@@ -1,6 +1,0 @@
-use Rattle.std.proofs.Common.{◌≡◌}
-use Rattle.group_links.specs.Link.{out_link}
-use Rattle.group_links.proofs.tests.sent_and_got.Given as goal
-
-abbrev pub invariant-loop : goal.invariant-loop
-invariant-loop g l = out_link l.outward ≡ out_link l.initial.outward

@@ -1,0 +1,141 @@
+//! A disk that fails at one of its calls, in the middle of a write.
+ghost use Rattle.std.specs.Prelude.{◌≡◌, ◌≤◌, []};
+ghost use Rattle.disk_model.specs.Cells.{settled};
+
+use disk_model::disk::Disk;
+use disk_model::plain::PlainDisk;
+use faults::Fault;
+use smart_base::sequence::Bytes;
+use std::alloc::{AllocError, Global};
+
+/// A disk in memory that fails at one of its calls `write_at`, `cut` and `sync`: a write has then put
+/// the first half of its bytes, the others have done nothing. No clause tells what it holds, as of a
+/// disk over a file, so what a test sees of it is what it was given.
+#[derive(Drop)]
+pub struct FrailDisk {
+    inner: PlainDisk,
+    /// The number of the call that fails, counted from 1.
+    failing: u64,
+    made: u64,
+    faults: u64,
+}
+
+impl FrailDisk {
+    ghost use Rattle.faults.specs.Counts.{Rose};
+
+    /// A disk with these bytes, all of them sure, that fails at this call.
+    pub fn new(alloc: Global, bytes: &[u8], failing: u64) -> Result<Self, AllocError> {
+        let bytes = Bytes::from_slice(alloc, bytes)?;
+        Ok(FrailDisk {
+            inner: PlainDisk::new(alloc, bytes),
+            failing,
+            made: 0,
+            faults: 0,
+        })
+    }
+
+    /// How often it has failed.
+    pub fn faults(&self) -> u64 {
+        self.faults
+    }
+
+    /// What a read gives.
+    pub fn as_read(&self) -> &[u8] {
+        self.inner.as_read()
+    }
+
+    /// The disk that a crash leaves: as it reads, or as at its last sync. It does not fail.
+    pub fn crashed(&self, alloc: Global, as_read: bool) -> Result<Self, AllocError> {
+        if as_read {
+            return FrailDisk::new(alloc, self.inner.as_read(), 0);
+        }
+        let synced = self.inner.as_synced(alloc)?;
+        FrailDisk::new(alloc, synced.as_slice(), 0)
+    }
+
+    /// Counts a call that changes the disk, and tells whether it is to fail.
+    fn is_to_fail(&mut self) -> bool
+        ensures { self.new.faults ≡ self.old.faults }
+    {
+        self.made = self.made.saturating_add(1);
+        self.made == self.failing
+    }
+
+    /// Counts a fault.
+    fn fault(&mut self) -> Fault
+        ensures rose { Rose self.old.faults self.new.faults }
+        ensures later { self.old.faults ≤ self.new.faults }
+        ensures failed { result ≡ Fault.Failed }
+    {
+        self.faults = self.faults.saturating_add(1);
+        Fault::Failed
+    }
+}
+
+impl Disk for FrailDisk {
+    ghost told = { ⊥ };
+
+    ghost remembers = { ⊥ };
+
+    ghost cells = { λ _. settled [] };
+
+    ghost moment = { λ _. 0 };
+
+    ghost left_since = { λ _ _ _. Unit {0} };
+
+    ghost faults = { λ disk. disk.faults };
+
+    fn len(&mut self) -> Result<u64, Fault> {
+        Ok(self.inner.as_read().len() as u64)
+    }
+
+    fn read(&mut self, alloc: Global, at: u64, count: u64) -> Result<Bytes, Fault> {
+        match self.inner.read(alloc, at, count) {
+            Ok(bytes) => Ok(bytes),
+            Err(_) => Err(Fault::NoMemory),
+        }
+    }
+
+    /// A write that begins past the end fails.
+    fn write_at(&mut self, at: u64, bytes: &[u8]) -> Result<(), Fault> {
+        let is_to_fail = self.is_to_fail();
+        if (self.inner.as_read().len() as u64) < at {
+            return Err(self.fault());
+        }
+        if is_to_fail {
+            let (half, _) = bytes.split_at(bytes.len() / 2);
+            let _torn = self.inner.write_at(at, half);
+            return Err(self.fault());
+        }
+        match self.inner.write_at(at, bytes) {
+            Ok(()) => Ok(()),
+            Err(_) => Err(Fault::NoMemory),
+        }
+    }
+
+    fn cut(&mut self, to: u64) -> Result<(), Fault> {
+        if self.is_to_fail() {
+            return Err(self.fault());
+        }
+        match self.inner.cut(to) {
+            Ok(()) => Ok(()),
+            Err(_) => Err(Fault::NoMemory),
+        }
+    }
+
+    fn sync(&mut self) -> Result<(), Fault> {
+        if self.is_to_fail() {
+            return Err(self.fault());
+        }
+        match self.inner.sync() {
+            Ok(()) => Ok(()),
+            Err(_) => Err(Fault::NoMemory),
+        }
+    }
+
+    ghost is_sound = { λ _ told. absurd told };
+
+    ghost counts_now = { λ _ _ _ _ _. tt };
+
+    ghost only_now = { λ remembers _ _ _. absurd remembers };
+}
