@@ -2,9 +2,9 @@
 use Rattle.std.proofs.Common.{◌≡◌, ℕ, ◌+◌, ◌<◌, ◌≤◌, ⊎_elim, List, ◌∷◌, Option, Some, None, refl, ap, sym, subst, ◌∙◌, inl, arith}
 use Rattle.std.specs.Prelude.{option_map}
 use Rattle.std.proofs.lemmas.Bool.{eq-eqb}
-use Rattle.smart_messages.specs.Forms.{SignedBy}
-use Rattle.smart_messages.specs.declared.report.LockCertificate.{LockCertificate}
-use Rattle.smart_messages.specs.declared.report.Report.{Report}
+use Rattle.smart_statements.specs.Forms.{SignedBy}
+use Rattle.smart_statements.specs.declared.report.LockCertificate.{LockCertificate}
+use Rattle.smart_statements.specs.declared.report.Report.{Report}
 use Rattle.regency_sync.specs.Choices.{greatest_last, lock_behind, greatest_lock, choice, IsEarlier, IsNoLater, IsBinding}
 use Rattle.regency_sync.proofs.Choices.{last_above, none_each, greatest_binds, base_is}
 use Rattle.vote_book.specs.Books.{Among}

@@ -1,8 +1,8 @@
 -- A collect that passes its check, without its evidence.
 use Rattle.std.proofs.Common.{ℕ, List}
 use Rattle.smart_base.specs.Views.{View, present}
-use Rattle.smart_messages.specs.Forms.{SignedBy}
-use Rattle.smart_messages.specs.declared.report.Report.{Report}
+use Rattle.smart_statements.specs.Forms.{SignedBy}
+use Rattle.smart_statements.specs.declared.report.Report.{Report}
 use Rattle.certificates.specs.Collects.{IsReportOf, IsCollect}
 use Rattle.regency_sync.proofs.Lists.{each_as}
 use Rattle.agreement_laws.specs.Certificates.{IsLockedReport, IsLockedCollect}

@@ -5,14 +5,14 @@ use Rattle.std.specs.List.{flat_map}
 use Rattle.smart_keys.proofs.Tags.{is_tag-tag_of}
 use Rattle.smart_base.specs.Lists.{Each}
 use Rattle.smart_base.specs.Views.{is_view}
-use Rattle.smart_messages.specs.Forms.{Form, party_of}
+use Rattle.smart_statements.specs.Forms.{Form, party_of}
 use Rattle.smart_base.specs.declared.party.Party.TheVariants.{Member}
-use Rattle.smart_messages.specs.Kinds.{ballots}
-use Rattle.smart_messages.specs.Messages.{Batch}
-use Rattle.smart_messages.specs.Reports.{reports}
-use Rattle.smart_messages.specs.declared.statement.VoteKind.{VoteKind}
-use Rattle.smart_messages.specs.declared.statement.VoteKind.TheVariants.{Write, Accept}
-use Rattle.smart_messages.specs.declared.statement.Ballot.{Ballot}
+use Rattle.smart_statements.specs.Kinds.{ballots}
+use Rattle.smart_statements.specs.Batches.{Batch}
+use Rattle.smart_statements.specs.Reports.{reports}
+use Rattle.smart_statements.specs.declared.statement.VoteKind.{VoteKind}
+use Rattle.smart_statements.specs.declared.statement.VoteKind.TheVariants.{Write, Accept}
+use Rattle.smart_statements.specs.declared.statement.Ballot.{Ballot}
 use Rattle.smart_messages.specs.declared.any.AnyMessage.{AnyMessage}
 use Rattle.certificates.specs.Certificates.{is_verified, IsCertificate}
 use Rattle.certificates.specs.Collects.{slot_of, LockHolds}

@@ -7,7 +7,7 @@ use Rattle.std.proofs.lemmas.List.{length-map}
 use Rattle.smart_base.specs.Lists.{Each, Distinct}
 use Rattle.smart_base.specs.Views.{View, is_member, quorum}
 use Rattle.smart_view.specs.Sizes.{collect_size}
-use Rattle.smart_messages.specs.Forms.{Form, SignedBy}
+use Rattle.smart_statements.specs.Forms.{Form, SignedBy}
 use Rattle.certificates.specs.Certificates.{AreSigned, signers}
 use Rattle.vote_book.specs.Books.{Among}
 use Rattle.agreement_laws.specs.Law.{IsCorrect, FewFaulty}

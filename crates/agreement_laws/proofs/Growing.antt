@@ -1,33 +1,27 @@
 -- What is witnessed stays so as members turn faulty, as more is stated, and as diaries grow.
-use Rattle.std.proofs.Common.{◌≡◌, ⊎_elim, ℕ, zero, suc, ◌≤◌, Bool, true, false, List, [], ◌∷◌, ◌++◌, take, refl, ap, subst, ◌∙◌, append_assoc, arith}
+use Rattle.std.proofs.Common.{◌≡◌, ⊎_elim, ℕ, zero, suc, ◌≤◌, Bool, true, false, List, [], ◌∷◌, ◌++◌, take, refl, ap, ◌∙◌, append_assoc, arith}
 use Rattle.smart_base.specs.Lists.{Each}
 use Rattle.smart_base.specs.Views.{View}
 use Rattle.smart_base.specs.declared.party.Party.TheVariants.{Member}
-use Rattle.smart_messages.specs.Forms.{SignedBy}
-use Rattle.smart_messages.specs.Messages.{Batch}
-use Rattle.smart_messages.specs.declared.statement.Slot.{Slot}
-use Rattle.smart_messages.specs.declared.statement.VoteKind.{VoteKind}
-use Rattle.smart_messages.specs.declared.statement.VoteKind.TheVariants.{Write, Accept}
-use Rattle.smart_messages.specs.declared.statement.Ballot.{Ballot}
+use Rattle.smart_statements.specs.Forms.{SignedBy}
+use Rattle.smart_statements.specs.Batches.{Batch}
+use Rattle.smart_statements.specs.declared.statement.Slot.{Slot}
+use Rattle.smart_statements.specs.declared.statement.VoteKind.{VoteKind}
+use Rattle.smart_statements.specs.declared.statement.VoteKind.TheVariants.{Write, Accept}
+use Rattle.smart_statements.specs.declared.statement.Ballot.{Ballot}
 use Rattle.vote_book.specs.declared.entry.Start.{Start}
 use Rattle.vote_book.specs.declared.entry.LogEntry.{LogEntry}
 use Rattle.vote_book.specs.declared.entry.LogEntry.TheVariants as entries
 use Rattle.vote_book.specs.Books.{Among, last_made, Lawful}
-use Rattle.vote_book.proofs.Tidy.{front_lawful}
 use Rattle.regency_sync.proofs.Lists.{each_as}
 use Rattle.agreement_laws.specs.Fronts.{IsFront}
 use Rattle.agreement_laws.specs.Statements.{Statement, Asked, Proposed, Voted, Stopped, Reported, Synced, Marked, Replied, Informed, signer_of, within, verifies}
 use Rattle.agreement_laws.specs.Diaries.{HasVoted, IsShown}
 use Rattle.agreement_laws.specs.Certificates.{IsDrawn, IsChosen, IsBacked}
 use Rattle.agreement_laws.specs.Law.{IsCorrect, FewFaulty, Witnessed}
-use Rattle.agreement_laws.proofs.Lists.{among_left, among_either, each_left}
+use Rattle.agreement_laws.proofs.Lists.{among_left, among_either}
 
 -- ---- fronts
-
-pub take-front : {A : Type 0} (n : ℕ) (xs : List A) → IsFront (take n xs) xs
-take-front zero xs = record { rest = xs; is = refl }
-take-front (suc n) [] = record { rest = []; is = refl }
-take-front (suc n) (x ∷ xs) = let more = take-front n xs in record { rest = more.rest; is = ap (λ ys. x ∷ ys) more.is }
 
 -- more of a list, be it longer
 pub take-longer : {A : Type 0} (n k : ℕ) (xs more : List A) → n ≤ k → IsFront (take n xs) (take k (xs ++ more))
@@ -38,21 +32,13 @@ take-longer (suc n) (suc k) (x ∷ xs) more le =
     let longer = take-longer n k xs more (omega (arith, le)) in
     record { rest = longer.rest; is = ap (λ ys. x ∷ ys) longer.is }
 
-pub Lawful-prefix : (opening restored n : ℕ) (book : List LogEntry) → Lawful opening restored book → Lawful opening restored (take n book)
-Lawful-prefix opening restored n book lawful =
-    let front = take-front n book in
-    front_lawful opening restored (take n book) front.rest (subst (λ (b : List LogEntry). Lawful opening restored b) front.is lawful)
-
-pub each-prefix : {A : Type 0} (P : A → Type 0) (n : ℕ) (xs : List A) → Each P xs → Each P (take n xs)
-each-prefix P n xs each = let front = take-front n xs in each_left P (take n xs) front.rest (subst (Each P) front.is each)
-
 -- ---- what a diary shows, a longer one shows
 
 last-more : (book more : List LogEntry) → last_made book ≤ last_made (book ++ more)
 last-more [] more = omega arith
 last-more (e ∷ es) more = let rest = last-more es more in omega (arith, rest)
 
-HasVoted-more : (book more : List LogEntry) (kind : VoteKind) (slot : Slot) (digest : List ℕ) → HasVoted book kind slot digest → HasVoted (book ++ more) kind slot digest
+pub HasVoted-more : (book more : List LogEntry) (kind : VoteKind) (slot : Slot) (digest : List ℕ) → HasVoted book kind slot digest → HasVoted (book ++ more) kind slot digest
 HasVoted-more book more Write slot digest voted = among_left (entries.Wrote (record { slot = slot; digest = digest })) book more voted
 HasVoted-more book more Accept slot digest voted = record {
   entry = voted.entry;

@@ -1,15 +1,41 @@
 -- What stands where in a list.
-use Rattle.std.proofs.Common.{◌≡◌, ◌⊎◌, inl, inr, ⊎_elim, ℕ, Bool, true, false, ◌==◌, cond, List, [], ◌∷◌, ◌++◌, map, refl, sym, ap, subst, eq-eqb, eqb-true}
+use Rattle.std.proofs.Common.{◌≡◌, ◌⊎◌, inl, inr, ⊎_elim, ℕ, Bool, true, false, ◌==◌, cond, List, [], ◌∷◌, ◌++◌, map, refl, sym, ap, subst, eq-eqb, eqb-true, ◌||◌, not, Some, suc, take, zero, None, Option}
 use Rattle.std.specs.Prelude.{filter}
 use Rattle.std.specs.List.{list_any, flat_map}
-use Rattle.smart_base.specs.Lists.{Each}
+use Rattle.smart_base.specs.Lists.{Each, or_else}
 use Rattle.vote_book.specs.Books.{Among}
 use Rattle.vote_book.proofs.Tested.{passing, among_any}
+
+-- ---- tests and choices
+
+pub or_true : (a b : Bool) → (a || b) ≡ true → (a ≡ true) ⊎ (b ≡ true)
+or_true true b is = inl refl
+or_true false b is = inr is
+
+pub not_true : (a : Bool) → not a ≡ true → a ≡ false
+not_true true is = absurd (cc)
+not_true false is = refl
+
+pub not_false : (b : Bool) → not b ≡ false → b ≡ true
+not_false true is = refl
+not_false false is = absurd (cc)
+
+pub some_equal : {A : Type 0} (x y : A) → Some x ≡ Some y → x ≡ y
+some_equal x y same = cc
+
+pub else_some : {A : Type 0} (a b : Option A) (x : A) → or_else a b ≡ Some x → (a ≡ Some x) ⊎ (b ≡ Some x)
+else_some None b x is = inr is
+else_some (Some y) b x is = inl is
 
 -- what holds of both branches of a choice
 pub either : {A : Type 0} (P : A → Type 0) (b : Bool) (x y : A) → P x → P y → P (cond b x y)
 either P true x y px py = px
 either P false x y px py = py
+
+-- what holds of the branch that is taken
+pub either_by : {A : Type 0} (P : A → Type 0) (b : Bool) (x y : A) → (b ≡ true → P x) → (b ≡ false → P y) → P (cond b x y)
+either_by P true x y px py = px refl
+either_by P false x y px py = py refl
 
 -- ---- values of lists that are put together
 
@@ -104,13 +130,22 @@ pub each_from : {A : Type 0} (P : A → Type 0) (xs : List A) → ((x : A) → A
 each_from P [] all = tt
 each_from P (x ∷ xs) all = (all x (inl refl), each_from P xs (λ y there. all y (inr there)))
 
-pub each_left : {A : Type 0} (P : A → Type 0) (xs ys : List A) → Each P (xs ++ ys) → Each P xs
-each_left P [] ys each = tt
-each_left P (x ∷ xs) ys each = (each.0, each_left P xs ys each.1)
-
 pub each_append : {A : Type 0} (P : A → Type 0) (xs ys : List A) → Each P xs → Each P ys → Each P (xs ++ ys)
 each_append P [] ys left right = right
 each_append P (x ∷ xs) ys left right = (left.0, each_append P xs ys left.1 right)
+
+pub each_end : {A : Type 0} (P : A → Type 0) (xs : List A) (x : A) → Each P xs → P x → Each P (xs ++ x ∷ [])
+each_end P [] x each is = (is, tt)
+each_end P (y ∷ xs) x each is = (each.0, each_end P xs x each.1 is)
+
+pub each_take : {A : Type 0} (P : A → Type 0) (k : ℕ) (xs : List A) → Each P xs → Each P (take k xs)
+each_take P zero xs each = tt
+each_take P (suc k) [] each = tt
+each_take P (suc k) (x ∷ xs) each = (each.0, each_take P k xs each.1)
+
+pub each_both : {A : Type 0} (P Q R : A → Type 0) → ((x : A) → P x → Q x → R x) → (xs : List A) → Each P xs → Each Q xs → Each R xs
+each_both P Q R both [] ep eq = tt
+each_both P Q R both (x ∷ xs) ep eq = (both x ep.0 eq.0, each_both P Q R both xs ep.1 eq.1)
 
 pub each_map : {A B : Type 0} (P : B → Type 0) (f : A → B) (xs : List A) → Each (λ x. P (f x)) xs → Each P (map f xs)
 each_map P f [] each = tt

@@ -3,14 +3,14 @@ use Rattle.std.proofs.Common.{◌≡◌, ◌⊎◌, inr, ⊎_elim, ℕ, zero, su
 use Rattle.std.specs.Prelude.{filter, option_map, IfSome}
 use Rattle.smart_base.specs.Views.{View, quorum}
 use Rattle.smart_base.specs.declared.party.Party.TheVariants.{Member}
-use Rattle.smart_messages.specs.Forms.{SignedBy}
-use Rattle.smart_messages.specs.Kinds.{ballots}
-use Rattle.smart_messages.specs.Messages.{Batch}
-use Rattle.smart_messages.specs.Reports.{reports}
-use Rattle.smart_messages.specs.declared.statement.Slot.{Slot}
-use Rattle.smart_messages.specs.declared.statement.Ballot.{Ballot}
-use Rattle.smart_messages.specs.declared.report.LockCertificate.{LockCertificate}
-use Rattle.smart_messages.specs.declared.report.Report.{Report}
+use Rattle.smart_statements.specs.Forms.{SignedBy}
+use Rattle.smart_statements.specs.Kinds.{ballots}
+use Rattle.smart_statements.specs.Batches.{Batch}
+use Rattle.smart_statements.specs.Reports.{reports}
+use Rattle.smart_statements.specs.declared.statement.Slot.{Slot}
+use Rattle.smart_statements.specs.declared.statement.Ballot.{Ballot}
+use Rattle.smart_statements.specs.declared.report.LockCertificate.{LockCertificate}
+use Rattle.smart_statements.specs.declared.report.Report.{Report}
 use Rattle.certificates.specs.Certificates.{IsWriteCertificate, signers, write_of, accept_of, is_verified}
 use Rattle.certificates.specs.Collects.{slot_of, LockHolds}
 use Rattle.regency_sync.specs.Choices.{choice}

@@ -68,7 +68,7 @@ weaker_one x ps qs true false weaker le = let none = weaker refl in absurd (cc)
 weaker_one x ps qs false true weaker le = omega (arith, le)
 weaker_one x ps qs false false weaker le = omega (arith, le)
 
-weaker_passes : {A : Type 0} (p q : A → Bool) → ((x : A) → p x ≡ true → q x ≡ true) → (xs : List A) → length (filter p xs) ≤ length (filter q xs)
+pub weaker_passes : {A : Type 0} (p q : A → Bool) → ((x : A) → p x ≡ true → q x ≡ true) → (xs : List A) → length (filter p xs) ≤ length (filter q xs)
 weaker_passes p q weaker [] = omega arith
 weaker_passes p q weaker (x ∷ xs) = weaker_one x (filter p xs) (filter q xs) (p x) (q x) (weaker x) (weaker_passes p q weaker xs)
 

@@ -1,10 +1,10 @@
 //! A place has one decision.
 ghost use Rattle.std.specs.Prelude.{◌≡◌, ◌≤◌, ℕ, List, Bool, true};
 ghost use Rattle.smart_base.specs.Views.{View, is_view};
-ghost use Rattle.smart_messages.specs.Forms.{SignedBy};
-ghost use Rattle.smart_messages.specs.Messages.{Batch};
-ghost use Rattle.smart_messages.specs.declared.statement.Ballot.{Ballot};
-ghost use Rattle.smart_messages.specs.declared.statement.VoteKind.TheVariants.{Accept};
+ghost use Rattle.smart_statements.specs.Forms.{SignedBy};
+ghost use Rattle.smart_statements.specs.Batches.{Batch};
+ghost use Rattle.smart_statements.specs.declared.statement.Ballot.{Ballot};
+ghost use Rattle.smart_statements.specs.declared.statement.VoteKind.TheVariants.{Accept};
 ghost use Rattle.vote_book.specs.declared.entry.LogEntry.{LogEntry};
 ghost use Rattle.vote_book.specs.Books.{Among};
 ghost use Rattle.vote_book.specs.Tidy.{IsTidy};

@@ -3,7 +3,7 @@ ghost use Rattle.std.specs.Prelude.{◌≡◌, ℕ, List, [], ◌++◌, Bool, tr
 ghost use Rattle.smart_base.specs.Lists.{Each};
 ghost use Rattle.smart_base.specs.Views.{View};
 ghost use Rattle.smart_base.specs.declared.party.Party.TheVariants.{Member};
-ghost use Rattle.smart_messages.specs.Messages.{Batch};
+ghost use Rattle.smart_statements.specs.Batches.{Batch};
 ghost use Rattle.vote_book.specs.declared.entry.LogEntry.{LogEntry};
 ghost use Rattle.vote_book.specs.Books.{Among, Lawful};
 ghost use Rattle.agreement_laws.specs.Fronts.{IsFront};

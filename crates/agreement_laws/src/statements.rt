@@ -2,9 +2,9 @@
 ghost use Rattle.std.specs.Prelude.{ℕ, List};
 ghost use Rattle.std.specs.List.{flat_map};
 ghost use Rattle.smart_base.specs.Views.{View, present};
-ghost use Rattle.smart_messages.specs.Forms.{SignedBy};
+ghost use Rattle.smart_statements.specs.Forms.{SignedBy};
 ghost use Rattle.smart_messages.specs.declared.any.AnyMessage.{AnyMessage};
-ghost use Rattle.smart_messages.specs.declared.report.Report.{Report};
+ghost use Rattle.smart_statements.specs.declared.report.Report.{Report};
 ghost use Rattle.certificates.specs.Collects.{IsCollect};
 ghost use Rattle.agreement_laws.specs.Statements.{statements, IsClosed};
 ghost use Rattle.agreement_laws.specs.Certificates.{IsLockedCollect};

@@ -6,15 +6,15 @@ use Rattle.std.proofs.lemmas.Grind.{common_steps}
 use Rattle.smart_base.specs.Lists.{same_bytes}
 use Rattle.smart_base.specs.Views.{View, weight_of, quorum}
 use Rattle.smart_base.proofs.SameLists.{and_true, same_list-equal}
-use Rattle.smart_messages.specs.Equality.{same_slot, same_kind}
-use Rattle.smart_messages.specs.Forms.{SignedBy}
-use Rattle.smart_messages.specs.Kinds.{ballots}
-use Rattle.smart_messages.specs.Reports.{marks}
-use Rattle.smart_messages.specs.declared.statement.Ballot.{Ballot}
-use Rattle.smart_messages.specs.declared.statement.Slot.{Slot}
-use Rattle.smart_messages.specs.declared.statement.VoteKind.{VoteKind}
-use Rattle.smart_messages.specs.declared.statement.VoteKind.TheVariants.{Write, Accept}
-use Rattle.smart_messages.specs.declared.report.Mark.{Mark}
+use Rattle.smart_statements.specs.Equality.{same_slot, same_kind}
+use Rattle.smart_statements.specs.Forms.{SignedBy}
+use Rattle.smart_statements.specs.Kinds.{ballots}
+use Rattle.smart_statements.specs.Reports.{marks}
+use Rattle.smart_statements.specs.declared.statement.Ballot.{Ballot}
+use Rattle.smart_statements.specs.declared.statement.Slot.{Slot}
+use Rattle.smart_statements.specs.declared.statement.VoteKind.{VoteKind}
+use Rattle.smart_statements.specs.declared.statement.VoteKind.TheVariants.{Write, Accept}
+use Rattle.smart_statements.specs.declared.report.Mark.{Mark}
 use Rattle.certificates.specs.Certificates.{signers, same_ballot, same_mark, mark_of, IsCertificate, IsMarkCertificate, votes_fault, marks_fault}
 use Rattle.certificates.proofs.Exact.{signed-exact}
 

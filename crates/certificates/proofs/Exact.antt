@@ -6,7 +6,7 @@ use Rattle.std.proofs.lemmas.Grind.{common_steps}
 use Rattle.std.proofs.lemmas.List.Folds.{list_any-append}
 use Rattle.smart_base.specs.Lists.{or_else, Each}
 use Rattle.smart_base.specs.Views.{View, is_member}
-use Rattle.smart_messages.specs.Forms.{Form, SignedBy}
+use Rattle.smart_statements.specs.Forms.{Form, SignedBy}
 use Rattle.certificates.specs.Certificates.{is_verified, signers, AreSigned, signer_fault, item_fault, fault_behind, first_fault, passed}
 use Rattle.certificates.proofs.Faults.{passed_ok}
 use Rattle.certificates.specs.declared.fault.CertFault.{CertFault}

@@ -5,7 +5,7 @@ use Rattle.std.proofs.lemmas.Grind.{common_steps}
 use Rattle.std.proofs.lemmas.List.{map_more}
 use Rattle.smart_base.specs.Lists.{or_else}
 use Rattle.smart_base.specs.Views.{View}
-use Rattle.smart_messages.specs.Forms.{SignedBy}
+use Rattle.smart_statements.specs.Forms.{SignedBy}
 use Rattle.certificates.specs.Certificates.{signers, signer_fault, fault_behind, first_fault, passed}
 use Rattle.certificates.specs.declared.fault.CertFault.{CertFault}
 use Rattle.certificates.specs.declared.fault.CertFault.TheVariants.{TooFew}

@@ -8,14 +8,14 @@ use Rattle.smart_base.specs.Lists.{or_else}
 use Rattle.smart_base.specs.Views.{View, present}
 use Rattle.smart_base.proofs.SameLists.{and_true}
 use Rattle.smart_view.specs.Sizes.{collect_size}
-use Rattle.smart_messages.specs.Forms.{SignedBy}
-use Rattle.smart_messages.specs.Reports.{reports}
-use Rattle.smart_messages.specs.declared.report.DecisionProof.{DecisionProof}
-use Rattle.smart_messages.specs.declared.report.MarkCertificate.{MarkCertificate}
-use Rattle.smart_messages.specs.declared.report.LockCertificate.{LockCertificate}
-use Rattle.smart_messages.specs.declared.report.Evidence.{Evidence}
-use Rattle.smart_messages.specs.declared.report.Evidence.TheVariants.{Nothing, Decided, Marked}
-use Rattle.smart_messages.specs.declared.report.Report.{Report}
+use Rattle.smart_statements.specs.Forms.{SignedBy}
+use Rattle.smart_statements.specs.Reports.{reports}
+use Rattle.smart_statements.specs.declared.report.DecisionProof.{DecisionProof}
+use Rattle.smart_statements.specs.declared.report.MarkCertificate.{MarkCertificate}
+use Rattle.smart_statements.specs.declared.report.LockCertificate.{LockCertificate}
+use Rattle.smart_statements.specs.declared.report.Evidence.{Evidence}
+use Rattle.smart_statements.specs.declared.report.Evidence.TheVariants.{Nothing, Decided, Marked}
+use Rattle.smart_statements.specs.declared.report.Report.{Report}
 use Rattle.certificates.specs.Certificates.{write_of, accept_of, votes_fault, marks_fault, IsWriteCertificate, IsDecisionProof, IsMarkCertificate}
 use Rattle.certificates.specs.Collects.{view_holding, view_numbered, slot_of, of_view, IsDecided, IsMarked, IsShown, EvidenceHolds, is_decided, is_marked, is_shown, evidence_holds, LockHolds, lock_holds, IsReportOf, IsCollect, has_no_false_lock, is_report_of, collect_fault}
 use Rattle.certificates.specs.declared.fault.CertFault.{CertFault}

@@ -4,14 +4,14 @@ use Rattle.std.specs.List.{list_any}
 use Rattle.smart_base.specs.Lists.{or_else, same_bytes, Each, Distinct}
 use Rattle.smart_base.specs.Views.{View, weight_of, quorum, is_member}
 use Rattle.smart_keys.specs.Keys.{is_tag}
-use Rattle.smart_messages.specs.Equality.{same_slot, same_kind}
-use Rattle.smart_messages.specs.Forms.{Form, SignedBy, party_of}
-use Rattle.smart_messages.specs.Kinds.{ballots}
-use Rattle.smart_messages.specs.Reports.{marks}
-use Rattle.smart_messages.specs.declared.statement.Ballot.{Ballot}
-use Rattle.smart_messages.specs.declared.statement.Slot.{Slot}
-use Rattle.smart_messages.specs.declared.statement.VoteKind.TheVariants.{Write, Accept}
-use Rattle.smart_messages.specs.declared.report.Mark.{Mark}
+use Rattle.smart_statements.specs.Equality.{same_slot, same_kind}
+use Rattle.smart_statements.specs.Forms.{Form, SignedBy, party_of}
+use Rattle.smart_statements.specs.Kinds.{ballots}
+use Rattle.smart_statements.specs.Reports.{marks}
+use Rattle.smart_statements.specs.declared.statement.Ballot.{Ballot}
+use Rattle.smart_statements.specs.declared.statement.Slot.{Slot}
+use Rattle.smart_statements.specs.declared.statement.VoteKind.TheVariants.{Write, Accept}
+use Rattle.smart_statements.specs.declared.report.Mark.{Mark}
 use Rattle.smart_view.specs.Sizes.{index_of}
 use Rattle.certificates.specs.declared.fault.CertFault.{CertFault}
 use Rattle.certificates.specs.declared.fault.CertFault.TheVariants.{TooFew, Stranger, Twice, Unequal, BadTag}

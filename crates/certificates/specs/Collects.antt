@@ -3,15 +3,15 @@ use Rattle.std.specs.Prelude.{◌≡◌, ℕ, ◌+◌, ◌^◌, ◌<◌, ◌≤�
 use Rattle.smart_base.specs.Lists.{or_else}
 use Rattle.smart_base.specs.Views.{View, present}
 use Rattle.smart_view.specs.Sizes.{collect_size}
-use Rattle.smart_messages.specs.Forms.{SignedBy}
-use Rattle.smart_messages.specs.Reports.{reports}
-use Rattle.smart_messages.specs.declared.statement.Slot.{Slot}
-use Rattle.smart_messages.specs.declared.report.DecisionProof.{DecisionProof}
-use Rattle.smart_messages.specs.declared.report.MarkCertificate.{MarkCertificate}
-use Rattle.smart_messages.specs.declared.report.LockCertificate.{LockCertificate}
-use Rattle.smart_messages.specs.declared.report.Evidence.{Evidence}
-use Rattle.smart_messages.specs.declared.report.Evidence.TheVariants.{Nothing, Decided, Marked}
-use Rattle.smart_messages.specs.declared.report.Report.{Report}
+use Rattle.smart_statements.specs.Forms.{SignedBy}
+use Rattle.smart_statements.specs.Reports.{reports}
+use Rattle.smart_statements.specs.declared.statement.Slot.{Slot}
+use Rattle.smart_statements.specs.declared.report.DecisionProof.{DecisionProof}
+use Rattle.smart_statements.specs.declared.report.MarkCertificate.{MarkCertificate}
+use Rattle.smart_statements.specs.declared.report.LockCertificate.{LockCertificate}
+use Rattle.smart_statements.specs.declared.report.Evidence.{Evidence}
+use Rattle.smart_statements.specs.declared.report.Evidence.TheVariants.{Nothing, Decided, Marked}
+use Rattle.smart_statements.specs.declared.report.Report.{Report}
 use Rattle.certificates.specs.Certificates.{AreSigned, IsWriteCertificate, IsDecisionProof, IsMarkCertificate, write_of, accept_of, item_fault, first_fault, votes_fault, marks_fault}
 use Rattle.certificates.specs.declared.fault.CertFault.{CertFault}
 

@@ -9,10 +9,10 @@ use smart_base::equality::same_bytes;
 use smart_base::number::Place;
 use smart_base::view::View;
 use smart_keys::ring::Ring;
-use smart_messages::equality::{same_kind, same_slot};
-use smart_messages::report::Mark;
-use smart_messages::signed::Signed;
-use smart_messages::statement::{Ballot, Slot, VoteKind};
+use smart_statements::equality::{same_kind, same_slot};
+use smart_statements::report::Mark;
+use smart_statements::signed::Signed;
+use smart_statements::statement::{Ballot, Slot, VoteKind};
 
 fn same_ballot(a: &Ballot, b: &Ballot) -> bool
     ensures { result ≡ same_ballot a.now b.now }

@@ -11,9 +11,9 @@ use crate::list::{Wanted, check_list};
 use smart_base::number::{Place, Regency, ViewNo};
 use smart_base::view::View;
 use smart_keys::ring::Ring;
-use smart_messages::report::{DecisionProof, Evidence, LockCertificate, MarkCertificate, Report};
-use smart_messages::signed::Signed;
-use smart_messages::statement::Slot;
+use smart_statements::report::{DecisionProof, Evidence, LockCertificate, MarkCertificate, Report};
+use smart_statements::signed::Signed;
+use smart_statements::statement::Slot;
 use smart_view::size::collect_size;
 
 /// The greatest place.

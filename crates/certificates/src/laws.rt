@@ -1,10 +1,10 @@
 //! Laws of certificates.
 ghost use Rattle.std.specs.Prelude.{◌≡◌, ◌↔◌, ℕ, List, None};
 ghost use Rattle.smart_base.specs.Views.{View};
-ghost use Rattle.smart_messages.specs.Forms.{SignedBy};
-ghost use Rattle.smart_messages.specs.declared.statement.Ballot.{Ballot};
-ghost use Rattle.smart_messages.specs.declared.report.Mark.{Mark};
-ghost use Rattle.smart_messages.specs.declared.report.Report.{Report};
+ghost use Rattle.smart_statements.specs.Forms.{SignedBy};
+ghost use Rattle.smart_statements.specs.declared.statement.Ballot.{Ballot};
+ghost use Rattle.smart_statements.specs.declared.report.Mark.{Mark};
+ghost use Rattle.smart_statements.specs.declared.report.Report.{Report};
 ghost use Rattle.certificates.specs.Certificates.{IsCertificate, IsMarkCertificate, votes_fault, marks_fault};
 ghost use Rattle.certificates.specs.Collects.{IsCollect, collect_fault};
 

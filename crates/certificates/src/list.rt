@@ -6,7 +6,7 @@ ghost use Rattle.certificates.specs.Certificates.{Marks, signer_fault, item_faul
 use crate::fault::CertFault;
 use smart_base::view::{MEMBERS, View};
 use smart_keys::ring::Ring;
-use smart_messages::signed::{Signed, Statement};
+use smart_statements::signed::{Signed, Statement};
 
 /// What each statement of a list has to be.
 pub trait Wanted<S: Statement> {

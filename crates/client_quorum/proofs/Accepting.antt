@@ -5,10 +5,10 @@ use Rattle.std.specs.List.{list_any}
 use Rattle.std.proofs.lemmas.List.{append_assoc, append-nil}
 use Rattle.smart_base.specs.Lists.{or_else}
 use Rattle.smart_base.specs.Views.{View, quorum, is_member}
-use Rattle.smart_messages.specs.Forms.{SignedBy}
-use Rattle.smart_messages.specs.Kinds.{answers}
-use Rattle.smart_messages.specs.declared.statement.Request.{Request}
-use Rattle.smart_messages.specs.declared.statement.Answer.{Answer}
+use Rattle.smart_statements.specs.Forms.{SignedBy}
+use Rattle.smart_statements.specs.Kinds.{answers}
+use Rattle.smart_statements.specs.declared.statement.Request.{Request}
+use Rattle.smart_statements.specs.declared.statement.Answer.{Answer}
 use Rattle.replica_rules.specs.Seals.{is_verified}
 use Rattle.client_quorum.specs.Clients.{asking, same_answer, has_answer, have, is_waited_for, acceptance, why_ignored, count_heard, heard_unless, heard, after_heard}
 use Rattle.client_quorum.specs.Quorums.{counts_for, first_of, is_same, gave, quorum_gave, first_given, accepted_in, accepted_of}

@@ -3,8 +3,8 @@ use Rattle.std.proofs.Common.{◌≡◌, ℕ, ◌++◌, ◌==◌, Bool, true, fa
 use Rattle.std.specs.List.{list_any}
 use Rattle.smart_base.specs.Lists.{or_else, same_bytes}
 use Rattle.smart_base.proofs.SameLists.{same_list-equal}
-use Rattle.smart_messages.specs.Forms.{SignedBy}
-use Rattle.smart_messages.specs.declared.statement.Answer.{Answer}
+use Rattle.smart_statements.specs.Forms.{SignedBy}
+use Rattle.smart_statements.specs.declared.statement.Answer.{Answer}
 use Rattle.client_quorum.specs.Clients.{same_answer}
 use Rattle.client_quorum.specs.Quorums.{first_of}
 use Rattle.client_quorum.specs.declared.client.Ignored.{Ignored}

@@ -3,13 +3,13 @@ use Rattle.std.specs.Prelude.{ℕ, ◌≡◌, ◌+◌, ◌==◌, nat_le, Bool, f
 use Rattle.std.specs.List.{list_any}
 use Rattle.smart_base.specs.Lists.{same_bytes}
 use Rattle.smart_base.specs.Views.{View, weight_of, quorum, is_member}
-use Rattle.smart_messages.specs.Forms.{SignedBy}
-use Rattle.smart_messages.specs.Kinds.{answers}
+use Rattle.smart_statements.specs.Forms.{SignedBy}
+use Rattle.smart_statements.specs.Kinds.{answers}
 use Rattle.smart_messages.specs.Messages.{decoded}
 use Rattle.smart_messages.specs.declared.message.Message.{Message}
 use Rattle.smart_messages.specs.declared.message.Message.TheVariants.{Ask, Propose, Vote, Reply}
-use Rattle.smart_messages.specs.declared.statement.Request.{Request}
-use Rattle.smart_messages.specs.declared.statement.Answer.{Answer}
+use Rattle.smart_statements.specs.declared.statement.Request.{Request}
+use Rattle.smart_statements.specs.declared.statement.Answer.{Answer}
 use Rattle.replica_rules.specs.Seals.{is_verified}
 use Rattle.client_quorum.specs.declared.asking.AskError.{AskError}
 use Rattle.client_quorum.specs.declared.asking.AskError.TheVariants.{Busy, NoMemory}

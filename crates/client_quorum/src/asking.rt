@@ -1,6 +1,6 @@
 //! What a client asks.
 ghost use Rattle.std.specs.Prelude.{◌≡◌, ◌+◌, ◌^◌, ◌<◌, None, IfOk, IfErr, OnOk, OnErr, option_map};
-ghost use Rattle.smart_messages.specs.Kinds.{requests};
+ghost use Rattle.smart_statements.specs.Kinds.{requests};
 ghost use Rattle.replica_rules.specs.Seals.{signed};
 ghost use Rattle.client_quorum.specs.Clients.{request_of, asking, Refuses};
 ghost use Rattle.client_quorum.specs.declared.asking.AskError.TheVariants.{NoMemory};
@@ -12,8 +12,8 @@ use smart_base::name::ClientId;
 use smart_base::party::Party;
 use smart_base::sequence::Sequence;
 use smart_keys::ring::Ring;
-use smart_messages::signed::Signed;
-use smart_messages::statement::Request;
+use smart_statements::signed::Signed;
+use smart_statements::statement::Request;
 use std::alloc::{AllocError, Global};
 
 /// Why a client asked nothing.

@@ -6,8 +6,8 @@ use smart_base::bytes::Payload;
 use smart_base::name::ClientId;
 use smart_base::number::{Place, ViewNo};
 use smart_base::sequence::Sequence;
-use smart_messages::signed::Signed;
-use smart_messages::statement::{Answer, Request};
+use smart_statements::signed::Signed;
+use smart_statements::statement::{Answer, Request};
 use std::alloc::Global;
 
 /// A client: the number of its last request, the request that waits for its reply, the greatest

@@ -6,8 +6,8 @@ ghost use Rattle.client_quorum.specs.Clients.{same_answer, has_answer, have};
 use smart_base::equality::same_bytes;
 use smart_base::name::MemberId;
 use smart_base::view::View;
-use smart_messages::signed::Signed;
-use smart_messages::statement::Answer;
+use smart_statements::signed::Signed;
+use smart_statements::statement::Answer;
 
 fn same_answer(a: &Answer, b: &Answer) -> bool
     ensures { result ≡ same_answer a.now b.now }

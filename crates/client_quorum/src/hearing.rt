@@ -1,8 +1,8 @@
 //! What a client makes of a reply.
 ghost use Rattle.std.specs.Prelude.{◌≡◌, ◌++◌, ◌∷◌, [], List, IfOk, OnOk, OnErr};
-ghost use Rattle.smart_messages.specs.Forms.{SignedBy};
+ghost use Rattle.smart_statements.specs.Forms.{SignedBy};
 ghost use Rattle.smart_messages.specs.Messages.{decoded};
-ghost use Rattle.smart_messages.specs.declared.statement.Answer.{Answer};
+ghost use Rattle.smart_statements.specs.declared.statement.Answer.{Answer};
 ghost use Rattle.client_quorum.specs.Clients.{is_waited_for, why_ignored, count_heard, heard, after_heard, reply_in, heard_bytes, after_bytes};
 
 use crate::client::{Acceptance, Client, Heard, Ignored};
@@ -16,8 +16,8 @@ use smart_base::view::View;
 use smart_keys::ring::Ring;
 use smart_messages::codec::decode;
 use smart_messages::message::Message;
-use smart_messages::signed::Signed;
-use smart_messages::statement::{Answer, Request};
+use smart_statements::signed::Signed;
+use smart_statements::statement::{Answer, Request};
 use std::alloc::{AllocError, Global};
 
 fn is_waited_for(waiting: &Option<Request>, answer: &Answer) -> bool

@@ -1,9 +1,9 @@
 //! When a client accepts a reply.
 ghost use Rattle.std.specs.Prelude.{◌≡◌, ℕ, List, [], None, false};
 ghost use Rattle.smart_base.specs.Views.{View};
-ghost use Rattle.smart_messages.specs.Forms.{SignedBy};
-ghost use Rattle.smart_messages.specs.declared.statement.Request.{Request};
-ghost use Rattle.smart_messages.specs.declared.statement.Answer.{Answer};
+ghost use Rattle.smart_statements.specs.Forms.{SignedBy};
+ghost use Rattle.smart_statements.specs.declared.statement.Request.{Request};
+ghost use Rattle.smart_statements.specs.declared.statement.Answer.{Answer};
 ghost use Rattle.client_quorum.specs.Clients.{asking};
 ghost use Rattle.client_quorum.specs.Quorums.{quorum_gave, first_given, accepted_of};
 ghost use Rattle.client_quorum.specs.declared.client.Client.{Client};

@@ -6,5 +6,3 @@ pub mod client;
 pub mod counting;
 pub mod hearing;
 pub mod laws;
-#[cfg(test)]
-mod tests;

@@ -4,9 +4,9 @@ use Rattle.std.proofs.lemmas.Bool.{eq-eqb, ne_eqb}
 use Rattle.std.proofs.lemmas.List.Folds.{list_any-append}
 use Rattle.std.specs.List.{list_any}
 use Rattle.smart_base.specs.Views.{View}
-use Rattle.smart_messages.specs.Messages.{Batch}
-use Rattle.smart_messages.specs.Equality.{same_slot}
-use Rattle.smart_messages.specs.declared.statement.Slot.{Slot}
+use Rattle.smart_statements.specs.Batches.{Batch}
+use Rattle.smart_statements.specs.Equality.{same_slot}
+use Rattle.smart_statements.specs.declared.statement.Slot.{Slot}
 use Rattle.smart_messages.specs.declared.message.Message.{Message}
 use Rattle.smart_messages.specs.declared.message.Proposed.{Proposed}
 use Rattle.smart_base.specs.Lists.{or_else}

@@ -10,10 +10,6 @@ pub each_more : {A : Type 0} (P : A → Type 0) (xs : List A) (x : A) → Each P
 each_more P [] x all has = (has, tt)
 each_more P (y ∷ ys) x all has = (all.0, each_more P ys x all.1 has)
 
-pub each_as : {A : Type 0} (P Q : A → Type 0) → ((x : A) → P x → Q x) → (xs : List A) → Each P xs → Each Q xs
-each_as P Q implies [] all = all
-each_as P Q implies (x ∷ xs) all = (implies x all.0, each_as P Q implies xs all.1)
-
 -- what a filter keeps of a list from an index on, where it keeps the value at the index, and where it does not
 
 pub filter_keeps : (p : ℕ → Bool) (xs : List ℕ) (i x : ℕ) → i < length xs → x ≡ get_or xs i x → p x ≡ true → filter p (drop i xs) ≡ x ∷ filter p (drop (i + 1) xs)

@@ -2,8 +2,8 @@
 use Rattle.std.specs.Prelude.{ℕ, ◌≡◌, ◌+◌, List, Option, is_some, option_map}
 use Rattle.std.specs.List.{list_any}
 use Rattle.smart_base.specs.Views.{View}
-use Rattle.smart_messages.specs.Messages.{Batch}
-use Rattle.smart_messages.specs.declared.statement.Slot.{Slot}
+use Rattle.smart_statements.specs.Batches.{Batch}
+use Rattle.smart_statements.specs.declared.statement.Slot.{Slot}
 use Rattle.smart_messages.specs.declared.message.Message.{Message}
 use Rattle.smart_messages.specs.declared.message.Proposed.{Proposed}
 use Rattle.vote_book.specs.Admission.{writes_in, accepts_in}

@@ -14,11 +14,11 @@ use smart_base::name::MemberId;
 use smart_base::number::Regency;
 use smart_base::sequence::Sequence;
 use smart_base::view::View;
-use smart_messages::equality::{same_kind, same_slot};
 use smart_messages::message::{Message, Proposed};
-use smart_messages::signed::Signed;
-use smart_messages::signed_list::SignedList;
-use smart_messages::statement::{Ballot, Slot, VoteKind};
+use smart_statements::equality::{same_kind, same_slot};
+use smart_statements::signed::Signed;
+use smart_statements::signed_list::SignedList;
+use smart_statements::statement::{Ballot, Slot, VoteKind};
 use std::alloc::{AllocError, Global};
 
 fn is_vote(

@@ -8,5 +8,3 @@ pub mod laws;
 pub mod needed;
 pub mod rule;
 pub mod start;
-#[cfg(test)]
-mod tests;

@@ -4,7 +4,7 @@ ghost use Rattle.node_rules.specs.Kept.{is_ahead, is_needed};
 
 use smart_base::number::{Place, Regency, ViewNo};
 use smart_messages::message::Message;
-use smart_messages::statement::Slot;
+use smart_statements::statement::Slot;
 
 /// Whether a slot is past a place, and of this view and regency or later ones.
 pub fn is_ahead(view: ViewNo, place: Place, regency: Regency, slot: &Slot) -> bool

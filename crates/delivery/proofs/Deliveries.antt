@@ -1,5 +1,5 @@
 -- Batches delivered one after another: the state, the lines, and the answers.
-use Rattle.std.proofs.Common.{◌≡◌, ℕ, ◌+◌, ◌<◌, ◌≤◌, ◌==◌, ◌++◌, Bool, true, false, ◌&&◌, List, [], ◌∷◌, length, refl, ap, ◌∙◌, sym, subst, cond, Option, Some, None, arith, append_assoc}
+use Rattle.std.proofs.Common.{◌≡◌, ℕ, ◌+◌, ◌<◌, ◌≤◌, ◌==◌, ◌++◌, Bool, true, false, ◌&&◌, List, [], ◌∷◌, refl, ap, ◌∙◌, sym, subst, cond, Option, Some, None, arith}
 use Rattle.std.proofs.lemmas.Bool.{eq-eqb}
 use Rattle.std.proofs.lemmas.Bool.Decides.{nat_tests}
 use Rattle.std.proofs.lemmas.List.{append-nil}
@@ -7,44 +7,15 @@ use Rattle.std.specs.Prelude.{option_map}
 use Rattle.std.specs.Option.{option_to_list}
 use Rattle.smart_base.specs.Lists.{Each}
 use Rattle.smart_base.specs.Views.{View}
-use Rattle.smart_messages.specs.Messages.{Batch}
-use Rattle.smart_messages.specs.declared.statement.Request.{Request}
+use Rattle.smart_statements.specs.Batches.{Batch}
+use Rattle.smart_statements.specs.declared.statement.Request.{Request}
 use Rattle.smart_service.specs.Services.{Meaning}
 use Rattle.smart_service.specs.declared.table.TableLine.{TableLine}
 use Rattle.smart_service.specs.declared.replica.Replica.{Replica}
-use Rattle.replica_rules.specs.Replicas.{is_next, line_of, execute, execute_all, line_made, lines_of, at_next, delivered, executed_lines, empty, after_batches, state, executions_from, executions, first_line, answer}
-use Rattle.delivery.proofs.Lists.{each_append, each_right, each_weaker, each_both}
-
--- the place
-
--- of two replicas at one place, a choice is at that place
-place_if : {S : Type 0} (b : Bool) (x y : Replica S) → x.place ≡ y.place → (cond b x y).place ≡ y.place
-place_if true x y same = same
-place_if false x y same = refl
-
-place-execute : {S : Type 0} (m : Meaning S) (r : Replica S) (i : ℕ) (q : Request) → (execute m r i q).place ≡ r.place
-unfolding execute
-place-execute m r i q = place_if (is_next r.table q) _ r refl
-
-place-execute_all : {S : Type 0} (m : Meaning S) (r : Replica S) (i : ℕ) (qs : Batch) → (execute_all m r i qs).place ≡ r.place
-place-execute_all m r i [] = refl
-place-execute_all m r i (q ∷ qs) = place-execute_all m (execute m r i q.statement) (i + 1) qs ∙ place-execute m r i q.statement
-
--- a batch takes the next place
-place-delivered : {S : Type 0} (m : Meaning S) (r : Replica S) (batch : Batch) → (delivered m r batch).place ≡ r.place + 1
-unfolding delivered
-place-delivered m r batch = place-execute_all m (at_next r) 0 batch
-
-after-place : {S : Type 0} (m : Meaning S) (r : Replica S) (list : List Batch) → (after_batches m r list).place ≡ r.place + length list
-after-place m r [] = omega arith
-after-place m r (batch ∷ list) =
-    let place = place-delivered m r batch in
-    let rest = after-place m (delivered m r batch) list in
-    omega (arith, place, rest)
-
--- each batch takes a place
-pub state-place : {S : Type 0} (m : Meaning S) (v : View) (list : List Batch) → (state m v list).place ≡ length list
-state-place m v list = let place = after-place m (empty m v) list in omega (arith, place)
+use Rattle.replica_rules.specs.Replicas.{is_next, line_of, execute, line_made, lines_of, at_next, delivered, executed_lines, empty, after_batches, state, executions_from, executions, first_line, answer}
+use Rattle.delivery.proofs.Lists.{each_append, each_right, each_both}
+use Rattle.replica_rules.proofs.Places.{place_execute, place_delivered, executions_append}
+use Rattle.smart_base.proofs.ViewFacts.{each-weaken}
 
 -- one more batch
 
@@ -56,17 +27,10 @@ after-end m r (b ∷ list) batch = after-end m (delivered m r b) list batch
 pub state-end : {S : Type 0} (m : Meaning S) (v : View) (list : List Batch) (batch : Batch) → delivered m (state m v list) batch ≡ state m v (list ++ batch ∷ [])
 state-end m v list batch = after-end m (empty m v) list batch
 
--- a longer list executes what the shorter one does, and then more
-executions-append : {S : Type 0} (m : Meaning S) (r : Replica S) (list more : List Batch) → executions_from m r (list ++ more) ≡ executions_from m r list ++ executions_from m (after_batches m r list) more
-executions-append m r [] more = refl
-executions-append m r (batch ∷ list) more =
-    ap (λ lines. executed_lines m r batch ++ lines) (executions-append m (delivered m r batch) list more)
-    ∙ sym (append_assoc (executed_lines m r batch) (executions_from m (delivered m r batch) list) (executions_from m (after_batches m (delivered m r batch) list) more))
-
 -- the executions grow by the lines of one more batch
 pub executions-end : {S : Type 0} (m : Meaning S) (v : View) (list : List Batch) (batch : Batch) → executions m v list ++ executed_lines m (state m v list) batch ≡ executions m v (list ++ batch ∷ [])
 executions-end m v list batch =
-    sym (executions-append m (empty m v) list (batch ∷ []) ∙ ap (λ lines. executions m v list ++ lines) (append-nil (executed_lines m (state m v list) batch)))
+    sym (executions_append m (empty m v) list (batch ∷ []) ∙ ap (λ lines. executions m v list ++ lines) (append-nil (executed_lines m (state m v list) batch)))
 
 -- no two lines at one place and index
 
@@ -112,7 +76,7 @@ at_one m r i q false = tt
 
 -- a request leaves the place at which later lines stand
 at_rest : {S : Type 0} (m : Meaning S) (r : Replica S) (i : ℕ) (q : Request) (lines : List TableLine) → Each (At (execute m r i q).place (i + 1)) lines → Each (At r.place (i + 1)) lines
-at_rest m r i q lines = subst (λ place. Each (At place (i + 1)) lines) (place-execute m r i q)
+at_rest m r i q lines = subst (λ place. Each (At place (i + 1)) lines) (place_execute m r i q)
 
 -- the lines of requests stand at one place
 at_lines : {S : Type 0} (m : Meaning S) (r : Replica S) (i : ℕ) (qs : Batch) → Each (At r.place i) (lines_of m r i qs)
@@ -120,13 +84,13 @@ at_lines m r i [] = tt
 at_lines m r i (q ∷ qs) =
     each_append (At r.place i) (option_to_list (line_made m r i q.statement)) (lines_of m (execute m r i q.statement) (i + 1) qs)
     (at_one m r i q.statement (is_next r.table q.statement))
-    (each_weaker (At r.place (i + 1)) (At r.place i) (λ l at. record { there = at.there; behind = omega (arith, at.behind) }) _
+    (each-weaken (At r.place (i + 1)) (At r.place i) (λ l at. record { there = at.there; behind = omega (arith, at.behind) }) _
     (at_rest m r i q.statement _ (at_lines m (execute m r i q.statement) (i + 1) qs)))
 
 apart_one : {S : Type 0} (m : Meaning S) (r : Replica S) (i : ℕ) (q : Request) (rest : List TableLine) (next : Bool) → Each (At r.place (i + 1)) rest → Apart rest
     → Apart (option_to_list (cond next (Some (line_of m r i q)) None) ++ rest)
 apart_one m r i q rest true at apart =
-    (each_weaker (At r.place (i + 1)) (Elsewhere (line_of m r i q)) (λ l at. by_index (line_of m r i q) l (omega (arith, at.behind))) rest at, apart)
+    (each-weaken (At r.place (i + 1)) (Elsewhere (line_of m r i q)) (λ l at. by_index (line_of m r i q) l (omega (arith, at.behind))) rest at, apart)
 apart_one m r i q rest false at apart = apart
 
 apart_lines : {S : Type 0} (m : Meaning S) (r : Replica S) (i : ℕ) (qs : Batch) → Apart (lines_of m r i qs)
@@ -146,22 +110,22 @@ apart_delivered m r batch = apart_lines m (at_next r) 0 batch
 
 -- what stands behind a batch stands behind its place
 beyond_next : {S : Type 0} (m : Meaning S) (r : Replica S) (batch : Batch) (lines : List TableLine) → Each (λ l. (delivered m r batch).place < l.place) lines → Each (λ l. r.place + 1 < l.place) lines
-beyond_next m r batch lines = subst (λ (place : ℕ). Each (λ l. place < l.place) lines) (place-delivered m r batch)
+beyond_next m r batch lines = subst (λ (place : ℕ). Each (λ l. place < l.place) lines) (place_delivered m r batch)
 
 -- the lines of batches stand behind the replica's place
 beyond : {S : Type 0} (m : Meaning S) (r : Replica S) (list : List Batch) → Each (λ l. r.place < l.place) (executions_from m r list)
 beyond m r [] = tt
 beyond m r (batch ∷ list) =
     each_append (λ l. r.place < l.place) (executed_lines m r batch) (executions_from m (delivered m r batch) list)
-    (each_weaker (At (r.place + 1) 0) (λ l. r.place < l.place) (λ l at. omega (arith, at.there)) _ (at_delivered m r batch))
-    (each_weaker (λ l. r.place + 1 < l.place) (λ l. r.place < l.place) (λ l less. omega (arith, less)) _ (beyond_next m r batch _ (beyond m (delivered m r batch) list)))
+    (each-weaken (At (r.place + 1) 0) (λ l. r.place < l.place) (λ l at. omega (arith, at.there)) _ (at_delivered m r batch))
+    (each-weaken (λ l. r.place + 1 < l.place) (λ l. r.place < l.place) (λ l less. omega (arith, less)) _ (beyond_next m r batch _ (beyond m (delivered m r batch) list)))
 
 apart_from : {S : Type 0} (m : Meaning S) (r : Replica S) (list : List Batch) → Apart (executions_from m r list)
 apart_from m r [] = tt
 apart_from m r (batch ∷ list) =
     apart-append (executed_lines m r batch) (executions_from m (delivered m r batch) list) (apart_delivered m r batch) (apart_from m (delivered m r batch) list)
-    (each_weaker (At (r.place + 1) 0) (λ a. Each (Elsewhere a) (executions_from m (delivered m r batch) list))
-    (λ a at. each_weaker (λ l. r.place + 1 < l.place) (Elsewhere a) (λ l less. by_place a l (omega (arith, at.there, less))) _ (beyond_next m r batch _ (beyond m (delivered m r batch) list)))
+    (each-weaken (At (r.place + 1) 0) (λ a. Each (Elsewhere a) (executions_from m (delivered m r batch) list))
+    (λ a at. each-weaken (λ l. r.place + 1 < l.place) (Elsewhere a) (λ l less. by_place a l (omega (arith, at.there, less))) _ (beyond_next m r batch _ (beyond m (delivered m r batch) list)))
     _ (at_delivered m r batch))
 
 -- the first line that passes a test
@@ -202,7 +166,7 @@ first_front p (x ∷ xs) ys l found = first_front-step p x xs ys l (p x) refl (f
 -- the answer at the place and index of each line is its reply
 answers : {S : Type 0} (m : Meaning S) (v : View) (list : List Batch) → Each (λ l. answer m v list l.place l.index ≡ Some l.reply) (executions m v list)
 answers m v list =
-    each_weaker (λ l. first_line (here l.place l.index) (executions m v list) ≡ Some l) (λ l. answer m v list l.place l.index ≡ Some l.reply)
+    each-weaken (λ l. first_line (here l.place l.index) (executions m v list) ≡ Some l) (λ l. answer m v list l.place l.index ≡ Some l.reply)
     (λ l found. ap (option_map (λ (line : TableLine). line.reply)) found) (executions m v list) (first_here (executions m v list) (apart_from m (empty m v) list))
 
 -- so it is of the lines of the last batch
@@ -221,5 +185,5 @@ pub answer-more : {S : Type 0} (m : Meaning S) (v : View) (list more : List Batc
     → answer m v list place index ≡ Some reply → answer m v (list ++ more) place index ≡ Some reply
 answer-more m v list more place index reply =
     mapped (λ line. line.reply) (first_line (here place index) (executions m v list)) (first_line (here place index) (executions m v (list ++ more))) reply
-    (λ l found. subst (λ lines. first_line (here place index) lines ≡ Some l) (sym (executions-append m (empty m v) list more))
+    (λ l found. subst (λ lines. first_line (here place index) lines ≡ Some l) (sym (executions_append m (empty m v) list more))
     (first_front (here place index) (executions m v list) (executions_from m (state m v list) more) l found))

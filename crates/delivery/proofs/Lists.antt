@@ -11,10 +11,6 @@ pub each_right : {A : Type 0} (P : A → Type 0) (xs ys : List A) → Each P (xs
 each_right P [] ys each = each
 each_right P (x ∷ xs) ys each = each_right P xs ys each.1
 
-pub each_weaker : {A : Type 0} (P Q : A → Type 0) → ((x : A) → P x → Q x) → (xs : List A) → Each P xs → Each Q xs
-each_weaker P Q weaker [] each = tt
-each_weaker P Q weaker (x ∷ xs) each = (weaker x each.0, each_weaker P Q weaker xs each.1)
-
 pub each_both : {A : Type 0} (P Q R : A → Type 0) → ((x : A) → P x → Q x → R x) → (xs : List A) → Each P xs → Each Q xs → Each R xs
 each_both P Q R both [] ep eq = tt
 each_both P Q R both (x ∷ xs) ep eq = (both x ep.0 eq.0, each_both P Q R both xs ep.1 eq.1)

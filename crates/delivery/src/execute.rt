@@ -4,11 +4,11 @@ ghost use Rattle.replica_rules.specs.Replicas.{line_made, execute, execute_all, 
 
 use smart_base::duplicate::Duplicate;
 use smart_base::sequence::Sequence;
-use smart_messages::batch::Batch;
-use smart_messages::statement::Request;
 use smart_service::replica::Replica;
 use smart_service::service::Service;
 use smart_service::table::TableLine;
+use smart_statements::batch::Batch;
+use smart_statements::statement::Request;
 use std::alloc::{AllocError, Global};
 
 /// Executes a request where it is its client's next, and gives the line that it made. Any other is

@@ -2,7 +2,7 @@
 ghost use Rattle.std.specs.Prelude.{◌≡◌, ◌++◌, ℕ, List, [], ◌∷◌, length, Some};
 ghost use Rattle.smart_base.specs.Lists.{Each};
 ghost use Rattle.smart_base.specs.Views.{View};
-ghost use Rattle.smart_messages.specs.Messages.{Batch};
+ghost use Rattle.smart_statements.specs.Batches.{Batch};
 ghost use Rattle.replica_rules.specs.Replicas.{empty, state, delivered, executed_lines, executions, answer};
 
 use smart_service::service::Service;

@@ -4,5 +4,3 @@
 mod execute;
 pub mod laws;
 pub mod replica;
-#[cfg(test)]
-mod tests;

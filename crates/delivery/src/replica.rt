@@ -7,10 +7,10 @@ use crate::execute::execute_all;
 use smart_base::number::Place;
 use smart_base::sequence::Sequence;
 use smart_base::view::{View, Views};
-use smart_messages::batch::Batch;
 use smart_service::replica::Replica;
 use smart_service::service::Service;
 use smart_service::table::{ClientTable, TableLine};
+use smart_statements::batch::Batch;
 use std::alloc::{AllocError, Global};
 
 /// A replica, and whether want of memory stopped a delivery half-way. Then the replica is spent:

@@ -5,14 +5,14 @@ use Rattle.std.specs.Prelude.{filter}
 use Rattle.std.specs.List.{list_any}
 use Rattle.smart_base.specs.Lists.{or_else}
 use Rattle.smart_base.specs.Views.{leader}
-use Rattle.smart_messages.specs.Forms.{SignedBy}
-use Rattle.smart_messages.specs.Kinds.{proposals, ballots}
-use Rattle.smart_messages.specs.Reports.{reports}
+use Rattle.smart_statements.specs.Forms.{SignedBy}
+use Rattle.smart_statements.specs.Kinds.{proposals, ballots}
+use Rattle.smart_statements.specs.Reports.{reports}
 use Rattle.smart_messages.specs.Regencies.{stops, syncs}
-use Rattle.smart_messages.specs.declared.statement.Request.{Request}
-use Rattle.smart_messages.specs.declared.statement.Slot.{Slot}
-use Rattle.smart_messages.specs.declared.statement.Ballot.{Ballot}
-use Rattle.smart_messages.specs.declared.statement.Answer.{Answer}
+use Rattle.smart_statements.specs.declared.statement.Request.{Request}
+use Rattle.smart_statements.specs.declared.statement.Slot.{Slot}
+use Rattle.smart_statements.specs.declared.statement.Ballot.{Ballot}
+use Rattle.smart_statements.specs.declared.statement.Answer.{Answer}
 use Rattle.smart_messages.specs.declared.regency.Stop.{Stop}
 use Rattle.smart_messages.specs.declared.regency.Sync.{Sync}
 use Rattle.smart_messages.specs.declared.regency.Reported.{Reported}
@@ -34,10 +34,11 @@ use Rattle.node_rules.specs.Nodes.{Node, view_of, regency_of, start_of, decided_
 use Rattle.node_rules.specs.declared.node.Why.{Why}
 use Rattle.node_rules.specs.declared.node.Why.TheVariants.{OldView, NewView, OldPlace, FarPlace, OldRegency, NewRegency, NotLeader, InvalidBatch, BadProof, Unbound, Repeated}
 use Rattle.node_rules.specs.Kept.{ahead_of, needed_by, trimmed}
-use Rattle.kept_arrivals.proofs.Filters.{or_else_where, or_else-none}
+use Rattle.kept_arrivals.proofs.Filters.{or_else_where}
 use Rattle.kept_arrivals.proofs.Needed.{ahead_from, same_vote_needed, same_proposal_needed}
 use Rattle.kept_arrivals.proofs.Rules.{synchronizer_same}
 use Rattle.kept_arrivals.proofs.Changes.{trimmed-if}
+use Rattle.node_rules.proofs.Options.{no_reason, else_none}
 
 -- ---- what gives no reason is needed
 
@@ -45,10 +46,6 @@ neither : (a b : Bool) (x y : Why) → cond a (Some x) (cond b (Some y) None) �
 neither true b x y none = absurd (cc)
 neither false true x y none = absurd (cc)
 neither false false x y none = (refl, refl)
-
-not_first : {A : Type 0} (a : Bool) (x : A) (rest : Option A) → cond a (Some x) rest ≡ None → (a ≡ false) × (rest ≡ None)
-not_first true x rest none = absurd (cc)
-not_first false x rest none = (refl, none)
 
 view_is : {S : Type 0} (n : Node S) (view : ℕ) → view_why n view ≡ None → view ≡ (view_of n).number
 view_is n view none =
@@ -70,8 +67,8 @@ wish_is n regency none =
 pub ahead_where : {S : Type 0} (n : Node S) (slot : Slot) → slot_why n slot ≡ None → ahead_of n slot ≡ true
 unfolding slot_why
 ahead_where n slot none =
-    let outer = or_else-none (view_why n slot.view) (or_else (place_why n slot.place) (regency_why n slot.regency)) none in
-    let inner = or_else-none (place_why n slot.place) (regency_why n slot.regency) outer.1 in
+    let outer = else_none (view_why n slot.view) (or_else (place_why n slot.place) (regency_why n slot.regency)) none in
+    let inner = else_none (place_why n slot.place) (regency_why n slot.regency) outer.1 in
     let same = view_is n slot.view outer.0 in
     ahead_from (view_of n).number (decided_place n) (regency_of n) slot (omega (arith, same)) (place_is n slot.place inner.0) (regency_is n slot.regency inner.1)
 
@@ -174,17 +171,6 @@ why_same n (Change (changes.Sync s)) = why_sync_same n s
 
 -- ---- what an arrival tells
 
--- that a node is behind gives no reason
-pub why_noted : {S : Type 0} (n : Node S) (behind : Bool) (message : AnyMessage) → why_dropped (record n { behind = behind }) message ≡ why_dropped n message
-unfolding why_ask why_propose why_vote why_reply why_stop why_report why_sync is_proven is_collect signer_why slot_why regency_of start_of
-why_noted n behind (Plain (Ask q)) = refl
-why_noted n behind (Plain (Propose p)) = refl
-why_noted n behind (Plain (Vote b)) = refl
-why_noted n behind (Plain (Reply a)) = refl
-why_noted n behind (Change (changes.Stop s)) = refl
-why_noted n behind (Change (changes.StopData r)) = refl
-why_noted n behind (Change (changes.Sync s)) = refl
-
 pub noted_same : {S : Type 0} (n : Node S) (message : AnyMessage) → noted (trimmed n) message ≡ trimmed (noted n message)
 unfolding noted signer_why trimmed regency_of
 noted_same n (Plain (Ask q)) = refl
@@ -199,34 +185,34 @@ noted_same n (Change (changes.Sync s)) = refl
 
 vote_ahead : {S : Type 0} (n : Node S) (b : SignedBy Ballot) → why_vote n b ≡ None → ahead_of n b.statement.slot ≡ true
 unfolding why_vote
-vote_ahead n b none = ahead_where n b.statement.slot (or_else-none (slot_why n b.statement.slot) _ (or_else-none (signer_why n (is_verified ballots n.secret b) b.signer) _ none).1).0
+vote_ahead n b none = ahead_where n b.statement.slot (else_none (slot_why n b.statement.slot) _ (else_none (signer_why n (is_verified ballots n.secret b) b.signer) _ none).1).0
 
 propose_ahead : {S : Type 0} (n : Node S) (p : Proposed) → why_propose n p ≡ None → ahead_of n p.head.statement.slot ≡ true
 unfolding why_propose
-propose_ahead n p none = ahead_where n p.head.statement.slot (or_else-none (slot_why n p.head.statement.slot) _ (or_else-none (signer_why n (is_verified proposals n.secret p.head) p.head.signer) _ none).1).0
+propose_ahead n p none = ahead_where n p.head.statement.slot (else_none (slot_why n p.head.statement.slot) _ (else_none (signer_why n (is_verified proposals n.secret p.head) p.head.signer) _ none).1).0
 
 stop_needed : {S : Type 0} (n : Node S) (s : SignedBy Stop) → why_stop n s ≡ None → needs_stop (view_of n).number (regency_of n) s ≡ true
 unfolding why_stop
 stop_needed n s none =
-    let first = or_else-none (signer_why n (is_verified stops n.secret s) s.signer) _ none in
-    let second = or_else-none (view_why n s.statement.view) _ first.1 in
-    let third = or_else-none (wish_why n s.statement.regency) _ second.1 in
+    let first = else_none (signer_why n (is_verified stops n.secret s) s.signer) _ none in
+    let second = else_none (view_why n s.statement.view) _ first.1 in
+    let third = else_none (wish_why n s.statement.regency) _ second.1 in
     needed_here n s.statement.view s.statement.regency (view_is n s.statement.view second.0) (wish_is n s.statement.regency third.0)
 
 report_needed : {S : Type 0} (n : Node S) (r : Reported) → why_report n r ≡ None → needs_report (view_of n).number (regency_of n) r ≡ true
 unfolding why_report
 report_needed n r none =
-    let first = or_else-none (signer_why n (is_verified reports n.secret r.head) r.head.signer) _ none in
-    let second = or_else-none (view_why n r.head.statement.view) _ first.1 in
-    let third = or_else-none (regency_why n r.head.statement.regency) _ second.1 in
+    let first = else_none (signer_why n (is_verified reports n.secret r.head) r.head.signer) _ none in
+    let second = else_none (view_why n r.head.statement.view) _ first.1 in
+    let third = else_none (regency_why n r.head.statement.regency) _ second.1 in
     needed_here n r.head.statement.view r.head.statement.regency (view_is n r.head.statement.view second.0) (regency_is n r.head.statement.regency third.0)
 
 sync_needed : {S : Type 0} (n : Node S) (s : SignedBy Sync) → why_sync n s ≡ None → needs_sync (view_of n).number (regency_of n) s ≡ true
 unfolding why_sync
 sync_needed n s none =
-    let first = or_else-none (signer_why n (is_verified syncs n.secret s) s.signer) _ none in
-    let second = or_else-none (view_why n s.statement.view) _ first.1 in
-    let third = not_first (nat_lt s.statement.regency (regency_of n)) OldRegency _ second.1 in
+    let first = else_none (signer_why n (is_verified syncs n.secret s) s.signer) _ none in
+    let second = else_none (view_why n s.statement.view) _ first.1 in
+    let third = no_reason (nat_lt s.statement.regency (regency_of n)) OldRegency _ second.1 in
     needed_here n s.statement.view s.statement.regency (view_is n s.statement.view second.0) (ltb-false s.statement.regency (regency_of n) third.0)
 
 -- what is needed comes to the needed ones

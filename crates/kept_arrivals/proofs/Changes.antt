@@ -1,8 +1,8 @@
 -- Each rule by which the regency changes, on what is needed.
 use Rattle.std.proofs.Common.{◌≡◌, ◌++◌, Bool, true, false, List, [], ◌∷◌, refl, ap, ◌∙◌, cond, arith, Option, Some, None}
-use Rattle.smart_messages.specs.Forms.{SignedBy}
-use Rattle.smart_messages.specs.declared.statement.Request.{Request}
-use Rattle.smart_messages.specs.declared.report.Report.{Report}
+use Rattle.smart_statements.specs.Forms.{SignedBy}
+use Rattle.smart_statements.specs.declared.statement.Request.{Request}
+use Rattle.smart_statements.specs.declared.report.Report.{Report}
 use Rattle.smart_messages.specs.declared.regency.Sync.{Sync}
 use Rattle.vote_book.specs.declared.entry.LogEntry.TheVariants.{Promised, Synced}
 use Rattle.regency_sync.specs.Synchronizers.{adopting, is_joining, is_promising, collecting}
@@ -16,10 +16,6 @@ use Rattle.kept_arrivals.proofs.Rules.{exactly, synchronizer_same}
 pub trimmed-if : {S : Type 0} (test : Bool) (x y : Node S) → cond test (trimmed x) (trimmed y) ≡ trimmed (cond test x y)
 trimmed-if true x y = refl
 trimmed-if false x y = refl
-
-view_same : {S : Type 0} (n : Node S) → view_of (trimmed n) ≡ view_of n
-unfolding trimmed
-view_same n = refl
 
 -- ADOPT
 

@@ -5,16 +5,16 @@ use Rattle.std.specs.Prelude.{filter, filter_map}
 use Rattle.smart_base.specs.Lists.{or_else, same_bytes}
 use Rattle.smart_base.specs.Views.{View, is_member, quorum}
 use Rattle.smart_base.proofs.SameLists.{and_true}
-use Rattle.smart_messages.specs.Forms.{SignedBy}
-use Rattle.smart_messages.specs.Equality.{same_slot}
-use Rattle.smart_messages.specs.declared.statement.Slot.{Slot}
+use Rattle.smart_statements.specs.Forms.{SignedBy}
+use Rattle.smart_statements.specs.Equality.{same_slot}
+use Rattle.smart_statements.specs.declared.statement.Slot.{Slot}
 use Rattle.smart_messages.specs.declared.message.Proposed.{Proposed}
-use Rattle.smart_messages.specs.declared.statement.Ballot.{Ballot}
+use Rattle.smart_statements.specs.declared.statement.Ballot.{Ballot}
 use Rattle.smart_messages.specs.declared.regency.Stop.{Stop}
 use Rattle.smart_messages.specs.declared.regency.Sync.{Sync}
 use Rattle.smart_messages.specs.declared.regency.Reported.{Reported}
-use Rattle.smart_messages.specs.declared.statement.VoteKind.{VoteKind}
-use Rattle.smart_messages.specs.declared.statement.VoteKind.TheVariants as kinds
+use Rattle.smart_statements.specs.declared.statement.VoteKind.{VoteKind}
+use Rattle.smart_statements.specs.declared.statement.VoteKind.TheVariants as kinds
 use Rattle.smart_messages.specs.declared.message.Message.{Message}
 use Rattle.smart_messages.specs.declared.message.Message.TheVariants.{Ask, Propose, Vote, Reply}
 use Rattle.vote_book.specs.declared.entry.LogEntry.{LogEntry}
@@ -25,18 +25,12 @@ use Rattle.regency_sync.proofs.Needs.{needed_earlier}
 use Rattle.node_rules.specs.Votes.{is_vote, has_vote, has_quorum, certificate, vote_in, first_vote, certificate_votes, proposed_in, proposed_for, Named, named_in, named_by, known, decision_by, accepted_in}
 use Rattle.node_rules.specs.Arrivals.{is_same_proposal, is_same_vote}
 use Rattle.node_rules.specs.Nodes.{Node, view_of, regency_of, next_place, decided_place, open_slot, is_free, is_open, has_begun, start_of, greatest_regency}
-use Rattle.kept_arrivals.proofs.Filters.{filter_map_kept, guard_passed}
-
-pub same_slot-equal : (a b : Slot) → same_slot a b ≡ true → a ≡ b
-same_slot-equal a b same =
-    let outer = and_true ((a.view == b.view) && (a.place == b.place)) (a.regency == b.regency) same in
-    let inner = and_true (a.view == b.view) (a.place == b.place) outer.0 in
-    let make : ℕ → ℕ → ℕ → Slot = λ v p r. record { view = v; place = p; regency = r } in
-    ap (λ v. make v a.place a.regency) (eqb-true a.view b.view inner.0)
-    ∙ (ap (λ p. make b.view p a.regency) (eqb-true a.place b.place inner.1) ∙ ap (λ r. make b.view b.place r) (eqb-true a.regency b.regency outer.1))
+use Rattle.kept_arrivals.proofs.Filters.{filter_map_kept}
+use Rattle.vote_book.proofs.Tested.{slot_is}
+use Rattle.node_rules.proofs.Options.{none_is, guard_passed}
 
 as_ahead : (v c r : ℕ) (s slot : Slot) → is_ahead v c r slot ≡ true → same_slot s slot ≡ true → is_ahead v c r s ≡ true
-as_ahead v c r s slot ahead same = ap (λ t. is_ahead v c r t) (same_slot-equal s slot same) ∙ ahead
+as_ahead v c r s slot ahead same = ap (λ t. is_ahead v c r t) (slot_is s slot same) ∙ ahead
 
 -- a slot of this view, of a place past one and of this regency or a later one
 pub ahead_from : (v c r : ℕ) (s : Slot) → v ≤ s.view → c < s.place → r ≤ s.regency → is_ahead v c r s ≡ true
@@ -45,7 +39,7 @@ ahead_from v c r s views places regencies = rw (lt-ltb c s.place places, le-leb 
 -- ---- what speaks of a slot ahead
 
 pub proposed_needed : (v c r : ℕ) (slot : Slot) → is_ahead v c r slot ≡ true → (s : Slot) → same_slot slot s ≡ true → is_ahead v c r s ≡ true
-proposed_needed v c r slot ahead s same = ap (λ t. is_ahead v c r t) (sym (same_slot-equal slot s same)) ∙ ahead
+proposed_needed v c r slot ahead s same = ap (λ t. is_ahead v c r t) (sym (slot_is slot s same)) ∙ ahead
 
 vote_needed : (v c r : ℕ) (kind : VoteKind) (member : ℕ) (slot : Slot) (digest : List ℕ) → is_ahead v c r slot ≡ true
     → (m : Message) → is_vote kind member slot digest m ≡ true → is_needed v c r m ≡ true
@@ -166,12 +160,8 @@ decision_kept v c r place view slot ahead past ms entries =
 
 -- ---- the open slot
 
-pub is_none-is : {A : Type 0} (x : Option A) → is_none x ≡ true → x ≡ None
-is_none-is None is = refl
-is_none-is (Some x) is = absurd (cc)
-
 pub free_free : {S : Type 0} (n : Node S) → is_free n ≡ true → n.waiting ≡ None
-free_free n free = is_none-is n.waiting (and_true (is_none n.waiting) (nat_lt (next_place n) (2 ^ 63)) free).0
+free_free n free = none_is n.waiting (and_true (is_none n.waiting) (nat_lt (next_place n) (2 ^ 63)) free).0
 
 pub open_free : {S : Type 0} (n : Node S) → is_open n ≡ true → n.waiting ≡ None
 open_free n may = free_free n (and_true (is_member (view_of n) n.id) (is_free n) (and_true _ (has_begun (next_place n) (start_of n)) may).0).1

@@ -5,27 +5,25 @@ use Rattle.std.specs.List.{list_any}
 use Rattle.smart_base.specs.Lists.{or_else}
 use Rattle.smart_base.specs.Views.{View, leader, present}
 use Rattle.smart_base.proofs.SameLists.{and_true}
-use Rattle.smart_messages.specs.Forms.{SignedBy}
-use Rattle.smart_messages.specs.Kinds.{proposals}
-use Rattle.smart_messages.specs.Messages.{Batch}
-use Rattle.smart_messages.specs.Equality.{same_slot}
-use Rattle.smart_messages.specs.declared.statement.Request.{Request}
-use Rattle.smart_messages.specs.declared.statement.Ballot.{Ballot}
-use Rattle.smart_messages.specs.declared.statement.Slot.{Slot}
-use Rattle.smart_messages.specs.declared.statement.VoteKind.TheVariants.{Write, Accept}
+use Rattle.smart_statements.specs.Forms.{SignedBy}
+use Rattle.smart_statements.specs.Kinds.{proposals}
+use Rattle.smart_statements.specs.Batches.{Batch}
+use Rattle.smart_statements.specs.Equality.{same_slot}
+use Rattle.smart_statements.specs.declared.statement.Ballot.{Ballot}
+use Rattle.smart_statements.specs.declared.statement.Slot.{Slot}
+use Rattle.smart_statements.specs.declared.statement.VoteKind.TheVariants.{Write, Accept}
 use Rattle.smart_messages.specs.declared.message.Message.TheVariants.{Ask, Propose, Vote, Reply}
 use Rattle.smart_messages.specs.declared.message.Proposed.{Proposed}
 use Rattle.smart_messages.specs.declared.any.AnyMessage.{AnyMessage}
 use Rattle.smart_messages.specs.declared.any.AnyMessage.TheVariants.{Plain, Change}
 use Rattle.smart_service.specs.Services.{Meaning}
 use Rattle.smart_service.specs.declared.table.TableLine.{TableLine}
-use Rattle.smart_service.specs.declared.replica.Replica.{Replica}
 use Rattle.vote_book.specs.declared.entry.Decision.{Decision}
 use Rattle.vote_book.specs.declared.entry.LogEntry.TheVariants.{Wrote, Accepted, Decided}
 use Rattle.regency_sync.specs.Synchronizers.{batch_of, trimmed as sync_trimmed}
 use Rattle.regency_sync.proofs.Lists.{any_filter, filter_end}
 use Rattle.regency_sync.proofs.Needs.{batch_same}
-use Rattle.replica_rules.specs.Replicas.{is_next, execute, execute_all, at_next, delivered}
+use Rattle.replica_rules.specs.Replicas.{delivered}
 use Rattle.replica_rules.specs.Seals.{signed, digest_of}
 use Rattle.replica_rules.specs.Pools.{settled}
 use Rattle.node_rules.specs.Rules.{reply_of, replying, lines_to_answer, deliver_batch, delivery, delivers, batch_under, proposing, propose_batch, proposes, ballot, votable, writing, write_batch, writes, written, accepting, slot_in, accept_batch, accepts, decision_in, decision_ahead, deciding, decide_batch, decides, answering, answer_line, answers_again}
@@ -33,8 +31,10 @@ use Rattle.node_rules.specs.Nodes.{Node, view_of, regency_of, start_of, next_pla
 use Rattle.node_rules.specs.Votes.{certificate_votes, proposed_for, accepted_under}
 use Rattle.node_rules.specs.declared.node.Target.TheVariants as targets
 use Rattle.node_rules.specs.Kept.{ahead_of, needed_by, trimmed}
-use Rattle.kept_arrivals.proofs.Filters.{where_true, and_where, guard_passed}
+use Rattle.kept_arrivals.proofs.Filters.{where_true, and_where}
 use Rattle.kept_arrivals.proofs.Needed.{proposed_needed, proposal_kept, quorum_kept, certificate_kept, decision_kept, free_free, open_free, next_past, slot_ahead, open_ahead, trim, trimmed_behind, trimmed_twice, regency_grows}
+use Rattle.replica_rules.proofs.Places.{place_delivered, views_delivered}
+use Rattle.node_rules.proofs.Options.{guard_passed}
 
 -- a rule that goes on over what is needed as over all
 abbrev pub Keeps : {S : Type 0} → (Node S → Node S) → Type 0
@@ -182,7 +182,7 @@ pub deciding_same : {S : Type 0} (n : Node S) → deciding (trimmed n) ≡ decid
 unfolding deciding trimmed regency_of
 deciding_same n = where_true (is_free n) _ _ None (λ free. decisions_same n (free_free n free))
 
-decides_free : {S : Type 0} (n : Node S) → is_some (deciding n) ≡ true → n.waiting ≡ None
+pub decides_free : {S : Type 0} (n : Node S) → is_some (deciding n) ≡ true → n.waiting ≡ None
 unfolding deciding
 decides_free n some = free_free n (guard_passed (is_free n) _ some)
 
@@ -220,38 +220,6 @@ pub answers_same : {S : Type 0} (n : Node S) (message : AnyMessage) → trimmed 
 answers_same n message = exactly (λ x. answers_again x message) (answers_exact message) n
 
 -- DELIVER
-
-place-if : {S : Type 0} (test : Bool) (x y : Replica S) → x.place ≡ y.place → (cond test x y).place ≡ y.place
-place-if true x y same = same
-place-if false x y same = refl
-
-views-if : {S : Type 0} (test : Bool) (x y : Replica S) → x.views ≡ y.views → (cond test x y).views ≡ y.views
-views-if true x y same = same
-views-if false x y same = refl
-
-place-execute : {S : Type 0} (m : Meaning S) (r : Replica S) (i : ℕ) (q : Request) → (execute m r i q).place ≡ r.place
-unfolding execute
-place-execute m r i q = place-if (is_next r.table q) _ r refl
-
-views-execute : {S : Type 0} (m : Meaning S) (r : Replica S) (i : ℕ) (q : Request) → (execute m r i q).views ≡ r.views
-unfolding execute
-views-execute m r i q = views-if (is_next r.table q) _ r refl
-
-place-execute_all : {S : Type 0} (m : Meaning S) (r : Replica S) (i : ℕ) (qs : Batch) → (execute_all m r i qs).place ≡ r.place
-place-execute_all m r i [] = refl
-place-execute_all m r i (q ∷ qs) = place-execute_all m (execute m r i q.statement) (i + 1) qs ∙ place-execute m r i q.statement
-
-views-execute_all : {S : Type 0} (m : Meaning S) (r : Replica S) (i : ℕ) (qs : Batch) → (execute_all m r i qs).views ≡ r.views
-views-execute_all m r i [] = refl
-views-execute_all m r i (q ∷ qs) = views-execute_all m (execute m r i q.statement) (i + 1) qs ∙ views-execute m r i q.statement
-
-pub place_delivered : {S : Type 0} (m : Meaning S) (r : Replica S) (batch : Batch) → (delivered m r batch).place ≡ r.place + 1
-unfolding delivered
-place_delivered m r batch = place-execute_all m (at_next r) 0 batch
-
-pub views_delivered : {S : Type 0} (m : Meaning S) (r : Replica S) (batch : Batch) → (delivered m r batch).views ≡ r.views
-unfolding delivered
-views_delivered m r batch = views-execute_all m (at_next r) 0 batch
 
 holding_same : {S : Type 0} (n : Node S) (l : TableLine)
     → holding (trimmed n) (targets.Client l.client) (Plain (reply_of n.secret n.id l)) ≡ trimmed (holding n (targets.Client l.client) (Plain (reply_of n.secret n.id l)))

@@ -1,29 +1,29 @@
 -- A step on what is needed, and a core's steps.
 use Rattle.std.proofs.Common.{◌≡◌, ℕ, ◌++◌, Bool, List, [], ◌∷◌, refl, ap, sym, ◌∙◌, Option, Some, None, Result, Ok, Err}
 use Rattle.smart_base.specs.Views.{View}
-use Rattle.smart_messages.specs.Forms.{SignedBy}
+use Rattle.smart_statements.specs.Forms.{SignedBy}
 use Rattle.smart_messages.specs.RegencyMessages.{any_decoded}
-use Rattle.smart_messages.specs.declared.report.Report.{Report}
+use Rattle.smart_statements.specs.declared.report.Report.{Report}
 use Rattle.smart_messages.specs.declared.regency.Sync.{Sync}
 use Rattle.smart_messages.specs.declared.any.AnyMessage.{AnyMessage}
-use Rattle.smart_messages.specs.declared.entry.NodeEvent.{NodeEvent}
-use Rattle.smart_messages.specs.declared.entry.NodeEvent.TheVariants.{Arrive, Tick, Deliver, Firm}
+use Rattle.smart_statements.specs.declared.entry.NodeEvent.{NodeEvent}
+use Rattle.smart_statements.specs.declared.entry.NodeEvent.TheVariants.{Arrive, Tick, Deliver, Firm}
 use Rattle.smart_service.specs.Services.{Meaning}
 use Rattle.vote_book.specs.declared.entry.Promise.{Promise}
 use Rattle.node_rules.specs.Nodes.{Node, regency_of, next_place}
 use Rattle.node_rules.specs.Arrivals.{why_dropped, noted, kept}
 use Rattle.node_rules.specs.Rules.{fired_if, delivers, delivery, proposing, proposes, writing, writes, accepting, accepts, deciding, decides, answering, answers_again}
 use Rattle.node_rules.specs.Changes.{fired_when, fired_adopt, adoption, adopts, joining, joins, next_promise, promising, promises, leading, leads, timing, times}
-use Rattle.node_rules.specs.Steps.{made_firm, Outcome, turns, fired_turns, votes, fired_votes, passes, fired_pass, outcome_from, answered, timed, arrival_outcome, reading_outcome, step_of, released, opened}
+use Rattle.node_rules.specs.Steps.{made_firm, Outcome, turns, fired_turns, votes, fired_votes, passes, fired_pass, outcome_from, answered, timed, arrival_outcome, reading_outcome, step_of, opened}
 use Rattle.node_rules.specs.declared.node.Why.{Why}
-use Rattle.node_rules.specs.declared.node.Held.{Held}
 use Rattle.node_rules.specs.declared.node.Fired.{Fired}
 use Rattle.node_rules.specs.declared.node.Fired.TheVariants as fires
 use Rattle.node_rules.specs.Kept.{trimmed, Stands, core_step, StepStands, core_after, node_after}
 use Rattle.kept_arrivals.proofs.Needed.{trimmed_twice}
 use Rattle.kept_arrivals.proofs.Rules.{Keeps, proposing_same, proposes_same, writing_same, writes_same, accepting_same, accepts_same, deciding_same, decides_same, delivers_same, delivery_same, answering_same, answers_same}
 use Rattle.kept_arrivals.proofs.Changes.{adoption_same, adopts_same, joining_same, joins_same, next_promise_same, promising_same, promises_same, leading_same, leads_same, timing_same, times_same}
-use Rattle.kept_arrivals.proofs.Arrivals.{why_same, why_noted, noted_same, kept_same}
+use Rattle.kept_arrivals.proofs.Arrivals.{why_same, noted_same, kept_same}
+use Rattle.node_rules.proofs.Rulewise.{why_noted}
 
 -- Two nodes need the same. A rule of a pass may raise the regency and a decision the place, so what goes on behind it is what two nodes that
 -- need the same do, and neither of them has to be the trimmed of the other.
@@ -193,17 +193,3 @@ opened_stands m secret id view period = record { same = opened_same m secret id 
 pub after_stands : {S : Type 0} (m : Meaning S) (core n : Node S) (events : List NodeEvent) → Stands core n → Stands (core_after m core events) (node_after m n events)
 after_stands m core n [] stands = stands
 after_stands m core n (e ∷ es) stands = after_stands m (core_step m core e).node (step_of m n e).node es (core_step_stands m core n e stands).node
-
--- ---- release
-
--- what is held leaves the core as it leaves the node
-pub held_trimmed : {S : Type 0} (n : Node S) (held : List Held) → record (trimmed n) { held = held } ≡ trimmed (record n { held = held })
-unfolding trimmed regency_of
-held_trimmed n held = refl
-
-pub released_trimmed : {S : Type 0} (n : Node S) → released (trimmed n) ≡ trimmed (released n)
-unfolding trimmed regency_of
-released_trimmed n = refl
-
-pub released_stands : {S : Type 0} (core n : Node S) → Stands core n → Stands (released core) (released n)
-released_stands core n stands = record { same = ap (λ x. released x) stands.same ∙ released_trimmed n }

@@ -1,7 +1,7 @@
 //! Laws of what a node keeps.
 ghost use Rattle.std.specs.Prelude.{ℕ, List};
 ghost use Rattle.smart_base.specs.Views.{View};
-ghost use Rattle.smart_messages.specs.declared.entry.NodeEvent.{NodeEvent};
+ghost use Rattle.smart_statements.specs.declared.entry.NodeEvent.{NodeEvent};
 ghost use Rattle.node_rules.specs.Nodes.{Node};
 ghost use Rattle.node_rules.specs.Steps.{opened};
 ghost use Rattle.node_rules.specs.Kept.{Stands, StepStands, core_after, node_after};

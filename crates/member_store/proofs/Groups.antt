@@ -8,15 +8,15 @@ use Rattle.smart_base.specs.Lists.{Each}
 use Rattle.smart_base.specs.Spelling.{u16, u32, behind, IsTag}
 use Rattle.smart_base.specs.Views.{View, is_view}
 use Rattle.smart_base.specs.ViewBytes.{view_text}
-use Rattle.smart_messages.specs.Forms.{Form, SignedBy}
-use Rattle.smart_messages.specs.Messages.{batch_text}
-use Rattle.smart_messages.specs.Reports.{votes_of, FitsVote, marks, mark, FitsMark}
-use Rattle.smart_messages.specs.SignedLists.{listed, FitsList, optional, FitsOptional}
-use Rattle.smart_messages.specs.Spelling.{signed, ballot, FitsSigned}
-use Rattle.smart_messages.specs.declared.report.Mark.{Mark}
-use Rattle.smart_messages.specs.declared.statement.Ballot.{Ballot}
-use Rattle.smart_messages.specs.declared.statement.VoteKind.{VoteKind}
-use Rattle.smart_messages.specs.declared.statement.VoteKind.TheVariants.{Write, Accept}
+use Rattle.smart_statements.specs.Forms.{Form, SignedBy}
+use Rattle.smart_statements.specs.Batches.{batch_text}
+use Rattle.smart_statements.specs.Reports.{votes_of, FitsVote, marks, mark, FitsMark}
+use Rattle.smart_statements.specs.SignedLists.{listed, FitsList, optional, FitsOptional}
+use Rattle.smart_statements.specs.Spelling.{signed, ballot, FitsSigned}
+use Rattle.smart_statements.specs.declared.report.Mark.{Mark}
+use Rattle.smart_statements.specs.declared.statement.Ballot.{Ballot}
+use Rattle.smart_statements.specs.declared.statement.VoteKind.{VoteKind}
+use Rattle.smart_statements.specs.declared.statement.VoteKind.TheVariants.{Write, Accept}
 use Rattle.store_form.specs.Spelling.{IsEntry, IsGroup, payload}
 use Rattle.vote_book.specs.Entries.{FitsEntry, entry_text}
 use Rattle.vote_book.specs.declared.entry.LogEntry.{LogEntry}

@@ -45,7 +45,7 @@ pub empty_holds : Holds (store_opened no_bytes) [] []
 empty_holds = opened_holds no_bytes nothing nothing [] empty_store (refl, (refl, omega arith))
 
 -- devices that are opened hold what was left of them
-held_opened : (left : Images) → bytes_held (store_opened left) ≡ left
+pub held_opened : (left : Images) → bytes_held (store_opened left) ≡ left
 held_opened left = by (side_of left)
   where
     by : (odd : Bool)

@@ -18,14 +18,9 @@ use Rattle.consensus_instance.specs.declared.start.Start.{Start as Beginnings}
 use Rattle.consensus_instance.specs.Instances.{Instance, resuming}
 use Rattle.consensus_instance.specs.Nodes.{slot_behind, start_by}
 use Rattle.consensus_instance.proofs.Entries.{first_same, resumed_instance}
-use Rattle.node_core.specs.Following.{Follows, going_on}
-use Rattle.node_core.proofs.Following.{begun_by}
-
--- where a regency after the first begins
-pub starts_at : (view : View) (regency : ℕ) (entries : List LogEntry) → (regency == 0) ≡ false
-    → option_map start_by (first_start view.number regency entries) ≡ option_map start_by (start_at view regency entries)
-starts_at view regency entries later =
-    ap (λ o. option_map start_by o) (first_same view.number regency entries ∙ sym (ap (λ t. cond t (Some (nodes.first_start view)) (start_in view.number regency entries)) later))
+use Rattle.node_state.specs.Following.{Follows}
+use Rattle.node_core.specs.Resuming.{going_on}
+use Rattle.node_state.proofs.Following.{begun_by}
 
 follows_by : (id : ℕ) (view : View) (place : ℕ) (entries : List LogEntry) (regency : ℕ) (start first : Option Beginnings) (synced : Bool) (votes : OwnVotes)
     → regency ≡ greatest_regency view.number entries → start ≡ option_map start_by (start_at view regency entries) → first ≡ option_map start_by (first_start view.number regency entries) → synced ≡ is_some first

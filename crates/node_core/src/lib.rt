@@ -1,6 +1,9 @@
 //! A member's node: one event after another, and the messages that leave.
 #![tactic(auto)]
 
-mod find;
+mod arrivals;
+mod delivers;
 pub mod node;
-mod seal;
+mod passes;
+mod reopen;
+mod step;

@@ -1,50 +1,30 @@
-//! The node itself.
-ghost use Rattle.std.specs.Prelude.{◌≡◌, ◌+◌, ◌^◌, ◌<◌, ◌≤◌, ℕ, [], false, true, length, IfOk, OnOk, OnErr, IsErrOf, Some, None, is_some, option_map};
+//! The node of a member, and what leaves it.
+ghost use Rattle.std.specs.Prelude.{◌≡◌, ℕ, false, length, IfOk, OnOk, OnErr, IsErrOf, Some, None, is_some};
 ghost use Rattle.std.specs.Option.{option_copied};
 ghost use Rattle.std.specs.Result.{is_err};
-ghost use Rattle.smart_messages.specs.RegencyMessages.{any_decoded};
 ghost use Rattle.vote_book.specs.BookReports.{lock_of};
-ghost use Rattle.vote_book.specs.Standing.{own_votes};
 ghost use Rattle.node_restart.specs.declared.fault.ReopenFault.TheVariants.{Damaged};
-ghost use Rattle.node_rules.specs.Nodes.{view_of, regency_of, decided_place, open_slot, is_free, is_open, synchronizer_of, holding};
-ghost use Rattle.node_rules.specs.Kept.{trimmed, core_step};
+ghost use Rattle.node_rules.specs.Nodes.{view_of, regency_of};
+ghost use Rattle.node_rules.specs.Kept.{core_step};
 ghost use Rattle.node_rules.specs.Reopening.{damaged, entries_in, reopened};
-ghost use Rattle.node_rules.specs.Steps.{step_of, outcome_from, reading_outcome, timed, first_leaving, after_first, leaving, released, opened};
-ghost use Rattle.node_core.specs.Broken.{IsPartly};
+ghost use Rattle.node_rules.specs.Steps.{first_leaving, after_first, leaving, released, opened};
+ghost use Rattle.node_state.specs.Broken.{IsPartly};
 
-mod arrivals;
-mod asks;
-mod changes;
-mod reopen;
-mod reports;
-mod rules;
-
-use crate::find::keep_ahead;
-use crate::seal::MemberKeys;
-use consensus_instance::instance::Instance;
-use delivery::replica::KeptReplica;
+use crate::reopen::{begin, reopen};
+use crate::step::step;
 use node_restart::fault::ReopenFault;
-use node_rules::node::{Fired, Held, Target, Why};
-use outbox::outbox::Outbox;
-use regency_sync::synchronizer::Synchronizer;
-use request_pool::pool::RequestPool;
-use smart_base::duplicate::Duplicate;
-use smart_base::fault::ReadError;
+use node_rules::node::{Fired, Held, Why};
+use node_state::state::NodeState;
 use smart_base::name::MemberId;
 use smart_base::number::{Place, Regency};
 use smart_base::sequence::{Bytes, Sequence};
 use smart_base::view::View;
 use smart_keys::ring::Ring;
-use smart_messages::any::{AnyMessage, decode_any};
-use smart_messages::batch::Batch;
-use smart_messages::entry::NodeEvent;
-use smart_messages::statement::Slot;
 use smart_service::service::Service;
+use smart_statements::batch::Batch;
+use smart_statements::entry::NodeEvent;
 use std::alloc::{AllocError, Global};
-use std::marker::Model;
-use vote_book::book::Book;
-use vote_book::entry::{Accept, LogEntry, Opening};
-use vote_book::votes::OwnVotes;
+use vote_book::entry::{Accept, LogEntry};
 
 /// A member's node, and whether want of memory stopped a step half-way. Then the node is broken: no
 /// event happens to it again, and no call makes it whole.
@@ -52,60 +32,6 @@ use vote_book::votes::OwnVotes;
 pub struct NodeCore<S> {
     node: NodeState<S>,
     broken: bool,
-}
-
-/// What a node is: its copy of what is replicated, what it has heard and written down, and the
-/// messages that it holds until its book is firm.
-#[derive(Drop)]
-pub struct NodeState<S> {
-    alloc: Global,
-    keys: MemberKeys,
-    replica: KeptReplica<S>,
-    waiting: Option<Batch>,
-    pool: RequestPool,
-    /// What was kept of proposals and votes, and what the book says of the next place.
-    instance: Instance,
-    /// What was kept of wishes, reports and beginnings of regencies, and what the book says of them.
-    synchronizer: Synchronizer,
-    book: Book,
-    /// How many entries were restored when this life began.
-    restored: u64,
-    firm: u64,
-    held: Outbox,
-    proposed: Vec<Slot>,
-    impatient: bool,
-    behind: bool,
-}
-
-impl<S> Model for NodeState<S> {
-    ghost use Rattle.smart_base.specs.Views.{present};
-    ghost use Rattle.node_rules.specs.Nodes.{Node};
-    ghost use Rattle.node_core.specs.Following.{Follows};
-
-    ghost Value = { Node S };
-
-    ghost view = { λ c. record {
-      id = c.keys.member;
-      secret = c.keys.secret;
-      replica = c.replica.replica;
-      waiting = c.waiting;
-      pool = c.pool;
-      arrivals = c.instance.arrivals;
-      stops = c.synchronizer.stops;
-      reports = c.synchronizer.reports;
-      syncs = c.synchronizer.syncs;
-      entries = c.book.entries;
-      restored = c.restored;
-      firm = c.firm;
-      held = c.held;
-      proposed = c.proposed.items;
-      stop_made = c.synchronizer.stop_made;
-      sync_made = c.synchronizer.sync_made;
-      impatient = c.impatient;
-      behind = c.behind;
-    } };
-
-    ghost invariant = { λ c. Follows c.keys.member (present c.replica.replica.views) c.replica.replica.place c.waiting c.book.entries c.instance c.synchronizer };
 }
 
 /// What a step tells: the rules that fired, in order, and why an arrival was dropped.
@@ -127,7 +53,7 @@ impl<S: Service> NodeCore<S> {
         ensures node { IfOk result (λ core. core.node ≡ opened S.meaning ring id view period) }
         ensures broken { IfOk result (λ core. core.broken ≡ false) }
     {
-        let node = NodeState::begin(alloc, id, view, period, ring)?;
+        let node = begin(alloc, id, view, period, ring)?;
         Ok(NodeCore {
             node,
             broken: false,
@@ -152,7 +78,7 @@ impl<S: Service> NodeCore<S> {
         // The number of the entry, from 1, that is the first to be damaged.
         ensures cause { (entry : ℕ) → IsErrOf result (Damaged entry) → damaged ring view restored.now ≡ Some entry }
     {
-        match NodeState::reopen(alloc, id, view, period, ring, restored) {
+        match reopen(alloc, id, view, period, ring, restored) {
             Ok(node) => Ok(NodeCore {
                 node,
                 broken: false,
@@ -264,7 +190,7 @@ impl<S: Service> NodeCore<S> {
         ensures err { OnErr result (IsPartly self.old.node.entries self.new.node.entries (core_step S.meaning self.old.node event.now).node.entries) }
     {
         self.broken = true;
-        let outcome = self.node.step(event)?;
+        let outcome = step(&mut self.node, event)?;
         self.broken = false;
         Ok(outcome)
     }
@@ -287,245 +213,5 @@ impl<S: Service> NodeCore<S> {
         ensures broken { self.new.broken ≡ self.old.broken }
     {
         self.node.release_all()
-    }
-}
-
-impl<S: Service> NodeState<S> {
-    /// A node with an empty book.
-    fn begin(
-        alloc: Global,
-        id: MemberId,
-        view: View,
-        period: u32,
-        ring: Ring,
-    ) -> Result<Self, AllocError>
-        ensures { IfOk result (λ node. node ≡ opened S.meaning ring id view period) }
-    {
-        let instance = Instance::begin(alloc, id, &view);
-        let opening = Opening {
-            member: id,
-            period,
-            view: view.duplicate(alloc)?,
-        };
-        let replica = KeptReplica::empty(alloc, view)?;
-        let mut book = Book::begin(alloc, Place::zero());
-        book.end_restored();
-        book.push(LogEntry::Opened(opening))?;
-        Ok(NodeState {
-            alloc,
-            keys: MemberKeys::new(id, ring),
-            replica,
-            waiting: None,
-            pool: RequestPool::new(alloc),
-            instance,
-            synchronizer: Synchronizer::begin(alloc, id),
-            book,
-            restored: 0,
-            firm: 0,
-            held: Outbox::new(alloc),
-            proposed: Vec::new(alloc),
-            impatient: false,
-            behind: false,
-        })
-    }
-
-    fn id(&self) -> MemberId
-        ensures { result ≡ self.now.id }
-    {
-        self.keys.member()
-    }
-
-    fn place(&self) -> Place
-        ensures { result ≡ self.now.replica.place }
-    {
-        self.replica.replica().place
-    }
-
-    fn view(&self) -> &View
-        ensures { result.now ≡ view_of self.now }
-    {
-        self.replica.replica().views.present()
-    }
-
-    /// How many entries the book has.
-    fn made(&self) -> u64
-        ensures { result ≡ length self.now.entries }
-    {
-        self.book.pushed().len() as u64
-    }
-
-    fn release(&mut self) -> Option<Held>
-        ensures held { result ≡ first_leaving self.old.firm self.old.held }
-        ensures node { self.new ≡ record self.old { held = after_first self.old.firm self.old.held } }
-    {
-        self.held.release(self.firm)
-    }
-
-    fn release_all(&mut self) -> Result<Sequence<Held>, AllocError>
-        ensures held { IfOk result (λ left. left ≡ leaving self.old.firm self.old.held) }
-        ensures node { OnOk result (self.new ≡ released self.old) }
-        ensures err { OnErr result (self.new ≡ self.old) }
-    {
-        self.held.release_all(self.firm)
-    }
-
-    /// The step of a core.
-    #[tactic(auto, unfolding(node_rules::specs::Kept::core_step))]
-    fn step(&mut self, event: &NodeEvent) -> Result<Outcome, AllocError>
-        ensures node { OnOk result (self.new ≡ (core_step S.meaning self.old event.now).node) }
-        ensures fired { IfOk result (λ o. o.fired ≡ (core_step S.meaning self.old event.now).fired) }
-        ensures dropped { IfOk result (λ o. o.dropped ≡ (core_step S.meaning self.old event.now).dropped) }
-        ensures err { OnErr result (IsPartly self.old.entries self.new.entries (core_step S.meaning self.old event.now).node.entries) }
-    {
-        let outcome = self.step_of(event)?;
-        self.trim();
-        Ok(outcome)
-    }
-
-    /// The step of a node that keeps all.
-    #[tactic(auto, unfolding(node_rules::specs::Steps::step_of))]
-    fn step_of(&mut self, event: &NodeEvent) -> Result<Outcome, AllocError>
-        ensures node { OnOk result (self.new ≡ (step_of S.meaning self.old event.now).node) }
-        ensures fired { IfOk result (λ o. o.fired ≡ (step_of S.meaning self.old event.now).fired) }
-        ensures dropped { IfOk result (λ o. o.dropped ≡ (step_of S.meaning self.old event.now).dropped) }
-        ensures err { OnErr result (IsPartly self.old.entries self.new.entries (step_of S.meaning self.old event.now).node.entries) }
-    {
-        match event {
-            NodeEvent::Arrive(bytes) => self.reading_outcome(bytes.as_slice()),
-            NodeEvent::Tick => self.tick_outcome(),
-            NodeEvent::Deliver => {
-                let fired = self.delivers()?;
-                let outcome = self.outcome_from(fired)?;
-                Ok(outcome)
-            }
-            NodeEvent::Firm(count) => {
-                self.firm = self.restored.saturating_add(*count);
-                let outcome = self.outcome_from(Sequence::new(self.alloc))?;
-                Ok(outcome)
-            }
-        }
-    }
-
-    /// Drops what no rule needs any more.
-    #[tactic(auto, unfolding(node_rules::specs::Kept::trimmed, consensus_instance::specs::Instances::trimmed, regency_sync::specs::Synchronizers::trimmed))]
-    fn trim(&mut self)
-        ensures { self.new ≡ trimmed self.old }
-    {
-        let number = self.view().number();
-        let place = self.decided_place();
-        let regency = self.regency();
-        self.instance.trim(number);
-        self.synchronizer
-            .trim(self.replica.replica().views.present());
-        keep_ahead(&mut self.proposed, number, place, regency);
-    }
-
-    /// Drops bytes that are no message, and passes a message on.
-    fn reading_outcome(&mut self, bytes: &[u8]) -> Result<Outcome, AllocError>
-        ensures node { OnOk result (self.new ≡ (reading_outcome self.old (any_decoded bytes.now)).node) }
-        ensures fired { IfOk result (λ o. o.fired ≡ (reading_outcome self.old (any_decoded bytes.now)).fired) }
-        ensures dropped { IfOk result (λ o. o.dropped ≡ (reading_outcome self.old (any_decoded bytes.now)).dropped) }
-        ensures err { OnErr result (IsPartly self.old.entries self.new.entries (reading_outcome self.old (any_decoded bytes.now)).node.entries) }
-    {
-        match decode_any(self.alloc, bytes) {
-            Ok(message) => self.arrival_outcome(message),
-            Err(ReadError::NoMemory) => Err(AllocError),
-            Err(ReadError::Unread { .. }) => Ok(Outcome {
-                fired: Sequence::new(self.alloc),
-                dropped: Some(Why::Unread),
-            }),
-        }
-    }
-
-    /// One pass of the rules behind an event.
-    fn outcome_from(&mut self, fired: Sequence<Fired>) -> Result<Outcome, AllocError>
-        ensures node { OnOk result (self.new ≡ (outcome_from self.old fired).node) }
-        ensures fired { IfOk result (λ o. o.fired ≡ (outcome_from self.old fired).fired) }
-        ensures dropped { IfOk result (λ o. o.dropped ≡ (outcome_from self.old fired).dropped) }
-        ensures err { OnErr result (IsPartly self.old.entries self.new.entries (outcome_from self.old fired).node.entries) }
-    {
-        let mut fired = fired;
-        self.passes(&mut fired)?;
-        Ok(Outcome {
-            fired,
-            dropped: None,
-        })
-    }
-
-    /// One pass of the rules, and then what time does.
-    fn tick_outcome(&mut self) -> Result<Outcome, AllocError>
-        ensures node { OnOk result (self.new ≡ (timed (outcome_from self.old [])).node) }
-        ensures fired { IfOk result (λ o. o.fired ≡ (timed (outcome_from self.old [])).fired) }
-        ensures dropped { IfOk result (λ o. o.dropped ≡ (timed (outcome_from self.old [])).dropped) }
-        ensures err { OnErr result (IsPartly self.old.entries self.new.entries (timed (outcome_from self.old [])).node.entries) }
-    {
-        let mut outcome = self.outcome_from(Sequence::new(self.alloc))?;
-        self.times(&mut outcome.fired)?;
-        Ok(outcome)
-    }
-
-    /// The regency in force.
-    fn regency(&self) -> Regency
-        ensures { result ≡ regency_of self.now }
-    {
-        self.instance.regency()
-    }
-
-    /// What the node has heard and done to change the regency.
-    fn synchronizer(&self) -> &Synchronizer
-        ensures { result.now ≡ synchronizer_of self.now }
-    {
-        &self.synchronizer
-    }
-
-    fn lock(&self) -> Option<&Accept>
-        ensures { option_copied result ≡ lock_of (view_of self.now).number self.now.entries }
-    {
-        self.book.lock(self.view().number())
-    }
-
-    /// What the node has voted in a regency of the view in force at a place.
-    fn votes_at(&self, place: u64, regency: Regency) -> OwnVotes
-        ensures { result ≡ own_votes (record { view = (view_of self.now).number; place = place; regency = regency }) self.now.entries }
-    {
-        self.book.votes_at(self.view().number(), place, regency)
-    }
-
-    /// The last place that is delivered or decided.
-    fn decided_place(&self) -> Place
-        ensures { result ≡ decided_place self.now }
-    {
-        self.instance.decided_place()
-    }
-
-    /// Whether no batch waits, and there is a next place.
-    fn is_free(&self) -> bool
-        ensures { result ≡ is_free self.now }
-    {
-        self.instance.is_free()
-    }
-
-    /// Whether a vote is open at the next place.
-    fn is_open(&self) -> bool
-        ensures { result ≡ is_open self.now }
-    {
-        self.instance.is_open(self.view())
-    }
-
-    /// The slot in which the node takes part.
-    fn open_slot(&self) -> Slot
-        requires { is_free self.now ≡ true }
-        ensures { result ≡ open_slot self.now }
-    {
-        self.instance.open_slot(self.view())
-    }
-
-    /// Holds a message until all entries made so far are firm.
-    fn hold(&mut self, to: Target, message: AnyMessage) -> Result<(), AllocError>
-        ensures node { OnOk result (self.new ≡ holding self.old to message) }
-        ensures err { OnErr result (self.new.entries ≡ self.old.entries) }
-    {
-        let needs = self.made();
-        self.held.hold(to, message, needs)
     }
 }

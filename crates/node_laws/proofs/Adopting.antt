@@ -1,6 +1,6 @@
 -- A node that adopts the reports with which a leader began a regency stays sound.
 use Rattle.std.proofs.Common.{Bool, List, None, Option, Some, append-nil, arith, cond, false, inl, inr, nat_le, nat_lt, not, refl, subst, suc, sym, true, zero, ℕ, ⊎_elim, ◌≡◌, [], ◌≤◌, ◌<◌, ◌==◌, ◌&&◌, ◌||◌, ◌++◌, ◌∷◌, ◌∙◌}
-use Rattle.std.proofs.lemmas.Bool.{eq-eqb, eqb-true, leb-true, ltb-false, ltb-true}
+use Rattle.std.proofs.lemmas.Bool.{eq-eqb, eqb-true, leb-true, ltb-false, ltb-true, or_parts}
 use Rattle.std.specs.List.{flat_map, list_any}
 use Rattle.std.specs.Prelude.{is_none, is_some}
 use Rattle.certificates.proofs.Reported.{collect-exact}
@@ -16,18 +16,18 @@ use Rattle.regency_sync.specs.Choices.{choice}
 use Rattle.regency_sync.specs.Synchronizers.{adopting, collect, is_adoptable}
 use Rattle.smart_base.specs.Lists.{Each}
 use Rattle.smart_base.specs.Views.{View, present}
-use Rattle.smart_messages.specs.Forms.{SignedBy}
-use Rattle.smart_messages.specs.Reports.{reports}
+use Rattle.smart_statements.specs.Forms.{SignedBy}
+use Rattle.smart_statements.specs.Reports.{reports}
 use Rattle.smart_messages.specs.declared.any.AnyMessage.TheVariants.{Change}
 use Rattle.smart_messages.specs.declared.regency.Sync.{Sync}
-use Rattle.smart_messages.specs.declared.report.Report.{Report}
+use Rattle.smart_statements.specs.declared.report.Report.{Report}
 use Rattle.vote_book.specs.Books.{Among}
 use Rattle.vote_book.specs.declared.entry.LogEntry.{LogEntry}
 use Rattle.vote_book.specs.declared.entry.LogEntry.TheVariants.{Promised, Synced}
 use Rattle.vote_book.specs.declared.entry.Promise.{Promise}
 use Rattle.vote_book.specs.declared.entry.Start.{Start}
 use Rattle.node_laws.proofs.Books.{none_begins}
-use Rattle.node_laws.proofs.Lists.{among_either, among_flat, among_left, and_true, each_among, each_of, each_weaker, found, not_true, or_false}
+use Rattle.node_laws.proofs.Lists.{found}
 use Rattle.node_laws.proofs.Nodes.{SyncKept, aside}
 use Rattle.node_laws.proofs.Promised.{records_promise, records_start, regency_then}
 use Rattle.node_laws.proofs.Stated.{covers}
@@ -35,19 +35,19 @@ use Rattle.node_laws.proofs.Votes.{in_force}
 use Rattle.node_laws.specs.Sound.{IsSound, IsStated, IsWithin}
 use Rattle.smart_messages.specs.declared.regency.RegencyMessage.TheVariants as changes
 use Rattle.agreement_laws.specs.Statements as says
+use Rattle.agreement_laws.proofs.Lists.{among_either, among_left, each_among, each_from, not_true, among_flat}
+use Rattle.smart_base.proofs.SameLists.{and_true}
+use Rattle.smart_base.proofs.ViewFacts.{each-weaken}
+use Rattle.node_rules.proofs.Options.{none_is}
 
 -- ---- the choice of a collect that has been stated
-
-none_is : {A : Type 0} (o : Option A) → is_none o ≡ true → o ≡ None
-none_is None is = refl
-none_is (Some x) is = absurd (cc)
 
 locked_of : (secret : List ℕ) (v : View) (views : List View) (regency : ℕ) (items : List (SignedBy Report)) → AreSigned Report secret reports v (IsReportOf secret v views regency) items
     → AreSigned Report secret reports v (IsLockedReport secret v regency) items
 locked_of secret v views regency items is = record {
   members = is.members;
   distinct = is.distinct;
-  stated = each_weaker (λ (r : SignedBy Report). IsReportOf secret v views regency r.statement) (λ (r : SignedBy Report). IsLockedReport secret v regency r.statement)
+  stated = each-weaken (λ (r : SignedBy Report). IsReportOf secret v views regency r.statement) (λ (r : SignedBy Report). IsLockedReport secret v regency r.statement)
       (λ r of. record { of_view = of.of_view; of_regency = of.of_regency; lock = of.lock }) items is.stated;
   verified = is.verified;
 }
@@ -56,7 +56,7 @@ locked_of secret v views regency items is = record {
 report_within : (s : SignedBy Sync) (r : SignedBy Report) → Among r s.statement.collect → Among (says.Reported r) (flat_map says.within (says.said (Change (changes.Sync s))))
 report_within s r there =
     inr (among_left (says.Reported r) (flat_map says.in_report s.statement.collect) []
-    (among_flat says.in_report r s.statement.collect (says.Reported r) there (inl refl)))
+    (among_flat says.in_report s.statement.collect r (says.Reported r) there (inl refl)))
 
 chosen_by : (secret : List ℕ) (stated : List Statement) (view : View) (views : List View) (s : SignedBy Sync) → present views ≡ view → IsStated secret stated (Change (changes.Sync s))
     → IsCollect secret views s.statement.regency s.statement.collect → IsChosen secret view stated (start_by_sync s.statement)
@@ -70,7 +70,7 @@ chosen_by secret stated view views s same was collect =
     record {
       items = items;
       collect = subst (λ (v : View). IsLockedCollect secret v s.statement.regency items) same locked;
-      drawn = each_of (λ r. Among (says.Reported r) stated) items
+      drawn = each_from (λ r. Among (says.Reported r) stated) items
           (λ r there. covers secret stated (Change (changes.Sync s)) was (says.Reported r) (report_within s r there)
           (each_among (λ r. is_verified reports secret r ≡ true) items r collect.0.verified there));
       choice_is = refl;
@@ -104,7 +104,7 @@ fresh_some (suc r) R synced least fresh = omega arith
 fresh_once : (r R : ℕ) (synced : Bool) → ((r == R) && ((R == 0) || synced)) ≡ false → r ≡ R → synced ≡ false
 fresh_once r R synced fresh same =
     let rest : (true && ((R == 0) || synced)) ≡ false = rw (eq-eqb r R same) at fresh in
-    (or_false (R == 0) synced rest).1
+    (or_parts (R == 0) synced rest).1
 
 adopts_it : {S : Type 0} (n : Node S) (s : SignedBy Sync) → adoption n ≡ Some s → Adopts n s
 unfolding adoption adopting

@@ -1,5 +1,5 @@
 -- A node that keeps what comes stays sound.
-use Rattle.std.proofs.Common.{Bool, List, None, Some, ap, arith, cond, false, nat_lt, not, refl, subst, true, ℕ, ◌≡◌, ◌≤◌, ◌∙◌, [], ◌∷◌, ◌==◌, ◌++◌, ◌||◌, ◌+◌}
+use Rattle.std.proofs.Common.{Bool, List, None, Some, ap, arith, cond, nat_lt, not, subst, true, ℕ, ◌≡◌, ◌≤◌, ◌∙◌, [], ◌∷◌, ◌==◌, ◌++◌, ◌||◌, ◌+◌}
 use Rattle.std.proofs.lemmas.Bool.{eqb-true, ltb-false}
 use Rattle.replica_rules.specs.Pools.{offered}
 use Rattle.replica_rules.specs.Replicas.{is_next}
@@ -11,10 +11,10 @@ use Rattle.node_rules.specs.declared.node.Why.TheVariants.{BadProof, BadTag, Inv
 use Rattle.regency_sync.specs.Choices.{choice}
 use Rattle.smart_base.specs.Lists.{Each, or_else}
 use Rattle.smart_base.specs.Views.{View, is_member, leader}
-use Rattle.smart_messages.specs.Forms.{SignedBy}
-use Rattle.smart_messages.specs.Kinds.{ballots, proposals, requests}
+use Rattle.smart_statements.specs.Forms.{SignedBy}
+use Rattle.smart_statements.specs.Kinds.{ballots, proposals, requests}
 use Rattle.smart_messages.specs.Regencies.{stops, syncs}
-use Rattle.smart_messages.specs.Reports.{reports}
+use Rattle.smart_statements.specs.Reports.{reports}
 use Rattle.smart_messages.specs.declared.any.AnyMessage.{AnyMessage}
 use Rattle.smart_messages.specs.declared.any.AnyMessage.TheVariants.{Change, Plain}
 use Rattle.smart_messages.specs.declared.message.Message.{Message}
@@ -24,20 +24,17 @@ use Rattle.smart_messages.specs.declared.regency.RegencyMessage.{RegencyMessage}
 use Rattle.smart_messages.specs.declared.regency.Reported.{Reported}
 use Rattle.smart_messages.specs.declared.regency.Stop.{Stop}
 use Rattle.smart_messages.specs.declared.regency.Sync.{Sync}
-use Rattle.smart_messages.specs.declared.statement.Ballot.{Ballot}
-use Rattle.smart_messages.specs.declared.statement.Request.{Request}
-use Rattle.smart_messages.specs.declared.statement.Slot.{Slot}
-use Rattle.node_laws.proofs.Lists.{each_end, either, else_none, no_reason}
+use Rattle.smart_statements.specs.declared.statement.Ballot.{Ballot}
+use Rattle.smart_statements.specs.declared.statement.Request.{Request}
+use Rattle.smart_statements.specs.declared.statement.Slot.{Slot}
 use Rattle.node_laws.proofs.Nodes.{Arrived, ReportKept, StopKept, SyncKept, aside, keeps}
 use Rattle.node_laws.proofs.Votes.{in_force}
 use Rattle.node_laws.specs.Sound.{IsMembers, IsProposal, IsSound, IsStated}
 use Rattle.smart_messages.specs.declared.regency.RegencyMessage.TheVariants as changes
+use Rattle.agreement_laws.proofs.Lists.{not_false, each_end, either}
+use Rattle.node_rules.proofs.Options.{else_none, no_reason}
 
 -- ---- reasons that are none
-
-not_false : (a : Bool) → not a ≡ false → a ≡ true
-not_false true is = refl
-not_false false is = absurd (cc)
 
 pub record Signs {S : Type 0} (n : Node S) (verified : Bool) (signer : ℕ) : Type 0 where
   pub tagged : verified ≡ true
@@ -79,7 +76,7 @@ each_offered P (old ∷ olds) q each is =
     either (λ (qs : List (SignedBy Request)). Each P qs) (old.statement.client == q.statement.client) (q ∷ olds) (old ∷ offered olds q) (is, each.1)
     (each.0, each_offered P olds q each.1 is)
 
-ask_tagged : {S : Type 0} (n : Node S) (q : SignedBy Request) → why_ask n q ≡ None → is_verified requests n.secret q ≡ true
+pub ask_tagged : {S : Type 0} (n : Node S) (q : SignedBy Request) → why_ask n q ≡ None → is_verified requests n.secret q ≡ true
 unfolding why_ask
 ask_tagged n q none =
     let own = no_reason (not (is_member (view_of n) n.id)) NotMember _ none in

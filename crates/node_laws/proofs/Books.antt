@@ -9,20 +9,23 @@ use Rattle.agreement_laws.specs.Diaries.{HasAnswered, IsShown}
 use Rattle.agreement_laws.specs.Statements.{Statement, signer_of, statements}
 use Rattle.node_rules.specs.Nodes.{greatest_regency, regency_in, start_by, start_in}
 use Rattle.node_rules.specs.declared.node.Held.{Held}
-use Rattle.smart_base.specs.Lists.{Each, or_else}
+use Rattle.smart_base.specs.Lists.{Each}
 use Rattle.smart_base.specs.Views.{View}
 use Rattle.smart_base.specs.declared.party.Party.TheVariants.{Member}
-use Rattle.smart_messages.specs.Messages.{Batch}
-use Rattle.smart_messages.specs.declared.statement.Answer.{Answer}
+use Rattle.smart_statements.specs.Batches.{Batch}
+use Rattle.smart_statements.specs.declared.statement.Answer.{Answer}
 use Rattle.vote_book.proofs.Growth.{last_or_earlier}
-use Rattle.vote_book.specs.Books.{Among, HasMade, last_made, latest_made, place_made}
+use Rattle.vote_book.specs.Books.{Among, last_made}
 use Rattle.vote_book.specs.Tidy.{promise_of}
 use Rattle.vote_book.specs.declared.entry.LogEntry.{LogEntry}
 use Rattle.vote_book.specs.declared.entry.LogEntry.TheVariants.{Accepted, Decided, Installed, Marked, Opened, Promised, Synced, Wrote}
 use Rattle.vote_book.specs.declared.entry.Promise.{Promise}
 use Rattle.vote_book.specs.declared.entry.Start.{Start}
-use Rattle.node_laws.proofs.Lists.{among_left, and_true, each_end, each_weaker, guard, some_equal}
+use Rattle.node_laws.proofs.Lists.{guard}
 use Rattle.node_laws.specs.Sound.{AreRanged, HasDecided, IsBegun, IsHeld, IsWithin}
+use Rattle.agreement_laws.proofs.Lists.{among_left, each_end, some_equal}
+use Rattle.smart_base.proofs.SameLists.{and_true}
+use Rattle.smart_base.proofs.ViewFacts.{each-weaken}
 
 pub greatest_push : (view : ℕ) (es : List LogEntry) (e : LogEntry) → greatest_regency view (es ++ e ∷ []) ≡ max (greatest_regency view es) (regency_in view e)
 greatest_push view [] e = omega arith
@@ -42,7 +45,7 @@ within_more view place regency place' regency' (Marked m) p r is = is
 pub all_within_more : (view : View) (place regency place' regency' : ℕ) (es : List LogEntry) → place ≤ place' → regency ≤ regency'
     → Each (IsWithin view place regency) es → Each (IsWithin view place' regency') es
 all_within_more view place regency place' regency' es p r all =
-    each_weaker (IsWithin view place regency) (IsWithin view place' regency') (λ e is. within_more view place regency place' regency' e p r is) es all
+    each-weaken (IsWithin view place regency) (IsWithin view place' regency') (λ e is. within_more view place regency place' regency' e p r is) es all
 
 pub within_push : (view : View) (number place : ℕ) (es : List LogEntry) (e : LogEntry) → Each (IsWithin view place (greatest_regency number es)) es
     → IsWithin view place (max (greatest_regency number es) (regency_in number e)) e → Each (IsWithin view place (greatest_regency number (es ++ e ∷ []))) (es ++ e ∷ [])
@@ -177,17 +180,6 @@ none_begins view regency (e ∷ es) s none (inl is) v r =
     cc
 none_begins view regency (e ∷ es) s none (inr there) v r =
     none_begins view regency es s (none_step (start_by view regency e) (start_in view regency es) none).1 there v r
-
--- ---- places
-
--- the place that is made latest is made
-latest_step : (e : LogEntry) (es : List LogEntry) (k : ℕ) (rest : Option ℕ) → (rest ≡ Some k → HasMade es k) → or_else rest (place_made e) ≡ Some k → HasMade (e ∷ es) k
-latest_step e es k None later is = record { entry = e; there = inl refl; made = is }
-latest_step e es k (Some j) later is = let has = later is in record { entry = has.entry; there = inr has.there; made = has.made }
-
-pub latest_has : (es : List LogEntry) (k : ℕ) → latest_made es ≡ Some k → HasMade es k
-latest_has [] k is = absurd (cc)
-latest_has (e ∷ es) k is = latest_step e es k (latest_made es) (latest_has es k) is
 
 -- ---- what is shown
 

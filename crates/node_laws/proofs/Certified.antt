@@ -11,21 +11,24 @@ use Rattle.agreement_laws.specs.Certificates.{IsDrawn}
 use Rattle.agreement_laws.specs.Statements.{Statement}
 use Rattle.smart_base.specs.Lists.{Distinct, Each, or_else, same_bytes}
 use Rattle.smart_base.specs.Views.{View, ascends, is_member, is_view, quorum, weight_of}
-use Rattle.smart_messages.specs.Equality.{same_kind, same_slot}
-use Rattle.smart_messages.specs.Forms.{SignedBy}
-use Rattle.smart_messages.specs.Kinds.{ballots}
+use Rattle.smart_statements.specs.Equality.{same_kind, same_slot}
+use Rattle.smart_statements.specs.Forms.{SignedBy}
+use Rattle.smart_statements.specs.Kinds.{ballots}
 use Rattle.smart_messages.specs.declared.message.Message.{Message}
 use Rattle.smart_messages.specs.declared.message.Message.TheVariants.{Ask, Propose, Reply, Vote}
-use Rattle.smart_messages.specs.declared.statement.Ballot.{Ballot}
-use Rattle.smart_messages.specs.declared.statement.Slot.{Slot}
-use Rattle.smart_messages.specs.declared.statement.VoteKind.{VoteKind}
+use Rattle.smart_statements.specs.declared.statement.Ballot.{Ballot}
+use Rattle.smart_statements.specs.declared.statement.Slot.{Slot}
+use Rattle.smart_statements.specs.declared.statement.VoteKind.{VoteKind}
 use Rattle.vote_book.proofs.Tested.{same_bytes_is, slot_is}
 use Rattle.vote_book.specs.Books.{Among}
-use Rattle.node_laws.proofs.Lists.{and_true, each_among, each_filter_map, each_passes, each_take, each_weaker, either, guard, or_true, some_equal}
+use Rattle.node_laws.proofs.Lists.{each_filter_map, each_passes, guard}
 use Rattle.node_laws.proofs.Nodes.{Arrived}
 use Rattle.node_laws.proofs.Stated.{vote_stated}
-use Rattle.smart_messages.specs.declared.statement.VoteKind.TheVariants as kinds
+use Rattle.smart_statements.specs.declared.statement.VoteKind.TheVariants as kinds
 use Rattle.agreement_laws.specs.Statements as says
+use Rattle.smart_base.proofs.SameLists.{and_true}
+use Rattle.agreement_laws.proofs.Lists.{each_among, each_take, either, or_true, some_equal}
+use Rattle.smart_base.proofs.ViewFacts.{each-weaken}
 
 -- ---- members that ascend are distinct
 
@@ -86,7 +89,7 @@ ballot_is b kind slot digest k s d =
     let make : VoteKind → Slot → List ℕ → Ballot = λ x y z. record { kind = x; slot = y; digest = z } in
     ap (λ x. make x b.slot b.digest) k ∙ (ap (λ y. make kind y b.digest) s ∙ ap (λ z. make kind slot z) d)
 
-same_kind_is : (a b : VoteKind) → same_kind a b ≡ true → a ≡ b
+pub same_kind_is : (a b : VoteKind) → same_kind a b ≡ true → a ≡ b
 same_kind_is kinds.Write kinds.Write same = refl
 same_kind_is kinds.Write kinds.Accept same = absurd (cc)
 same_kind_is kinds.Accept kinds.Write same = absurd (cc)
@@ -183,7 +186,7 @@ kept_certificate secret stated view arrivals kind slot digest viewed kept enough
     all_some : Each (λ m. is_some (f m) ≡ true) named
     all_some =
         each_take (λ m. is_some (f m) ≡ true) (quorum view) (filter p view.members)
-        (each_weaker (λ m. p m ≡ true) (λ m. is_some (f m) ≡ true) (λ m has. first_some arrivals kind slot digest m has) (filter p view.members) (each_passes p view.members))
+        (each-weaken (λ m. p m ≡ true) (λ m. is_some (f m) ≡ true) (λ m has. first_some arrivals kind slot digest m has) (filter p view.members) (each_passes p view.members))
 
     own : signers votes ≡ named
     own = signers_all f named all_some (λ m b is. (first_is arrivals kind slot digest m b is).signer_is)

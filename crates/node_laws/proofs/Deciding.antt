@@ -15,7 +15,7 @@ use Rattle.smart_base.specs.Lists.{Each, or_else}
 use Rattle.smart_base.specs.Views.{View, is_view}
 use Rattle.smart_messages.specs.declared.message.Message.{Message}
 use Rattle.smart_messages.specs.declared.message.Message.TheVariants.{Ask, Propose, Reply, Vote}
-use Rattle.smart_messages.specs.declared.statement.Slot.{Slot}
+use Rattle.smart_statements.specs.declared.statement.Slot.{Slot}
 use Rattle.vote_book.proofs.Last.{last_push, latest_push}
 use Rattle.vote_book.specs.BookReports.{accept_for}
 use Rattle.vote_book.specs.Books.{Among, Follows}
@@ -23,13 +23,15 @@ use Rattle.vote_book.specs.declared.entry.Accept.{Accept}
 use Rattle.vote_book.specs.declared.entry.Decision.{Decision}
 use Rattle.vote_book.specs.declared.entry.LogEntry.{LogEntry}
 use Rattle.vote_book.specs.declared.entry.LogEntry.TheVariants.{Accepted, Decided, Installed, Marked, Opened, Promised, Synced, Wrote}
-use Rattle.node_laws.proofs.Lists.{among_last, and_true, each_among, each_append, each_filter_map_in, else_some, found, guard, some_equal}
+use Rattle.node_laws.proofs.Lists.{among_last, each_filter_map_in, found, guard}
 use Rattle.node_laws.proofs.Nodes.{Arrived, Makes, MayPush, pushes}
 use Rattle.node_laws.proofs.Stated.{may_stand}
 use Rattle.node_laws.proofs.Votes.{in_force, made_last, made_latest, place_of_some}
 use Rattle.node_laws.proofs.Voting.{drawn_at, proposal_may}
 use Rattle.node_laws.specs.Sound.{HasBatch, IsBatchAt, IsSound, place_if}
-use Rattle.smart_messages.specs.declared.statement.VoteKind.TheVariants as kinds
+use Rattle.smart_statements.specs.declared.statement.VoteKind.TheVariants as kinds
+use Rattle.smart_base.proofs.SameLists.{and_true}
+use Rattle.agreement_laws.proofs.Lists.{each_among, each_append, else_some, some_equal}
 
 -- ---- batches that are known
 

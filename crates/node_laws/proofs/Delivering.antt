@@ -13,13 +13,13 @@ use Rattle.node_rules.specs.Nodes.{Node, decided_place, holding, next_place, reg
 use Rattle.node_rules.specs.Steps.{answered}
 use Rattle.smart_base.specs.Lists.{Each}
 use Rattle.smart_base.specs.Views.{View, is_member}
-use Rattle.smart_messages.specs.Forms.{SignedBy}
-use Rattle.smart_messages.specs.Kinds.{answers, requests}
-use Rattle.smart_messages.specs.Messages.{Batch}
+use Rattle.smart_statements.specs.Forms.{SignedBy}
+use Rattle.smart_statements.specs.Kinds.{answers, requests}
+use Rattle.smart_statements.specs.Batches.{Batch}
 use Rattle.smart_messages.specs.declared.any.AnyMessage.{AnyMessage}
 use Rattle.smart_messages.specs.declared.any.AnyMessage.TheVariants.{Change, Plain}
 use Rattle.smart_messages.specs.declared.message.Message.TheVariants.{Ask, Propose, Reply, Vote}
-use Rattle.smart_messages.specs.declared.statement.Request.{Request}
+use Rattle.smart_statements.specs.declared.statement.Request.{Request}
 use Rattle.smart_service.specs.Services.{Meaning}
 use Rattle.smart_service.specs.Tables.{last_seq, line_for, with_line}
 use Rattle.smart_service.specs.declared.replica.Replica.{Replica}
@@ -29,11 +29,13 @@ use Rattle.vote_book.specs.declared.entry.Decision.{Decision}
 use Rattle.vote_book.specs.declared.entry.LogEntry.{LogEntry}
 use Rattle.vote_book.specs.declared.entry.LogEntry.TheVariants.{Decided}
 use Rattle.node_laws.proofs.Books.{all_within_more}
-use Rattle.node_laws.proofs.Lists.{each_append, each_filter, either}
 use Rattle.node_laws.proofs.Nodes.{Shows, holds}
 use Rattle.node_laws.specs.Sound.{AreAsked, HasDecided, IsSound, IsStated, answer_by, place_if}
 use Rattle.node_rules.specs.declared.node.Target.TheVariants as targets
 use Rattle.agreement_laws.specs.Statements as says
+use Rattle.agreement_laws.proofs.Lists.{each_append, either}
+use Rattle.regency_sync.proofs.Lists.{each_filter}
+use Rattle.replica_rules.proofs.Places.{place_execute, place_all, views_all}
 
 -- ---- requests that were decided
 
@@ -82,35 +84,11 @@ line_answered m r es place index q at has = record {
   seq_is = refl;
 }
 
-each_with_line : (P : TableLine → Type 0) (table : List TableLine) (line : TableLine) → Each P table → P line → Each P (with_line table line)
+pub each_with_line : (P : TableLine → Type 0) (table : List TableLine) (line : TableLine) → Each P table → P line → Each P (with_line table line)
 each_with_line P [] line each is = (is, tt)
 each_with_line P (old ∷ olds) line each is =
     either (λ (lines : List TableLine). Each P lines) (old.client == line.client) (line ∷ olds) (cond (nat_lt line.client old.client) (line ∷ old ∷ olds) (old ∷ with_line olds line)) (is, each.1)
     (either (λ (lines : List TableLine). Each P lines) (nat_lt line.client old.client) (line ∷ old ∷ olds) (old ∷ with_line olds line) (is, each) (each.0, each_with_line P olds line each.1 is))
-
-place_if_next : {S : Type 0} (b : Bool) (x y : Replica S) → x.place ≡ y.place → (cond b x y).place ≡ y.place
-place_if_next true x y same = same
-place_if_next false x y same = refl
-
-views_if_next : {S : Type 0} (b : Bool) (x y : Replica S) → x.views ≡ y.views → (cond b x y).views ≡ y.views
-views_if_next true x y same = same
-views_if_next false x y same = refl
-
-place_execute : {S : Type 0} (m : Meaning S) (r : Replica S) (i : ℕ) (q : Request) → (execute m r i q).place ≡ r.place
-unfolding execute
-place_execute m r i q = place_if_next (is_next r.table q) _ r refl
-
-views_execute : {S : Type 0} (m : Meaning S) (r : Replica S) (i : ℕ) (q : Request) → (execute m r i q).views ≡ r.views
-unfolding execute
-views_execute m r i q = views_if_next (is_next r.table q) _ r refl
-
-pub place_all : {S : Type 0} (m : Meaning S) (r : Replica S) (i : ℕ) (qs : Batch) → (execute_all m r i qs).place ≡ r.place
-place_all m r i [] = refl
-place_all m r i (q ∷ qs) = place_all m (execute m r i q.statement) (i + 1) qs ∙ place_execute m r i q.statement
-
-pub views_all : {S : Type 0} (m : Meaning S) (r : Replica S) (i : ℕ) (qs : Batch) → (execute_all m r i qs).views ≡ r.views
-views_all m r i [] = refl
-views_all m r i (q ∷ qs) = views_all m (execute m r i q.statement) (i + 1) qs ∙ views_execute m r i q.statement
 
 table_execute : {S : Type 0} (m : Meaning S) (r : Replica S) (i : ℕ) (q : Request) (P : TableLine → Type 0) → Each P r.table → P (line_of m r i q) → Each P (execute m r i q).table
 unfolding execute

@@ -10,23 +10,26 @@ use Rattle.regency_sync.specs.Synchronizers.{collect, collecting, first_report, 
 use Rattle.smart_base.specs.Lists.{Each}
 use Rattle.smart_base.specs.Views.{View, leader}
 use Rattle.smart_base.specs.declared.party.Party.TheVariants.{Member}
-use Rattle.smart_messages.specs.Forms.{SignedBy}
+use Rattle.smart_statements.specs.Forms.{SignedBy}
 use Rattle.smart_messages.specs.Regencies.{stops, syncs}
 use Rattle.smart_messages.specs.declared.any.AnyMessage.TheVariants.{Change, Plain}
 use Rattle.smart_messages.specs.declared.message.Message.TheVariants.{Ask}
 use Rattle.smart_messages.specs.declared.regency.Reported.{Reported}
 use Rattle.smart_messages.specs.declared.regency.Sync.{Sync}
-use Rattle.smart_messages.specs.declared.report.Report.{Report}
-use Rattle.smart_messages.specs.declared.statement.Request.{Request}
+use Rattle.smart_statements.specs.declared.report.Report.{Report}
+use Rattle.smart_statements.specs.declared.statement.Request.{Request}
 use Rattle.smart_view.specs.Sizes.{collect_size}
 use Rattle.vote_book.specs.Books.{Among}
-use Rattle.node_laws.proofs.Lists.{among_either, among_left, each_among, each_filter, each_filter_map, each_take, each_weaker, either, found, guard, some_equal}
+use Rattle.node_laws.proofs.Lists.{each_filter_map, found, guard}
 use Rattle.node_laws.proofs.Nodes.{ReportKept, Shows, aside, holds}
 use Rattle.node_laws.proofs.Stated.{Covers, covers, each_verified, flat_covers}
 use Rattle.node_laws.specs.Sound.{AreAsked, IsSound}
 use Rattle.smart_messages.specs.declared.regency.RegencyMessage.TheVariants as changes
 use Rattle.node_rules.specs.declared.node.Target.TheVariants as targets
 use Rattle.agreement_laws.specs.Statements as says
+use Rattle.agreement_laws.proofs.Lists.{among_either, among_left, each_among, each_take, either, some_equal}
+use Rattle.regency_sync.proofs.Lists.{each_filter}
+use Rattle.smart_base.proofs.ViewFacts.{each-weaken}
 
 -- ---- ask
 
@@ -102,7 +105,7 @@ sound_passes_on : {S : Type 0} (stated : List Statement) (view : View) (n : Node
 sound_passes_on stated view n [] is asked = is
 sound_passes_on stated view n (q ∷ qs) is asked =
     holds stated view n (targets.Node (leader (view_of n) (regency_of n))) (Plain (Ask q)) is
-    (each_weaker (λ s. Among s stated) (Shows stated n) (λ s there. inl there) (statements n.secret (Plain (Ask q))) asked.0.1)
+    (each-weaken (λ s. Among s stated) (Shows stated n) (λ s there. inl there) (statements n.secret (Plain (Ask q))) asked.0.1)
 
 sound_presses : {S : Type 0} (stated : List Statement) (view : View) (n : Node S) → IsSound stated view n → IsSound stated view (presses n)
 unfolding presses

@@ -17,4 +17,7 @@ pub mod More
 pub mod Passes
 pub mod Restored
 pub mod Reopened
+pub mod Resting
+pub mod InTurn
+pub mod Damage
 pub mod Undamaged

@@ -9,40 +9,41 @@ use Rattle.node_rules.specs.Steps.{votes}
 use Rattle.node_rules.specs.declared.node.Held.{Held}
 use Rattle.smart_base.specs.Views.{View}
 use Rattle.smart_base.specs.declared.party.Party.TheVariants.{Member}
-use Rattle.smart_messages.specs.Forms.{SignedBy}
-use Rattle.smart_messages.specs.Kinds.{requests}
-use Rattle.smart_messages.specs.Messages.{Batch}
+use Rattle.smart_statements.specs.Forms.{SignedBy}
+use Rattle.smart_statements.specs.Kinds.{requests}
+use Rattle.smart_statements.specs.Batches.{Batch}
 use Rattle.smart_messages.specs.declared.any.AnyMessage.TheVariants.{Change, Plain}
 use Rattle.smart_messages.specs.declared.message.Message.TheVariants.{Ask}
-use Rattle.smart_messages.specs.declared.statement.Ballot.{Ballot}
+use Rattle.smart_statements.specs.declared.statement.Ballot.{Ballot}
 use Rattle.vote_book.specs.Books.{Among}
 use Rattle.vote_book.specs.declared.entry.LogEntry.{LogEntry}
 use Rattle.vote_book.specs.declared.entry.LogEntry.TheVariants.{Accepted, Decided, Installed, Marked, Opened, Promised, Synced, Wrote}
 use Rattle.vote_book.specs.declared.entry.Start.{Start}
-use Rattle.node_laws.proofs.Lists.{each_among, each_weaker}
 use Rattle.node_laws.proofs.Nodes.{Arrived, ReportKept, StopKept, SyncKept}
 use Rattle.node_laws.specs.Sound.{AreAmong, AreAsked, HasBatch, IsBatchAt, IsHeld, IsSound, IsStated}
 use Rattle.smart_messages.specs.declared.regency.RegencyMessage.TheVariants as changes
 use Rattle.agreement_laws.specs.Statements as says
+use Rattle.agreement_laws.proofs.Lists.{each_among}
+use Rattle.smart_base.proofs.ViewFacts.{each-weaken}
 
 module _ (stated more : List Statement) (grows_to : AreAmong stated more) where
   among_more : (s : Statement) → Among s stated → Among s more
   among_more s there = each_among (λ x. Among x more) stated s grows_to there
 
   areamong_more : (few : List Statement) → AreAmong few stated → AreAmong few more
-  areamong_more few all = each_weaker (λ s. Among s stated) (λ s. Among s more) among_more few all
+  areamong_more few all = each-weaken (λ s. Among s stated) (λ s. Among s more) among_more few all
 
   drawn_more : (secret : List ℕ) (view : View) (wanted : Ballot) (votes : List (SignedBy Ballot)) → IsDrawn secret view stated wanted votes → IsDrawn secret view more wanted votes
   drawn_more secret view wanted votes is = record {
     holds = is.holds;
-    drawn = each_weaker (λ b. Among (says.Voted b) stated) (λ b. Among (says.Voted b) more) (λ b there. among_more (says.Voted b) there) votes is.drawn;
+    drawn = each-weaken (λ b. Among (says.Voted b) stated) (λ b. Among (says.Voted b) more) (λ b there. among_more (says.Voted b) there) votes is.drawn;
   }
 
   chosen_more : (secret : List ℕ) (view : View) (start : Start) → IsChosen secret view stated start → IsChosen secret view more start
   chosen_more secret view start is = record {
     items = is.items;
     collect = is.collect;
-    drawn = each_weaker (λ r. Among (says.Reported r) stated) (λ r. Among (says.Reported r) more) (λ r there. among_more (says.Reported r) there) is.items is.drawn;
+    drawn = each-weaken (λ r. Among (says.Reported r) stated) (λ r. Among (says.Reported r) more) (λ r there. among_more (says.Reported r) there) is.items is.drawn;
     choice_is = is.choice_is;
   }
 
@@ -58,7 +59,7 @@ module _ (stated more : List Statement) (grows_to : AreAmong stated more) where
 
   asked_more : (secret : List ℕ) (batch : Batch) → AreAsked secret stated batch → AreAsked secret more batch
   asked_more secret batch asked =
-      each_weaker (λ q. (is_verified requests secret q ≡ true) × IsStated secret stated (Plain (Ask q))) (λ q. (is_verified requests secret q ≡ true) × IsStated secret more (Plain (Ask q)))
+      each-weaken (λ q. (is_verified requests secret q ≡ true) × IsStated secret stated (Plain (Ask q))) (λ q. (is_verified requests secret q ≡ true) × IsStated secret more (Plain (Ask q)))
       (λ q is. (is.0, areamong_more (statements secret (Plain (Ask q))) is.1)) batch asked
 
   at_more : (secret : List ℕ) (place : ℕ) (digest : List ℕ) (batch : Batch) → IsBatchAt secret stated place digest batch → IsBatchAt secret more place digest batch
@@ -77,7 +78,7 @@ module _ (stated more : List Statement) (grows_to : AreAmong stated more) where
   held_more : (secret : List ℕ) (id : ℕ) (es : List LogEntry) (h : Held) → IsHeld secret id stated es h → IsHeld secret id more es h
   held_more secret id es h is = record {
     needs = is.needs;
-    shown = each_weaker (λ s. Among s stated ⊎ ((signer_of s ≡ Member id) × IsShown digest_of (take h.needs es) s)) (λ s. Among s more ⊎ ((signer_of s ≡ Member id) × IsShown digest_of (take h.needs es) s))
+    shown = each-weaken (λ s. Among s stated ⊎ ((signer_of s ≡ Member id) × IsShown digest_of (take h.needs es) s)) (λ s. Among s more ⊎ ((signer_of s ≡ Member id) × IsShown digest_of (take h.needs es) s))
         (λ s is. ⊎_elim (λ there. inl (among_more s there)) (λ own. inr own) is) (statements secret h.message) is.shown;
   }
 
@@ -91,14 +92,14 @@ module _ (stated more : List Statement) (grows_to : AreAmong stated more) where
     latest = is.latest;
     within = is.within;
     ranged = is.ranged;
-    backed = each_weaker (IsBacked n.secret digest_of view stated) (IsBacked n.secret digest_of view more) (backed_more n.secret view) n.entries is.backed;
-    batches = each_weaker (HasBatch n.secret stated) (HasBatch n.secret more) (has_more n.secret) n.entries is.batches;
+    backed = each-weaken (IsBacked n.secret digest_of view stated) (IsBacked n.secret digest_of view more) (backed_more n.secret view) n.entries is.backed;
+    batches = each-weaken (HasBatch n.secret stated) (HasBatch n.secret more) (has_more n.secret) n.entries is.batches;
     waiting = is.waiting;
     table = is.table;
-    arrivals = each_weaker (Arrived n.secret stated view) (Arrived n.secret more view) (λ m k. (k.0, areamong_more (statements n.secret (Plain m)) k.1)) n.arrivals is.arrivals;
-    stops = each_weaker (StopKept n.secret stated view) (StopKept n.secret more view) (λ s k. (k.0, areamong_more (statements n.secret (Change (changes.Stop s))) k.1)) n.stops is.stops;
-    reports = each_weaker (ReportKept n stated view) (ReportKept n more view) (λ r k. (k.0, k.1, areamong_more (statements n.secret (Change (changes.StopData r))) k.2)) n.reports is.reports;
-    syncs = each_weaker (SyncKept n stated view) (SyncKept n more view) (λ s k. (k.0, k.1, areamong_more (statements n.secret (Change (changes.Sync s))) k.2)) n.syncs is.syncs;
+    arrivals = each-weaken (Arrived n.secret stated view) (Arrived n.secret more view) (λ m k. (k.0, areamong_more (statements n.secret (Plain m)) k.1)) n.arrivals is.arrivals;
+    stops = each-weaken (StopKept n.secret stated view) (StopKept n.secret more view) (λ s k. (k.0, areamong_more (statements n.secret (Change (changes.Stop s))) k.1)) n.stops is.stops;
+    reports = each-weaken (ReportKept n stated view) (ReportKept n more view) (λ r k. (k.0, k.1, areamong_more (statements n.secret (Change (changes.StopData r))) k.2)) n.reports is.reports;
+    syncs = each-weaken (SyncKept n stated view) (SyncKept n more view) (λ s k. (k.0, k.1, areamong_more (statements n.secret (Change (changes.Sync s))) k.2)) n.syncs is.syncs;
     pool = asked_more n.secret n.pool is.pool;
-    held = each_weaker (IsHeld n.secret n.id stated n.entries) (IsHeld n.secret n.id more n.entries) (held_more n.secret n.id n.entries) n.held is.held;
+    held = each-weaken (IsHeld n.secret n.id stated n.entries) (IsHeld n.secret n.id more n.entries) (held_more n.secret n.id n.entries) n.held is.held;
   }

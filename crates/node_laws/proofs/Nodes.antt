@@ -13,18 +13,18 @@ use Rattle.node_rules.specs.declared.node.Target.{Target}
 use Rattle.smart_base.specs.Lists.{Each, or_else}
 use Rattle.smart_base.specs.Views.{View, present}
 use Rattle.smart_base.specs.declared.party.Party.TheVariants.{Member}
-use Rattle.smart_messages.specs.Forms.{SignedBy}
-use Rattle.smart_messages.specs.Messages.{Batch}
+use Rattle.smart_statements.specs.Forms.{SignedBy}
+use Rattle.smart_statements.specs.Batches.{Batch}
 use Rattle.smart_messages.specs.Regencies.{stops, syncs}
-use Rattle.smart_messages.specs.Reports.{reports}
+use Rattle.smart_statements.specs.Reports.{reports}
 use Rattle.smart_messages.specs.declared.any.AnyMessage.{AnyMessage}
 use Rattle.smart_messages.specs.declared.any.AnyMessage.TheVariants.{Change, Plain}
 use Rattle.smart_messages.specs.declared.message.Message.{Message}
 use Rattle.smart_messages.specs.declared.regency.Reported.{Reported}
 use Rattle.smart_messages.specs.declared.regency.Stop.{Stop}
 use Rattle.smart_messages.specs.declared.regency.Sync.{Sync}
-use Rattle.smart_messages.specs.declared.statement.Request.{Request}
-use Rattle.smart_messages.specs.declared.statement.Slot.{Slot}
+use Rattle.smart_statements.specs.declared.statement.Request.{Request}
+use Rattle.smart_statements.specs.declared.statement.Slot.{Slot}
 use Rattle.vote_book.proofs.Growth.{grows}
 use Rattle.vote_book.proofs.Last.{last_push, latest_push}
 use Rattle.vote_book.proofs.Tidy.{grows_tidy}
@@ -32,9 +32,10 @@ use Rattle.vote_book.specs.Books.{Admits, Among, last_made, latest_made, number_
 use Rattle.vote_book.specs.Tidy.{IsTidyAfter}
 use Rattle.vote_book.specs.declared.entry.LogEntry.{LogEntry}
 use Rattle.node_laws.proofs.Books.{answered_push, begun_push, decided_push, held_push, least_decided, ranged_push, within_at, within_push}
-use Rattle.node_laws.proofs.Lists.{each_end, each_weaker}
 use Rattle.node_laws.specs.Sound.{AreAsked, HasBatch, HasDecided, IsHeld, IsKept, IsMembers, IsSound, IsStated, IsWithin, answer_by, place_if}
 use Rattle.smart_messages.specs.declared.regency.RegencyMessage.TheVariants as changes
+use Rattle.agreement_laws.proofs.Lists.{each_end}
+use Rattle.smart_base.proofs.ViewFacts.{each-weaken}
 
 -- ---- what is kept
 
@@ -160,14 +161,14 @@ pushes stated view n e waiting is may made = record {
   backed = each_end (IsBacked n.secret digest_of view stated) n.entries e is.backed may.backed;
   batches = each_end (HasBatch n.secret stated) n.entries e is.batches may.batch;
   waiting = made.waiting;
-  table = each_weaker (λ line. HasAnswered n.entries (answer_by line)) (λ line. HasAnswered (n.entries ++ e ∷ []) (answer_by line))
+  table = each-weaken (λ line. HasAnswered n.entries (answer_by line)) (λ line. HasAnswered (n.entries ++ e ∷ []) (answer_by line))
       (λ line has. answered_push n.entries e (answer_by line) has) n.replica.table is.table;
   arrivals = is.arrivals;
   stops = is.stops;
   reports = is.reports;
   syncs = is.syncs;
   pool = is.pool;
-  held = each_weaker (IsHeld n.secret n.id stated n.entries) (IsHeld n.secret n.id stated (n.entries ++ e ∷ []))
+  held = each-weaken (IsHeld n.secret n.id stated n.entries) (IsHeld n.secret n.id stated (n.entries ++ e ∷ []))
       (λ h shown. held_push n.secret n.id stated n.entries e h shown) n.held is.held;
 }
 

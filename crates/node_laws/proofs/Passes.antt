@@ -13,8 +13,8 @@ use Rattle.smart_base.specs.Lists.{Each}
 use Rattle.smart_base.specs.Views.{View, is_view}
 use Rattle.smart_messages.specs.RegencyMessages.{any_decoded}
 use Rattle.smart_messages.specs.declared.any.AnyMessage.{AnyMessage}
-use Rattle.smart_messages.specs.declared.entry.NodeEvent.{NodeEvent}
-use Rattle.smart_messages.specs.declared.entry.NodeEvent.TheVariants.{Arrive, Deliver, Firm, Tick}
+use Rattle.smart_statements.specs.declared.entry.NodeEvent.{NodeEvent}
+use Rattle.smart_statements.specs.declared.entry.NodeEvent.TheVariants.{Arrive, Deliver, Firm, Tick}
 use Rattle.smart_service.specs.Services.{Meaning}
 use Rattle.vote_book.proofs.Growth.{grows, none_lawful}
 use Rattle.vote_book.proofs.Tidy.{grows_tidy, none_tidy}
@@ -26,12 +26,12 @@ use Rattle.node_laws.proofs.Books.{none_ranged, ranged_push}
 use Rattle.node_laws.proofs.Deciding.{sound_decides}
 use Rattle.node_laws.proofs.Delivering.{sound_answers_again, sound_delivers}
 use Rattle.node_laws.proofs.Leading.{sound_joins, sound_leads, sound_times}
-use Rattle.node_laws.proofs.Lists.{either}
 use Rattle.node_laws.proofs.Nodes.{aside}
 use Rattle.node_laws.proofs.Promising.{sound_promises}
 use Rattle.node_laws.proofs.Proposing.{sound_proposes}
 use Rattle.node_laws.proofs.Voting.{sound_accepts, sound_writes}
 use Rattle.node_laws.specs.Sound.{IsHeld, IsSound, IsStated, IsStatedEvent}
+use Rattle.agreement_laws.proofs.Lists.{either}
 
 sound_turns : {S : Type 0} (stated : List Statement) (view : View) (n : Node S) → IsSound stated view n → IsSound stated view (turns n)
 unfolding turns
@@ -70,7 +70,7 @@ sound_step {S = S} m stated view n (Firm count) viewed is was =
 
 -- ---- messages that leave, and the beginning
 
-each_staying : (P : Held → Type 0) (firm : ℕ) (held : List Held) → Each P held → Each P (staying firm held)
+pub each_staying : (P : Held → Type 0) (firm : ℕ) (held : List Held) → Each P held → Each P (staying firm held)
 each_staying P firm [] each = tt
 each_staying P firm (h ∷ hs) each = either (λ (rest : List Held). Each P rest) (nat_le h.needs firm) (staying firm hs) (h ∷ hs) (each_staying P firm hs each.1) each
 

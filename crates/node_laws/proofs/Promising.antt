@@ -11,18 +11,17 @@ use Rattle.node_rules.specs.Nodes.{Node, next_place, recording, regency_of, view
 use Rattle.smart_base.specs.Lists.{Each}
 use Rattle.smart_base.specs.Views.{View, leader}
 use Rattle.smart_base.specs.declared.party.Party.TheVariants.{Member}
-use Rattle.smart_messages.specs.Forms.{SignedBy}
-use Rattle.smart_messages.specs.Reports.{reports}
+use Rattle.smart_statements.specs.Forms.{SignedBy}
+use Rattle.smart_statements.specs.Reports.{reports}
 use Rattle.smart_messages.specs.declared.any.AnyMessage.{AnyMessage}
 use Rattle.smart_messages.specs.declared.any.AnyMessage.TheVariants.{Change}
-use Rattle.smart_messages.specs.declared.report.Report.{Report}
+use Rattle.smart_statements.specs.declared.report.Report.{Report}
 use Rattle.vote_book.proofs.Locks.{lock_is, maker_is}
 use Rattle.vote_book.specs.BookReports.{certificate_of, evidence_by, evidence_of, last_maker, lock_of}
 use Rattle.vote_book.specs.Books.{Among}
 use Rattle.vote_book.specs.declared.entry.Accept.{Accept}
 use Rattle.vote_book.specs.declared.entry.LogEntry.{LogEntry}
 use Rattle.vote_book.specs.declared.entry.LogEntry.TheVariants.{Accepted, Decided, Installed, Marked, Opened, Promised, Synced, Wrote}
-use Rattle.node_laws.proofs.Lists.{among_either, each_among, each_map, either}
 use Rattle.node_laws.proofs.Nodes.{aside, holds}
 use Rattle.node_laws.proofs.Promised.{number_in_force, records_promise}
 use Rattle.node_laws.proofs.Stated.{batch_covers, each_verified}
@@ -30,6 +29,7 @@ use Rattle.node_laws.specs.Sound.{HasBatch, IsSound, IsWithin}
 use Rattle.smart_messages.specs.declared.regency.RegencyMessage.TheVariants as changes
 use Rattle.node_rules.specs.declared.node.Target.TheVariants as targets
 use Rattle.agreement_laws.specs.Statements as says
+use Rattle.agreement_laws.proofs.Lists.{among_either, each_among, each_map, either}
 
 -- ---- what a report of the book has in it has been stated
 

@@ -12,18 +12,18 @@ use Rattle.regency_sync.specs.Synchronizers.{batch_in, batch_of, bears}
 use Rattle.smart_base.specs.Lists.{Each, same_bytes}
 use Rattle.smart_base.specs.Views.{View, leader}
 use Rattle.smart_base.specs.declared.party.Party.TheVariants.{Member}
-use Rattle.smart_messages.specs.Equality.{same_slot}
-use Rattle.smart_messages.specs.Forms.{SignedBy}
-use Rattle.smart_messages.specs.Kinds.{proposals, requests}
-use Rattle.smart_messages.specs.Messages.{Batch}
+use Rattle.smart_statements.specs.Equality.{same_slot}
+use Rattle.smart_statements.specs.Forms.{SignedBy}
+use Rattle.smart_statements.specs.Kinds.{proposals, requests}
+use Rattle.smart_statements.specs.Batches.{Batch}
 use Rattle.smart_messages.specs.declared.any.AnyMessage.TheVariants.{Change, Plain}
 use Rattle.smart_messages.specs.declared.message.Message.TheVariants.{Ask, Propose}
 use Rattle.smart_messages.specs.declared.message.Proposed.{Proposed}
 use Rattle.smart_messages.specs.declared.regency.Reported.{Reported}
-use Rattle.smart_messages.specs.declared.statement.Request.{Request}
+use Rattle.smart_statements.specs.declared.statement.Request.{Request}
 use Rattle.vote_book.specs.Books.{Among}
 use Rattle.node_laws.proofs.Deciding.{named_accepted}
-use Rattle.node_laws.proofs.Lists.{among_right, each_among, each_end, each_filter, each_filter_map_in, either, else_some, found, guard, some_equal}
+use Rattle.node_laws.proofs.Lists.{each_filter_map_in, found, guard}
 use Rattle.node_laws.proofs.Nodes.{ReportKept, Shows, aside, holds}
 use Rattle.node_laws.proofs.Stated.{Covers, batch_covers, covers, each_verified}
 use Rattle.node_laws.specs.Sound.{AreAsked, HasBatch, IsBatchAt, IsSound, IsStated}
@@ -31,6 +31,8 @@ use Rattle.smart_messages.specs.declared.regency.RegencyMessage.TheVariants as c
 use Rattle.node_rules.specs.declared.node.Target.TheVariants as targets
 use Rattle.agreement_laws.specs.Statements as says
 use Rattle.replica_rules.specs.Pools as pools
+use Rattle.agreement_laws.proofs.Lists.{among_right, each_among, each_end, either, else_some, some_equal}
+use Rattle.regency_sync.proofs.Lists.{each_filter}
 
 -- ---- batches of requests that wait
 

@@ -3,7 +3,7 @@ use Rattle.std.proofs.Common.{append-nil, List, None, Option, Some, ap, arith, f
 use Rattle.std.proofs.lemmas.Bool.{ltb-true}
 use Rattle.std.specs.List.{list_all, list_any}
 use Rattle.std.specs.Prelude.{is_none}
-use Rattle.replica_rules.specs.Replicas.{after_batches, delivered, empty, state}
+use Rattle.replica_rules.specs.Replicas.{after_batches, delivered, state}
 use Rattle.replica_rules.specs.Seals.{digest_of, fits, is_managers, is_verified, request_fits}
 use Rattle.agreement_laws.specs.Certificates.{IsBacked}
 use Rattle.agreement_laws.specs.Statements.{Statement}
@@ -12,8 +12,8 @@ use Rattle.node_rules.specs.Nodes.{Node, greatest_regency, next_place, recording
 use Rattle.node_rules.specs.Reopening.{decided_of, reopened, stopped, takes_all_back, takes_back}
 use Rattle.smart_base.specs.Lists.{Each, same_bytes}
 use Rattle.smart_base.specs.Views.{View}
-use Rattle.smart_messages.specs.Kinds.{requests}
-use Rattle.smart_messages.specs.Messages.{Batch, batch_text}
+use Rattle.smart_statements.specs.Kinds.{requests}
+use Rattle.smart_statements.specs.Batches.{Batch, batch_text}
 use Rattle.smart_service.specs.Services.{Meaning}
 use Rattle.smart_service.specs.declared.replica.Replica.{Replica}
 use Rattle.vote_book.specs.Books.{Among, Follows, last_made, latest_made}
@@ -23,7 +23,6 @@ use Rattle.vote_book.specs.declared.entry.LogEntry.TheVariants.{Accepted, Decide
 use Rattle.node_laws.proofs.Books.{greatest_push, within_more}
 use Rattle.node_laws.proofs.Deciding.{decides_makes}
 use Rattle.node_laws.proofs.Delivering.{Answered, decided_requests, delivered_is, delivered_table, onward, sound_onward}
-use Rattle.node_laws.proofs.Lists.{among_right, and_true, each_among}
 use Rattle.node_laws.proofs.Nodes.{MayPush, aside, pushes, records}
 use Rattle.node_laws.proofs.Passes.{sound_begun}
 use Rattle.node_laws.proofs.Promised.{number_in_force}
@@ -31,6 +30,9 @@ use Rattle.node_laws.proofs.Votes.{made_last, made_latest}
 use Rattle.node_laws.proofs.Restored.{front_of}
 use Rattle.node_laws.specs.Restored.{IsSoundBook}
 use Rattle.node_laws.specs.Sound.{HasBatch, IsBegun, IsSound, place_if}
+use Rattle.agreement_laws.proofs.Lists.{among_right, each_among}
+use Rattle.smart_base.proofs.SameLists.{and_true}
+use Rattle.replica_rules.proofs.Places.{state_place}
 
 -- ---- the place of a decision
 
@@ -52,7 +54,7 @@ some_fits secret place batch is =
     let sizes = and_true (nat_le 1 (length batch) && nat_le (length batch) 64) (nat_le (length (batch_text batch)) 262144) all.0 in
     some_batch secret place batch (and_true (nat_le 1 (length batch)) (nat_le (length batch) 64) sizes.0).0 all.1
 
-some_place : (secret : List ℕ) (place : ℕ) (digest : List ℕ) (batch : Batch) → is_batch_for secret place digest batch ≡ true → 0 < place
+pub some_place : (secret : List ℕ) (place : ℕ) (digest : List ℕ) (batch : Batch) → is_batch_for secret place digest batch ≡ true → 0 < place
 unfolding is_batch_for
 some_place secret place digest batch is =
     let outer = and_true (fits secret batch place && not (list_any is_managers batch)) (same_bytes (digest_of batch) digest) is in
@@ -240,16 +242,6 @@ reopened_is {S = S} m secret id view period e es =
     ap (λ (n : Node S). record n { restored = length (e ∷ es); firm = length (e ∷ es) }) (all_back_is m (stopped m secret id view) (e ∷ es))
 
 -- ---- the places of what was decided
-
-after_place : {S : Type 0} (m : Meaning S) (r : Replica S) (batches : List Batch) → (after_batches m r batches).place ≡ r.place + length batches
-after_place {S = S} m r [] = omega arith
-after_place {S = S} m r (batch ∷ batches) =
-    let rest = after_place m (delivered m r batch) batches in
-    let next : r.place + 1 ≡ (delivered m r batch).place = ap (λ (x : Replica S). x.place) (delivered_is m r batch) in
-    omega (arith, rest, next)
-
-pub state_place : {S : Type 0} (m : Meaning S) (view : View) (batches : List Batch) → (state m view batches).place ≡ length batches
-state_place m view batches = let at : (state m view batches).place ≡ 0 + length batches = after_place m (empty m view) batches in omega (arith, at)
 
 pub reopened_place : {S : Type 0} (m : Meaning S) (secret : List ℕ) (id : ℕ) (view : View) (period : ℕ) (entries : List LogEntry)
     → (reopened m secret id view period entries).replica.place ≡ length (decided_of entries)

@@ -8,17 +8,18 @@ use Rattle.agreement_laws.specs.Statements.{Statement}
 use Rattle.node_rules.specs.Nodes.{Node}
 use Rattle.node_rules.specs.Reopening.{decided_of}
 use Rattle.agreement_laws.specs.Fronts.{IsFront}
-use Rattle.smart_messages.specs.Messages.{Batch}
+use Rattle.smart_statements.specs.Batches.{Batch}
 use Rattle.vote_book.specs.declared.entry.LogEntry.TheVariants.{Accepted, Decided, Installed, Marked, Opened, Promised, Synced, Wrote}
 use Rattle.smart_base.specs.Views.{View}
 use Rattle.vote_book.proofs.Tidy.{front_lawful, front_tidy}
 use Rattle.vote_book.specs.Books.{Lawful}
 use Rattle.vote_book.specs.Tidy.{IsTidy}
 use Rattle.vote_book.specs.declared.entry.LogEntry.{LogEntry}
-use Rattle.node_laws.proofs.Lists.{each_take, each_weaker}
 use Rattle.node_laws.proofs.More.{backed_more, has_more}
 use Rattle.node_laws.specs.Restored.{IsSoundBook}
 use Rattle.node_laws.specs.Sound.{AreAmong, AreRanged, HasBatch, IsBegun, IsSound}
+use Rattle.agreement_laws.proofs.Lists.{each_take}
+use Rattle.smart_base.proofs.ViewFacts.{each-weaken}
 
 pub book_sound : {S : Type 0} (stated : List Statement) (view : View) (n : Node S) → IsSound stated view n → IsSoundBook n.secret stated view n.entries
 book_sound stated view n is = record { begun = inr is.begun; lawful = is.lawful; tidy = is.tidy; ranged = is.ranged; backed = is.backed; batches = is.batches }
@@ -55,7 +56,7 @@ front_of secret stated view front rest is =
 
 -- ---- what a front decides
 
-decided_append : (front rest : List LogEntry) → decided_of (front ++ rest) ≡ decided_of front ++ decided_of rest
+pub decided_append : (front rest : List LogEntry) → decided_of (front ++ rest) ≡ decided_of front ++ decided_of rest
 decided_append [] rest = refl
 decided_append (Opened o ∷ es) rest = decided_append es rest
 decided_append (Wrote w ∷ es) rest = decided_append es rest
@@ -81,6 +82,6 @@ book_more stated more grows_to secret view entries is = record {
   lawful = is.lawful;
   tidy = is.tidy;
   ranged = is.ranged;
-  backed = each_weaker (IsBacked secret digest_of view stated) (IsBacked secret digest_of view more) (backed_more stated more grows_to secret view) entries is.backed;
-  batches = each_weaker (HasBatch secret stated) (HasBatch secret more) (has_more stated more grows_to secret) entries is.batches;
+  backed = each-weaken (IsBacked secret digest_of view stated) (IsBacked secret digest_of view more) (backed_more stated more grows_to secret view) entries is.backed;
+  batches = each-weaken (HasBatch secret stated) (HasBatch secret more) (has_more stated more grows_to secret) entries is.batches;
 }

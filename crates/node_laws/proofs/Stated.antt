@@ -7,21 +7,24 @@ use Rattle.agreement_laws.specs.Statements.{Statement, statements}
 use Rattle.node_rules.specs.Arrivals.{is_batch_for}
 use Rattle.smart_base.specs.Lists.{Each, same_bytes}
 use Rattle.smart_base.specs.Views.{View}
-use Rattle.smart_messages.specs.Forms.{SignedBy}
-use Rattle.smart_messages.specs.Kinds.{requests}
-use Rattle.smart_messages.specs.Messages.{Batch, batch_text}
+use Rattle.smart_statements.specs.Forms.{SignedBy}
+use Rattle.smart_statements.specs.Kinds.{requests}
+use Rattle.smart_statements.specs.Batches.{Batch, batch_text}
 use Rattle.smart_messages.specs.declared.any.AnyMessage.{AnyMessage}
 use Rattle.smart_messages.specs.declared.any.AnyMessage.TheVariants.{Plain}
 use Rattle.smart_messages.specs.declared.message.Message.TheVariants.{Ask, Propose, Vote}
 use Rattle.smart_messages.specs.declared.message.Proposed.{Proposed}
-use Rattle.smart_messages.specs.declared.statement.Ballot.{Ballot}
-use Rattle.smart_messages.specs.declared.statement.Request.{Request}
+use Rattle.smart_statements.specs.declared.statement.Ballot.{Ballot}
+use Rattle.smart_statements.specs.declared.statement.Request.{Request}
 use Rattle.vote_book.proofs.Tested.{same_bytes_is}
 use Rattle.vote_book.specs.Books.{Among}
-use Rattle.node_laws.proofs.Lists.{Found, all_each, among_either, among_filter, among_flat, among_map, among_right, and_true, each_among, each_of, each_weaker}
+use Rattle.node_laws.proofs.Lists.{Found, all_each}
 use Rattle.node_laws.proofs.Nodes.{Arrived}
 use Rattle.node_laws.specs.Sound.{AreAmong, AreAsked, IsStated}
 use Rattle.agreement_laws.specs.Statements as says
+use Rattle.agreement_laws.proofs.Lists.{among_either, among_right, each_among, each_from, among_filter, among_flat, among_map}
+use Rattle.smart_base.proofs.SameLists.{and_true}
+use Rattle.smart_base.proofs.ViewFacts.{each-weaken}
 
 -- whatever verifies of some statements has been stated
 abbrev pub Covers : List ℕ → List Statement → List Statement → Type 0
@@ -41,18 +44,18 @@ passed p x (y ∷ ys) there = passed_step p x y ys (filter p ys) (p y) refl (λ 
 
 pub covers : (secret : List ℕ) (stated : List Statement) (m : AnyMessage) → IsStated secret stated m → Covers secret stated (flat_map says.within (says.said m))
 covers secret stated m is s there ok =
-    each_among (λ s. Among s stated) (statements secret m) s is (among_filter (says.verifies secret) s (flat_map says.within (says.said m)) there ok)
+    each_among (λ s. Among s stated) (statements secret m) s is (among_filter (says.verifies secret) (flat_map says.within (says.said m)) s there ok)
 
 pub covered : (secret : List ℕ) (stated parts : List Statement) → Covers secret stated parts → AreAmong (filter (says.verifies secret) parts) stated
 covered secret stated parts all =
-    each_of (λ s. Among s stated) (filter (says.verifies secret) parts)
+    each_from (λ s. Among s stated) (filter (says.verifies secret) parts)
     (λ s there. let was = passed (says.verifies secret) s parts there in all s was.there was.passes)
 
 -- what holds of each that verifies
 pub each_verified : (secret : List ℕ) (P : Statement → Type 0) (parts : List Statement) → ((s : Statement) → Among s parts → says.verifies secret s ≡ true → P s)
     → Each P (filter (says.verifies secret) parts)
 each_verified secret P parts all =
-    each_of P (filter (says.verifies secret) parts) (λ s there. let was = passed (says.verifies secret) s parts there in all s was.there was.passes)
+    each_from P (filter (says.verifies secret) parts) (λ s there. let was = passed (says.verifies secret) s parts there in all s was.there was.passes)
 
 pub flat_covers : {A : Type 0} (secret : List ℕ) (stated : List Statement) (f : A → List Statement) (xs : List A) → Each (λ x. Covers secret stated (f x)) xs
     → Covers secret stated (flat_map f xs)
@@ -70,12 +73,12 @@ asked_of secret stated q is = covers secret stated (Plain (Ask q)) is
 
 -- the requests of a batch stand in what a message says that bears it
 ask_within : (q : SignedBy Request) (batch : Batch) → Among q batch → Among (says.Asked q) (flat_map says.within (map says.Asked batch))
-ask_within q batch there = among_flat says.within (says.Asked q) (map says.Asked batch) (says.Asked q) (among_map says.Asked q batch there) (inl refl)
+ask_within q batch there = among_flat says.within (map says.Asked batch) (says.Asked q) (says.Asked q) (among_map says.Asked batch q there) (inl refl)
 
 pub batch_asked : (secret : List ℕ) (stated parts : List Statement) (batch : Batch) → Covers secret stated (parts ++ flat_map says.within (map says.Asked batch))
     → Each (λ q. is_verified requests secret q ≡ true) batch → AreAsked secret stated batch
 batch_asked secret stated parts batch all ok =
-    each_of (λ q. (is_verified requests secret q ≡ true) × IsStated secret stated (Plain (Ask q))) batch
+    each_from (λ q. (is_verified requests secret q ≡ true) × IsStated secret stated (Plain (Ask q))) batch
     (λ q there.
     let tagged : is_verified requests secret q ≡ true = each_among (λ q. is_verified requests secret q ≡ true) batch q ok there in
     let was : Among (says.Asked q) stated = all (says.Asked q) (among_right (says.Asked q) parts (flat_map says.within (map says.Asked batch)) (ask_within q batch there)) tagged in
@@ -95,7 +98,7 @@ fits_tags secret batch place is =
     let front = and_true (nat_le 1 (length batch) && nat_le (length batch) 64 && nat_le (length (batch_text batch)) 262144 && list_all (request_fits secret place) batch)
     (nat_le (length batch) 1 || not (list_any is_managers batch)) is in
     let all = and_true (nat_le 1 (length batch) && nat_le (length batch) 64 && nat_le (length (batch_text batch)) 262144) (list_all (request_fits secret place) batch) front.0 in
-    each_weaker (λ q. request_fits secret place q ≡ true) (λ q. is_verified requests secret q ≡ true)
+    each-weaken (λ q. request_fits secret place q ≡ true) (λ q. is_verified requests secret q ≡ true)
     (λ q ok. (and_true (nat_le q.statement.client 1024 && nat_lt q.statement.after place) (is_verified requests secret q) ok).1)
     batch (all_each (request_fits secret place) batch all.1)
 

@@ -8,9 +8,9 @@ use Rattle.node_rules.specs.Nodes.{Node, bound_at, first_start, has_begun, is_fr
 use Rattle.node_rules.specs.Steps.{opened}
 use Rattle.smart_base.specs.Lists.{Each}
 use Rattle.smart_base.specs.Views.{View, is_member, present}
-use Rattle.smart_messages.specs.Equality.{same_slot}
-use Rattle.smart_messages.specs.declared.statement.Slot.{Slot}
-use Rattle.vote_book.proofs.Tested.{same_bytes_is, same_slot_self}
+use Rattle.smart_statements.specs.Equality.{same_slot}
+use Rattle.smart_statements.specs.declared.statement.Slot.{Slot}
+use Rattle.vote_book.proofs.Tested.{same_bytes_is, same_slot_self, latest_has}
 use Rattle.vote_book.specs.Admission.{accepts_in, writes_in}
 use Rattle.vote_book.specs.Books.{Allows, Among, HasBegun, HasMade, IsBelow, MayVote, last_made, latest_made}
 use Rattle.vote_book.specs.Tidy.{IsTidyVote}
@@ -20,9 +20,11 @@ use Rattle.vote_book.specs.declared.entry.LogEntry.TheVariants.{Accepted, Promis
 use Rattle.vote_book.specs.declared.entry.Promise.{Promise}
 use Rattle.vote_book.specs.declared.entry.Start.{Start}
 use Rattle.vote_book.specs.declared.entry.Write.{Write}
-use Rattle.node_laws.proofs.Books.{begins, latest_has, promised_greatest}
-use Rattle.node_laws.proofs.Lists.{and_true, each_among, none_of}
+use Rattle.node_laws.proofs.Books.{begins, promised_greatest}
+use Rattle.node_laws.proofs.Lists.{none_of}
 use Rattle.node_laws.specs.Sound.{IsSound, IsUpTo, IsWithin, place_if}
+use Rattle.smart_base.proofs.SameLists.{and_true}
+use Rattle.agreement_laws.proofs.Lists.{each_among}
 
 -- ---- where a node stands
 

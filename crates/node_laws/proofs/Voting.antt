@@ -11,13 +11,13 @@ use Rattle.node_rules.specs.Nodes.{Node, bound_at, is_open, is_within, next_plac
 use Rattle.node_rules.specs.Rules.{accept_batch, accepting, accepts, ballot, votable, write_batch, writes, writing, written}
 use Rattle.smart_base.specs.Lists.{Each, or_else}
 use Rattle.smart_base.specs.Views.{View, is_view}
-use Rattle.smart_messages.specs.Equality.{same_slot}
-use Rattle.smart_messages.specs.Kinds.{ballots}
+use Rattle.smart_statements.specs.Equality.{same_slot}
+use Rattle.smart_statements.specs.Kinds.{ballots}
 use Rattle.smart_messages.specs.declared.message.Message.{Message}
 use Rattle.smart_messages.specs.declared.message.Message.TheVariants.{Ask, Propose, Reply, Vote}
 use Rattle.smart_messages.specs.declared.message.Proposed.{Proposed}
-use Rattle.smart_messages.specs.declared.statement.Slot.{Slot}
-use Rattle.smart_messages.specs.declared.statement.VoteKind.{VoteKind}
+use Rattle.smart_statements.specs.declared.statement.Slot.{Slot}
+use Rattle.smart_statements.specs.declared.statement.VoteKind.{VoteKind}
 use Rattle.vote_book.proofs.Tested.{slot_is}
 use Rattle.vote_book.specs.Admission.{accepts_in, writes_in}
 use Rattle.vote_book.specs.Books.{Among}
@@ -25,14 +25,17 @@ use Rattle.vote_book.specs.declared.entry.Accept.{Accept}
 use Rattle.vote_book.specs.declared.entry.LogEntry.{LogEntry}
 use Rattle.vote_book.specs.declared.entry.LogEntry.TheVariants.{Accepted, Wrote}
 use Rattle.node_laws.proofs.Certified.{kept_certificate}
-use Rattle.node_laws.proofs.Lists.{among_last, and_true, each_among, each_filter, guard, not_true, some_equal}
+use Rattle.node_laws.proofs.Lists.{among_last, guard}
 use Rattle.node_laws.proofs.Nodes.{Arrived, MayPush, Shows, holds, records}
 use Rattle.node_laws.proofs.Stated.{proposal_asked}
 use Rattle.node_laws.proofs.Votes.{in_force, may_vote, none_accepted, none_written, open_within, opens, tidy_vote}
 use Rattle.node_laws.specs.Sound.{IsBatchAt, IsSound}
-use Rattle.smart_messages.specs.declared.statement.VoteKind.TheVariants as kinds
+use Rattle.smart_statements.specs.declared.statement.VoteKind.TheVariants as kinds
 use Rattle.node_rules.specs.declared.node.Target.TheVariants as targets
 use Rattle.agreement_laws.specs.Statements as says
+use Rattle.smart_base.proofs.SameLists.{and_true}
+use Rattle.agreement_laws.proofs.Lists.{each_among, not_true, some_equal}
+use Rattle.regency_sync.proofs.Lists.{each_filter}
 
 -- ---- proposals
 

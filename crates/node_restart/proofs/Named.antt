@@ -3,8 +3,8 @@ use Rattle.std.proofs.Common.{◌≡◌, ℕ, Bool, true, false, ◌&&◌, not, 
 use Rattle.std.specs.List.{list_any}
 use Rattle.std.proofs.lemmas.Bool.{and_parts}
 use Rattle.smart_base.specs.Lists.{same_bytes}
-use Rattle.smart_messages.specs.Messages.{Batch, FitsBatch, batch_text}
-use Rattle.smart_messages.proofs.Messages.{batch_is}
+use Rattle.smart_statements.specs.Batches.{Batch, FitsBatch, batch_text}
+use Rattle.smart_statements.proofs.Batches.{batch_is}
 use Rattle.vote_book.specs.declared.entry.Accept.{Accept}
 use Rattle.vote_book.proofs.Tested.{same_bytes_is, same_bytes_self}
 use Rattle.replica_rules.specs.Seals.{digest_of, is_managers, fits}

@@ -5,8 +5,8 @@ use Rattle.std.specs.List.{list_any, list_all}
 use Rattle.smart_base.specs.Lists.{or_else, same_bytes}
 use Rattle.smart_base.specs.Views.{View}
 use Rattle.smart_base.proofs.SameLists.{and_true}
-use Rattle.smart_messages.specs.Kinds.{requests}
-use Rattle.smart_messages.specs.Messages.{Batch, batch_text}
+use Rattle.smart_statements.specs.Kinds.{requests}
+use Rattle.smart_statements.specs.Batches.{Batch, batch_text}
 use Rattle.certificates.specs.Certificates.{votes_fault, accept_of}
 use Rattle.vote_book.specs.Admission.{follows, is_above, may_install}
 use Rattle.smart_service.specs.declared.replica.Replica.{Replica}

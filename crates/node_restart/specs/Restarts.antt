@@ -2,7 +2,7 @@
 use Rattle.std.specs.Prelude.{ℕ, ◌≡◌, ◌+◌, Bool, true, false, not, ◌&&◌, List, [], ◌∷◌, ◌++◌, Option, Some, None, Result, Ok, Err, if◌then◌else◌}
 use Rattle.std.specs.List.{list_any}
 use Rattle.smart_base.specs.Views.{View, present}
-use Rattle.smart_messages.specs.Messages.{Batch, FitsBatch}
+use Rattle.smart_statements.specs.Batches.{Batch, FitsBatch}
 use Rattle.smart_service.specs.Services.{Meaning}
 use Rattle.smart_service.specs.declared.replica.Replica.{Replica}
 use Rattle.vote_book.specs.Books.{Book, number_or, place_made, latest_made, last_made, Among}

@@ -1,7 +1,7 @@
 //! What names a batch, and whether it may stand at a place.
 ghost use Rattle.std.specs.Prelude.{◌≡◌, ◌&&◌, true, not, IfOk, length};
 ghost use Rattle.std.specs.List.{list_any, list_all};
-ghost use Rattle.smart_messages.specs.Messages.{batch_text, FitsBatch};
+ghost use Rattle.smart_statements.specs.Batches.{batch_text, FitsBatch};
 ghost use Rattle.replica_rules.specs.Seals.{digest_of, request_fits, is_managers, fits};
 ghost use Rattle.node_rules.specs.Arrivals.{is_batch_for};
 ghost use Rattle.node_restart.specs.Restarts.{named_for};
@@ -11,9 +11,9 @@ use smart_base::equality::same_bytes;
 use smart_base::keys::Digester;
 use smart_keys::hash::Sha;
 use smart_keys::ring::Ring;
-use smart_messages::batch::{BATCH_BYTES, Batch};
-use smart_messages::signed::Signed;
-use smart_messages::statement::Request;
+use smart_statements::batch::{BATCH_BYTES, Batch};
+use smart_statements::signed::Signed;
+use smart_statements::statement::Request;
 use std::alloc::{AllocError, Global};
 
 /// What names a batch in votes.

@@ -5,5 +5,3 @@ pub mod batch;
 pub mod fault;
 pub mod restart;
 mod rests;
-#[cfg(test)]
-mod tests;

@@ -1,6 +1,6 @@
 //! What an entry rests on.
 ghost use Rattle.std.specs.Prelude.{◌≡◌, ◌==◌, ◌&&◌, true, is_none, IfOk};
-ghost use Rattle.smart_messages.specs.Messages.{FitsBatch};
+ghost use Rattle.smart_statements.specs.Batches.{FitsBatch};
 ghost use Rattle.certificates.specs.Certificates.{votes_fault, write_of, accept_of};
 ghost use Rattle.replica_rules.specs.Seals.{digest_of};
 ghost use Rattle.node_rules.specs.Arrivals.{is_batch_for};
@@ -14,8 +14,8 @@ use certificates::check::{check_proof, check_write_cert};
 use smart_base::bytes::Digest32;
 use smart_base::view::View;
 use smart_keys::ring::Ring;
-use smart_messages::batch::Batch;
-use smart_messages::statement::Slot;
+use smart_statements::batch::Batch;
+use smart_statements::statement::Slot;
 use std::alloc::{AllocError, Global};
 use vote_book::book::Book;
 use vote_book::entry::{Accept, Decision, LogEntry};

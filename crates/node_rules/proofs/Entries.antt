@@ -1,19 +1,19 @@
 -- How many entries each rule adds to the book of a node, and an event with all of them.
 use Rattle.std.proofs.Common.{◌≡◌, ℕ, ◌+◌, ◌≤◌, ◌++◌, Bool, true, false, List, [], ◌∷◌, length, refl, subst, ap, sym, ◌∙◌, cond, arith, Option, Some, None, Result, Ok, Err}
 use Rattle.std.proofs.lemmas.List.{append-nil, append_assoc, length-append}
-use Rattle.smart_messages.specs.Forms.{SignedBy}
-use Rattle.smart_messages.specs.Messages.{Batch}
+use Rattle.smart_statements.specs.Forms.{SignedBy}
+use Rattle.smart_statements.specs.Batches.{Batch}
 use Rattle.smart_messages.specs.RegencyMessages.{any_decoded}
-use Rattle.smart_messages.specs.declared.statement.Request.{Request}
+use Rattle.smart_statements.specs.declared.statement.Request.{Request}
 use Rattle.smart_messages.specs.declared.regency.Sync.{Sync}
-use Rattle.smart_messages.specs.declared.report.Report.{Report}
+use Rattle.smart_statements.specs.declared.report.Report.{Report}
 use Rattle.smart_messages.specs.declared.message.Proposed.{Proposed}
 use Rattle.smart_messages.specs.declared.message.Message.TheVariants.{Ask, Propose, Vote, Reply}
 use Rattle.smart_messages.specs.declared.any.AnyMessage.{AnyMessage}
 use Rattle.smart_messages.specs.declared.any.AnyMessage.TheVariants.{Plain, Change}
 use Rattle.smart_messages.specs.declared.regency.RegencyMessage.TheVariants as changes
-use Rattle.smart_messages.specs.declared.entry.NodeEvent.{NodeEvent}
-use Rattle.smart_messages.specs.declared.entry.NodeEvent.TheVariants.{Arrive, Deliver, Firm, Tick}
+use Rattle.smart_statements.specs.declared.entry.NodeEvent.{NodeEvent}
+use Rattle.smart_statements.specs.declared.entry.NodeEvent.TheVariants.{Arrive, Deliver, Firm, Tick}
 use Rattle.smart_service.specs.Services.{Meaning}
 use Rattle.smart_service.specs.declared.table.TableLine.{TableLine}
 use Rattle.vote_book.specs.declared.entry.Decision.{Decision}
@@ -88,7 +88,7 @@ pub promises_adds : {S : Type 0} (n : Node S) → AddsAtMost 1 n.entries (promis
 unfolding promises
 promises_adds n = by_promising n (promising n)
 
-by_leading : {S : Type 0} (n : Node S) (o : Option (List (SignedBy Report))) → (lead_with n o).entries ≡ n.entries
+pub by_leading : {S : Type 0} (n : Node S) (o : Option (List (SignedBy Report))) → (lead_with n o).entries ≡ n.entries
 unfolding lead_with
 by_leading n None = refl
 by_leading n (Some collect) = refl
@@ -97,7 +97,7 @@ pub leads_same : {S : Type 0} (n : Node S) → (leads n).entries ≡ n.entries
 unfolding leads
 leads_same n = by_leading n (leading n)
 
-by_proposing : {S : Type 0} (n : Node S) (o : Option Batch) → (propose_batch n o).entries ≡ n.entries
+pub by_proposing : {S : Type 0} (n : Node S) (o : Option Batch) → (propose_batch n o).entries ≡ n.entries
 unfolding propose_batch
 by_proposing n None = refl
 by_proposing n (Some batch) = refl
@@ -182,7 +182,7 @@ kept_same n (Change (changes.Stop s)) = refl
 kept_same n (Change (changes.StopData r)) = refl
 kept_same n (Change (changes.Sync s)) = refl
 
-by_answering : {S : Type 0} (n : Node S) (o : Option TableLine) → (answer_line n o).entries ≡ n.entries
+pub by_answering : {S : Type 0} (n : Node S) (o : Option TableLine) → (answer_line n o).entries ≡ n.entries
 unfolding answer_line
 by_answering n None = refl
 by_answering n (Some line) = refl
@@ -191,7 +191,7 @@ pub answers_again_same : {S : Type 0} (n : Node S) (m : AnyMessage) → (answers
 unfolding answers_again
 answers_again_same n m = by_answering n (answering n m)
 
-by_oldest : {S : Type 0} (n : Node S) (pool : List (SignedBy Request)) → (passes_on n pool).entries ≡ n.entries
+pub by_oldest : {S : Type 0} (n : Node S) (pool : List (SignedBy Request)) → (passes_on n pool).entries ≡ n.entries
 by_oldest n [] = refl
 by_oldest n (q ∷ qs) = refl
 
@@ -212,7 +212,7 @@ replying_same : {S : Type 0} (lines : List TableLine) (n : Node S) → (replying
 replying_same [] n = refl
 replying_same (line ∷ lines) n = replying_same lines _
 
-by_waiting : {S : Type 0} (m : Meaning S) (n : Node S) (o : Option Batch) → (deliver_batch m n o).entries ≡ n.entries
+pub by_waiting : {S : Type 0} (m : Meaning S) (n : Node S) (o : Option Batch) → (deliver_batch m n o).entries ≡ n.entries
 unfolding deliver_batch
 by_waiting m n None = refl
 by_waiting m n (Some batch) = replying_same (lines_to_answer m n batch) _

@@ -1,9 +1,9 @@
 -- What a node still needs of all that it kept, and a core that keeps no more than that.
 use Rattle.std.specs.Prelude.{◌≡◌, filter, Bool, List, [], ◌∷◌, ℕ, false, ◌&&◌, nat_lt, nat_le}
-use Rattle.smart_messages.specs.declared.statement.Slot.{Slot}
+use Rattle.smart_statements.specs.declared.statement.Slot.{Slot}
 use Rattle.smart_messages.specs.declared.message.Message.{Message}
 use Rattle.smart_messages.specs.declared.message.Message.TheVariants.{Ask, Propose, Vote, Reply}
-use Rattle.smart_messages.specs.declared.entry.NodeEvent.{NodeEvent}
+use Rattle.smart_statements.specs.declared.entry.NodeEvent.{NodeEvent}
 use Rattle.smart_service.specs.Services.{Meaning}
 use Rattle.regency_sync.specs.Synchronizers.{needs_stop, needs_report, needs_sync}
 use Rattle.node_rules.specs.Nodes.{Node, view_of, regency_of, decided_place}

@@ -1,7 +1,7 @@
 -- A node that goes on after a crash: from the entries that its disks restored.
 use Rattle.std.specs.Prelude.{ℕ, ◌+◌, ◌==◌, Bool, true, false, ◌&&◌, List, [], ◌∷◌, ◌++◌, length, filter_map, if◌then◌else◌, Option, Some, None, is_none, Result, Ok, Err}
 use Rattle.smart_base.specs.Views.{View}
-use Rattle.smart_messages.specs.Messages.{Batch}
+use Rattle.smart_statements.specs.Batches.{Batch}
 use Rattle.smart_service.specs.Services.{Meaning}
 use Rattle.certificates.specs.Certificates.{votes_fault, write_of, accept_of}
 use Rattle.vote_book.specs.Admission.{admits}

@@ -3,13 +3,13 @@ use Rattle.std.specs.List.{list_any}
 use Rattle.std.specs.Prelude.{ℕ, ◌==◌, nat_le, ◌&&◌, List, [], ◌∷◌, ◌++◌, find, filter_map, if◌then◌else◌, Option, Some, None, option_map, Bool, false}
 use Rattle.smart_base.specs.Lists.{or_else, same_bytes}
 use Rattle.smart_base.specs.Views.{View, is_quorum, first_quorum}
-use Rattle.smart_messages.specs.Equality.{same_slot, same_kind}
-use Rattle.smart_messages.specs.Forms.{SignedBy}
-use Rattle.smart_messages.specs.Messages.{Batch}
-use Rattle.smart_messages.specs.declared.statement.Slot.{Slot}
-use Rattle.smart_messages.specs.declared.statement.Ballot.{Ballot}
-use Rattle.smart_messages.specs.declared.statement.VoteKind.{VoteKind}
-use Rattle.smart_messages.specs.declared.statement.VoteKind.TheVariants as kinds
+use Rattle.smart_statements.specs.Equality.{same_slot, same_kind}
+use Rattle.smart_statements.specs.Forms.{SignedBy}
+use Rattle.smart_statements.specs.Batches.{Batch}
+use Rattle.smart_statements.specs.declared.statement.Slot.{Slot}
+use Rattle.smart_statements.specs.declared.statement.Ballot.{Ballot}
+use Rattle.smart_statements.specs.declared.statement.VoteKind.{VoteKind}
+use Rattle.smart_statements.specs.declared.statement.VoteKind.TheVariants as kinds
 use Rattle.smart_messages.specs.declared.message.Message.{Message}
 use Rattle.smart_messages.specs.declared.message.Message.TheVariants.{Ask, Propose, Vote, Reply}
 use Rattle.smart_messages.specs.declared.message.Proposed.{Proposed}

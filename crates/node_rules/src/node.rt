@@ -2,7 +2,7 @@
 use smart_base::name::{ClientId, MemberId};
 use smart_base::number::Place;
 use smart_messages::any::AnyMessage;
-use smart_messages::batch::Batch;
+use smart_statements::batch::Batch;
 use vote_book::entry::{Promise, Start};
 
 /// Why an arrival is dropped: the first reason that applies.

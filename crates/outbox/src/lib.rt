@@ -3,5 +3,3 @@
 
 pub mod laws;
 pub mod outbox;
-#[cfg(test)]
-mod tests;

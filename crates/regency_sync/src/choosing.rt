@@ -1,14 +1,14 @@
 //! The choice of reports.
 ghost use Rattle.std.specs.Prelude.{◌≡◌, option_map};
 ghost use Rattle.std.specs.Option.{option_copied};
-ghost use Rattle.smart_messages.specs.declared.report.LockCertificate.{LockCertificate};
+ghost use Rattle.smart_statements.specs.declared.report.LockCertificate.{LockCertificate};
 ghost use Rattle.regency_sync.specs.Choices.{greatest_last, lock_behind, greater, greatest_lock, choice};
 
 use crate::choice::Choice;
 use smart_base::bytes::Digest32;
 use smart_base::number::Place;
-use smart_messages::report::{LockCertificate, Report};
-use smart_messages::signed::Signed;
+use smart_statements::report::{LockCertificate, Report};
+use smart_statements::signed::Signed;
 
 fn greatest_last(reports: &[Signed<Report>]) -> Place
     ensures { result ≡ greatest_last reports.now }

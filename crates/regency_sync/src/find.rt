@@ -12,9 +12,9 @@ use smart_base::name::MemberId;
 use smart_base::number::{Regency, ViewNo};
 use smart_base::sequence::Sequence;
 use smart_messages::regency::{Reported, Stop, Sync};
-use smart_messages::report::{LockCertificate, Report};
-use smart_messages::signed::Signed;
-use smart_messages::signed_list::SignedList;
+use smart_statements::report::{LockCertificate, Report};
+use smart_statements::signed::Signed;
+use smart_statements::signed_list::SignedList;
 use std::alloc::{AllocError, Global};
 
 fn is_same_stop(stop: &Signed<Stop>, other: &Signed<Stop>) -> bool

@@ -2,9 +2,9 @@
 ghost use Rattle.std.specs.Prelude.{◌≡◌, ℕ, ◌+◌, ◌<◌, ◌≤◌, ◌↔◌, true, List, [], Some, None};
 ghost use Rattle.smart_base.specs.Lists.{Each};
 ghost use Rattle.smart_base.specs.Views.{View};
-ghost use Rattle.smart_messages.specs.Forms.{SignedBy};
-ghost use Rattle.smart_messages.specs.Messages.{Batch};
-ghost use Rattle.smart_messages.specs.declared.report.Report.{Report};
+ghost use Rattle.smart_statements.specs.Forms.{SignedBy};
+ghost use Rattle.smart_statements.specs.Batches.{Batch};
+ghost use Rattle.smart_statements.specs.declared.report.Report.{Report};
 ghost use Rattle.smart_messages.specs.declared.regency.Stop.{Stop};
 ghost use Rattle.smart_messages.specs.declared.regency.Sync.{Sync};
 ghost use Rattle.smart_messages.specs.declared.regency.Reported.{Reported};

@@ -4,7 +4,7 @@ ghost use Rattle.regency_sync.specs.Synchronizers.{is_needed, needs_stop, needs_
 
 use smart_base::number::{Regency, ViewNo};
 use smart_messages::regency::{Reported, Stop, Sync};
-use smart_messages::signed::Signed;
+use smart_statements::signed::Signed;
 
 fn is_needed(view: ViewNo, regency: Regency, its_view: ViewNo, its_regency: Regency) -> bool
     ensures { result ≡ is_needed view regency its_view its_regency }

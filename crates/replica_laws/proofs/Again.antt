@@ -1,15 +1,15 @@
 -- A node that is told that it is behind, and the table lines that it answers with again.
-use Rattle.std.proofs.Common.{◌≡◌, ℕ, ◌+◌, ◌++◌, ◌==◌, Bool, true, false, List, [], ◌∷◌, refl, cond, Option, Some, None, nat_lt}
+use Rattle.std.proofs.Common.{◌≡◌, ℕ, ◌+◌, ◌++◌, ◌==◌, Bool, true, false, List, [], ◌∷◌, refl, cond, Option, Some, None}
 use Rattle.std.specs.List.{flat_map}
 use Rattle.std.specs.Option.{option_to_list}
 use Rattle.smart_base.specs.Lists.{Each}
-use Rattle.smart_messages.specs.Messages.{Batch}
-use Rattle.smart_messages.specs.declared.statement.Request.{Request}
+use Rattle.smart_statements.specs.Batches.{Batch}
+use Rattle.smart_statements.specs.declared.statement.Request.{Request}
 use Rattle.smart_messages.specs.declared.message.Message.TheVariants.{Ask, Propose, Vote, Reply}
 use Rattle.smart_messages.specs.declared.any.AnyMessage.{AnyMessage}
 use Rattle.smart_messages.specs.declared.any.AnyMessage.TheVariants.{Plain, Change}
 use Rattle.smart_service.specs.Services.{Meaning}
-use Rattle.smart_service.specs.Tables.{last_seq, line_for, with_line}
+use Rattle.smart_service.specs.Tables.{last_seq, line_for}
 use Rattle.smart_service.specs.declared.table.TableLine.{TableLine}
 use Rattle.smart_service.specs.declared.replica.Replica.{Replica}
 use Rattle.replica_rules.specs.Replicas.{is_next, line_of, execute, execute_all, line_made, lines_of, at_next, delivered, executed_lines, after_batches, executions_from}
@@ -18,28 +18,16 @@ use Rattle.node_rules.specs.Arrivals.{noted}
 use Rattle.node_rules.specs.Rules.{fired_if, answering, answer_line, answers_again}
 use Rattle.node_rules.specs.declared.node.Fired.TheVariants as fires
 use Rattle.node_rules.specs.Deliveries.{delivery_in}
-use Rattle.replica_laws.proofs.Lists.{either}
+use Rattle.node_laws.proofs.Delivering.{each_with_line}
+use Rattle.agreement_laws.proofs.Lists.{either}
 
 -- the node that is told
-
-pub entries-noted : {S : Type 0} (n : Node S) (message : AnyMessage) → (noted n message).entries ≡ n.entries
-unfolding noted
-entries-noted n message = refl
 
 pub replica-noted : {S : Type 0} (n : Node S) (message : AnyMessage) → (noted n message).replica ≡ n.replica
 unfolding noted
 replica-noted n message = refl
 
 -- an answer again
-
-pub entries-answer_line : {S : Type 0} (n : Node S) (line : Option TableLine) → (answer_line n line).entries ≡ n.entries
-unfolding answer_line
-entries-answer_line n None = refl
-entries-answer_line n (Some line) = refl
-
-pub entries-answers_again : {S : Type 0} (n : Node S) (message : AnyMessage) → (answers_again n message).entries ≡ n.entries
-unfolding answers_again
-entries-answers_again n message = entries-answer_line n (answering n message)
 
 pub replica-answer_line : {S : Type 0} (n : Node S) (line : Option TableLine) → (answer_line n line).replica ≡ n.replica
 unfolding answer_line
@@ -79,13 +67,6 @@ answering-each P n (Plain (Reply a)) each = tt
 answering-each P n (Change x) each = tt
 
 -- the lines of a table
-
--- what holds of a table's lines and of one that is put, holds of the lines then
-each_with_line : (P : TableLine → Type 0) (table : List TableLine) (line : TableLine) → Each P table → P line → Each P (with_line table line)
-each_with_line P [] line each is = (is, tt)
-each_with_line P (old ∷ olds) line each is =
-    either (λ (lines : List TableLine). Each P lines) (old.client == line.client) (line ∷ olds) (cond (nat_lt line.client old.client) (line ∷ old ∷ olds) (old ∷ with_line olds line)) (is, each.1)
-    (either (λ (lines : List TableLine). Each P lines) (nat_lt line.client old.client) (line ∷ old ∷ olds) (old ∷ with_line olds line) (is, each) (each.0, each_with_line P olds line each.1 is))
 
 -- both parts of a list
 each_parts : (P : TableLine → Type 0) (xs ys : List TableLine) → Each P (xs ++ ys) → Each P xs × Each P ys

@@ -6,29 +6,32 @@ use Rattle.smart_base.specs.Lists.{Each, Distinct}
 use Rattle.smart_base.specs.Views.{View, is_view, is_member}
 use Rattle.smart_base.proofs.ViewLaws.{members-few}
 use Rattle.smart_keys.proofs.Tags.{tag_of-length, is_tag-equal}
-use Rattle.smart_messages.specs.Forms.{Form, SignedBy, party_of}
-use Rattle.smart_messages.specs.Kinds.{ballots}
-use Rattle.smart_messages.specs.Spelling as spells
-use Rattle.smart_messages.specs.Spelling.{FitsSigned}
-use Rattle.smart_messages.specs.SignedLists.{listed, optional, FitsOptional}
-use Rattle.smart_messages.specs.Reports as spells_report
-use Rattle.smart_messages.specs.Reports.{reports, votes_of, FitsVote, FitsReport, FitsEvidence, FitsLockCertificate}
-use Rattle.smart_messages.specs.declared.statement.Ballot.{Ballot}
-use Rattle.smart_messages.specs.declared.statement.VoteKind.{VoteKind}
-use Rattle.smart_messages.specs.declared.statement.VoteKind.TheVariants.{Write, Accept}
-use Rattle.smart_messages.specs.declared.report.DecisionProof.{DecisionProof}
-use Rattle.smart_messages.specs.declared.report.Evidence.{Evidence}
-use Rattle.smart_messages.specs.declared.report.Evidence.TheVariants as evidence
-use Rattle.smart_messages.specs.declared.report.LockCertificate.{LockCertificate}
-use Rattle.smart_messages.specs.declared.report.Report.{Report}
+use Rattle.smart_statements.specs.Forms.{Form, SignedBy, party_of}
+use Rattle.smart_statements.specs.Kinds.{ballots}
+use Rattle.smart_statements.specs.Spelling as spells
+use Rattle.smart_statements.specs.Spelling.{FitsSigned}
+use Rattle.smart_statements.specs.SignedLists.{listed, optional, FitsOptional}
+use Rattle.smart_statements.specs.Reports as spells_report
+use Rattle.smart_statements.specs.Reports.{reports, votes_of, FitsVote, FitsReport, FitsEvidence, FitsLockCertificate}
+use Rattle.smart_statements.specs.declared.statement.Ballot.{Ballot}
+use Rattle.smart_statements.specs.declared.statement.VoteKind.{VoteKind}
+use Rattle.smart_statements.specs.declared.statement.VoteKind.TheVariants.{Write, Accept}
+use Rattle.smart_statements.specs.declared.report.DecisionProof.{DecisionProof}
+use Rattle.smart_statements.specs.declared.report.Evidence.{Evidence}
+use Rattle.smart_statements.specs.declared.report.Evidence.TheVariants as evidence
+use Rattle.smart_statements.specs.declared.report.LockCertificate.{LockCertificate}
+use Rattle.smart_statements.specs.declared.report.Report.{Report}
 use Rattle.certificates.specs.Certificates.{AreSigned, IsDecisionProof, signers}
 use Rattle.certificates.specs.Collects.{view_holding, slot_of, EvidenceHolds, evidence_holds, has_no_false_lock}
 use Rattle.certificates.proofs.Reported.{evidence-exact, lock-exact}
 use Rattle.replica_rules.specs.Seals.{is_verified}
 use Rattle.node_rules.specs.Arrivals.{rests_on_marks}
 use Rattle.replica_laws.specs.Sending.{IsTerse}
-use Rattle.replica_laws.proofs.Lists.{or_false, either, if_or, if_cond}
+use Rattle.replica_laws.proofs.Lists.{if_or, if_cond}
 use Rattle.replica_laws.proofs.Genuine.{signed-length}
+use Rattle.agreement_laws.proofs.Groups.{signers_length}
+use Rattle.agreement_laws.proofs.Lists.{either}
+use Rattle.std.proofs.lemmas.Bool.{or_parts}
 
 -- ---- distinct members are few
 
@@ -71,7 +74,7 @@ all_stay : (x : ℕ) (names members : List ℕ) → list_any (λ y. y == x) name
     → Each (λ s. list_any (λ m. m == s) (without x members) ≡ true) names
 all_stay x [] members apart each = tt
 all_stay x (s ∷ names) members apart each =
-    let parts = or_false (s == x) (list_any (λ y. y == x) names) apart in
+    let parts = or_parts (s == x) (list_any (λ y. y == x) names) apart in
     (stays x s members parts.0 each.0, all_stay x names members parts.1 each.1)
 
 distinct_few : (names members : List ℕ) → Distinct names → Each (λ s. list_any (λ m. m == s) members ≡ true) names → length names ≤ length members
@@ -85,15 +88,11 @@ signed_members : {S : Type 0} (v : View) (items : List (SignedBy S)) → Each (�
 signed_members v [] each = tt
 signed_members v (item ∷ items) each = (each.0, signed_members v items each.1)
 
-signers-length : {S : Type 0} (items : List (SignedBy S)) → length (signers items) ≡ length items
-signers-length [] = refl
-signers-length (item ∷ items) = let rest = signers-length items in omega (arith, rest)
-
 -- statements of distinct members of a view
 signed-few : (secret : List ℕ) (v : View) (Wanted : Ballot → Type 0) (votes : List (SignedBy Ballot)) → is_view v ≡ true → AreSigned Ballot secret ballots v Wanted votes → length votes ≤ 31
 signed-few secret v Wanted votes is signed =
     let few = distinct_few (signers votes) v.members signed.distinct (signed_members v votes signed.members) in
-    let same = signers-length votes in
+    let same = signers_length votes in
     let members = members-few v is in
     omega (arith, few, same, members)
 

@@ -1,27 +1,24 @@
 -- Entries that are no promise and no beginning leave a node's regency, and where it began. And what of a node no rule reads that writes an entry.
-use Rattle.std.proofs.Common.{◌≡◌, ℕ, ◌++◌, ◌==◌, max, Bool, true, List, [], ◌∷◌, refl, ap, ◌∙◌, arith, cond, Option, Some, None}
-use Rattle.std.specs.Prelude.{is_some}
-use Rattle.smart_base.specs.Views.{View}
-use Rattle.smart_messages.specs.Forms.{SignedBy}
-use Rattle.smart_messages.specs.Messages.{Batch}
-use Rattle.smart_messages.specs.declared.statement.Request.{Request}
-use Rattle.smart_messages.specs.declared.statement.Slot.{Slot}
-use Rattle.smart_messages.specs.declared.report.Report.{Report}
+use Rattle.std.proofs.Common.{◌≡◌, ℕ, Bool, true, List, [], ◌∷◌, refl, ap, ◌∙◌, arith, Option, Some, None}
+use Rattle.smart_statements.specs.Forms.{SignedBy}
+use Rattle.smart_statements.specs.Batches.{Batch}
+use Rattle.smart_statements.specs.declared.statement.Request.{Request}
+use Rattle.smart_statements.specs.declared.statement.Slot.{Slot}
+use Rattle.smart_statements.specs.declared.report.Report.{Report}
 use Rattle.smart_messages.specs.declared.any.AnyMessage.{AnyMessage}
 use Rattle.smart_service.specs.declared.table.TableLine.{TableLine}
 use Rattle.vote_book.specs.declared.entry.Accept.{Accept}
 use Rattle.vote_book.specs.declared.entry.Decision.{Decision}
-use Rattle.vote_book.specs.declared.entry.Start.{Start}
 use Rattle.vote_book.specs.declared.entry.Write.{Write}
 use Rattle.vote_book.specs.declared.entry.LogEntry.{LogEntry}
 use Rattle.vote_book.specs.declared.entry.LogEntry.TheVariants.{Wrote, Accepted, Decided}
-use Rattle.regency_sync.specs.Synchronizers.{adopting, is_promising}
-use Rattle.node_rules.specs.Nodes.{Node, view_of, regency_of, regency_in, greatest_regency, start_by, start_in, start_at, start_of, synchronizer_of, first_start, recording}
+use Rattle.node_rules.specs.Nodes.{Node, view_of, regency_of, regency_in, start_by, recording}
 use Rattle.node_rules.specs.Arrivals.{noted}
-use Rattle.node_rules.specs.Rules.{proposing, propose_batch, proposes, writing, accepting, decision_in, deciding, answering, answer_line, answers_again}
-use Rattle.node_rules.specs.Changes.{adoption, asks_next, joining, joins, promising, leading, lead_with, leads, timing, passes_on, presses, times}
+use Rattle.node_rules.specs.Rules.{proposing, propose_batch, proposes, answering, answer_line, answers_again}
+use Rattle.node_rules.specs.Changes.{asks_next, joining, joins, leading, lead_with, leads, timing, passes_on, presses, times}
 use Rattle.node_rules.specs.declared.node.Held.{Held}
-use Rattle.replica_laws.proofs.Lists.{either}
+use Rattle.node_laws.proofs.Books.{greatest_push}
+use Rattle.agreement_laws.proofs.Lists.{either}
 
 -- an entry that is no promise and no beginning
 pub record IsQuiet (e : LogEntry) : Type 0 where
@@ -37,47 +34,12 @@ quiet-accepted a = record { no_promise = λ view. refl; no_start = λ view regen
 pub quiet-decided : (d : Decision) → IsQuiet (Decided d)
 quiet-decided d = record { no_promise = λ view. refl; no_start = λ view regency. refl }
 
-pub greatest-end : (view : ℕ) (es : List LogEntry) (e : LogEntry) → greatest_regency view (es ++ e ∷ []) ≡ max (greatest_regency view es) (regency_in view e)
-greatest-end view [] e = omega arith
-greatest-end view (y ∷ ys) e = let rest = greatest-end view ys e in omega arith
-
 pub regency-quiet : {S : Type 0} (n : Node S) (e : LogEntry) → IsQuiet e → regency_of (recording n e) ≡ regency_of n
 unfolding regency_of
 regency-quiet n e quiet =
-    let grown = greatest-end (view_of n).number n.entries e in
+    let grown = greatest_push (view_of n).number n.entries e in
     let none = quiet.no_promise (view_of n).number in
     omega (arith, grown, none)
-
-pub start_in-quiet : (view regency : ℕ) (es : List LogEntry) (e : LogEntry) → start_by view regency e ≡ None → start_in view regency (es ++ e ∷ []) ≡ start_in view regency es
-start_in-quiet view regency [] e none = rw none refl
-start_in-quiet view regency (y ∷ ys) e none =
-    ap (λ (rest : Option Start). cond (is_some (start_by view regency y)) (start_by view regency y) rest) (start_in-quiet view regency ys e none)
-
-start_at-quiet : (v : View) (regency : ℕ) (es : List LogEntry) (e : LogEntry) → IsQuiet e → start_at v regency (es ++ e ∷ []) ≡ start_at v regency es
-start_at-quiet v regency es e quiet =
-    ap (λ (found : Option Start). cond (regency == 0) (Some (first_start v)) found) (start_in-quiet v.number regency es e (quiet.no_start v.number regency))
-
-pub start-quiet : {S : Type 0} (n : Node S) (e : LogEntry) → IsQuiet e → start_of (recording n e) ≡ start_of n
-unfolding start_of
-start-quiet n e quiet =
-    ap (λ (r : ℕ). start_at (view_of n) r (n.entries ++ e ∷ [])) (regency-quiet n e quiet) ∙ start_at-quiet (view_of n) (regency_of n) n.entries e quiet
-
-synced-quiet : {S : Type 0} (n : Node S) (e : LogEntry) → IsQuiet e
-    → start_in (view_of n).number (regency_of (recording n e)) (n.entries ++ e ∷ []) ≡ start_in (view_of n).number (regency_of n) n.entries
-synced-quiet n e quiet =
-    ap (λ (r : ℕ). start_in (view_of n).number r (n.entries ++ e ∷ [])) (regency-quiet n e quiet)
-    ∙ start_in-quiet (view_of n).number (regency_of n) n.entries e (quiet.no_start (view_of n).number (regency_of n))
-
-pub synchronizer-quiet : {S : Type 0} (n : Node S) (e : LogEntry) → IsQuiet e → synchronizer_of (recording n e) ≡ synchronizer_of n
-synchronizer-quiet n e quiet = rw (synced-quiet n e quiet, regency-quiet n e quiet) refl
-
-pub adoption-quiet : {S : Type 0} (n : Node S) (e : LogEntry) → IsQuiet e → adoption (recording n e) ≡ adoption n
-unfolding adoption
-adoption-quiet n e quiet = ap (adopting (view_of n)) (synchronizer-quiet n e quiet)
-
-pub promising-quiet : {S : Type 0} (n : Node S) (e : LogEntry) → IsQuiet e → promising (recording n e) ≡ promising n
-unfolding promising
-promising-quiet n e quiet = ap (is_promising (view_of n)) (synchronizer-quiet n e quiet)
 
 -- what no rule reads that writes an entry
 
@@ -168,25 +130,3 @@ unfolding noted
 aside-noted {S = S} n message =
     let x : Node S = noted n message in
     record { holds = n.held; slots = n.proposed; stopped = n.stop_made; led = n.sync_made; pressed = n.impatient; told = x.behind; same = refl }
-
--- so what those rules find due is the same
-
-pub adoption-aside : {S : Type 0} (n n' : Node S) → Aside n n' → adoption n' ≡ adoption n
-unfolding adoption adopting regency_of
-adoption-aside {S = S} n n' is = ap (λ (x : Node S). adoption x) is.same
-
-pub promising-aside : {S : Type 0} (n n' : Node S) → Aside n n' → promising n' ≡ promising n
-unfolding promising is_promising regency_of
-promising-aside {S = S} n n' is = ap (λ (x : Node S). promising x) is.same
-
-pub writing-aside : {S : Type 0} (n n' : Node S) → Aside n n' → writing n' ≡ writing n
-unfolding writing start_of regency_of
-writing-aside {S = S} n n' is = ap (λ (x : Node S). writing x) is.same
-
-pub accepting-aside : {S : Type 0} (n n' : Node S) → Aside n n' → accepting n' ≡ accepting n
-unfolding accepting start_of regency_of
-accepting-aside {S = S} n n' is = ap (λ (x : Node S). accepting x) is.same
-
-pub deciding-aside : {S : Type 0} (n n' : Node S) → Aside n n' → deciding n' ≡ deciding n
-unfolding deciding decision_in regency_of
-deciding-aside {S = S} n n' is = ap (λ (x : Node S). deciding x) is.same

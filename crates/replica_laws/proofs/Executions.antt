@@ -1,20 +1,21 @@
 -- What a longer list executes, and what a line of a list's executions says.
-use Rattle.std.proofs.Common.{◌≡◌, ℕ, zero, suc, ◌+◌, ◌-◌, ◌≤◌, ◌++◌, Bool, true, false, List, [], ◌∷◌, length, refl, ap, ◌∙◌, sym, cond, Some, None, inl, inr, subst, take, arith, append_assoc, add-one}
-use Rattle.std.proofs.lemmas.Option.{slice_get_within}
+use Rattle.std.proofs.Common.{◌≡◌, ℕ, zero, suc, ◌+◌, ◌-◌, ◌++◌, Bool, true, false, List, [], ◌∷◌, refl, ap, ◌∙◌, sym, cond, Some, None, inl, inr, subst, take, arith, add-one}
 use Rattle.std.specs.Prelude.{slice_get}
 use Rattle.std.specs.Option.{option_to_list}
 use Rattle.smart_base.specs.Lists.{Each}
 use Rattle.smart_base.specs.Views.{View, present}
-use Rattle.smart_messages.specs.Forms.{SignedBy}
-use Rattle.smart_messages.specs.Messages.{Batch}
-use Rattle.smart_messages.specs.declared.statement.Request.{Request}
+use Rattle.smart_statements.specs.Forms.{SignedBy}
+use Rattle.smart_statements.specs.Batches.{Batch}
+use Rattle.smart_statements.specs.declared.statement.Request.{Request}
 use Rattle.smart_service.specs.Services.{Meaning}
 use Rattle.smart_service.specs.declared.table.TableLine.{TableLine}
 use Rattle.smart_service.specs.declared.replica.Replica.{Replica}
-use Rattle.replica_rules.specs.Replicas.{is_next, line_of, execute, execute_all, line_made, lines_of, at_next, delivered, executed_lines, empty, after_batches, state, executions_from, executions, batch_at, request_at, view_at}
+use Rattle.replica_rules.specs.Replicas.{is_next, line_of, execute, line_made, lines_of, at_next, delivered, executed_lines, empty, after_batches, state, executions_from, executions, batch_at, request_at, view_at}
 use Rattle.replica_laws.specs.Lines.{HasLine}
-use Rattle.replica_laws.proofs.Lists.{each_append, each_weaker}
-use Rattle.replica_laws.proofs.OnePlace.{each_line, place-execute, place-delivered}
+use Rattle.replica_laws.proofs.OnePlace.{each_line}
+use Rattle.agreement_laws.proofs.Lists.{each_append}
+use Rattle.smart_base.proofs.ViewFacts.{each-weaken}
+use Rattle.replica_rules.proofs.Places.{executions_append, views_execute, views_delivered, place_execute, place_delivered}
 
 -- lines among lines
 
@@ -30,64 +31,16 @@ has_right (x ∷ xs) ys l has = inr (has_right xs ys l has)
 
 -- a longer list
 
--- a longer list executes what the shorter one does, and then more
-executions-append : {S : Type 0} (m : Meaning S) (r : Replica S) (list more : List Batch) → executions_from m r (list ++ more) ≡ executions_from m r list ++ executions_from m (after_batches m r list) more
-executions-append m r [] more = refl
-executions-append m r (batch ∷ list) more =
-    ap (λ lines. executed_lines m r batch ++ lines) (executions-append m (delivered m r batch) list more)
-    ∙ sym (append_assoc (executed_lines m r batch) (executions_from m (delivered m r batch) list) (executions_from m (after_batches m (delivered m r batch) list) more))
-
 -- what is executed stays executed
 pub executions-more : {S : Type 0} (m : Meaning S) (v : View) (list more : List Batch) (l : TableLine) → HasLine (executions m v list) l → HasLine (executions m v (list ++ more)) l
 executions-more m v list more l has =
-    subst (λ lines. HasLine lines l) (sym (executions-append m (empty m v) list more))
+    subst (λ lines. HasLine lines l) (sym (executions_append m (empty m v) list more))
     (has_left (executions m v list) (executions_from m (state m v list) more) l has)
-
--- one more batch is delivered last
-after_end : {S : Type 0} (m : Meaning S) (r : Replica S) (list : List Batch) (batch : Batch) → after_batches m r (list ++ batch ∷ []) ≡ delivered m (after_batches m r list) batch
-after_end m r [] batch = refl
-after_end m r (b ∷ list) batch = after_end m (delivered m r b) list batch
-
--- one more batch is delivered to the state before it
-pub state-end : {S : Type 0} (m : Meaning S) (v : View) (list : List Batch) (batch : Batch) → state m v (list ++ batch ∷ []) ≡ delivered m (state m v list) batch
-state-end m v list batch = after_end m (empty m v) list batch
-
--- each batch takes a place behind the replica's
-after_place : {S : Type 0} (m : Meaning S) (r : Replica S) (list : List Batch) → (after_batches m r list).place ≡ r.place + length list
-after_place m r [] = omega arith
-after_place m r (batch ∷ list) =
-    let place = place-delivered m r batch in
-    let rest = after_place m (delivered m r batch) list in
-    omega (arith, place, rest)
-
--- each batch takes a place
-pub state-place : {S : Type 0} (m : Meaning S) (v : View) (list : List Batch) → (state m v list).place ≡ length list
-state-place m v list = let place = after_place m (empty m v) list in omega (arith, place)
-
--- of two replicas with the same views, a choice has them
-views_if : {S : Type 0} (b : Bool) (x y : Replica S) → x.views ≡ y.views → (cond b x y).views ≡ y.views
-views_if true x y same = same
-views_if false x y same = refl
-
--- a request leaves the views
-pub views-execute : {S : Type 0} (m : Meaning S) (r : Replica S) (i : ℕ) (q : Request) → (execute m r i q).views ≡ r.views
-unfolding execute
-views-execute m r i q = views_if (is_next r.table q) _ r refl
-
--- requests leave the views
-views-execute_all : {S : Type 0} (m : Meaning S) (r : Replica S) (i : ℕ) (qs : Batch) → (execute_all m r i qs).views ≡ r.views
-views-execute_all m r i [] = refl
-views-execute_all m r i (q ∷ qs) = views-execute_all m (execute m r i q.statement) (i + 1) qs ∙ views-execute m r i q.statement
-
--- a batch leaves the views
-pub views-delivered : {S : Type 0} (m : Meaning S) (r : Replica S) (batch : Batch) → (delivered m r batch).views ≡ r.views
-unfolding delivered
-views-delivered m r batch = views-execute_all m (at_next r) 0 batch
 
 -- batches leave the views
 after_views : {S : Type 0} (m : Meaning S) (r : Replica S) (list : List Batch) → (after_batches m r list).views ≡ r.views
 after_views m r [] = refl
-after_views m r (batch ∷ list) = after_views m (delivered m r batch) list ∙ views-delivered m r batch
+after_views m r (batch ∷ list) = after_views m (delivered m r batch) list ∙ views_delivered m r batch
 
 -- no batch changes the view
 pub state-views : {S : Type 0} (m : Meaning S) (v : View) (list : List Batch) → (state m v list).views ≡ v ∷ []
@@ -131,9 +84,9 @@ of_later : {S : Type 0} (m : Meaning S) (r : Replica S) (i : ℕ) (q : SignedBy 
 of_later m r i q qs l is = record {
   request = is.request;
   step = suc is.step;
-  at_place = is.at_place ∙ place-execute m r i q.statement;
+  at_place = is.at_place ∙ place_execute m r i q.statement;
   at_index = omega (arith, is.at_index);
-  in_view = is.in_view ∙ ap (λ (vs : List View). (present vs).number) (views-execute m r i q.statement);
+  in_view = is.in_view ∙ ap (λ (vs : List View). (present vs).number) (views_execute m r i q.statement);
   there = is.there;
   own_client = is.own_client;
   own_seq = is.own_seq;
@@ -145,7 +98,7 @@ of_all m r i [] = tt
 of_all m r i (q ∷ qs) =
     each_append (OfRequest r i (q ∷ qs)) (option_to_list (line_made m r i q.statement)) (lines_of m (execute m r i q.statement) (i + 1) qs)
     (of_one m r i q qs (is_next r.table q.statement))
-    (each_weaker (OfRequest (execute m r i q.statement) (i + 1) qs) (OfRequest r i (q ∷ qs)) (of_later m r i q qs) _ (of_all m (execute m r i q.statement) (i + 1) qs))
+    (each-weaken (OfRequest (execute m r i q.statement) (i + 1) qs) (OfRequest r i (q ∷ qs)) (of_later m r i q qs) _ (of_all m (execute m r i q.statement) (i + 1) qs))
 
 -- each line of a batch is of one of its requests
 pub of_delivered : {S : Type 0} (m : Meaning S) (r : Replica S) (batch : Batch) → Each (OfRequest (at_next r) 0 batch) (executed_lines m r batch)
@@ -183,13 +136,13 @@ batch_here r batch list l is =
 -- a line of the later batches is of the batches
 batch_later : {S : Type 0} (m : Meaning S) (r : Replica S) (batch : Batch) (list : List Batch) (l : TableLine) → OfBatch (delivered m r batch) list l → OfBatch r (batch ∷ list) l
 batch_later m r batch list l is =
-    let place = place-delivered m r batch in
+    let place = place_delivered m r batch in
     record {
       batch = is.batch;
       request = is.request;
       step = suc is.step;
       at_place = omega (arith, place, is.at_place);
-      in_view = is.in_view ∙ ap (λ (vs : List View). (present vs).number) (views-delivered m r batch);
+      in_view = is.in_view ∙ ap (λ (vs : List View). (present vs).number) (views_delivered m r batch);
       batch_there = is.batch_there;
       there = is.there;
       own_client = is.own_client;
@@ -201,19 +154,12 @@ batch_all : {S : Type 0} (m : Meaning S) (r : Replica S) (list : List Batch) →
 batch_all m r [] = tt
 batch_all m r (batch ∷ list) =
     each_append (OfBatch r (batch ∷ list)) (executed_lines m r batch) (executions_from m (delivered m r batch) list)
-    (each_weaker (OfRequest (at_next r) 0 batch) (OfBatch r (batch ∷ list)) (batch_here r batch list) _ (of_delivered m r batch))
-    (each_weaker (OfBatch (delivered m r batch) list) (OfBatch r (batch ∷ list)) (batch_later m r batch list) _ (batch_all m (delivered m r batch) list))
+    (each-weaken (OfRequest (at_next r) 0 batch) (OfBatch r (batch ∷ list)) (batch_here r batch list) _ (of_delivered m r batch))
+    (each-weaken (OfBatch (delivered m r batch) list) (OfBatch r (batch ∷ list)) (batch_later m r batch list) _ (batch_all m (delivered m r batch) list))
 
 -- a line of a list's executions is of one of its batches
 of_line : {S : Type 0} (m : Meaning S) (v : View) (list : List Batch) (l : TableLine) → HasLine (executions m v list) l → OfBatch (empty m v) list l
 of_line m v list l has = each_line (OfBatch (empty m v) list) (executions m v list) l (batch_all m (empty m v) list) has
-
--- a line stands at a place of the list
-pub place-line : {S : Type 0} (m : Meaning S) (v : View) (list : List Batch) (l : TableLine) → HasLine (executions m v list) l → (1 ≤ l.place) × (l.place ≤ length list)
-place-line m v list l has =
-    let is = of_line m v list l has in
-    let within = slice_get_within list is.step is.batch is.batch_there in
-    (omega (arith, is.at_place), omega (arith, is.at_place, within))
 
 -- the request of a line: it stands at the line's place and index
 pub record IsOfRequest (list : List Batch) (l : TableLine) : Type 0 where

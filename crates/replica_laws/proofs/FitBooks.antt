@@ -4,20 +4,19 @@ use Rattle.std.specs.List.{AllByRecursion}
 use Rattle.std.specs.Prelude.{IfSome, find, option_map}
 use Rattle.smart_base.specs.Lists.{Each}
 use Rattle.smart_base.specs.Views.{View, is_view}
-use Rattle.smart_messages.specs.Forms.{SignedBy}
-use Rattle.smart_messages.specs.Spelling.{IsSigner, FitsSigned}
-use Rattle.smart_messages.specs.SignedLists.{FitsList, FitsOptional}
-use Rattle.smart_messages.specs.Reports.{reports, votes_of, FitsVote, FitsReport, FitsLockCertificate}
+use Rattle.smart_statements.specs.Forms.{SignedBy}
+use Rattle.smart_statements.specs.Spelling.{IsSigner, FitsSigned}
+use Rattle.smart_statements.specs.SignedLists.{FitsOptional}
+use Rattle.smart_statements.specs.Reports.{reports, FitsReport, FitsLockCertificate}
 use Rattle.smart_messages.specs.Regencies.{FitsSync}
 use Rattle.smart_messages.specs.RegencyMessages.{FitsAny}
-use Rattle.smart_messages.specs.declared.statement.Ballot.{Ballot}
-use Rattle.smart_messages.specs.declared.statement.VoteKind.{VoteKind}
-use Rattle.smart_messages.specs.declared.statement.VoteKind.TheVariants.{Write, Accept}
-use Rattle.smart_messages.specs.declared.report.LockCertificate.{LockCertificate}
-use Rattle.smart_messages.specs.declared.report.Report.{Report}
+use Rattle.smart_statements.specs.declared.statement.Ballot.{Ballot}
+use Rattle.smart_statements.specs.declared.statement.VoteKind.TheVariants.{Write, Accept}
+use Rattle.smart_statements.specs.declared.report.LockCertificate.{LockCertificate}
+use Rattle.smart_statements.specs.declared.report.Report.{Report}
 use Rattle.smart_messages.specs.declared.regency.Sync.{Sync}
 use Rattle.smart_messages.specs.declared.message.Proposed.{Proposed}
-use Rattle.smart_messages.specs.declared.entry.NodeEvent.{NodeEvent}
+use Rattle.smart_statements.specs.declared.entry.NodeEvent.{NodeEvent}
 use Rattle.smart_service.specs.Services.{Meaning}
 use Rattle.vote_book.specs.Entries.{FitsEntry, FitsStart}
 use Rattle.vote_book.specs.declared.entry.Decision.{Decision}
@@ -32,14 +31,14 @@ use Rattle.node_rules.specs.Rules.{delivers, proposes, writing, write_batch, wri
 use Rattle.node_rules.specs.Changes.{start_by_sync, promised_for, adopts_by, adoption, adopts, joins, next_promise, promising, promise_next, promises, leads, times}
 use Rattle.node_rules.specs.Kept.{node_after}
 use Rattle.node_rules.specs.Steps.{step_of, opened}
-use Rattle.replica_laws.proofs.Lists.{either, either_by, each_end, each_append, if_find}
-use Rattle.replica_laws.proofs.Genuine.{FitVotes}
-use Rattle.replica_laws.proofs.Again.{entries-noted, entries-answers_again}
-use Rattle.replica_laws.proofs.Once.{entries-kept, entries-delivers, entries-proposes, entries-joins, entries-leads, entries-times}
-use Rattle.replica_laws.proofs.Rulewise.{KeptByRules, KeptInSteps, keeps_step}
+use Rattle.replica_laws.proofs.Lists.{if_find}
+use Rattle.replica_laws.proofs.Genuine.{votes-list}
+use Rattle.node_rules.proofs.Rulewise.{KeptByRules, KeptInSteps, keeps_step}
 use Rattle.replica_laws.proofs.FitNodes.{FitNode, FitsBegun, FitsVoted, IsBrief, FitsEvent, view-low, certificate-fits, open-fits, writing-fits, accepting-fits, deciding-fits, promising-low, fit-as, fit-adopts, fit-joins, fit-promises, fit-leads, fit-proposes, fit-writes, fit-accepts, fit-decides, fit-times, fit-answers_again, fit-noted, fit-kept, fit-delivers, fit-opened, event-fits}
 use Rattle.replica_laws.proofs.FitNodes as nodes
 use Rattle.replica_laws.specs.Sending.{IsByteEvent}
+use Rattle.agreement_laws.proofs.Lists.{either, either_by, each_end, each_append}
+use Rattle.node_rules.proofs.Entries.{noted_same, answers_again_same, kept_same, delivers_same, proposes_same, joins_same, leads_same, times_same}
 
 -- what a node holds has a spelling, and so has each entry of its book
 pub record FitBook {S : Type 0} (secret : List ℕ) (n : Node S) : Type 0 where
@@ -120,9 +119,6 @@ spelled-writes : {S : Type 0} (secret : List ℕ) (n : Node S) → FitNode secre
 unfolding writes
 spelled-writes secret n is each = spelled-write_batch secret n (writing n) (writing-fits secret n is) is each
 
-votes-fit : (kind : VoteKind) (votes : List (SignedBy Ballot)) → FitVotes kind votes → FitsList (votes_of kind) (λ signer. FitsVote kind) votes
-votes-fit kind votes fit = let few = fit.few in (omega (arith, few), fit.all)
-
 spelled-accept_batch : {S : Type 0} (secret : List ℕ) (n : Node S) (p : Option Proposed) → IfSome p (FitsVoted secret (next_place n)) → FitNode secret n → Each FitsEntry n.entries
     → Each FitsEntry (accept_batch n p).entries
 unfolding accept_batch
@@ -134,7 +130,7 @@ spelled-accept_batch secret n (Some p) fit is each =
     (record {
       slot_fits = open-fits secret n is fit.low;
       digest_fits = fit.digest_fits;
-      writes_fit = votes-fit Write votes (certificate-fits secret n.arrivals (view_of n) Write (open_slot n) p.head.statement.digest is.view is.arrivals);
+      writes_fit = votes-list Write votes (certificate-fits secret n.arrivals (view_of n) Write (open_slot n) p.head.statement.digest is.view is.arrivals);
       batch_fits = fit.batch_fits.0;
     })
 
@@ -150,7 +146,7 @@ spelled-decide_batch n (Some d) fit each =
     (record {
       slot_fits = record { view_fits = fit.0.view_fits; place_fits = fit.0.place_fits; regency_fits = fit.0.regency_fits };
       batch_fits = fit.0.batch_fits;
-      accepts_fit = votes-fit Accept d.accepts fit.0.accepts_fit;
+      accepts_fit = votes-list Accept d.accepts fit.0.accepts_fit;
     })
 
 spelled-decides : {S : Type 0} (secret : List ℕ) (n : Node S) → FitNode secret n → Each FitsEntry n.entries → Each FitsEntry (decides n).entries
@@ -162,10 +158,10 @@ spelled-decides secret n is each = spelled-decide_batch n (deciding n) (deciding
 spelled-rules : {S : Type 0} (secret : List ℕ) → KeptByRules {S = S} (λ n. FitBook secret n)
 spelled-rules secret = record {
   by_adopts = λ n is. record { node = fit-adopts secret n is.node; book = spelled-adopts secret n is.node is.book };
-  by_joins = λ n is. record { node = fit-joins secret n is.node; book = book-as n.entries (joins n).entries (entries-joins n) is.book };
+  by_joins = λ n is. record { node = fit-joins secret n is.node; book = book-as n.entries (joins n).entries (joins_same n) is.book };
   by_promises = λ n is. record { node = fit-promises secret n is.node; book = spelled-promises secret n is.node is.book };
-  by_leads = λ n is. record { node = fit-leads secret n is.node; book = book-as n.entries (leads n).entries (entries-leads n) is.book };
-  by_proposes = λ n is. record { node = fit-proposes secret n is.node; book = book-as n.entries (proposes n).entries (entries-proposes n) is.book };
+  by_leads = λ n is. record { node = fit-leads secret n is.node; book = book-as n.entries (leads n).entries (leads_same n) is.book };
+  by_proposes = λ n is. record { node = fit-proposes secret n is.node; book = book-as n.entries (proposes n).entries (proposes_same n) is.book };
   by_writes = λ n is. record { node = fit-writes secret n is.node; book = spelled-writes secret n is.node is.book };
   by_accepts = λ n is. record { node = fit-accepts secret n is.node; book = spelled-accepts secret n is.node is.book };
   by_decides = λ n is. record { node = fit-decides secret n is.node; book = spelled-decides secret n is.node is.book };
@@ -174,11 +170,11 @@ spelled-rules secret = record {
 spelled-in_steps : {S : Type 0} (secret : List ℕ) (m : Meaning S) → IsBrief m → KeptInSteps m (λ n. FitBook secret n) FitsAny
 spelled-in_steps secret m brief = record {
   by_rules = spelled-rules secret;
-  by_times = λ n is. record { node = fit-times secret n is.node; book = book-as n.entries (times n).entries (entries-times n) is.book };
-  by_answers = λ n message is. record { node = fit-answers_again secret n message is.node; book = book-as n.entries (answers_again n message).entries (entries-answers_again n message) is.book };
-  by_noted = λ n message is. record { node = fit-noted secret n message is.node; book = book-as n.entries (noted n message).entries (entries-noted n message) is.book };
-  by_kept = λ n message fine fit is. record { node = fit-kept secret n message fine fit is.node; book = book-as n.entries (kept n message).entries (entries-kept n message) is.book };
-  by_delivers = λ n is. record { node = fit-delivers secret m brief n is.node; book = book-as n.entries (delivers m n).entries (entries-delivers m n) is.book };
+  by_times = λ n is. record { node = fit-times secret n is.node; book = book-as n.entries (times n).entries (times_same n) is.book };
+  by_answers = λ n message is. record { node = fit-answers_again secret n message is.node; book = book-as n.entries (answers_again n message).entries (answers_again_same n message) is.book };
+  by_noted = λ n message is. record { node = fit-noted secret n message is.node; book = book-as n.entries (noted n message).entries (noted_same n message) is.book };
+  by_kept = λ n message fine fit is. record { node = fit-kept secret n message fine fit is.node; book = book-as n.entries (kept n message).entries (kept_same n message) is.book };
+  by_delivers = λ n is. record { node = fit-delivers secret m brief n is.node; book = book-as n.entries (delivers m n).entries (delivers_same m n) is.book };
 }
 
 -- each event keeps it

@@ -9,26 +9,26 @@ use Rattle.smart_base.specs.Spelling.{IsCount, IsPayload}
 use Rattle.smart_base.specs.Views.{View, is_view, is_member, leader, present, quorum}
 use Rattle.smart_base.proofs.ViewLaws.{members-few}
 use Rattle.smart_view.specs.Sizes.{collect_size}
-use Rattle.smart_messages.specs.Equality.{same_slot, same_kind}
-use Rattle.smart_messages.specs.Forms.{SignedBy}
-use Rattle.smart_messages.specs.Kinds.{requests, ballots, proposals}
-use Rattle.smart_messages.specs.Messages.{Batch, batch_text, FitsBatch}
-use Rattle.smart_messages.specs.Spelling as spells
-use Rattle.smart_messages.specs.Spelling.{FitsSlot, FitsBallot, FitsRequest, IsSigner, FitsSigned}
-use Rattle.smart_messages.specs.SignedLists.{optional, FitsOptional}
-use Rattle.smart_messages.specs.Reports.{reports, votes_of, FitsVote, FitsReport}
+use Rattle.smart_statements.specs.Equality.{same_slot, same_kind}
+use Rattle.smart_statements.specs.Forms.{SignedBy}
+use Rattle.smart_statements.specs.Kinds.{requests, ballots, proposals}
+use Rattle.smart_statements.specs.Batches.{Batch, batch_text, FitsBatch}
+use Rattle.smart_statements.specs.Spelling as spells
+use Rattle.smart_statements.specs.Spelling.{FitsSlot, FitsBallot, FitsRequest, IsSigner, FitsSigned}
+use Rattle.smart_statements.specs.SignedLists.{optional, FitsOptional}
+use Rattle.smart_statements.specs.Reports.{reports, votes_of, FitsVote, FitsReport}
 use Rattle.smart_messages.specs.Regencies.{stops, syncs, FitsSync}
 use Rattle.smart_messages.specs.RegencyMessages.{change_spelling, FitsAny, any_decoded}
 use Rattle.smart_messages.proofs.AnyMessages.{decoded_any_is}
 use Rattle.smart_base.specs.Cuts.{IsBytes}
 use Rattle.node_rules.specs.Kept.{node_after}
-use Rattle.smart_messages.specs.declared.statement.Request.{Request}
-use Rattle.smart_messages.specs.declared.statement.Slot.{Slot}
-use Rattle.smart_messages.specs.declared.statement.Ballot.{Ballot}
-use Rattle.smart_messages.specs.declared.statement.VoteKind.{VoteKind}
-use Rattle.smart_messages.specs.declared.statement.VoteKind.TheVariants.{Write, Accept}
-use Rattle.smart_messages.specs.declared.report.LockCertificate.{LockCertificate}
-use Rattle.smart_messages.specs.declared.report.Report.{Report}
+use Rattle.smart_statements.specs.declared.statement.Request.{Request}
+use Rattle.smart_statements.specs.declared.statement.Slot.{Slot}
+use Rattle.smart_statements.specs.declared.statement.Ballot.{Ballot}
+use Rattle.smart_statements.specs.declared.statement.VoteKind.{VoteKind}
+use Rattle.smart_statements.specs.declared.statement.VoteKind.TheVariants.{Write, Accept}
+use Rattle.smart_statements.specs.declared.report.LockCertificate.{LockCertificate}
+use Rattle.smart_statements.specs.declared.report.Report.{Report}
 use Rattle.smart_messages.specs.declared.regency.Sync.{Sync}
 use Rattle.smart_messages.specs.declared.regency.Reported.{Reported}
 use Rattle.smart_messages.specs.declared.regency.RegencyMessage.TheVariants as changes
@@ -37,8 +37,8 @@ use Rattle.smart_messages.specs.declared.message.Message.TheVariants.{Ask, Propo
 use Rattle.smart_messages.specs.declared.message.Proposed.{Proposed}
 use Rattle.smart_messages.specs.declared.any.AnyMessage.{AnyMessage}
 use Rattle.smart_messages.specs.declared.any.AnyMessage.TheVariants.{Plain, Change}
-use Rattle.smart_messages.specs.declared.entry.NodeEvent.{NodeEvent}
-use Rattle.smart_messages.specs.declared.entry.NodeEvent.TheVariants.{Arrive, Tick, Deliver, Firm}
+use Rattle.smart_statements.specs.declared.entry.NodeEvent.{NodeEvent}
+use Rattle.smart_statements.specs.declared.entry.NodeEvent.TheVariants.{Arrive, Tick, Deliver, Firm}
 use Rattle.smart_service.specs.Services.{Meaning}
 use Rattle.smart_service.specs.declared.table.TableLine.{TableLine}
 use Rattle.smart_service.specs.declared.replica.Replica.{Replica}
@@ -63,19 +63,25 @@ use Rattle.node_rules.specs.declared.node.Why.TheVariants.{NotLeader, BadProof}
 use Rattle.node_rules.specs.declared.node.Held.{Held}
 use Rattle.node_rules.specs.declared.node.Target.{Target}
 use Rattle.node_rules.specs.declared.node.Target.TheVariants as targets
-use Rattle.replica_laws.proofs.Lists.{and_true, not_true, either, either_by, each_end, each_append, each_weaker, each_filter, each_given, if_weaker, if_or, if_cond, if_map, if_find, if_found, or_else-none, or_else-first, third-none}
-use Rattle.replica_laws.proofs.Equal.{same_kind-equal}
-use Rattle.replica_laws.proofs.Executions.{views-execute, views-delivered}
-use Rattle.replica_laws.proofs.OnePlace.{place-execute}
-use Rattle.replica_laws.proofs.Waiting.{each-staying}
-use Rattle.replica_laws.proofs.Entered.{IsQuiet, quiet-wrote, quiet-accepted, quiet-decided, greatest-end, regency-quiet}
-use Rattle.replica_laws.proofs.Authentic.{for_batch-weaker, for_batch-or, each_offered, verified_where_asked, verified_where_signed, valid_where_kept, fits_where_valid, fits_each, greater-if, votable-if, written-if}
+use Rattle.replica_laws.proofs.Lists.{each_given, if_weaker, if_or, if_cond, if_map, if_find, if_found, third-none}
+use Rattle.replica_laws.proofs.Entered.{IsQuiet, quiet-wrote, quiet-accepted, quiet-decided, regency-quiet}
+use Rattle.replica_laws.proofs.Checked.{for_batch-weaker, for_batch-or, each_offered, verified_where_signed, valid_where_kept, fits_where_valid, fits_each, greater-if, votable-if, written-if}
 use Rattle.certificates.specs.Collects.{evidence_holds, has_no_false_lock}
 use Rattle.replica_laws.proofs.Collected.{report-short}
 use Rattle.replica_laws.proofs.Genuine.{IsGood, good-genuine, AreVerified, FitVotes, FitEvidence, FitLock, FitReport, FitsSome, FitsCollected, digest_of-length, ask-good, vote-good, reply-good, propose-good, stop-good, report-good, sync-good, single-fits, single-verified, longer-fits, longer-verified}
 use Rattle.replica_laws.proofs.Again.{ForLine, answering-each, each-delivered}
-use Rattle.replica_laws.proofs.Rulewise.{KeptByRules, KeptInSteps, keeps_step}
-use Rattle.replica_laws.specs.Sending.{IsTerse, ForRead, ForEvent, ForBatch, IsByteEvent, HoldsGenuine, IsGenuine}
+use Rattle.node_rules.proofs.Rulewise.{KeptByRules, KeptInSteps, keeps_step, ForRead, ForEvent}
+use Rattle.replica_laws.specs.Sending.{IsTerse, ForBatch, IsByteEvent, HoldsGenuine, IsGenuine}
+use Rattle.agreement_laws.proofs.Lists.{each_take, not_true, either, either_by, each_end, each_append}
+use Rattle.smart_base.proofs.SameLists.{and_true}
+use Rattle.smart_base.proofs.ViewFacts.{each-weaken}
+use Rattle.regency_sync.proofs.Lists.{each_filter}
+use Rattle.node_laws.proofs.Certified.{same_kind_is}
+use Rattle.node_laws.proofs.Passes.{each_staying}
+use Rattle.node_laws.proofs.Books.{greatest_push}
+use Rattle.node_laws.proofs.Arriving.{ask_tagged}
+use Rattle.replica_rules.proofs.Places.{views_execute, views_delivered, place_execute}
+use Rattle.node_rules.proofs.Options.{else_none}
 
 -- ---- what has a spelling
 
@@ -282,13 +288,13 @@ proven_where_kept : {S : Type 0} (n : Node S) (r : Reported) → why_report n r 
 unfolding why_report
 proven_where_kept n r none =
     third-none (not (leader (view_of n) r.head.statement.regency == n.id)) (is_proven n r) NotLeader BadProof _
-    (or_else-none (regency_why n r.head.statement.regency) _
-    (or_else-none (view_why n r.head.statement.view) _ (or_else-none (signer_why n (is_verified reports n.secret r.head) r.head.signer) _ none)))
+    (else_none (regency_why n r.head.statement.regency) _
+    (else_none (view_why n r.head.statement.view) _ (else_none (signer_why n (is_verified reports n.secret r.head) r.head.signer) _ none).1).1).1
 
 -- and bears its member's tag
 report_verified : {S : Type 0} (n : Node S) (r : Reported) → why_report n r ≡ None → is_verified reports n.secret r.head ≡ true
 unfolding why_report
-report_verified n r none = verified_where_signed n (is_verified reports n.secret r.head) r.head.signer (or_else-first (signer_why n (is_verified reports n.secret r.head) r.head.signer) _ none)
+report_verified n r none = verified_where_signed n (is_verified reports n.secret r.head) r.head.signer (else_none (signer_why n (is_verified reports n.secret r.head) r.head.signer) _ none).0
 
 -- and with its lock comes a batch of it
 lock_borne : {S : Type 0} (n : Node S) (r : Reported) → is_proven n r ≡ true → bears_lock n.secret (r.head.statement.last + 1) r.head.statement.lock r.batch ≡ true
@@ -330,7 +336,7 @@ fit-kept {S = S} secret n (Plain (Ask q)) fine fit is =
       regency = is.regency;
       lines = is.lines;
       pool = each_offered (FitsPool secret) n.pool q is.pool
-          (record { fits = fit.content_fits; tagged = subst (λ (s : List ℕ). is_verified requests s q ≡ true) is.shared (verified_where_asked n q fine) });
+          (record { fits = fit.content_fits; tagged = subst (λ (s : List ℕ). is_verified requests s q ≡ true) is.shared (ask_tagged n q fine) });
       arrivals = is.arrivals;
       told = is.told;
       begun = is.begun;
@@ -482,7 +488,7 @@ lines_of-fit m brief r index (q ∷ qs) view place few all =
     each_append FitsLine (option_to_list (line_made m r index q.statement)) (lines_of m (execute m r index q.statement) (index + 1) qs)
     (line_made-fits m brief r index q view place (omega (arith, few)) all.0)
     (lines_of-fit m brief (execute m r index q.statement) (index + 1) qs
-    (rw (views-execute m r index q.statement) view) (rw (place-execute m r index q.statement) place) (omega (arith, few)) all.1)
+    (rw (views_execute m r index q.statement) view) (rw (place_execute m r index q.statement) place) (omega (arith, few)) all.1)
 
 -- the lines of a batch
 executed_lines-fit : {S : Type 0} (m : Meaning S) → IsBrief m → (n : Node S) (batch : Batch) → (view_of n).number < 2 ^ 32 → FitsAt (next_place n) batch → Each FitsLine (executed_lines m n.replica batch)
@@ -497,7 +503,7 @@ lines_to_answer-fit m brief n batch view fit =
 
 -- a batch is delivered
 delivered-view : {S : Type 0} (m : Meaning S) (r : Replica S) (batch : Batch) → present (delivered m r batch).views ≡ present r.views
-delivered-view m r batch = ap present (views-delivered m r batch)
+delivered-view m r batch = ap present (views_delivered m r batch)
 
 regency-view : (v w : View) (es : List LogEntry) → w ≡ v → greatest_regency v.number es < 2 ^ 32 → greatest_regency w.number es < 2 ^ 32
 regency-view v w es same low = subst (λ (x : View). greatest_regency x.number es < 2 ^ 32) (sym same) low
@@ -515,7 +521,7 @@ fit-deliver_batch secret m brief n (Some batch) fit is =
       named = is.named;
       shared = is.shared;
       view = subst (λ (v : View). is_view v ≡ true) (sym (delivered-view m n.replica batch)) is.view;
-      views = subst (λ (vs : List View). Each (λ v. is_view v ≡ true) vs) (sym (views-delivered m n.replica batch)) is.views;
+      views = subst (λ (vs : List View). Each (λ v. is_view v ≡ true) vs) (sym (views_delivered m n.replica batch)) is.views;
       regency = regency-view (view_of n) (present (delivered m n.replica batch).views) n.entries (delivered-view m n.replica batch) is.regency;
       lines = each-delivered FitsLine m n.replica batch is.lines (executed_lines-fit m brief n batch low fit);
       pool = each_filter (FitsPool secret) (λ q. is_next (delivered m n.replica batch).table q.statement) n.pool is.pool;
@@ -552,11 +558,6 @@ length-take zero xs = omega arith
 length-take (suc k) [] = omega arith
 length-take (suc k) (x ∷ xs) = let rest = length-take k xs in omega (arith, rest)
 
-each_take : {A : Type 0} (P : A → Type 0) (k : ℕ) (xs : List A) → Each P xs → Each P (take k xs)
-each_take P zero xs each = tt
-each_take P (suc k) [] each = tt
-each_take P (suc k) (x ∷ xs) each = (each.0, each_take P k xs each.1)
-
 each_any : {A : Type 0} (xs : List A) → Each (λ x. Unit {0}) xs
 each_any [] = tt
 each_any (x ∷ xs) = (tt, each_any xs)
@@ -576,7 +577,7 @@ vote-fits kind member slot digest b is fit =
     let three = and_true (same_kind b.statement.kind kind) (b.signer == member) two.0 in
     record {
       signer_fits = fit.signer_fits;
-      statement_fits = record { kind_is = same_kind-equal b.statement.kind kind three.0; ballot_fits = fit.statement_fits };
+      statement_fits = record { kind_is = same_kind_is b.statement.kind kind three.0; ballot_fits = fit.statement_fits };
       text_fits = fit.text_fits;
       tag_fits = fit.tag_fits;
     }
@@ -640,10 +641,10 @@ adopted-low : {S : Type 0} (n : Node S) (s : Sync) → regency_of n < 2 ^ 32 →
 unfolding regency_of
 adopted-low n s low begun =
     let v = (view_of n).number in
-    let last = greatest-end v (n.entries ++ promised_for n s) (entries.Synced (start_by_sync s)) in
+    let last = greatest_push v (n.entries ++ promised_for n s) (entries.Synced (start_by_sync s)) in
     let first : greatest_regency v (n.entries ++ promised_for n s) < 2 ^ 32 =
     either (λ (es : List LogEntry). greatest_regency v (n.entries ++ es) < 2 ^ 32) (nat_lt (regency_of n) s.regency) _ []
-    (let grown = greatest-end v n.entries (entries.Promised (record { view = s.view; regency = s.regency })) in
+    (let grown = greatest_push v n.entries (entries.Promised (record { view = s.view; regency = s.regency })) in
     let own = promise-low v s.view s.regency (s.view == v) refl begun in
     omega (arith, grown, own, low))
     (subst (λ (es : List LogEntry). greatest_regency v es < 2 ^ 32) (sym (append-nil n.entries)) low) in
@@ -789,7 +790,7 @@ unfolding regency_of
 fit-promised secret n low is =
     fit-book secret n (entries.Promised (next_promise n) ∷ [])
     (let v = (view_of n).number in
-    let grown = greatest-end v n.entries (entries.Promised (next_promise n)) in
+    let grown = greatest_push v n.entries (entries.Promised (next_promise n)) in
     let own = promise-low v v (regency_of n + 1) (v == v) refl low in
     let old = is.regency in
     omega (arith, grown, own, old)) (tt, tt) is
@@ -1178,7 +1179,7 @@ fit-released secret n is =
       begun = is.begun;
       book = is.book;
       waiting = is.waiting;
-      held = each-staying (λ (h : Held). IsGood secret h.message) n.firm n.held is.held;
+      held = each_staying (λ (h : Held). IsGood secret h.message) n.firm n.held is.held;
     }
 
 -- a node begins so
@@ -1223,5 +1224,5 @@ pub holds_genuine : {S : Type 0} (m : Meaning S) → IsBrief m → (secret : Lis
 holds_genuine {S = S} m brief secret id view period events named viewed each =
     let n : Node S = node_after m (opened m secret id view period) events in
     let fit : FitNode secret n = fit_after secret m brief (opened m secret id view period) events each (fit-opened secret m id view period named viewed) in
-    each_weaker (λ (h : Held). IsGood secret h.message) (λ (h : Held). IsGenuine n.secret h.message)
+    each-weaken (λ (h : Held). IsGood secret h.message) (λ (h : Held). IsGenuine n.secret h.message)
     (λ h good. subst (λ (s : List ℕ). IsGenuine s h.message) (sym fit.shared) (good-genuine secret h.message good)) n.held fit.held

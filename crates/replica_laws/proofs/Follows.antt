@@ -3,14 +3,14 @@ use Rattle.std.proofs.Common.{◌≡◌, ℕ, ◌+◌, ◌≤◌, ◌++◌, Bool
 use Rattle.std.specs.List.{flat_map}
 use Rattle.std.proofs.lemmas.Grind.{flat_map-append}
 use Rattle.smart_base.specs.Lists.{Each}
-use Rattle.smart_messages.specs.Forms.{SignedBy}
-use Rattle.smart_messages.specs.Messages.{Batch}
+use Rattle.smart_statements.specs.Forms.{SignedBy}
+use Rattle.smart_statements.specs.Batches.{Batch}
 use Rattle.smart_messages.specs.RegencyMessages.{any_decoded}
 use Rattle.smart_messages.specs.declared.regency.Sync.{Sync}
 use Rattle.smart_messages.specs.declared.any.AnyMessage.{AnyMessage}
 use Rattle.smart_messages.specs.declared.any.AnyMessage.TheVariants.{Plain}
-use Rattle.smart_messages.specs.declared.entry.NodeEvent.{NodeEvent}
-use Rattle.smart_messages.specs.declared.entry.NodeEvent.TheVariants.{Arrive, Tick, Deliver, Firm}
+use Rattle.smart_statements.specs.declared.entry.NodeEvent.{NodeEvent}
+use Rattle.smart_statements.specs.declared.entry.NodeEvent.TheVariants.{Arrive, Tick, Deliver, Firm}
 use Rattle.smart_service.specs.Services.{Meaning}
 use Rattle.smart_service.specs.declared.table.TableLine.{TableLine}
 use Rattle.vote_book.specs.declared.entry.Decision.{Decision}
@@ -30,12 +30,13 @@ use Rattle.node_rules.specs.declared.node.Fired.{Fired}
 use Rattle.node_rules.specs.declared.node.Fired.TheVariants as fires
 use Rattle.node_rules.specs.Deliveries.{delivery_in}
 use Rattle.node_rules.specs.Reopening.{decided_of}
-use Rattle.replica_laws.proofs.Lists.{each_append}
-use Rattle.replica_laws.proofs.Again.{entries-noted, entries-answers_again}
-use Rattle.replica_laws.proofs.Once.{entries-arrives, entries-delivers, entries-joins, entries-leads, entries-proposes, entries-times}
-use Rattle.replica_laws.proofs.InOrder.{decided-append, decided-adopts, decided-promises, decided-writes, decided-accepts}
+use Rattle.replica_laws.proofs.Once.{entries-arrives}
+use Rattle.node_laws.proofs.Restored.{decided_append}
+use Rattle.replica_laws.proofs.InOrder.{decided-adopts, decided-promises, decided-writes, decided-accepts}
 use Rattle.replica_laws.proofs.Leaves.{leaves-adopts, leaves-joins, leaves-promises, leaves-leads, leaves-proposes, leaves-writes, leaves-accepts, leaves-times, leaves-answers_again, leaves-noted, leaves-kept}
-use Rattle.replica_laws.proofs.Rulewise.{KeptByRules, KeptInSteps, free-event, keeps_step}
+use Rattle.node_rules.proofs.Rulewise.{KeptByRules, KeptInSteps, free-event, keeps_step}
+use Rattle.agreement_laws.proofs.Lists.{each_append}
+use Rattle.node_rules.proofs.Entries.{noted_same, answers_again_same, delivers_same, joins_same, leads_same, proposes_same, times_same}
 
 -- the same member's node
 abbrev pub Follows : {S : Type 0} → Node S → Node S → Type 0
@@ -117,12 +118,12 @@ decided-turns {S = S} n =
     let a : Node S = adopts n in
     let j : Node S = joins a in
     let p : Node S = promises j in
-    ap decided_of (entries-leads p) ∙ (decided-promises j ∙ (ap decided_of (entries-joins a) ∙ decided-adopts n))
+    ap decided_of (leads_same p) ∙ (decided-promises j ∙ (ap decided_of (joins_same a) ∙ decided-adopts n))
 
 -- who votes decides nothing
 decided-votes : {S : Type 0} (n : Node S) → decided_of (votes n).entries ≡ decided_of n.entries
 unfolding votes
-decided-votes n = decided-accepts (writes (proposes n)) ∙ (decided-writes (proposes n) ∙ ap decided_of (entries-proposes n))
+decided-votes n = decided-accepts (writes (proposes n)) ∙ (decided-writes (proposes n) ∙ ap decided_of (proposes_same n))
 
 -- a node that decides nothing
 next-same : {S : Type 0} (n n' : Node S) → decided_of n'.entries ≡ decided_of n.entries → DecidesNext n n'
@@ -133,7 +134,7 @@ next-decide_batch : {S : Type 0} (n : Node S) (decision : Option Decision) → D
 unfolding decide_batch
 next-decide_batch n None = next-same n n refl
 next-decide_batch n (Some d) =
-    let more = decided-append n.entries (Decided d) in
+    let more = decided_append n.entries (Decided d ∷ []) in
     let e = ap (λ (bs : List Batch). length bs) more ∙ length-append (decided_of n.entries) (d.batch ∷ []) in
     record { most = omega (arith, e); rest = λ is. absurd (cc) }
 
@@ -156,14 +157,14 @@ next-passes n = next-after n (votes (turns n)) (passes n) (decided-votes (turns 
 
 -- an answer again decides nothing
 next-answers_again : {S : Type 0} (n x : Node S) (message : AnyMessage) → DecidesNext n x → DecidesNext n (answers_again x message)
-next-answers_again n x message next = next-before n x (answers_again x message) (entries-answers_again x message) (leaves-answers_again x message).waits next
+next-answers_again n x message next = next-before n x (answers_again x message) (answers_again_same x message) (leaves-answers_again x message).waits next
 
 -- so does an arrival
 next-arrival : {S : Type 0} (n : Node S) (message : AnyMessage) (why : Option Why) → DecidesNext n (arrival_outcome n message why).node
 next-arrival {S = S} n message None =
     let k : Node S = kept (noted n message) message in
     next-answers_again n (passes k) message (next-after n k (passes k) (ap decided_of (entries-arrives n message)) (next-passes k))
-next-arrival n message (Some why) = next-same n (noted n message) (ap decided_of (entries-noted n message))
+next-arrival n message (Some why) = next-same n (noted n message) (ap decided_of (noted_same n message))
 
 -- so do bytes that come
 next-reading : {S : Type 0} (n : Node S) (read : Result AnyMessage ℕ) → DecidesNext n (reading_outcome n read).node
@@ -174,8 +175,8 @@ next-reading n (Err at) = next-same n n refl
 pub next-step : {S : Type 0} (m : Meaning S) (n : Node S) (event : NodeEvent) → DecidesNext n (step_of m n event).node
 unfolding step_of
 next-step m n (Arrive bytes) = next-reading n (any_decoded bytes)
-next-step m n Tick = next-before n (passes n) (times (passes n)) (entries-times (passes n)) (leaves-times (passes n)).waits (next-passes n)
-next-step m n Deliver = next-after n (delivers m n) (passes (delivers m n)) (ap decided_of (entries-delivers m n)) (next-passes (delivers m n))
+next-step m n Tick = next-before n (passes n) (times (passes n)) (times_same (passes n)) (leaves-times (passes n)).waits (next-passes n)
+next-step m n Deliver = next-after n (delivers m n) (passes (delivers m n)) (ap decided_of (delivers_same m n)) (next-passes (delivers m n))
 next-step m n (Firm count) = next-after n (made_firm n count) (passes (made_firm n count)) refl (next-passes (made_firm n count))
 
 -- what a step delivers is the batch that waited, at the next place

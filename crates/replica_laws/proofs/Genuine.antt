@@ -6,30 +6,31 @@ use Rattle.smart_base.specs.Lists.{Each}
 use Rattle.smart_base.specs.Spelling.{behind}
 use Rattle.smart_keys.proofs.Digests.{digest-length}
 use Rattle.smart_keys.proofs.Tags.{tag_of-length, is_tag-tag_of}
-use Rattle.smart_messages.specs.Forms.{Form, SignedBy, party_of}
-use Rattle.smart_messages.specs.Kinds.{requests, proposals, ballots, answers}
-use Rattle.smart_messages.specs.Messages.{Batch, batch_text, spelling, FitsBatch, Fits}
-use Rattle.smart_messages.specs.Spelling as spells
-use Rattle.smart_messages.specs.Spelling.{FitsProposal, FitsBallot, FitsAnswer, FitsRequest, IsSigner, FitsSigned}
-use Rattle.smart_messages.specs.Statements.{proposal_small, ballot_small, answer_small}
-use Rattle.smart_messages.specs.SignedLists.{listed, FitsList, optional, FitsOptional}
-use Rattle.smart_messages.specs.Reports as spells_report
-use Rattle.smart_messages.specs.Reports.{reports, votes_of, FitsVote, FitsReport, FitsEvidence, FitsLockCertificate}
+use Rattle.smart_statements.specs.Forms.{Form, SignedBy, party_of}
+use Rattle.smart_statements.specs.Kinds.{requests, proposals, ballots, answers}
+use Rattle.smart_statements.specs.Batches.{Batch, batch_text, FitsBatch}
+use Rattle.smart_messages.specs.Messages.{spelling, Fits}
+use Rattle.smart_statements.specs.Spelling as spells
+use Rattle.smart_statements.specs.Spelling.{FitsProposal, FitsBallot, FitsAnswer, FitsRequest, IsSigner, FitsSigned}
+use Rattle.smart_statements.specs.Statements.{proposal_small, ballot_small, answer_small}
+use Rattle.smart_statements.specs.SignedLists.{listed, FitsList, optional, FitsOptional}
+use Rattle.smart_statements.specs.Reports as spells_report
+use Rattle.smart_statements.specs.Reports.{reports, votes_of, FitsVote, FitsReport, FitsEvidence, FitsLockCertificate}
 use Rattle.smart_messages.specs.Regencies as spells_change
 use Rattle.smart_messages.specs.Regencies.{stops, syncs, FitsStop, FitsSync}
 use Rattle.smart_messages.specs.RegencyLaws.{stop_small}
 use Rattle.smart_messages.specs.RegencyMessages.{change_spelling, FitsChangeContent, FitsChange}
 use Rattle.smart_messages.proofs.AnyMessages.{any_spelling_is}
-use Rattle.smart_messages.specs.declared.statement.Request.{Request}
-use Rattle.smart_messages.specs.declared.statement.Proposal.{Proposal}
-use Rattle.smart_messages.specs.declared.statement.Ballot.{Ballot}
-use Rattle.smart_messages.specs.declared.statement.VoteKind.{VoteKind}
-use Rattle.smart_messages.specs.declared.statement.VoteKind.TheVariants.{Write, Accept}
-use Rattle.smart_messages.specs.declared.statement.Answer.{Answer}
-use Rattle.smart_messages.specs.declared.report.Evidence.{Evidence}
-use Rattle.smart_messages.specs.declared.report.Evidence.TheVariants as evidence
-use Rattle.smart_messages.specs.declared.report.LockCertificate.{LockCertificate}
-use Rattle.smart_messages.specs.declared.report.Report.{Report}
+use Rattle.smart_statements.specs.declared.statement.Request.{Request}
+use Rattle.smart_statements.specs.declared.statement.Proposal.{Proposal}
+use Rattle.smart_statements.specs.declared.statement.Ballot.{Ballot}
+use Rattle.smart_statements.specs.declared.statement.VoteKind.{VoteKind}
+use Rattle.smart_statements.specs.declared.statement.VoteKind.TheVariants.{Write, Accept}
+use Rattle.smart_statements.specs.declared.statement.Answer.{Answer}
+use Rattle.smart_statements.specs.declared.report.Evidence.{Evidence}
+use Rattle.smart_statements.specs.declared.report.Evidence.TheVariants as evidence
+use Rattle.smart_statements.specs.declared.report.LockCertificate.{LockCertificate}
+use Rattle.smart_statements.specs.declared.report.Report.{Report}
 use Rattle.smart_messages.specs.declared.regency.Stop.{Stop}
 use Rattle.smart_messages.specs.declared.regency.Sync.{Sync}
 use Rattle.smart_messages.specs.declared.regency.RegencyMessage.TheVariants as changes
@@ -38,8 +39,8 @@ use Rattle.smart_messages.specs.declared.any.AnyMessage.{AnyMessage}
 use Rattle.smart_messages.specs.declared.any.AnyMessage.TheVariants.{Plain, Change}
 use Rattle.replica_rules.specs.Seals.{signed, is_verified, digest_of}
 use Rattle.replica_laws.specs.Sending.{all_tagged, is_tagged, IsTerse, IsReadBack, IsGenuine}
-use Rattle.replica_laws.proofs.Lists.{and_true}
-use Rattle.replica_laws.proofs.Equal.{and_intro}
+use Rattle.smart_base.proofs.SameLists.{and_true}
+use Rattle.std.proofs.lemmas.Bool.{and_from}
 
 -- it has a spelling. Of the beginning of a regency all parts have one
 abbrev pub FitsHeld : AnyMessage → Type 0
@@ -150,7 +151,7 @@ propose-good secret id p batch named fit all tagged =
         bytes_fit = omega (arith, long, text, fit.digest_fits, all.bytes_fit, length-append (spells.signed proposals (signed proposals secret id p)) (batch_text batch));
       };
       terse = tt;
-      tagged = and_intro (is_verified proposals secret (signed proposals secret id p)) (list_all (λ q. is_verified requests secret q) batch)
+      tagged = and_from (is_verified proposals secret (signed proposals secret id p)) (list_all (λ q. is_verified requests secret q) batch)
           (signed-verified proposals secret id p) tagged;
     }
 
@@ -168,7 +169,7 @@ single-fits q fit =
 
 -- whose request bears its tag
 pub single-verified : (secret : List ℕ) (q : SignedBy Request) → is_verified requests secret q ≡ true → AreVerified secret (q ∷ [])
-single-verified secret q tagged = and_intro (is_verified requests secret q) true tagged refl
+single-verified secret q tagged = and_from (is_verified requests secret q) true tagged refl
 
 -- a batch of one request more, within the limits
 pub longer-fits : (batch : Batch) (q : SignedBy Request) → FitsBatch batch → FitsSigned requests FitsRequest q → length (batch ++ q ∷ []) ≤ 64 → length (batch_text (batch ++ q ∷ [])) ≤ 262144 → FitsBatch (batch ++ q ∷ [])
@@ -184,7 +185,7 @@ pub longer-verified : (secret : List ℕ) (batch : Batch) (q : SignedBy Request)
 longer-verified secret [] q are tagged = single-verified secret q tagged
 longer-verified secret (r ∷ rs) q are tagged =
     let both = and_true (is_verified requests secret r) (list_all (λ x. is_verified requests secret x) rs) are in
-    and_intro (is_verified requests secret r) (list_all (λ x. is_verified requests secret x) (rs ++ q ∷ [])) both.0 (longer-verified secret rs q both.1 tagged)
+    and_from (is_verified requests secret r) (list_all (λ x. is_verified requests secret x) (rs ++ q ∷ [])) both.0 (longer-verified secret rs q both.1 tagged)
 
 -- ---- changes of the regency
 
@@ -205,7 +206,7 @@ pub record FitVotes (kind : VoteKind) (votes : List (SignedBy Ballot)) : Type 0 
   pub few : length votes ≤ 31
   pub all : AllByRecursion (FitsSigned (votes_of kind) (λ signer. FitsVote kind)) votes
 
-votes-list : (kind : VoteKind) (votes : List (SignedBy Ballot)) → FitVotes kind votes → FitsList (votes_of kind) (λ signer. FitsVote kind) votes
+pub votes-list : (kind : VoteKind) (votes : List (SignedBy Ballot)) → FitVotes kind votes → FitsList (votes_of kind) (λ signer. FitsVote kind) votes
 votes-list kind votes fit = let few = fit.few in (omega (arith, few), fit.all)
 
 vote-length : (kind : VoteKind) (b : SignedBy Ballot) → FitsSigned (votes_of kind) (λ signer. FitsVote kind) b → length (spells.signed (votes_of kind) b) ≤ 4154
@@ -323,7 +324,7 @@ report-good secret id s batch named fit some =
         bytes_fit = omega (arith, long, text, short, both);
       };
       terse = tt;
-      tagged = and_intro (is_verified reports secret (signed reports secret id s)) (all_tagged secret batch) (signed-verified reports secret id s) (some-tagged secret batch some);
+      tagged = and_from (is_verified reports secret (signed reports secret id s)) (all_tagged secret batch) (signed-verified reports secret id s) (some-tagged secret batch some);
     }
 
 -- a report that came: it has a spelling, no longer than a message, and bears its member's tag
@@ -347,7 +348,7 @@ collect-fits secret (r ∷ rs) each = (each.0.signed_fits, collect-fits secret r
 
 collect-tagged : (secret : List ℕ) (rs : List (SignedBy Report)) → Each (FitsCollected secret) rs → list_all (λ r. is_verified reports secret r) rs ≡ true
 collect-tagged secret [] each = refl
-collect-tagged secret (r ∷ rs) each = and_intro (is_verified reports secret r) (list_all (λ x. is_verified reports secret x) rs) each.0.tagged (collect-tagged secret rs each.1)
+collect-tagged secret (r ∷ rs) each = and_from (is_verified reports secret r) (list_all (λ x. is_verified reports secret x) rs) each.0.tagged (collect-tagged secret rs each.1)
 
 terse-text : (secret : List ℕ) (rs : List (SignedBy Report)) → Each (FitsCollected secret) rs → Each (λ r. IsTerse r.statement) rs → length (flat_map (spells.signed reports) rs) ≤ 5720 * length rs
 terse-text secret [] each terse = omega arith
@@ -371,5 +372,5 @@ sync-good secret id s named view regency few each =
       fits = signed-fits syncs (λ signer. FitsSync) secret id s named
           (record { view_fits = view; regency_fits = regency; collect_fits = (omega (arith, few), collect-fits secret s.collect each) }) (omega (arith, text, few));
       terse = λ terse. sync-short secret id s few (terse-text secret s.collect each terse);
-      tagged = and_intro (is_verified syncs secret (signed syncs secret id s)) (list_all (λ r. is_verified reports secret r) s.collect) (signed-verified syncs secret id s) (collect-tagged secret s.collect each);
+      tagged = and_from (is_verified syncs secret (signed syncs secret id s)) (list_all (λ r. is_verified reports secret r) s.collect) (signed-verified syncs secret id s) (collect-tagged secret s.collect each);
     }

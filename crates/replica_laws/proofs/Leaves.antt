@@ -1,9 +1,9 @@
 -- What the rules leave as it is: a node's name and secret, what was restored and is firm, its replica and the batch that waits.
 use Rattle.std.proofs.Common.{◌≡◌, true, List, [], ◌∷◌, refl, Option, Some, None}
-use Rattle.smart_messages.specs.Forms.{SignedBy}
-use Rattle.smart_messages.specs.Messages.{Batch}
-use Rattle.smart_messages.specs.declared.statement.Request.{Request}
-use Rattle.smart_messages.specs.declared.report.Report.{Report}
+use Rattle.smart_statements.specs.Forms.{SignedBy}
+use Rattle.smart_statements.specs.Batches.{Batch}
+use Rattle.smart_statements.specs.declared.statement.Request.{Request}
+use Rattle.smart_statements.specs.declared.report.Report.{Report}
 use Rattle.smart_messages.specs.declared.regency.Sync.{Sync}
 use Rattle.smart_messages.specs.declared.regency.RegencyMessage.TheVariants as changes
 use Rattle.smart_messages.specs.declared.message.Message.TheVariants.{Ask, Propose, Vote, Reply}
@@ -17,7 +17,7 @@ use Rattle.node_rules.specs.Nodes.{Node}
 use Rattle.node_rules.specs.Arrivals.{kept_plain, kept_change, kept, noted}
 use Rattle.node_rules.specs.Rules.{proposing, propose_batch, proposes, writing, write_batch, writes, accepting, accept_batch, accepts, answering, answer_line, answers_again}
 use Rattle.node_rules.specs.Changes.{adopts_by, adoption, adopts, asks_next, joining, joins, promising, promise_next, promises, leading, lead_with, leads, timing, passes_on, presses, times}
-use Rattle.replica_laws.proofs.Lists.{either}
+use Rattle.agreement_laws.proofs.Lists.{either}
 
 -- a node with the same name and secret, of which as much was restored and is firm, and with the same replica and the same batch that waits
 pub record Leaves {S : Type 0} (n n' : Node S) : Type 0 where

@@ -1,21 +1,14 @@
 -- A node accepts once for each slot.
 use Rattle.std.proofs.Common.{◌≡◌, ℕ, ◌+◌, ◌≤◌, ◌++◌, Bool, true, false, not, List, [], ◌∷◌, refl, ap, arith, cond, nat_lt, Option, Some, None, is_some, ◌∙◌, subst, sym, append-nil}
 use Rattle.std.specs.List.{list_any}
-use Rattle.smart_messages.specs.Forms.{SignedBy}
-use Rattle.smart_messages.specs.Messages.{Batch}
-use Rattle.smart_messages.specs.Equality.{same_slot}
-use Rattle.smart_messages.specs.declared.statement.Request.{Request}
-use Rattle.smart_messages.specs.declared.statement.Slot.{Slot}
-use Rattle.smart_messages.specs.declared.report.Report.{Report}
+use Rattle.smart_statements.specs.Forms.{SignedBy}
+use Rattle.smart_statements.specs.Equality.{same_slot}
+use Rattle.smart_statements.specs.declared.statement.Slot.{Slot}
 use Rattle.smart_messages.specs.declared.regency.Sync.{Sync}
-use Rattle.smart_messages.specs.declared.regency.RegencyMessage.TheVariants as changes
-use Rattle.smart_messages.specs.declared.message.Message.TheVariants.{Ask, Propose, Vote, Reply}
 use Rattle.smart_messages.specs.declared.message.Proposed.{Proposed}
 use Rattle.smart_messages.specs.declared.any.AnyMessage.{AnyMessage}
-use Rattle.smart_messages.specs.declared.any.AnyMessage.TheVariants.{Plain, Change}
-use Rattle.smart_messages.specs.declared.entry.NodeEvent.{NodeEvent}
+use Rattle.smart_statements.specs.declared.entry.NodeEvent.{NodeEvent}
 use Rattle.smart_service.specs.Services.{Meaning}
-use Rattle.smart_service.specs.declared.table.TableLine.{TableLine}
 use Rattle.vote_book.specs.Admission.{accepts_in}
 use Rattle.vote_book.specs.declared.entry.Accept.{Accept}
 use Rattle.vote_book.specs.declared.entry.Decision.{Decision}
@@ -23,97 +16,26 @@ use Rattle.vote_book.specs.declared.entry.Promise.{Promise}
 use Rattle.vote_book.specs.declared.entry.Start.{Start}
 use Rattle.vote_book.specs.declared.entry.LogEntry.{LogEntry}
 use Rattle.vote_book.specs.declared.entry.LogEntry.TheVariants.{Wrote, Accepted, Promised, Synced, Decided}
-use Rattle.replica_rules.specs.Replicas.{delivered}
-use Rattle.replica_rules.specs.Pools.{settled}
-use Rattle.node_rules.specs.Rules.{reply_of, replying, lines_to_answer, deliver_batch, delivers, proposing, propose_batch, proposes, writing, write_batch, writes, accepting, accept_batch, accepts, deciding, decide_batch, decides, answers_again}
-use Rattle.node_rules.specs.Nodes.{Node, regency_of, holding, is_open, open_slot}
-use Rattle.node_rules.specs.Arrivals.{kept_plain, kept_change, kept, noted}
-use Rattle.node_rules.specs.Changes.{start_by_sync, promised_for, adopts_by, adoption, adopts, asks_next, joining, joins, next_promise, promising, promise_next, promises, leading, lead_with, leads, timing, passes_on, presses, times}
+use Rattle.node_rules.specs.Rules.{delivers, proposes, writing, write_batch, writes, accepting, accept_batch, accepts, deciding, decide_batch, decides, answers_again}
+use Rattle.node_rules.specs.Nodes.{Node, regency_of, is_open, open_slot}
+use Rattle.node_rules.specs.Arrivals.{kept, noted}
+use Rattle.node_rules.specs.Changes.{start_by_sync, promised_for, adopts_by, adoption, adopts, joins, next_promise, promising, promise_next, promises, leads, times}
 use Rattle.node_rules.specs.Kept.{node_after}
 use Rattle.node_rules.specs.Steps.{step_of}
-use Rattle.node_rules.specs.declared.node.Target.TheVariants as targets
 use Rattle.replica_laws.specs.Books.{passing, AcceptsOnce}
-use Rattle.replica_laws.proofs.Lists.{and_true, or_false, not_true, either}
-use Rattle.replica_laws.proofs.Equal.{same_slot-equal}
-use Rattle.replica_laws.proofs.Again.{entries-noted, entries-answers_again}
-use Rattle.replica_laws.proofs.Rulewise.{KeptByRules, KeptInSteps, free-event, keeps_step}
+use Rattle.node_rules.proofs.Rulewise.{KeptByRules, KeptInSteps, free-event, keeps_step}
+use Rattle.node_rules.proofs.Entries.{kept_same, delivers_same, proposes_same, joins_same, leads_same, times_same, noted_same, answers_again_same}
+use Rattle.smart_base.proofs.SameLists.{and_true}
+use Rattle.agreement_laws.proofs.Lists.{not_true, either}
+use Rattle.vote_book.proofs.Tested.{slot_is}
+use Rattle.node_rules.proofs.Options.{guard_passed}
+use Rattle.std.proofs.lemmas.Bool.{or_parts}
 
 -- rules that record nothing
 
--- held replies
-pub entries-replying : {S : Type 0} (n : Node S) (lines : List TableLine) → (replying n lines).entries ≡ n.entries
-entries-replying n [] = refl
-entries-replying n (l ∷ ls) = entries-replying (holding n (targets.Client l.client) (Plain (reply_of n.secret n.id l))) ls
-
--- both branches keep the book
-pub entries-if : {S : Type 0} (b : Bool) (x y : Node S) → x.entries ≡ y.entries → (cond b x y).entries ≡ y.entries
-entries-if true x y same = same
-entries-if false x y same = refl
-
--- an arrival that is kept
-pub entries-kept : {S : Type 0} (n : Node S) (message : AnyMessage) → (kept n message).entries ≡ n.entries
-unfolding kept_plain kept_change
-entries-kept n (Plain (Ask q)) = entries-if _ _ n refl
-entries-kept n (Plain (Propose p)) = refl
-entries-kept n (Plain (Vote b)) = refl
-entries-kept n (Plain (Reply a)) = refl
-entries-kept n (Change (changes.Stop s)) = refl
-entries-kept n (Change (changes.StopData r)) = refl
-entries-kept n (Change (changes.Sync s)) = refl
-
 -- with what it tells
 pub entries-arrives : {S : Type 0} (n : Node S) (message : AnyMessage) → (kept (noted n message) message).entries ≡ n.entries
-entries-arrives n message = entries-kept (noted n message) message ∙ entries-noted n message
-
--- a delivery
-pub entries-deliver_batch : {S : Type 0} (m : Meaning S) (n : Node S) (batch : Option Batch) → (deliver_batch m n batch).entries ≡ n.entries
-unfolding deliver_batch
-entries-deliver_batch m n None = refl
-entries-deliver_batch m n (Some batch) =
-    entries-replying
-    (record n { replica = delivered m n.replica batch; waiting = None; pool = settled (delivered m n.replica batch).table n.pool; impatient = false })
-    (lines_to_answer m n batch)
-
--- the rule that delivers
-pub entries-delivers : {S : Type 0} (m : Meaning S) (n : Node S) → (delivers m n).entries ≡ n.entries
-unfolding delivers
-entries-delivers m n = entries-deliver_batch m n n.waiting
-
--- a proposal
-pub entries-propose_batch : {S : Type 0} (n : Node S) (batch : Option Batch) → (propose_batch n batch).entries ≡ n.entries
-unfolding propose_batch
-entries-propose_batch n None = refl
-entries-propose_batch n (Some batch) = refl
-
-pub entries-proposes : {S : Type 0} (n : Node S) → (proposes n).entries ≡ n.entries
-unfolding proposes
-entries-proposes n = entries-propose_batch n (proposing n)
-
--- a wish for the next regency
-pub entries-joins : {S : Type 0} (n : Node S) → (joins n).entries ≡ n.entries
-unfolding joins
-entries-joins n = entries-if (joining n) (asks_next n) n refl
-
--- the beginning of a regency by its leader
-pub entries-lead_with : {S : Type 0} (n : Node S) (collect : Option (List (SignedBy Report))) → (lead_with n collect).entries ≡ n.entries
-unfolding lead_with
-entries-lead_with n None = refl
-entries-lead_with n (Some collect) = refl
-
-pub entries-leads : {S : Type 0} (n : Node S) → (leads n).entries ≡ n.entries
-unfolding leads
-entries-leads n = entries-lead_with n (leading n)
-
--- what time does
-pub entries-passes_on : {S : Type 0} (n : Node S) (pool : List (SignedBy Request)) → (passes_on n pool).entries ≡ n.entries
-entries-passes_on n [] = refl
-entries-passes_on n (q ∷ qs) = refl
-
-pub entries-times : {S : Type 0} (n : Node S) → (times n).entries ≡ n.entries
-unfolding times presses
-entries-times {S = S} n =
-    either (λ (x : Node S). x.entries ≡ n.entries) (timing n) _ n
-    (either (λ (x : Node S). x.entries ≡ n.entries) n.impatient (asks_next n) (passes_on (record n { impatient = true }) n.pool) refl (entries-passes_on (record n { impatient = true }) n.pool)) refl
+entries-arrives n message = kept_same (noted n message) message ∙ noted_same n message
 
 -- rules that record entries
 
@@ -143,7 +65,7 @@ once_more entries entry none once slot = omega (arith, passing-end (accepts_in s
 pub none_passes : {A : Type 0} (p : A → Bool) (xs : List A) → list_any p xs ≡ false → passing p xs ≡ 0
 none_passes p [] none = refl
 none_passes p (x ∷ xs) none =
-    let parts = or_false (p x) (list_any p xs) none in
+    let parts = or_parts (p x) (list_any p xs) none in
     omega (arith, ap (λ b. passed b) parts.0, none_passes p xs parts.1)
 
 -- an entry that accepts at a slot where none was accepted
@@ -151,7 +73,7 @@ pub once_accepted : (entries : List LogEntry) (a : Accept) → list_any (accepts
 once_accepted entries a none once other = rw passing-end (cases (same_slot a.slot other) refl)
   where
     cases : (b : Bool) → same_slot a.slot other ≡ b → passing (accepts_in other) entries + (cond b 1 0 + 0) ≤ 1
-    cases true is = rw (← same_slot-equal a.slot other is) (omega (arith, none_passes (accepts_in a.slot) entries none))
+    cases true is = rw (← slot_is a.slot other is) (omega (arith, none_passes (accepts_in a.slot) entries none))
     cases false is = omega (arith, once other)
 
 -- a node whose book accepts once for each slot
@@ -192,11 +114,6 @@ unfolding accept_batch
 once-accept_batch n None none once = once
 once-accept_batch n (Some p) none once = once_accepted n.entries _ (none refl) once
 
--- what is due behind a test passed it
-pub guard_passed : {A : Type 0} (test : Bool) (x : Option A) → is_some (cond test x None) ≡ true → test ≡ true
-guard_passed true x some = refl
-guard_passed false x some = absurd (cc)
-
 -- a node accepts where its book has not
 pub accepts_where_none : {S : Type 0} (n : Node S) → is_some (accepting n) ≡ true → list_any (accepts_in (open_slot n)) n.entries ≡ false
 unfolding accepting
@@ -218,10 +135,10 @@ once-decides n once = once-decide_batch n (deciding n) once
 once-rules : {S : Type 0} → KeptByRules {S = S} (λ n. Once n)
 once-rules {S} = record {
   by_adopts = λ n once. once-adopts n once;
-  by_joins = λ n once. once_as n (joins n) (entries-joins n) once;
+  by_joins = λ n once. once_as n (joins n) (joins_same n) once;
   by_promises = λ n once. once-promises n once;
-  by_leads = λ n once. once_as n (leads n) (entries-leads n) once;
-  by_proposes = λ n once. once_as n (proposes n) (entries-proposes n) once;
+  by_leads = λ n once. once_as n (leads n) (leads_same n) once;
+  by_proposes = λ n once. once_as n (proposes n) (proposes_same n) once;
   by_writes = λ n once. once-writes n once;
   by_accepts = λ n once. once-accepts n once;
   by_decides = λ n once. once-decides n once;
@@ -230,11 +147,11 @@ once-rules {S} = record {
 once-in_steps : {S : Type 0} (m : Meaning S) → KeptInSteps m (λ n. Once n) (λ message. Unit {0})
 once-in_steps m = record {
   by_rules = once-rules;
-  by_times = λ n once. once_as n (times n) (entries-times n) once;
-  by_answers = λ n message once. once_as n (answers_again n message) (entries-answers_again n message) once;
-  by_noted = λ n message once. once_as n (noted n message) (entries-noted n message) once;
-  by_kept = λ n message fine may once. once_as n (kept n message) (entries-kept n message) once;
-  by_delivers = λ n once. once_as n (delivers m n) (entries-delivers m n) once;
+  by_times = λ n once. once_as n (times n) (times_same n) once;
+  by_answers = λ n message once. once_as n (answers_again n message) (answers_again_same n message) once;
+  by_noted = λ n message once. once_as n (noted n message) (noted_same n message) once;
+  by_kept = λ n message fine may once. once_as n (kept n message) (kept_same n message) once;
+  by_delivers = λ n once. once_as n (delivers m n) (delivers_same m n) once;
 }
 
 -- a step

@@ -5,15 +5,18 @@ use Rattle.std.specs.Prelude.{option_map}
 use Rattle.std.specs.Option.{option_to_list}
 use Rattle.smart_base.specs.Lists.{Each}
 use Rattle.smart_base.specs.Views.{View}
-use Rattle.smart_messages.specs.Messages.{Batch}
-use Rattle.smart_messages.specs.declared.statement.Request.{Request}
+use Rattle.smart_statements.specs.Batches.{Batch}
+use Rattle.smart_statements.specs.declared.statement.Request.{Request}
 use Rattle.smart_service.specs.Services.{Meaning}
 use Rattle.smart_service.specs.Tables.{last_seq, with_line}
 use Rattle.smart_service.specs.declared.table.TableLine.{TableLine}
 use Rattle.smart_service.specs.declared.replica.Replica.{Replica}
 use Rattle.replica_rules.specs.Replicas.{is_next, line_of, execute, execute_all, line_made, lines_of, at_next, delivered, executed_lines, empty, executions_from, executions, first_line, answer, place_of}
 use Rattle.replica_laws.specs.Lines.{HasLine, Before, InOrder}
-use Rattle.replica_laws.proofs.Lists.{and_true, each_append, each_weaker}
+use Rattle.smart_base.proofs.SameLists.{and_true}
+use Rattle.agreement_laws.proofs.Lists.{each_append}
+use Rattle.smart_base.proofs.ViewFacts.{each-weaken}
+use Rattle.replica_rules.proofs.Places.{place_execute, place_delivered}
 
 -- the table
 
@@ -79,26 +82,6 @@ execute_all_grows m r i (q ∷ qs) c =
     let rest = execute_all_grows m (execute m r i q.statement) (i + 1) qs c in
     omega (arith, one, rest)
 
--- of two replicas at one place, a choice is at that place
-place_if : {S : Type 0} (b : Bool) (x y : Replica S) → x.place ≡ y.place → (cond b x y).place ≡ y.place
-place_if true x y same = same
-place_if false x y same = refl
-
--- a request leaves the place
-pub place-execute : {S : Type 0} (m : Meaning S) (r : Replica S) (i : ℕ) (q : Request) → (execute m r i q).place ≡ r.place
-unfolding execute
-place-execute m r i q = place_if (is_next r.table q) _ r refl
-
--- requests leave the place
-pub place-execute_all : {S : Type 0} (m : Meaning S) (r : Replica S) (i : ℕ) (qs : Batch) → (execute_all m r i qs).place ≡ r.place
-place-execute_all m r i [] = refl
-place-execute_all m r i (q ∷ qs) = place-execute_all m (execute m r i q.statement) (i + 1) qs ∙ place-execute m r i q.statement
-
--- a batch takes the next place
-pub place-delivered : {S : Type 0} (m : Meaning S) (r : Replica S) (batch : Batch) → (delivered m r batch).place ≡ r.place + 1
-unfolding delivered
-place-delivered m r batch = place-execute_all m (at_next r) 0 batch
-
 -- lines in order
 
 -- lists in order, each line of the first before all of the second, are in order together
@@ -126,7 +109,7 @@ made_one m r last i q false is more = tt
 made_later : {S : Type 0} (m : Meaning S) (r last : Replica S) (i : ℕ) (q : Request) (l : TableLine) → Made (execute m r i q) last (i + 1) l → Made r last i l
 made_later m r last i q l made =
     let grows = execute_grows m r i q (is_next r.table q) refl l.client in
-    record { there = made.there ∙ place-execute m r i q; behind = omega (arith, made.behind); above = omega (arith, grows, made.above); upto = made.upto }
+    record { there = made.there ∙ place_execute m r i q; behind = omega (arith, made.behind); above = omega (arith, grows, made.above); upto = made.upto }
 
 -- all lines that requests make
 made_all : {S : Type 0} (m : Meaning S) (r : Replica S) (i : ℕ) (qs : Batch) → Each (Made r (execute_all m r i qs) i) (lines_of m r i qs)
@@ -135,16 +118,16 @@ made_all {S = S} m r i (q ∷ qs) =
     let last : Replica S = execute_all m (execute m r i q.statement) (i + 1) qs in
     each_append (Made r last i) (option_to_list (line_made m r i q.statement)) (lines_of m (execute m r i q.statement) (i + 1) qs)
     (made_one m r last i q.statement (is_next r.table q.statement) refl (execute_all_grows m (execute m r i q.statement) (i + 1) qs))
-    (each_weaker (Made (execute m r i q.statement) last (i + 1)) (Made r last i) (made_later m r last i q.statement) _ (made_all m (execute m r i q.statement) (i + 1) qs))
+    (each-weaken (Made (execute m r i q.statement) last (i + 1)) (Made r last i) (made_later m r last i q.statement) _ (made_all m (execute m r i q.statement) (i + 1) qs))
 
 -- the line of the first request stands before the later ones
 order_one : {S : Type 0} (m : Meaning S) (r last : Replica S) (i : ℕ) (q : Request) (rest : List TableLine) (next : Bool) → is_next r.table q ≡ next
     → Each (Made (execute m r i q) last (i + 1)) rest → InOrder rest → InOrder (option_to_list (cond next (Some (line_of m r i q)) None) ++ rest)
 order_one m r last i q rest true is made order =
     let own = executed_seq m r i q is in (
-      each_weaker (Made (execute m r i q) last (i + 1)) (Before (line_of m r i q))
+      each-weaken (Made (execute m r i q) last (i + 1)) (Before (line_of m r i q))
           (λ l is_made. record {
-            stands = inr (sym (is_made.there ∙ place-execute m r i q), omega (arith, is_made.behind));
+            stands = inr (sym (is_made.there ∙ place_execute m r i q), omega (arith, is_made.behind));
             rises = λ same. omega (arith, own, ap (last_seq (execute m r i q).table) same, is_made.above);
           }) rest made,
       order,
@@ -185,7 +168,7 @@ later_here r last l made = record { beyond = omega (arith, made.there); above = 
 -- what stands behind a batch stands behind the replica before it
 later_on : {S : Type 0} (m : Meaning S) (r : Replica S) (batch : Batch) (l : TableLine) → Later (delivered m r batch) l → Later r l
 later_on m r batch l later =
-    let place = place-delivered m r batch in
+    let place = place_delivered m r batch in
     let grows = delivered_grows m r batch l.client in
     record { beyond = omega (arith, place, later.beyond); above = omega (arith, grows, later.above) }
 
@@ -194,13 +177,13 @@ later_all : {S : Type 0} (m : Meaning S) (r : Replica S) (bs : List Batch) → E
 later_all m r [] = tt
 later_all m r (batch ∷ bs) =
     each_append (Later r) (executed_lines m r batch) (executions_from m (delivered m r batch) bs)
-    (each_weaker (Made (at_next r) (delivered m r batch) 0) (Later r) (later_here r (delivered m r batch)) _ (made_delivered m r batch))
-    (each_weaker (Later (delivered m r batch)) (Later r) (later_on m r batch) _ (later_all m (delivered m r batch) bs))
+    (each-weaken (Made (at_next r) (delivered m r batch) 0) (Later r) (later_here r (delivered m r batch)) _ (made_delivered m r batch))
+    (each-weaken (Later (delivered m r batch)) (Later r) (later_on m r batch) _ (later_all m (delivered m r batch) bs))
 
 -- a line of a batch stands before the lines of later batches
 made_before : {S : Type 0} (m : Meaning S) (r : Replica S) (batch : Batch) (a b : TableLine) → Made (at_next r) (delivered m r batch) 0 a → Later (delivered m r batch) b → Before a b
 made_before m r batch a b made later =
-    let place = place-delivered m r batch in
+    let place = place_delivered m r batch in
     record {
       stands = inl (omega (arith, place, made.there, later.beyond));
       rises = λ same. omega (arith, ap (last_seq (delivered m r batch).table) same, made.upto, later.above);
@@ -211,8 +194,8 @@ order_from : {S : Type 0} (m : Meaning S) (r : Replica S) (bs : List Batch) → 
 order_from m r [] = tt
 order_from m r (batch ∷ bs) =
     order_append (executed_lines m r batch) (executions_from m (delivered m r batch) bs) (order_delivered m r batch) (order_from m (delivered m r batch) bs)
-    (each_weaker (Made (at_next r) (delivered m r batch) 0) (λ a. Each (Before a) (executions_from m (delivered m r batch) bs))
-    (λ a made. each_weaker (Later (delivered m r batch)) (Before a) (λ b later. made_before m r batch a b made later) _ (later_all m (delivered m r batch) bs))
+    (each-weaken (Made (at_next r) (delivered m r batch) 0) (λ a. Each (Before a) (executions_from m (delivered m r batch) bs))
+    (λ a made. each-weaken (Later (delivered m r batch)) (Before a) (λ b later. made_before m r batch a b made later) _ (later_all m (delivered m r batch) bs))
     (executed_lines m r batch) (made_delivered m r batch))
 
 -- the lines of a list's executions stand in order

@@ -1,20 +1,19 @@
 -- Each message that a node holds is its own and rests on entries that it waits for; and a node's book only grows.
-use Rattle.std.proofs.Common.{◌≡◌, inl, inr, ℕ, zero, suc, ◌+◌, ◌^◌, ◌≤◌, ◌++◌, nat_lt, true, false, List, [], ◌∷◌, length, refl, ap, ◌∙◌, sym, arith, Option, Some, None, subst, append-nil, append_assoc, length-append, take}
+use Rattle.std.proofs.Common.{◌≡◌, ℕ, zero, suc, ◌+◌, ◌^◌, ◌≤◌, ◌++◌, nat_lt, true, false, List, [], ◌∷◌, length, refl, ap, ◌∙◌, sym, arith, Option, Some, None, subst, append-nil, append_assoc, length-append, take}
 use Rattle.std.proofs.lemmas.List.{take_all}
 use Rattle.std.specs.Prelude.{IfSome, slice_get}
 use Rattle.smart_base.specs.Lists.{Each, or_else}
 use Rattle.smart_base.specs.Views.{View, is_member, leader}
-use Rattle.smart_messages.specs.Forms.{SignedBy}
-use Rattle.smart_messages.specs.Messages.{Batch}
+use Rattle.smart_statements.specs.Forms.{SignedBy}
+use Rattle.smart_statements.specs.Batches.{Batch}
 use Rattle.smart_messages.specs.RegencyMessages.{any_decoded}
-use Rattle.smart_messages.specs.Kinds.{proposals}
+use Rattle.smart_statements.specs.Kinds.{proposals}
 use Rattle.smart_messages.specs.Regencies.{syncs}
-use Rattle.smart_messages.specs.declared.statement.Request.{Request}
-use Rattle.smart_messages.specs.declared.statement.Slot.{Slot}
-use Rattle.smart_messages.specs.declared.statement.Answer.{Answer}
-use Rattle.smart_messages.specs.declared.statement.VoteKind.TheVariants.{Write, Accept}
-use Rattle.smart_messages.specs.declared.statement.VoteKind.{VoteKind}
-use Rattle.smart_messages.specs.declared.report.Report.{Report}
+use Rattle.smart_statements.specs.declared.statement.Request.{Request}
+use Rattle.smart_statements.specs.declared.statement.Slot.{Slot}
+use Rattle.smart_statements.specs.declared.statement.Answer.{Answer}
+use Rattle.smart_statements.specs.declared.statement.VoteKind.TheVariants.{Write, Accept}
+use Rattle.smart_statements.specs.declared.report.Report.{Report}
 use Rattle.smart_messages.specs.declared.regency.Sync.{Sync}
 use Rattle.smart_messages.specs.declared.regency.RegencyMessage.TheVariants as changes
 use Rattle.smart_messages.specs.declared.message.Message.TheVariants.{Ask, Propose, Vote, Reply}
@@ -22,15 +21,15 @@ use Rattle.smart_messages.specs.declared.message.Message.{Message}
 use Rattle.smart_messages.specs.declared.message.Proposed.{Proposed}
 use Rattle.smart_messages.specs.declared.any.AnyMessage.{AnyMessage}
 use Rattle.smart_messages.specs.declared.any.AnyMessage.TheVariants.{Plain, Change}
-use Rattle.smart_messages.specs.declared.entry.NodeEvent.{NodeEvent}
-use Rattle.smart_messages.specs.declared.entry.NodeEvent.TheVariants.{Arrive, Tick, Deliver, Firm}
+use Rattle.smart_statements.specs.declared.entry.NodeEvent.{NodeEvent}
+use Rattle.smart_statements.specs.declared.entry.NodeEvent.TheVariants.{Arrive, Tick, Deliver, Firm}
 use Rattle.smart_service.specs.Services.{Meaning}
 use Rattle.smart_service.specs.declared.table.TableLine.{TableLine}
 use Rattle.vote_book.specs.Books.{Among}
 use Rattle.vote_book.specs.declared.entry.Decision.{Decision}
 use Rattle.vote_book.specs.declared.entry.LogEntry.{LogEntry}
 use Rattle.vote_book.specs.declared.entry.LogEntry.TheVariants as entries
-use Rattle.agreement_laws.specs.Diaries.{HasVoted, HasReported, HasAnswered}
+use Rattle.agreement_laws.specs.Diaries.{HasReported, HasAnswered}
 use Rattle.replica_rules.specs.Replicas.{is_next, delivered, executed_lines, at_next}
 use Rattle.replica_rules.specs.Seals.{signed, digest_of}
 use Rattle.replica_rules.specs.Pools.{offered, settled}
@@ -44,11 +43,15 @@ use Rattle.node_rules.specs.declared.node.Held.{Held}
 use Rattle.node_rules.specs.declared.node.Target.{Target}
 use Rattle.node_rules.specs.declared.node.Target.TheVariants as targets
 use Rattle.replica_laws.specs.Sending.{IsOwn, RestsOn}
-use Rattle.replica_laws.proofs.Lists.{either, each_end, each_weaker, if_or, if_cond}
+use Rattle.replica_laws.proofs.Lists.{if_or, if_cond}
 use Rattle.replica_laws.proofs.Executions.{OfRequest, of_delivered}
-use Rattle.replica_laws.proofs.Waiting.{each-staying}
 use Rattle.replica_laws.proofs.Again.{ForLine, answering-each, each-delivered}
-use Rattle.replica_laws.proofs.Rulewise.{KeptByRules, KeptInSteps, free-read, keeps_passes, keeps_reading}
+use Rattle.node_rules.proofs.Rulewise.{KeptByRules, KeptInSteps, free-read, keeps_passes, keeps_reading}
+use Rattle.agreement_laws.proofs.Lists.{among_left, either, each_end}
+use Rattle.node_laws.proofs.Lists.{among_last}
+use Rattle.agreement_laws.proofs.Growing.{HasVoted-more}
+use Rattle.smart_base.proofs.ViewFacts.{each-weaken}
+use Rattle.node_laws.proofs.Passes.{each_staying}
 
 -- ---- longer books
 
@@ -72,23 +75,10 @@ longer-front (suc k) zero xs le = absurd (omega (arith, le))
 longer-front (suc k) (suc j) [] le = record { more = []; split = refl }
 longer-front (suc k) (suc j) (x ∷ xs) le = let rest = longer-front k j xs (omega (arith, le)) in record { more = rest.more; split = ap (λ zs. x ∷ zs) rest.split }
 
-pub among-append : {A : Type 0} (x : A) (xs ys : List A) → Among x xs → Among x (xs ++ ys)
-among-append x [] ys there = absurd there
-among-append x (y ∷ xs) ys (inl is) = inl is
-among-append x (y ∷ xs) ys (inr there) = inr (among-append x xs ys there)
-
-pub among-end : {A : Type 0} (x : A) (xs : List A) → Among x (xs ++ x ∷ [])
-among-end x [] = inl refl
-among-end x (y ∷ xs) = inr (among-end x xs)
-
-voted-append : (es more : List LogEntry) (kind : VoteKind) (slot : Slot) (digest : List ℕ) → HasVoted es kind slot digest → HasVoted (es ++ more) kind slot digest
-voted-append es more Write slot digest has = among-append _ es more has
-voted-append es more Accept slot digest has = record { entry = has.entry; there = among-append (entries.Accepted has.entry) es more has.there; slot_is = has.slot_is; digest_is = has.digest_is }
-
 pub answered-append : (es more : List LogEntry) (a : Answer) → HasAnswered es a → HasAnswered (es ++ more) a
 answered-append es more a has = record {
   decision = has.decision;
-  there = among-append (entries.Decided has.decision) es more has.there;
+  there = among_left (entries.Decided has.decision) es more has.there;
   place_is = has.place_is;
   request = has.request;
   request_is = has.request_is;
@@ -107,7 +97,7 @@ reported-append es more r has = record {
 rests-append : (es more : List LogEntry) (message : AnyMessage) → RestsOn es message → RestsOn (es ++ more) message
 rests-append es more (Plain (Ask q)) rests = tt
 rests-append es more (Plain (Propose p)) rests = tt
-rests-append es more (Plain (Vote b)) rests = voted-append es more b.statement.kind b.statement.slot b.statement.digest rests
+rests-append es more (Plain (Vote b)) rests = HasVoted-more es more b.statement.kind b.statement.slot b.statement.digest rests
 rests-append es more (Plain (Reply a)) rests = answered-append es more a.statement rests
 rests-append es more (Change (changes.Stop s)) rests = tt
 rests-append es more (Change (changes.StopData r)) rests = reported-append es more r.head.statement rests
@@ -175,12 +165,12 @@ onward-then a b c f g =
 decided-more : (place : ℕ) (es more : List LogEntry) (waiting : Option Batch) → IsDecided place es waiting → IsDecided place (es ++ more) waiting
 decided-more place es more None is = tt
 decided-more place es more (Some batch) is =
-    record { decision = is.decision; there = among-append (entries.Decided is.decision) es more is.there; place_is = is.place_is; batch_is = is.batch_is }
+    record { decision = is.decision; there = among_left (entries.Decided is.decision) es more is.there; place_is = is.place_is; batch_is = is.batch_is }
 
 -- messages that wait, of a longer book
 holds-more : (id : ℕ) (es more : List LogEntry) (held : List Held) → Each (HoldsRight id es) held → Each (HoldsRight id (es ++ more)) held
 holds-more id es more held each =
-    each_weaker (HoldsRight id es) (HoldsRight id (es ++ more))
+    each-weaken (HoldsRight id es) (HoldsRight id (es ++ more))
     (λ h right. let needs = right.needs_are in
     record {
       own = right.own;
@@ -203,7 +193,7 @@ rests-holding n to message own rests is =
 
 -- lines of a table, of a longer book
 lines-more : (es more : List LogEntry) (lines : List TableLine) → Each (LineRests es) lines → Each (LineRests (es ++ more)) lines
-lines-more es more lines each = each_weaker (LineRests es) (LineRests (es ++ more)) (λ l rests. answered-append es more (answer_by l) rests) lines each
+lines-more es more lines each = each-weaken (LineRests es) (LineRests (es ++ more)) (λ l rests. answered-append es more (answer_by l) rests) lines each
 
 -- an entry is recorded
 pub rests-recording : {S : Type 0} (n : Node S) (e : LogEntry) → NodeRests n → NodeRests (recording n e)
@@ -238,7 +228,7 @@ onward-replying n (l ∷ ls) each is =
 -- the replies to a batch that is decided rest on its decision
 lines_rest : {S : Type 0} (m : Meaning S) (n : Node S) (batch : Batch) → HasDecided n.entries (next_place n) batch → Each (LineRests n.entries) (executed_lines m n.replica batch)
 lines_rest m n batch decided =
-    each_weaker (OfRequest (at_next n.replica) 0 batch) (LineRests n.entries)
+    each-weaken (OfRequest (at_next n.replica) 0 batch) (LineRests n.entries)
     (λ l of. rests-reply n.entries (next_place n) batch l decided of.at_place of.request
     (subst (λ (i : ℕ). slice_get batch i ≡ Some of.request) (sym (of.at_index ∙ omega arith)) of.there) of.own_client of.own_seq)
     (executed_lines m n.replica batch) (of_delivered m n.replica batch)
@@ -413,7 +403,7 @@ unfolding write_batch
 onward-write_batch n None is = onward-same n is
 onward-write_batch n (Some p) is =
     let entry : LogEntry = entries.Wrote (record { slot = open_slot n; digest = p.head.statement.digest }) in
-    let r = rests-holding (recording n entry) targets.View (ballot n Write p.head.statement.digest) refl (among-end entry n.entries) (rests-recording n entry is) in
+    let r = rests-holding (recording n entry) targets.View (ballot n Write p.head.statement.digest) refl (among_last entry n.entries) (rests-recording n entry is) in
     record { id = refl; firm = refl; more = entry ∷ []; book = refl; rests = record { held = r.held; waits = r.waits; lines = r.lines } }
 
 onward-writes : {S : Type 0} (n : Node S) → NodeRests n → Onward n (writes n)
@@ -432,7 +422,7 @@ onward-accept_batch n (Some p) is =
       batch = p.batch;
     }) in
     let r = rests-holding (recording n entry) targets.View (ballot n Accept p.head.statement.digest) refl
-    (record { entry = _; there = among-end entry n.entries; slot_is = refl; digest_is = refl }) (rests-recording n entry is) in
+    (record { entry = _; there = among_last entry n.entries; slot_is = refl; digest_is = refl }) (rests-recording n entry is) in
     record { id = refl; firm = refl; more = entry ∷ []; book = refl; rests = record { held = r.held; waits = r.waits; lines = r.lines } }
 
 onward-accepts : {S : Type 0} (n : Node S) → NodeRests n → Onward n (accepts n)
@@ -471,7 +461,7 @@ onward-decide_batch n (Some d) at is =
       firm = refl;
       more = entries.Decided d ∷ [];
       book = refl;
-      rests = record { held = r.held; waits = record { decision = d; there = among-end (entries.Decided d) n.entries; place_is = at; batch_is = refl }; lines = r.lines };
+      rests = record { held = r.held; waits = record { decision = d; there = among_last (entries.Decided d) n.entries; place_is = at; batch_is = refl }; lines = r.lines };
     }
 
 onward-decides : {S : Type 0} (n : Node S) → NodeRests n → Onward n (decides n)
@@ -527,7 +517,7 @@ onward-step {S = S} m n (Firm count) is =
 
 -- what is firm has left
 pub rests-released : {S : Type 0} (n : Node S) → NodeRests n → NodeRests (released n)
-rests-released n is = record { held = each-staying (HoldsRight n.id n.entries) n.firm n.held is.held; waits = is.waits; lines = is.lines }
+rests-released n is = record { held = each_staying (HoldsRight n.id n.entries) n.firm n.held is.held; waits = is.waits; lines = is.lines }
 
 -- a node that has opened holds nothing
 pub rests-opened : {S : Type 0} (m : Meaning S) (secret : List ℕ) (id : ℕ) (view : View) (period : ℕ) → NodeRests (opened m secret id view period)

@@ -6,9 +6,9 @@ use Rattle.std.specs.List.{filter_map, cons_option, list_any}
 use Rattle.std.specs.Prelude.{IfSome, find}
 use Rattle.smart_base.specs.Lists.{Each, same_bytes}
 use Rattle.smart_base.specs.Views.{View, quorum}
-use Rattle.smart_messages.specs.Equality.{same_slot, same_kind}
-use Rattle.smart_messages.specs.Forms.{SignedBy}
-use Rattle.smart_messages.specs.Messages.{Batch}
+use Rattle.smart_statements.specs.Equality.{same_slot, same_kind}
+use Rattle.smart_statements.specs.Forms.{SignedBy}
+use Rattle.smart_statements.specs.Batches.{Batch}
 use Rattle.smart_messages.specs.RegencyMessages.{any_decoded}
 use Rattle.smart_messages.specs.declared.any.AnyMessage.{AnyMessage}
 use Rattle.smart_messages.specs.declared.any.AnyMessage.TheVariants.{Plain, Change}
@@ -18,10 +18,10 @@ use Rattle.smart_messages.specs.declared.message.Proposed.{Proposed}
 use Rattle.smart_messages.specs.declared.regency.RegencyMessage.TheVariants as changes
 use Rattle.smart_messages.specs.declared.regency.Stop.{Stop}
 use Rattle.smart_messages.specs.declared.regency.Sync.{Sync}
-use Rattle.smart_messages.specs.declared.statement.Slot.{Slot}
-use Rattle.smart_messages.specs.declared.statement.VoteKind.{VoteKind}
-use Rattle.smart_messages.specs.declared.statement.VoteKind.TheVariants as kinds
-use Rattle.smart_messages.specs.declared.entry.NodeEvent.{NodeEvent}
+use Rattle.smart_statements.specs.declared.statement.Slot.{Slot}
+use Rattle.smart_statements.specs.declared.statement.VoteKind.{VoteKind}
+use Rattle.smart_statements.specs.declared.statement.VoteKind.TheVariants as kinds
+use Rattle.smart_statements.specs.declared.entry.NodeEvent.{NodeEvent}
 use Rattle.smart_service.specs.Services.{Meaning}
 use Rattle.smart_service.specs.declared.replica.Replica.{Replica}
 use Rattle.vote_book.specs.Books.{Among, Admits}
@@ -37,24 +37,26 @@ use Rattle.replica_rules.specs.Pools.{offered, settled}
 use Rattle.replica_rules.specs.Replicas.{is_next, delivered, state}
 use Rattle.agreement_laws.specs.Statements.{Statement}
 use Rattle.node_rules.specs.Votes.{is_vote, has_vote, has_quorum, proposed_in, proposed_for}
-use Rattle.node_rules.specs.Nodes.{Node, view_of, regency_of, regency_in, greatest_regency, open_slot, bound_at, is_within, start_of, next_place, synchronizer_of}
+use Rattle.node_rules.specs.Nodes.{Node, view_of, regency_of, regency_in, greatest_regency, open_slot, synchronizer_of}
 use Rattle.node_rules.specs.Arrivals.{kept_plain, kept_change, kept, noted}
 use Rattle.node_rules.specs.Rules.{lines_to_answer, replying, deliver_batch, delivers, proposes, votable, writing, write_batch, writes, written, accepting, accept_batch, accepts, slot_in, deciding, decide_batch, decides, answers_again}
 use Rattle.node_rules.specs.Changes.{start_by_sync, promised_for, adopts_by, adoption, adopts, joins, next_promise, promising, promise_next, promises, leads, times}
 use Rattle.node_rules.specs.Steps.{step_of, released, opened}
 use Rattle.node_rules.specs.Reopening.{decided_of, stopped, reopened}
 use Rattle.node_laws.specs.Restored.{IsSoundBook}
-use Rattle.node_laws.specs.Sound.{IsBegun}
 use Rattle.node_laws.proofs.Deciding.{due_is}
 use Rattle.node_laws.proofs.Lists.{each_filter_map_in}
 use Rattle.node_laws.proofs.Reopened.{reopened_is, in_turn, count_is}
 use Rattle.node_laws.proofs.Restored.{front_of}
-use Rattle.replica_laws.specs.Sending.{ForEvent}
-use Rattle.replica_laws.proofs.Equal.{same_slot-equal}
-use Rattle.replica_laws.proofs.Lists.{and_true, some-equal, either, either_by, each_end, each_weaker, each_both, each_given, if_or, if_cond, if_found}
+use Rattle.replica_laws.proofs.Lists.{each_given, if_or, if_cond, if_found}
 use Rattle.replica_laws.proofs.Entered.{Aside, aside-joins, aside-leads, aside-proposes, aside-times, aside-answers_again, aside-noted}
-use Rattle.replica_laws.proofs.Rulewise.{KeptByRules, KeptInSteps, keeps_step}
-use Rattle.replica_laws.proofs.Steady.{aside-replying}
+use Rattle.node_rules.proofs.Rulewise.{KeptByRules, KeptInSteps, keeps_step, ForEvent}
+use Rattle.replica_laws.proofs.Replying.{aside-replying}
+use Rattle.replica_laws.proofs.Checked.{votable-if, written-if}
+use Rattle.vote_book.proofs.Tested.{slot_is}
+use Rattle.smart_base.proofs.SameLists.{and_true}
+use Rattle.agreement_laws.proofs.Lists.{some_equal, either, either_by, each_end, each_both}
+use Rattle.smart_base.proofs.ViewFacts.{each-weaken}
 
 -- ---- sources
 
@@ -174,7 +176,7 @@ behind_front P (e ∷ es) rest each = each_front es each
 
 behind_weaker : (P Q : LogEntry → Type 0) → ((e : LogEntry) → P e → Q e) → (es : List LogEntry) → EachBehind P es → EachBehind Q es
 behind_weaker P Q weaker [] each = tt
-behind_weaker P Q weaker (e ∷ es) each = each_weaker P Q weaker es each
+behind_weaker P Q weaker (e ∷ es) each = each-weaken P Q weaker es each
 
 -- a book that has been opened
 pub from-opening : (sources : List (List ℕ)) (e : LogEntry) → IsLast [] e → FromBook sources (e ∷ [])
@@ -213,10 +215,10 @@ book-more sources more all entries book =
 
 pub from-more : {S : Type 0} (sources more : List (List ℕ)) → ((m : AnyMessage) → HasSource sources m → HasSource more m) → (n : Node S) → FromSources sources n → FromSources more n
 from-more sources more all n from = record {
-  arrivals = each_weaker (λ (m : Message). HasSource sources (Plain m)) (λ (m : Message). HasSource more (Plain m)) (λ m has. all (Plain m) has) n.arrivals from.arrivals;
-  stops = each_weaker (λ (s : SignedBy Stop). HasSource sources (Change (changes.Stop s))) (λ (s : SignedBy Stop). HasSource more (Change (changes.Stop s)))
+  arrivals = each-weaken (λ (m : Message). HasSource sources (Plain m)) (λ (m : Message). HasSource more (Plain m)) (λ m has. all (Plain m) has) n.arrivals from.arrivals;
+  stops = each-weaken (λ (s : SignedBy Stop). HasSource sources (Change (changes.Stop s))) (λ (s : SignedBy Stop). HasSource more (Change (changes.Stop s)))
       (λ s has. all (Change (changes.Stop s)) has) n.stops from.stops;
-  syncs = each_weaker (λ (s : SignedBy Sync). HasSource sources (Change (changes.Sync s))) (λ (s : SignedBy Sync). HasSource more (Change (changes.Sync s)))
+  syncs = each-weaken (λ (s : SignedBy Sync). HasSource sources (Change (changes.Sync s))) (λ (s : SignedBy Sync). HasSource more (Change (changes.Sync s)))
       (λ s has. all (Change (changes.Sync s)) has) n.syncs from.syncs;
   book = book-more sources more all n.entries from.book;
 }
@@ -247,7 +249,7 @@ proposed_in-from : (sources : List (List ℕ)) (slot : Slot) (m : Message) → H
 proposed_in-from sources slot (Ask q) has = tt
 proposed_in-from sources slot (Propose p) has =
     if_cond (λ (x : Proposed). FromMessage sources slot_proposed slot) (same_slot p.head.statement.slot slot) (Some p)
-    (λ is. record { message = Plain (Propose p); source = has; key_is = ap (λ (s : Slot). Some s) (same_slot-equal p.head.statement.slot slot is) })
+    (λ is. record { message = Plain (Propose p); source = has; key_is = ap (λ (s : Slot). Some s) (slot_is p.head.statement.slot slot is) })
 proposed_in-from sources slot (Vote b) has = tt
 proposed_in-from sources slot (Reply a) has = tt
 
@@ -258,28 +260,20 @@ proposed_for-from sources slot (m ∷ ms) each =
     if_or (λ (p : Proposed). FromMessage sources slot_proposed slot) (proposed_in slot m) (proposed_for ms slot) (proposed_in-from sources slot m each.0)
     (proposed_for-from sources slot ms each.1)
 
-votable-from : {S : Type 0} (P : Proposed → Type 0) (n : Node S) (found : Option Proposed) → IfSome found P → IfSome (votable n found) P
-votable-from P n None from = tt
-votable-from P n (Some p) from = if_cond P (is_within (bound_at (next_place n) (start_of n)) p.head.statement.digest) (Some p) (λ within. from)
-
-written-from : {S : Type 0} (P : Proposed → Type 0) (n : Node S) (found : Option Proposed) → IfSome found P → IfSome (written n found) P
-written-from P n None from = tt
-written-from P n (Some p) from = if_cond P (has_quorum n.arrivals (view_of n) kinds.Write (open_slot n) p.head.statement.digest) (Some p) (λ enough. from)
-
 writing-from : {S : Type 0} (sources : List (List ℕ)) (n : Node S) → FromSources sources n → IfSome (writing n) (λ (p : Proposed). FromMessage sources slot_proposed (open_slot n))
 unfolding writing
 writing-from sources n from =
     let P : Proposed → Type 0 = λ p. FromMessage sources slot_proposed (open_slot n) in
     if_cond P _ (votable n (proposed_for n.arrivals (open_slot n)))
-    (λ may. votable-from P n (proposed_for n.arrivals (open_slot n)) (proposed_for-from sources (open_slot n) n.arrivals from.arrivals))
+    (λ may. votable-if P n (proposed_for n.arrivals (open_slot n)) (proposed_for-from sources (open_slot n) n.arrivals from.arrivals))
 
 accepting-from : {S : Type 0} (sources : List (List ℕ)) (n : Node S) → FromSources sources n → IfSome (accepting n) (λ (p : Proposed). FromMessage sources slot_proposed (open_slot n))
 unfolding accepting
 accepting-from sources n from =
     let P : Proposed → Type 0 = λ p. FromMessage sources slot_proposed (open_slot n) in
     if_cond P _ (written n (votable n (proposed_for n.arrivals (open_slot n))))
-    (λ may. written-from P n (votable n (proposed_for n.arrivals (open_slot n)))
-    (votable-from P n (proposed_for n.arrivals (open_slot n)) (proposed_for-from sources (open_slot n) n.arrivals from.arrivals)))
+    (λ may. written-if P n (votable n (proposed_for n.arrivals (open_slot n)))
+    (votable-if P n (proposed_for n.arrivals (open_slot n)) (proposed_for-from sources (open_slot n) n.arrivals from.arrivals)))
 
 -- a vote for the place
 
@@ -290,7 +284,7 @@ vote_place kind member slot digest (Reply a) is = absurd (cc)
 vote_place kind member slot digest (Vote b) is =
     let outer = and_true (same_kind b.statement.kind kind && (b.signer == member) && same_slot b.statement.slot slot) (same_bytes b.statement.digest digest) is in
     let same = and_true (same_kind b.statement.kind kind && (b.signer == member)) (same_slot b.statement.slot slot) outer.0 in
-    ap (λ (s : Slot). Some s.place) (same_slot-equal b.statement.slot slot same.1)
+    ap (λ (s : Slot). Some s.place) (slot_is b.statement.slot slot same.1)
 
 -- a quorum is not empty
 vote-from : (sources : List (List ℕ)) (view : View) (kind : VoteKind) (slot : Slot) (digest : List ℕ) (arrivals : List Message) → Each (λ (m : Message). HasSource sources (Plain m)) arrivals
@@ -538,11 +532,6 @@ from-step {S = S} sources m n event came some from =
     (record { from = from; some = some }) in
     is.from
 
--- a book that begins with its opening has an entry
-pub begun_some : (entries : List LogEntry) → IsBegun entries → 0 < length entries
-begun_some [] begun = absurd begun
-begun_some (e ∷ es) begun = omega arith
-
 -- what leaves is of no matter
 pub from-released : {S : Type 0} (sources : List (List ℕ)) (n : Node S) → FromSources sources n → FromSources sources (released n)
 from-released sources n from = record { arrivals = from.arrivals; stops = from.stops; syncs = from.syncs; book = from.book }
@@ -582,7 +571,7 @@ first_without bytes more key m k read at = record {
   others = λ j from other.
       elsewhere bytes more key j from.message from.source from.key_is
       (λ here. let same : m ≡ from.message = one m from.message (sym read ∙ here) in
-      absurd (other (some-equal j k (sym from.key_is ∙ (sym (ap key same) ∙ at)))));
+      absurd (other (some_equal j k (sym from.key_is ∙ (sym (ap key same) ∙ at)))));
 }
   where
     one : (a b : AnyMessage) → ◌≡◌ {A = Result AnyMessage ℕ} (Ok a) (Ok b) → a ≡ b
@@ -752,19 +741,19 @@ decided_gives sources e from = tt
 -- a slot is written in once, and accepted in once
 
 written_differs : (before : List LogEntry) (entry other : LogEntry) (k : Slot) → Admits 0 0 before entry → Among other before → slot_written other ≡ Some k → slot_written entry ≡ Some k → ⊥
-written_differs before (Wrote w) (Wrote o) k may there is same = may.first o there (some-equal o.slot w.slot (is ∙ sym same))
+written_differs before (Wrote w) (Wrote o) k may there is same = may.first o there (some_equal o.slot w.slot (is ∙ sym same))
 written_differs before (Wrote w) other k may there is same = cc
 written_differs before entry other k may there is same = cc
 
 accepted_differs : (before : List LogEntry) (entry other : LogEntry) (k : Slot) → Admits 0 0 before entry → Among other before → slot_accepted other ≡ Some k → slot_accepted entry ≡ Some k → ⊥
-accepted_differs before (Accepted a) (Accepted o) k may there is same = may.first o there (some-equal o.slot a.slot (is ∙ sym same))
+accepted_differs before (Accepted a) (Accepted o) k may there is same = may.first o there (some_equal o.slot a.slot (is ∙ sym same))
 accepted_differs before (Accepted a) other k may there is same = cc
 accepted_differs before entry other k may there is same = cc
 
 -- a regency begins once
 synced_differs : (before : List LogEntry) (entry other : LogEntry) (k : Promise) → IsTidyAfter before entry → Among other before → regency_synced other ≡ Some k → regency_synced entry ≡ Some k → ⊥
 synced_differs before (Synced s) (Synced o) k tidy there is same =
-    let equal = some-equal (record { view = o.view; regency = o.regency }) (record { view = s.view; regency = s.regency }) (is ∙ sym same) in
+    let equal = some_equal (record { view = o.view; regency = o.regency }) (record { view = s.view; regency = s.regency }) (is ∙ sym same) in
     tidy.once o there (ap (λ (p : Promise). p.view) equal) (ap (λ (p : Promise). p.regency) equal)
 synced_differs before (Synced s) other k tidy there is same = cc
 synced_differs before entry other k tidy there is same = cc
@@ -781,7 +770,7 @@ promise_most p (e ∷ es) (inr later) = let rest = promise_most p es later in om
 
 promised_differs : (before : List LogEntry) (entry other : LogEntry) (k : Promise) → IsLast before entry → Among other before → promise_in other ≡ Some k → promise_in entry ≡ Some k → ⊥
 promised_differs before (Promised p) (Promised o) k last there is same =
-    let equal : o ≡ p = some-equal o p (is ∙ sym same) in
+    let equal : o ≡ p = some_equal o p (is ∙ sym same) in
     let most : p.regency ≤ greatest_regency p.view before = subst (λ (q : Promise). q.regency ≤ greatest_regency q.view before) equal (promise_most o before there) in
     omega (arith, most, last)
 promised_differs before (Promised p) other k last there is same = cc
@@ -798,7 +787,7 @@ decided_differs secret stated view before (Decided d) (Decided o) after k book t
     let turn = in_turn bare secret stated view before d after book in
     let count = count_is bare secret stated view before (front_of secret stated view before (Decided d ∷ after) book) in
     let most = made_most before o.slot.place (record { entry = Decided o; there = there; made = refl }) in
-    let equal = some-equal o.slot.place d.slot.place (is ∙ sym same) in
+    let equal = some_equal o.slot.place d.slot.place (is ∙ sym same) in
     omega (arith, turn, count, most, equal)
 decided_differs secret stated view before (Decided d) other after k book there is same = cc
 decided_differs secret stated view before entry other after k book there is same = cc

@@ -1,9 +1,9 @@
 -- What is promised of a node and its book, whatever comes to it.
 use Rattle.std.specs.Prelude.{ℕ, ◌+◌, ◌≡◌, ◌≤◌, Bool, List, [], ◌∷◌, length, if◌then◌else◌, take, slice_get}
 use Rattle.smart_base.specs.Views.{View}
-use Rattle.smart_messages.specs.declared.statement.Slot.{Slot}
+use Rattle.smart_statements.specs.declared.statement.Slot.{Slot}
 use Rattle.smart_service.specs.Services.{Meaning}
-use Rattle.vote_book.specs.Admission.{writes_in, accepts_in}
+use Rattle.vote_book.specs.Admission.{accepts_in}
 use Rattle.vote_book.specs.declared.entry.LogEntry.{LogEntry}
 use Rattle.replica_rules.specs.Replicas.{state}
 use Rattle.node_rules.specs.Nodes.{Node, decided_place}
@@ -17,10 +17,6 @@ passing p (x ∷ xs) = (if p x then 1 else 0) + passing p xs
 -- at most one batch is accepted for a slot
 abbrev pub AcceptsOnce : List LogEntry → Type 0
 AcceptsOnce entries = (slot : Slot) → passing (accepts_in slot) entries ≤ 1
-
--- at most one batch is written for a slot
-abbrev pub WritesOnce : List LogEntry → Type 0
-WritesOnce entries = (slot : Slot) → passing (writes_in slot) entries ≤ 1
 
 -- a node's replica is the state after its decided batches in order, but for the last where it waits
 pub record DeliversInOrder {S : Type 0} (m : Meaning S) (view : View) (n : Node S) : Type 0 where

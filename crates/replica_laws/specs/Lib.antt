@@ -1,4 +1,3 @@
 pub mod Books
 pub mod Lines
 pub mod Sending
-pub mod Voters

@@ -1,19 +1,17 @@
 -- Whose a message is that a node holds, and the entries on which it rests.
-use Rattle.std.specs.Prelude.{ℕ, ◌≡◌, Bool, true, ◌&&◌, List, take, Option, Some, None, Result, Ok, Err}
+use Rattle.std.specs.Prelude.{ℕ, ◌≡◌, Bool, true, ◌&&◌, List, take, Option, Some, None, Ok}
 use Rattle.std.specs.List.{list_all}
 use Rattle.smart_base.specs.Cuts.{IsBytes}
 use Rattle.smart_base.specs.Lists.{Each}
-use Rattle.smart_messages.specs.Forms.{SignedBy}
-use Rattle.smart_messages.specs.declared.statement.Request.{Request}
-use Rattle.smart_messages.specs.Kinds.{requests, proposals, ballots, answers}
-use Rattle.smart_messages.specs.Messages.{Batch}
-use Rattle.smart_messages.specs.Reports.{reports}
-use Rattle.smart_messages.specs.declared.report.Evidence.TheVariants as evidence
-use Rattle.smart_messages.specs.declared.report.Report.{Report}
+use Rattle.smart_statements.specs.Kinds.{requests, proposals, ballots, answers}
+use Rattle.smart_statements.specs.Batches.{Batch}
+use Rattle.smart_statements.specs.Reports.{reports}
+use Rattle.smart_statements.specs.declared.report.Evidence.TheVariants as evidence
+use Rattle.smart_statements.specs.declared.report.Report.{Report}
 use Rattle.smart_messages.specs.Regencies.{stops, syncs}
 use Rattle.smart_messages.specs.RegencyMessages.{any_spelling, any_decoded}
-use Rattle.smart_messages.specs.declared.entry.NodeEvent.{NodeEvent}
-use Rattle.smart_messages.specs.declared.entry.NodeEvent.TheVariants.{Arrive, Tick, Deliver, Firm}
+use Rattle.smart_statements.specs.declared.entry.NodeEvent.{NodeEvent}
+use Rattle.smart_statements.specs.declared.entry.NodeEvent.TheVariants.{Arrive, Tick, Deliver, Firm}
 use Rattle.smart_messages.specs.declared.regency.RegencyMessage.TheVariants as changes
 use Rattle.smart_messages.specs.declared.message.Message.TheVariants.{Ask, Propose, Vote, Reply}
 use Rattle.smart_messages.specs.declared.any.AnyMessage.{AnyMessage}
@@ -105,40 +103,10 @@ IsByteEvent (Firm count) = Unit {0}
 
 -- ---- what comes
 
--- what holds of a message that bytes are
-abbrev pub ForRead : (AnyMessage → Type 0) → Result AnyMessage ℕ → Type 0
-ForRead A (Ok message) = A message
-ForRead A (Err at) = Unit {0}
-
--- what holds of a message that comes
-abbrev pub ForEvent : (AnyMessage → Type 0) → NodeEvent → Type 0
-ForEvent A (Arrive bytes) = ForRead A (any_decoded bytes)
-ForEvent A Tick = Unit {0}
-ForEvent A Deliver = Unit {0}
-ForEvent A (Firm count) = Unit {0}
-
 -- what holds of a batch, if there is one
 abbrev pub ForBatch : Option Batch → (Batch → Type 0) → Type 0
 ForBatch None P = Unit {0}
 ForBatch (Some batch) P = P batch
-
--- each request that a message carries was asked
-abbrev pub MessageAsked : (SignedBy Request → Type 0) → AnyMessage → Type 0
-MessageAsked A (Plain (Ask q)) = A q
-MessageAsked A (Plain (Propose p)) = Each A p.batch
-MessageAsked A (Plain (Vote b)) = Unit {0}
-MessageAsked A (Plain (Reply a)) = Unit {0}
-MessageAsked A (Change (changes.Stop s)) = Unit {0}
-MessageAsked A (Change (changes.StopData r)) = ForBatch r.batch (λ batch. Each A batch)
-MessageAsked A (Change (changes.Sync s)) = Unit {0}
-
--- what comes carries requests that were asked
-abbrev pub EventAsked : (SignedBy Request → Type 0) → NodeEvent → Type 0
-EventAsked A event = ForEvent (MessageAsked A) event
-
--- so does what a node holds
-abbrev pub HoldsAsked : {S : Type 0} → (SignedBy Request → Type 0) → Node S → Type 0
-HoldsAsked A n = Each (λ h. MessageAsked A h.message) n.held
 
 -- ---- whose it is
 

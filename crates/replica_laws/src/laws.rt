@@ -1,40 +1,24 @@
 //! The laws of one node.
-ghost use Rattle.std.specs.Prelude.{◌≡◌, ◌<◌, ◌^◌, ℕ, Bool, true, List};
+ghost use Rattle.std.specs.Prelude.{◌≡◌, ◌<◌, ◌^◌, ℕ, true, List};
 ghost use Rattle.smart_base.specs.Lists.{Each};
 ghost use Rattle.smart_base.specs.Views.{View, is_view};
-ghost use Rattle.smart_messages.specs.Forms.{SignedBy};
-ghost use Rattle.smart_messages.specs.Spelling.{IsSigner};
-ghost use Rattle.smart_messages.specs.declared.statement.Request.{Request};
-ghost use Rattle.smart_messages.specs.Messages.{Batch};
-ghost use Rattle.smart_messages.specs.declared.entry.NodeEvent.{NodeEvent};
+ghost use Rattle.smart_statements.specs.Spelling.{IsSigner};
+ghost use Rattle.smart_statements.specs.Batches.{Batch};
+ghost use Rattle.smart_statements.specs.declared.entry.NodeEvent.{NodeEvent};
 ghost use Rattle.smart_service.specs.declared.table.TableLine.{TableLine};
 ghost use Rattle.vote_book.specs.Entries.{FitsEntry};
 ghost use Rattle.replica_rules.specs.Replicas.{executions};
 ghost use Rattle.node_rules.specs.Steps.{opened};
 ghost use Rattle.node_rules.specs.Kept.{node_after};
-ghost use Rattle.replica_laws.specs.Books.{AcceptsOnce, WritesOnce, DeliversInOrder};
+ghost use Rattle.replica_laws.specs.Books.{AcceptsOnce, DeliversInOrder};
 ghost use Rattle.replica_laws.specs.Lines.{HasLine, InOrder};
-ghost use Rattle.replica_laws.specs.Voters.{AllVoted};
-ghost use Rattle.replica_laws.specs.Sending.{LeavesFirm, HoldsOwn, IsByteEvent, HoldsGenuine, EventAsked, HoldsAsked};
+ghost use Rattle.replica_laws.specs.Sending.{LeavesFirm, HoldsOwn, IsByteEvent, HoldsGenuine};
 
 use smart_service::service::Service;
 
 /// Whatever comes, in whatever order, a node accepts at most one batch for a slot.
 pub fn accepts_once<S: Service>()
     ensures { (secret : List ℕ) (id : ℕ) (view : View) (period : ℕ) (events : List NodeEvent) → AcceptsOnce (node_after S.meaning (opened S.meaning secret id view period) events).entries }
-{}
-
-/// Whatever comes, in whatever order, a node writes for at most one batch in a slot.
-pub fn writes_once<S: Service>()
-    ensures { (secret : List ℕ) (id : ℕ) (view : View) (period : ℕ) (events : List NodeEvent) → WritesOnce (node_after S.meaning (opened S.meaning secret id view period) events).entries }
-{}
-
-/// Whatever comes to a node, the votes that an entry of its book has are those of members of the view,
-/// in their order and each once, as many as a quorum needs, and each is among the arrivals that the
-/// node has kept, with that member's tag: to write for the batch where it accepts, and to accept it
-/// where it decides.
-pub fn certificates_are_quorums<S: Service>()
-    ensures { (secret : List ℕ) (id : ℕ) (view : View) (period : ℕ) (events : List NodeEvent) → is_view view ≡ true → AllVoted view (node_after S.meaning (opened S.meaning secret id view period) events) }
 {}
 
 /// Whatever comes, a node's replica is the state after its decided batches in order, but for the
@@ -65,13 +49,6 @@ pub fn votes_leave_when_firm<S: Service>()
 /// member.
 pub fn holds_its_own<S: Service>()
     ensures { (secret : List ℕ) (id : ℕ) (view : View) (period : ℕ) (events : List NodeEvent) → HoldsOwn id (node_after S.meaning (opened S.meaning secret id view period) events) }
-{}
-
-/// A node makes no requests: a test that each request in each message that comes to it passes, each
-/// request in each message that it holds passes.
-pub fn holds_what_was_asked<S: Service>()
-    ensures { (asked : SignedBy Request → Bool) (secret : List ℕ) (id : ℕ) (view : View) (period : ℕ) (events : List NodeEvent) → Each (EventAsked (λ q. asked q ≡ true)) events →
-        HoldsAsked (λ q. asked q ≡ true) (node_after S.meaning (opened S.meaning secret id view period) events) }
 {}
 
 /// Whatever bytes come to a node, each message that it holds bears its signer's tag, and so does each

@@ -1,8 +1,8 @@
 -- The requests that wait to be proposed, in the order in which their clients came: one for each client.
 use Rattle.std.specs.Prelude.{ℕ, ◌==◌, nat_lt, nat_le, Bool, not, ◌&&◌, List, [], ◌∷◌, ◌++◌, length, filter, if◌then◌else◌, Option, Some, None}
-use Rattle.smart_messages.specs.Forms.{SignedBy}
-use Rattle.smart_messages.specs.Messages.{Batch, batch_text}
-use Rattle.smart_messages.specs.declared.statement.Request.{Request}
+use Rattle.smart_statements.specs.Forms.{SignedBy}
+use Rattle.smart_statements.specs.Batches.{Batch, batch_text}
+use Rattle.smart_statements.specs.declared.statement.Request.{Request}
 use Rattle.smart_service.specs.declared.table.TableLine.{TableLine}
 use Rattle.replica_rules.specs.Replicas.{is_next}
 use Rattle.replica_rules.specs.Seals.{is_managers}

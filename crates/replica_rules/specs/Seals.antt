@@ -2,10 +2,10 @@
 use Rattle.std.specs.Prelude.{ℕ, ◌==◌, nat_le, nat_lt, Bool, not, ◌&&◌, ◌||◌, List, length}
 use Rattle.std.specs.List.{list_any, list_all}
 use Rattle.smart_keys.specs.Keys.{digest, tag_of, is_tag}
-use Rattle.smart_messages.specs.Forms.{Form, SignedBy, party_of}
-use Rattle.smart_messages.specs.Kinds.{requests}
-use Rattle.smart_messages.specs.Messages.{Batch, batch_text}
-use Rattle.smart_messages.specs.declared.statement.Request.{Request}
+use Rattle.smart_statements.specs.Forms.{Form, SignedBy, party_of}
+use Rattle.smart_statements.specs.Kinds.{requests}
+use Rattle.smart_statements.specs.Batches.{Batch, batch_text}
+use Rattle.smart_statements.specs.declared.statement.Request.{Request}
 
 -- a statement with the tag that its signer makes over its bytes
 abbrev pub signed : {A : Type 0} → Form A → List ℕ → ℕ → A → SignedBy A

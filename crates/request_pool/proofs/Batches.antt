@@ -5,11 +5,11 @@ use Rattle.std.proofs.lemmas.Grind.{flat_map-append}
 use Rattle.std.proofs.lemmas.Bool.{leb-true}
 use Rattle.smart_base.proofs.SameLists.{and_true}
 use Rattle.smart_base.specs.Spelling.{u16}
-use Rattle.smart_messages.specs.Forms.{SignedBy}
-use Rattle.smart_messages.specs.Kinds.{requests}
-use Rattle.smart_messages.specs.Messages.{Batch, batch_text}
-use Rattle.smart_messages.specs.Spelling.{signed}
-use Rattle.smart_messages.specs.declared.statement.Request.{Request}
+use Rattle.smart_statements.specs.Forms.{SignedBy}
+use Rattle.smart_statements.specs.Kinds.{requests}
+use Rattle.smart_statements.specs.Batches.{Batch, batch_text}
+use Rattle.smart_statements.specs.Spelling.{signed}
+use Rattle.smart_statements.specs.declared.statement.Request.{Request}
 use Rattle.std.specs.List.{flat_map}
 use Rattle.replica_rules.specs.Pools.{is_within}
 

@@ -7,8 +7,8 @@ use Rattle.std.proofs.lemmas.Map.Made.{is_some-lookup}
 use Rattle.std.specs.List.{list_any}
 use Rattle.indexmap.specs.IndexMap.{insert_entry}
 use Rattle.smart_base.specs.Lists.{Distinct}
-use Rattle.smart_messages.specs.Forms.{SignedBy}
-use Rattle.smart_messages.specs.declared.statement.Request.{Request}
+use Rattle.smart_statements.specs.Forms.{SignedBy}
+use Rattle.smart_statements.specs.declared.statement.Request.{Request}
 use Rattle.replica_rules.specs.Pools.{offered}
 use Rattle.request_pool.specs.Offers.{clients_of, has_client}
 use Rattle.request_pool.proofs.Clients.{distinct_offered, distinct_filtered}

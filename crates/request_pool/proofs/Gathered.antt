@@ -5,15 +5,16 @@ use Rattle.std.proofs.lemmas.List.{append_assoc, append-nil}
 use Rattle.std.specs.Prelude.{filter}
 use Rattle.std.specs.List.{list_any, list_all}
 use Rattle.smart_base.specs.Lists.{Each}
-use Rattle.smart_messages.specs.Forms.{SignedBy}
-use Rattle.smart_messages.specs.Messages.{Batch, batch_text}
-use Rattle.smart_messages.specs.declared.statement.Request.{Request}
+use Rattle.smart_statements.specs.Forms.{SignedBy}
+use Rattle.smart_statements.specs.Batches.{Batch, batch_text}
+use Rattle.smart_statements.specs.declared.statement.Request.{Request}
 use Rattle.replica_rules.specs.Seals.{request_fits, is_managers, fits}
 use Rattle.replica_rules.specs.Pools.{is_within, filled, batch_of, gathered}
 use Rattle.request_pool.specs.Offers.{IsSound}
 use Rattle.request_pool.specs.Orders.{IsSubsequence}
 use Rattle.request_pool.proofs.Batches.{within_limits}
-use Rattle.request_pool.proofs.Subsequences.{within_filter, each_within, each_filtered, each_more, all_from_each, none_from_each}
+use Rattle.request_pool.proofs.Subsequences.{within_filter, each_within, each_filtered, all_from_each, none_from_each}
+use Rattle.smart_base.proofs.ViewFacts.{each-weaken}
 
 -- A FILLED BATCH
 
@@ -78,7 +79,7 @@ unfolding FitsAlone
 fitting_filled secret place q qs fit rest clients =
     let beside = filter (λ (p : SignedBy Request). not (is_managers p)) qs in
     let f = filling (q ∷ []) beside in
-    let fit_added = each_within (λ p. request_fits secret place p ≡ true) qs f.added (within_filter (λ p. not (is_managers p)) qs f.added f.drawn) (each_more (FitsAlone secret place) (λ p. request_fits secret place p ≡ true) (λ p fits_p. fits_p.0) qs rest) in
+    let fit_added = each_within (λ p. request_fits secret place p ≡ true) qs f.added (within_filter (λ p. not (is_managers p)) qs f.added f.drawn) (each-weaken (FitsAlone secret place) (λ p. request_fits secret place p ≡ true) (λ p fits_p. fits_p.0) qs rest) in
     let clients_added = each_within (λ p. is_managers p ≡ false) beside f.added f.drawn
     (each_filtered (FitsAlone secret place) (λ p. is_managers p ≡ false) (λ p. not (is_managers p)) (λ p fits_p of_client. clients_by p (is_managers p) refl of_client) qs rest) in
     record {

@@ -5,11 +5,11 @@ use Rattle.std.proofs.lemmas.List.{length-append}
 use Rattle.std.specs.Int.{w16, w32, to_be_bytes}
 use Rattle.smart_base.specs.Lists.{Each}
 use Rattle.smart_base.specs.Spelling.{u8, u16, u64}
-use Rattle.smart_messages.specs.Forms.{SignedBy}
-use Rattle.smart_messages.specs.Kinds.{requests}
-use Rattle.smart_messages.specs.Messages.{batch_text}
-use Rattle.smart_messages.specs.Spelling.{request, FitsSigned, FitsRequest}
-use Rattle.smart_messages.specs.declared.statement.Request.{Request}
+use Rattle.smart_statements.specs.Forms.{SignedBy}
+use Rattle.smart_statements.specs.Kinds.{requests}
+use Rattle.smart_statements.specs.Batches.{batch_text}
+use Rattle.smart_statements.specs.Spelling.{request, FitsSigned, FitsRequest}
+use Rattle.smart_statements.specs.declared.statement.Request.{Request}
 use Rattle.smart_service.specs.declared.table.TableLine.{TableLine}
 use Rattle.replica_rules.specs.Seals.{is_verified}
 use Rattle.replica_rules.specs.Replicas.{is_next}

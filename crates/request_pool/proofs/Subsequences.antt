@@ -39,10 +39,6 @@ pub each_filtered : {A : Type 0} (P Q : A → Type 0) (p : A → Bool) → ((x :
 each_filtered P Q p holds [] each = tt
 each_filtered P Q p holds (x ∷ xs) each = each_if Q x (filter p xs) (p x) (holds x each.0) (each_filtered P Q p holds xs each.1)
 
-pub each_more : {A : Type 0} (P Q : A → Type 0) → ((x : A) → P x → Q x) → (xs : List A) → Each P xs → Each Q xs
-each_more P Q holds [] each = tt
-each_more P Q holds (x ∷ xs) each = (holds x each.0, each_more P Q holds xs each.1)
-
 pub all_from_each : {A : Type 0} (p : A → Bool) (xs : List A) → Each (λ x. p x ≡ true) xs → list_all p xs ≡ true
 all_from_each p [] each = refl
 all_from_each p (x ∷ xs) each = rw each.0 (all_from_each p xs each.1)

@@ -1,10 +1,10 @@
 -- What becomes of a request that is offered to a pool.
 use Rattle.std.specs.Prelude.{◌≡◌, ℕ, ◌+◌, ◌≤◌, ◌==◌, nat_le, nat_lt, Bool, true, not, List, [], ◌∷◌, length, map, if◌then◌else◌}
 use Rattle.std.specs.List.{list_any}
-use Rattle.smart_messages.specs.Forms.{SignedBy}
-use Rattle.smart_messages.specs.Kinds.{requests}
-use Rattle.smart_messages.specs.Messages.{batch_text}
-use Rattle.smart_messages.specs.declared.statement.Request.{Request}
+use Rattle.smart_statements.specs.Forms.{SignedBy}
+use Rattle.smart_statements.specs.Kinds.{requests}
+use Rattle.smart_statements.specs.Batches.{batch_text}
+use Rattle.smart_statements.specs.declared.statement.Request.{Request}
 use Rattle.replica_rules.specs.Seals.{is_verified}
 use Rattle.replica_rules.specs.Pools.{offered}
 use Rattle.request_pool.specs.declared.pool.Offer.{Offer}

@@ -1,15 +1,15 @@
 //! The batch that a pool gives.
 ghost use Rattle.std.specs.Prelude.{◌≡◌, ◌^◌, ◌<◌, ◌==◌, ◌∷◌, ◌++◌, [], Some, not, nat_lt, filter, length, true, IfOk, OnOk};
-ghost use Rattle.smart_messages.specs.Messages.{batch_text};
+ghost use Rattle.smart_statements.specs.Batches.{batch_text};
 ghost use Rattle.replica_rules.specs.Seals.{is_managers};
 ghost use Rattle.replica_rules.specs.Pools.{is_within, filled, batch_of, gathered};
 
 use smart_base::duplicate::Duplicate;
 use smart_base::number::Place;
 use smart_base::sequence::Sequence;
-use smart_messages::batch::{BATCH_BYTES, BATCH_REQUESTS, Batch};
-use smart_messages::signed::Signed;
-use smart_messages::statement::Request;
+use smart_statements::batch::{BATCH_BYTES, BATCH_REQUESTS, Batch};
+use smart_statements::signed::Signed;
+use smart_statements::statement::Request;
 use std::alloc::{AllocError, Global};
 use std::marker::Model;
 
@@ -25,9 +25,9 @@ struct Gathering {
 
 impl Model for Gathering {
     ghost use Rattle.std.specs.Prelude.{◌≡◌, ◌<◌, ◌≤◌, ◌^◌, List, length};
-    ghost use Rattle.smart_messages.specs.Forms.{SignedBy};
-    ghost use Rattle.smart_messages.specs.Messages.{batch_text};
-    ghost use Rattle.smart_messages.specs.declared.statement.Request.{Request};
+    ghost use Rattle.smart_statements.specs.Forms.{SignedBy};
+    ghost use Rattle.smart_statements.specs.Batches.{batch_text};
+    ghost use Rattle.smart_statements.specs.declared.statement.Request.{Request};
 
     ghost Value = { List (SignedBy Request) };
 

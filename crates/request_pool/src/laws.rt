@@ -2,11 +2,11 @@
 ghost use Rattle.std.specs.Prelude.{◌≡◌, ◌≤◌, ℕ, List, [], ◌∷◌, true, false, Some, None, length, nat_lt};
 ghost use Rattle.std.specs.List.{list_any};
 ghost use Rattle.smart_base.specs.Lists.{Each, Distinct};
-ghost use Rattle.smart_messages.specs.Forms.{SignedBy};
-ghost use Rattle.smart_messages.specs.Kinds.{requests};
-ghost use Rattle.smart_messages.specs.Messages.{Batch, batch_text};
-ghost use Rattle.smart_messages.specs.Spelling.{FitsSigned, FitsRequest};
-ghost use Rattle.smart_messages.specs.declared.statement.Request.{Request};
+ghost use Rattle.smart_statements.specs.Forms.{SignedBy};
+ghost use Rattle.smart_statements.specs.Kinds.{requests};
+ghost use Rattle.smart_statements.specs.Batches.{Batch, batch_text};
+ghost use Rattle.smart_statements.specs.Spelling.{FitsSigned, FitsRequest};
+ghost use Rattle.smart_statements.specs.declared.statement.Request.{Request};
 ghost use Rattle.smart_service.specs.declared.table.TableLine.{TableLine};
 ghost use Rattle.replica_rules.specs.Seals.{fits};
 ghost use Rattle.replica_rules.specs.Pools.{offered, settled, gathered};

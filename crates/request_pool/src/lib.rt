@@ -5,5 +5,3 @@
 mod gather;
 pub mod laws;
 pub mod pool;
-#[cfg(test)]
-mod tests;

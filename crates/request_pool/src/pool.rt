@@ -9,10 +9,10 @@ use crate::gather::gathered;
 use indexmap::IndexMap;
 use smart_base::number::Place;
 use smart_keys::ring::Ring;
-use smart_messages::batch::Batch;
-use smart_messages::signed::Signed;
-use smart_messages::statement::Request;
 use smart_service::table::ClientTable;
+use smart_statements::batch::Batch;
+use smart_statements::signed::Signed;
+use smart_statements::statement::Request;
 use std::alloc::{AllocError, Global};
 use std::marker::Model;
 
@@ -46,8 +46,8 @@ pub struct RequestPool {
 impl Model for RequestPool {
     ghost use Rattle.std.specs.Prelude.{◌≡◌, List};
     ghost use Rattle.smart_base.specs.Lists.{Distinct};
-    ghost use Rattle.smart_messages.specs.Forms.{SignedBy};
-    ghost use Rattle.smart_messages.specs.declared.statement.Request.{Request};
+    ghost use Rattle.smart_statements.specs.Forms.{SignedBy};
+    ghost use Rattle.smart_statements.specs.declared.statement.Request.{Request};
     ghost use Rattle.indexmap.specs.IndexMap.{keys, values};
     ghost use Rattle.request_pool.specs.Offers.{clients_of};
 

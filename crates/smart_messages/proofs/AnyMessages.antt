@@ -8,25 +8,28 @@ use Rattle.smart_base.specs.Spelling.{u8, Spelled, Law}
 use Rattle.smart_base.specs.declared.fault.ReadError.{ReadError}
 use Rattle.smart_base.specs.Laws.{bind_ok, bind_is, ok_is, spelled-bytes, spelled-then, spelled-front, spelled-back, middle, then_law, refit, ranged_law, limited_law, whole_takes, whole_again}
 use Rattle.smart_base.specs.FieldLaws.{u8_law}
-use Rattle.smart_messages.specs.Spelling.{signed, FitsSigned}
-use Rattle.smart_messages.specs.Kinds.{requests}
-use Rattle.smart_messages.specs.Reading.{signed_at, batch_at}
-use Rattle.smart_messages.specs.Messages.{batch_text, kind, content, spelling, FitsBatch, FitsContent, body_at, is_kind}
-use Rattle.smart_messages.specs.SignedLists.{optional, FitsOptional, optional_at}
-use Rattle.smart_messages.specs.SignedListLaws.{optional_law}
-use Rattle.smart_messages.specs.Reports.{reports, FitsReport}
-use Rattle.smart_messages.specs.ReportLaws.{report_law}
+use Rattle.smart_statements.specs.Spelling.{signed, FitsSigned}
+use Rattle.smart_statements.specs.Kinds.{requests}
+use Rattle.smart_statements.specs.Reading.{signed_at, batch_at}
+use Rattle.smart_statements.specs.Batches.{batch_text, FitsBatch}
+use Rattle.smart_messages.specs.Messages.{kind, content, spelling, FitsContent, body_at, is_kind}
+use Rattle.smart_statements.specs.SignedLists.{optional, FitsOptional, optional_at}
+use Rattle.smart_statements.specs.SignedListLaws.{optional_law}
+use Rattle.smart_statements.specs.Reports.{reports, FitsReport}
+use Rattle.smart_statements.specs.ReportLaws.{report_law}
 use Rattle.smart_messages.specs.Regencies.{stops, FitsStop, syncs, FitsSync}
 use Rattle.smart_messages.specs.RegencyLaws.{stop_law, sync_law}
 use Rattle.smart_messages.specs.RegencyMessages.{change_kind, change_content, change_spelling, any_spelling, FitsChangeContent, FitsAny, stop_message_at, stop_data_at, sync_message_at, change_body_at, is_change_kind, plain_at, change_at, any_kind_at, any_at, any_decoded}
-use Rattle.smart_messages.specs.Statements.{signed_law}
+use Rattle.smart_statements.specs.Statements.{signed_law}
 use Rattle.smart_messages.specs.declared.message.Message.{Message}
 use Rattle.smart_messages.specs.declared.message.Message.TheVariants as plain
 use Rattle.smart_messages.specs.declared.any.AnyMessage.{AnyMessage}
 use Rattle.smart_messages.specs.declared.any.AnyMessage.TheVariants.{Plain, Change}
 use Rattle.smart_messages.specs.declared.regency.RegencyMessage.{RegencyMessage}
 use Rattle.smart_messages.specs.declared.regency.RegencyMessage.TheVariants as changes
-use Rattle.smart_messages.proofs.Messages.{batch_law, picked, body_takes, content_again, kind_fits, start}
+use Rattle.smart_statements.proofs.Batches.{batch_law, start}
+use Rattle.smart_statements.proofs.Branches.{picked}
+use Rattle.smart_messages.proofs.Messages.{body_takes, content_again, kind_fits}
 
 -- ---- the parts of messages
 

@@ -1,29 +1,25 @@
 -- What is read is spelled so, and what is spelled so is read.
-use Rattle.std.proofs.Common.{◌≡◌, ℕ, ◌^◌, ◌<◌, ◌≤◌, Bool, true, false, cond, eqb, ◌||◌, List, length, Result, Ok, Err, refl, sym, subst, ◌∙◌, arith}
+use Rattle.std.proofs.Common.{◌≡◌, ℕ, ◌^◌, ◌<◌, ◌≤◌, Bool, true, false, eqb, ◌||◌, List, length, Result, Ok, Err, refl, sym, subst, ◌∙◌, arith}
 use Rattle.std.specs.Prelude.{IfOk}
-use Rattle.std.specs.List.{AllByRecursion}
-use Rattle.std.specs.Int.{w8, w16, to_be_bytes}
+use Rattle.std.specs.Int.{w8, to_be_bytes}
 use Rattle.std.proofs.lemmas.Bool.{eqb-true}
 use Rattle.smart_base.specs.Cuts.{Cut, IsBytes, ◌>>=◌, number_at, limited, GivesAll}
 use Rattle.smart_base.specs.Spelling.{Spelled, Law}
-use Rattle.smart_base.specs.Fields.{items_at}
 use Rattle.smart_base.specs.declared.fault.ReadError.{ReadError}
-use Rattle.smart_base.specs.Laws.{bind_ok, bind_is, ok_is, spelled-bytes, spelled-then, spelled-front, spelled-back, middle, then_law, refit, ranged_law, times_law, limited_law, whole_takes, whole_again}
-use Rattle.smart_base.specs.FieldLaws.{u8_law, items_law}
-use Rattle.smart_messages.specs.Forms.{SignedBy}
-use Rattle.smart_messages.specs.Spelling.{signed, FitsSigned, FitsProposal, FitsBallot, FitsAnswer, FitsRequest}
-use Rattle.smart_messages.specs.Kinds.{proposals, ballots, answers, requests}
-use Rattle.smart_messages.specs.Reading.{signed_at, requests_at, batch_at}
-use Rattle.smart_messages.specs.Messages.{Batch, batch_text, kind, content, spelling, FitsBatch, FitsContent, Fits, ask_at, propose_at, vote_at, reply_at, body_at, is_kind, message_kind_at, message_at, decoded}
-use Rattle.smart_messages.specs.declared.statement.Request.{Request}
+use Rattle.smart_base.specs.Laws.{bind_ok, bind_is, ok_is, spelled-bytes, spelled-then, spelled-front, spelled-back, middle, then_law, refit, ranged_law, limited_law, whole_takes, whole_again}
+use Rattle.smart_base.specs.FieldLaws.{u8_law}
+use Rattle.smart_statements.specs.Spelling.{signed, FitsSigned, FitsProposal, FitsBallot, FitsAnswer}
+use Rattle.smart_statements.specs.Kinds.{proposals, ballots, answers, requests}
+use Rattle.smart_statements.specs.Reading.{signed_at, batch_at}
+use Rattle.smart_statements.specs.Batches.{batch_text}
+use Rattle.smart_messages.specs.Messages.{kind, content, spelling, FitsContent, Fits, ask_at, propose_at, vote_at, reply_at, body_at, is_kind, message_kind_at, message_at, decoded}
 use Rattle.smart_messages.specs.declared.message.Message.{Message}
 use Rattle.smart_messages.specs.declared.message.Message.TheVariants.{Ask, Propose, Vote, Reply}
-use Rattle.smart_messages.specs.Statements.{proposal_law, ballot_law, answer_law, request_law, signed_law}
+use Rattle.smart_statements.specs.Statements.{proposal_law, ballot_law, answer_law, signed_law}
+use Rattle.smart_statements.proofs.Batches.{ask_law, batch_law, start}
+use Rattle.smart_statements.proofs.Branches.{picked}
 
 -- ---- the parts of messages
-
-pub ask_law : Law (FitsSigned requests FitsRequest) (signed requests) (signed_at requests)
-ask_law = signed_law requests FitsRequest (omega arith) request_law
 
 pub head_law : Law (FitsSigned proposals (λ signer. FitsProposal)) (signed proposals) (signed_at proposals)
 head_law = signed_law proposals (λ signer. FitsProposal) (omega arith) proposal_law
@@ -33,22 +29,6 @@ vote_law = signed_law ballots (λ signer. FitsBallot) (omega arith) ballot_law
 
 pub reply_law : Law (FitsSigned answers (λ signer. FitsAnswer)) (signed answers) (signed_at answers)
 reply_law = signed_law answers (λ signer. FitsAnswer) (omega arith) answer_law
-
-requests_law : Law (λ rs. Unit {0} × (((0 < length rs) × (length rs ≤ 64)) × AllByRecursion (FitsSigned requests FitsRequest) rs)) batch_text (requests_at requests)
-unfolding requests_at batch_text
-requests_law =
-    then_law (λ (rs : List (SignedBy Request)). length rs) (λ rs. Unit {0}) (λ n. (0 < n) × (n ≤ 64)) (to_be_bytes w16) (items_at 64) _ _ _
-    (items_law 64 (omega arith)) λ n h.
-    refit _ (λ rs. (Unit {0} × (length rs ≡ n)) × AllByRecursion (FitsSigned requests FitsRequest) rs) _ _
-    (times_law (FitsSigned requests FitsRequest) (signed requests) (signed_at requests) ask_law n)
-    (λ rs h. ((tt, h.0), h.1)) (λ rs h. (h.0.1, h.1))
-
-pub batch_law : Law FitsBatch batch_text (batch_at requests)
-unfolding batch_at
-batch_law =
-    refit _ FitsBatch batch_text (batch_at requests) (limited_law _ batch_text (requests_at requests) 262144 requests_law)
-    (λ rs h. record { count_fits = h.0.1.0; each_fits = h.0.1.1; bytes_fit = h.1 })
-    (λ rs h. ((tt, (h.count_fits, h.each_fits)), h.bytes_fit))
 
 -- ---- messages, kind by kind
 
@@ -86,12 +66,6 @@ propose_takes c y bs e =
     let u = batch_law.takes a.0.1 b.0 (spelled-bytes c (signed proposals a.0.0) a.0.1 bs t.1) b.1 in
     subst (λ (y : Message × Cut). IsTaken 2 c y.0 y.1) (ok_is (Propose (record { head = a.0.0; batch = b.0.0 }), b.0.1) y b.2)
     ((refl, (t.0, u.0)), spelled-then c (signed proposals a.0.0) a.0.1 (batch_text b.0.0) b.0.1 t.1 u.1)
-
--- which branch a test took
-pub picked : {A P : Type 0} (t : Bool) (k n : ℕ) (x r : Result A ℕ) (y : A) → eqb k n ≡ t → cond t x r ≡ Ok y
-    → (k ≡ n → x ≡ Ok y → P) → (eqb k n ≡ false → r ≡ Ok y → P) → P
-picked true k n x r y h e f g = f (eqb-true k n h) e
-picked false k n x r y h e f g = g h e
 
 last_of : (a b c d : Bool) → (a || b || c || d) ≡ true → a ≡ false → b ≡ false → c ≡ false → d ≡ true
 last_of true b c d e p q r = absurd cc
@@ -147,9 +121,6 @@ message_law =
     refit _ Fits spelling (limited 1048576 message_at) (limited_law FitsContent spelling message_at 1048576 content_law)
     (λ m h. record { content_fits = h.0; bytes_fit = h.1 }) (λ m h. (h.content_fits, h.bytes_fit))
 
-abbrev pub start : List ℕ → Cut
-start bytes = record { at = 0; left = bytes }
-
 -- the bytes of a message are its spelling
 pub decoded_is : (bytes : List ℕ) (m : Message) → IsBytes bytes → decoded bytes ≡ Ok m → Fits m × (bytes ≡ spelling m)
 unfolding decoded
@@ -167,10 +138,3 @@ is_found bytes (Err e) bs given = tt
 
 pub is_only : (bytes : List ℕ) (m : Message) → Fits m → bytes ≡ spelling m → decoded bytes ≡ Ok m
 is_only bytes m fits e = subst (λ (b : List ℕ). decoded b ≡ Ok m) (sym e) (spelling_is m fits)
-
--- a text is the batch's alone
-pub batch_is : (a b : Batch) → FitsBatch a → FitsBatch b → batch_text a ≡ batch_text b → a ≡ b
-batch_is a b fits_a fits_b e =
-    ok_is a b
-    (sym (whole_again FitsBatch batch_text (batch_at requests) batch_law (start (batch_text a)) a fits_a refl)
-    ∙ whole_again FitsBatch batch_text (batch_at requests) batch_law (start (batch_text a)) b fits_b e)

@@ -1,14 +1,4 @@
-pub mod Equality
-pub mod Forms
-pub mod Kinds
 pub mod Messages
-pub mod Reading
 pub mod Regencies
 pub mod RegencyLaws
 pub mod RegencyMessages
-pub mod ReportLaws
-pub mod Reports
-pub mod SignedListLaws
-pub mod SignedLists
-pub mod Spelling
-pub mod Statements

@@ -1,26 +1,16 @@
 -- Messages: their spelling, which have one, and how they are read.
-use Rattle.std.specs.Prelude.{ℕ, ◌<◌, ◌≤◌, List, ◌++◌, length, Bool, Result, Ok, ◌==◌, ◌||◌, if◌then◌else◌}
-use Rattle.std.specs.List.{flat_map, AllByRecursion}
+use Rattle.std.specs.Prelude.{ℕ, ◌≤◌, List, ◌++◌, length, Bool, Result, Ok, ◌==◌, ◌||◌, if◌then◌else◌}
 use Rattle.std.specs.Int.{w8}
 use Rattle.smart_base.specs.Cuts.{Cut, Read, ◌>>=◌, number_at, ranged, limited, whole}
-use Rattle.smart_base.specs.Spelling.{u8, u16}
-use Rattle.smart_messages.specs.Forms.{SignedBy}
-use Rattle.smart_messages.specs.Kinds.{proposals, ballots, answers, requests}
-use Rattle.smart_messages.specs.Spelling.{signed, FitsSigned, FitsProposal, FitsBallot, FitsAnswer, FitsRequest}
-use Rattle.smart_messages.specs.Reading.{signed_at, batch_at}
-use Rattle.smart_messages.specs.declared.statement.Request.{Request}
+use Rattle.smart_base.specs.Spelling.{u8}
+use Rattle.smart_statements.specs.Batches.{batch_text, FitsBatch}
+use Rattle.smart_statements.specs.Kinds.{proposals, ballots, answers, requests}
+use Rattle.smart_statements.specs.Spelling.{signed, FitsSigned, FitsProposal, FitsBallot, FitsAnswer, FitsRequest}
+use Rattle.smart_statements.specs.Reading.{signed_at, batch_at}
 use Rattle.smart_messages.specs.declared.message.Message.{Message}
 use Rattle.smart_messages.specs.declared.message.Message.TheVariants.{Ask, Propose, Vote, Reply}
 
--- the requests of one place
-abbrev pub Batch : Type 0
-Batch = List (SignedBy Request)
-
 -- ---- the spelling
-
--- a batch: its digest is taken over this text
-unfoldable pub batch_text : Batch → List ℕ
-batch_text rs = u16 (length rs) ++ flat_map (signed requests) rs
 
 abbrev pub kind : Message → ℕ
 kind (Ask a) = 1
@@ -38,11 +28,6 @@ unfoldable pub spelling : Message → List ℕ
 spelling m = u8 (kind m) ++ content m
 
 -- ---- which messages have one
-
-pub record FitsBatch (rs : Batch) : Type 0 where
-  pub count_fits : (0 < length rs) × (length rs ≤ 64)
-  pub each_fits : AllByRecursion (FitsSigned requests FitsRequest) rs
-  pub bytes_fit : length (batch_text rs) ≤ 262144
 
 abbrev pub FitsContent : Message → Type 0
 FitsContent (Ask a) = FitsSigned requests FitsRequest a

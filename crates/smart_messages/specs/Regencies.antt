@@ -6,9 +6,9 @@ use Rattle.smart_base.specs.Fields.{kind_at}
 use Rattle.smart_base.specs.Spelling.{u8, u32, member_kind}
 use Rattle.smart_base.specs.Views.{is_view}
 use Rattle.smart_base.specs.ViewBytes.{view_text, view_at}
-use Rattle.smart_messages.specs.Forms.{Form}
-use Rattle.smart_messages.specs.SignedLists.{listed, FitsList, list_at}
-use Rattle.smart_messages.specs.Reports.{reports, FitsReport}
+use Rattle.smart_statements.specs.Forms.{Form}
+use Rattle.smart_statements.specs.SignedLists.{listed, FitsList, list_at}
+use Rattle.smart_statements.specs.Reports.{reports, FitsReport}
 use Rattle.smart_messages.specs.declared.regency.Stop.{Stop}
 use Rattle.smart_messages.specs.declared.regency.Sync.{Sync}
 use Rattle.smart_messages.specs.declared.regency.ViewInfo.{ViewInfo}

@@ -10,13 +10,13 @@ use Rattle.smart_base.specs.FieldLaws.{u32_law, kind_law}
 use Rattle.smart_base.specs.Views.{View, is_view}
 use Rattle.smart_base.specs.ViewBytes.{view_text, view_at}
 use Rattle.smart_base.proofs.ViewLaws.{view_law, members-few}
-use Rattle.smart_messages.specs.Forms.{SignedBy}
-use Rattle.smart_messages.specs.SignedLists.{listed, FitsList, list_at}
-use Rattle.smart_messages.specs.SignedListLaws.{list_law}
-use Rattle.smart_messages.specs.Reports.{reports, FitsReport}
-use Rattle.smart_messages.specs.ReportLaws.{report_law}
+use Rattle.smart_statements.specs.Forms.{SignedBy}
+use Rattle.smart_statements.specs.SignedLists.{listed, FitsList, list_at}
+use Rattle.smart_statements.specs.SignedListLaws.{list_law}
+use Rattle.smart_statements.specs.Reports.{reports, FitsReport}
+use Rattle.smart_statements.specs.ReportLaws.{report_law}
 use Rattle.smart_messages.specs.Regencies.{stop, FitsStop, stop_at, sync, FitsSync, sync_at, view_info, FitsViewInfo, view_info_at}
-use Rattle.smart_messages.specs.declared.report.Report.{Report}
+use Rattle.smart_statements.specs.declared.report.Report.{Report}
 use Rattle.smart_messages.specs.declared.regency.Stop.{Stop}
 use Rattle.smart_messages.specs.declared.regency.Sync.{Sync}
 use Rattle.smart_messages.specs.declared.regency.ViewInfo.{ViewInfo}

@@ -3,12 +3,13 @@ use Rattle.std.specs.Prelude.{ℕ, ◌≤◌, List, ◌++◌, length, Bool, Resu
 use Rattle.std.specs.Int.{w8}
 use Rattle.smart_base.specs.Cuts.{Cut, Read, ◌>>=◌, number_at, ranged, limited, whole}
 use Rattle.smart_base.specs.Spelling.{u8}
-use Rattle.smart_messages.specs.Kinds.{requests}
-use Rattle.smart_messages.specs.Spelling.{signed, FitsSigned}
-use Rattle.smart_messages.specs.Reading.{signed_at, batch_at}
-use Rattle.smart_messages.specs.Messages.{batch_text, FitsBatch, spelling, Fits, body_at, is_kind}
-use Rattle.smart_messages.specs.SignedLists.{optional, FitsOptional, optional_at}
-use Rattle.smart_messages.specs.Reports.{reports, FitsReport}
+use Rattle.smart_statements.specs.Kinds.{requests}
+use Rattle.smart_statements.specs.Spelling.{signed, FitsSigned}
+use Rattle.smart_statements.specs.Reading.{signed_at, batch_at}
+use Rattle.smart_statements.specs.Batches.{batch_text, FitsBatch}
+use Rattle.smart_messages.specs.Messages.{spelling, Fits, body_at, is_kind}
+use Rattle.smart_statements.specs.SignedLists.{optional, FitsOptional, optional_at}
+use Rattle.smart_statements.specs.Reports.{reports, FitsReport}
 use Rattle.smart_messages.specs.Regencies.{stops, FitsStop, syncs, FitsSync}
 use Rattle.smart_messages.specs.declared.any.AnyMessage.{AnyMessage}
 use Rattle.smart_messages.specs.declared.any.AnyMessage.TheVariants.{Plain, Change}

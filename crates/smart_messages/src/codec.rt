@@ -3,13 +3,13 @@ ghost use Rattle.std.specs.Prelude.{◌≡◌, ◌++◌, IfOk, OnOk, Ok};
 ghost use Rattle.smart_base.specs.Cuts.{Gives, GivesAll, Takes, limited};
 ghost use Rattle.smart_messages.specs.Messages.{Fits, spelling, ask_at, propose_at, vote_at, reply_at, body_at, is_kind, message_kind_at, message_at, decoded};
 
-use crate::batch::Batch;
 use crate::message::{Message, Proposed};
-use crate::signed::Signed;
-use crate::statement::{Answer, Ballot, Proposal, Request};
 use smart_base::cursor::Cursor;
 use smart_base::fault::{ReadError, Unread};
 use smart_base::field::put_u8;
+use smart_statements::batch::Batch;
+use smart_statements::signed::Signed;
+use smart_statements::statement::{Answer, Ballot, Proposal, Request};
 use std::alloc::{AllocError, Global};
 
 /// The most bytes that a message has.

@@ -1,10 +1,10 @@
 //! The messages of members and clients.
 ghost use Rattle.std.specs.Prelude.{◌≡◌, IfOk};
 
-use crate::batch::Batch;
-use crate::signed::Signed;
-use crate::statement::{Answer, Ballot, Proposal, Request};
 use smart_base::duplicate::Duplicate;
+use smart_statements::batch::Batch;
+use smart_statements::signed::Signed;
+use smart_statements::statement::{Answer, Ballot, Proposal, Request};
 use std::alloc::{AllocError, Global};
 
 /// A leader's proposal and the batch that it is for.

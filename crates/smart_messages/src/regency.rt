@@ -2,11 +2,6 @@
 ghost use Rattle.smart_messages.specs.Regencies.{FitsStop, stops, FitsSync, syncs, FitsViewInfo, view_infos};
 ghost use Rattle.smart_messages.specs.RegencyLaws.{stop_law, sync_law, view_info_law};
 
-use crate::batch::Batch;
-use crate::optional::duplicate_optional;
-use crate::report::Report;
-use crate::signed::{MEMBER, Signed, Statement, within_limit};
-use crate::signed_list::SignedList;
 use smart_base::cursor::Cursor;
 use smart_base::duplicate::Duplicate;
 use smart_base::fault::ReadError;
@@ -14,6 +9,11 @@ use smart_base::field::{put_u8, put_u32, take_kind};
 use smart_base::number::{Regency, ViewNo};
 use smart_base::view::View;
 use smart_base::view_bytes::{put_view, read_view};
+use smart_statements::batch::Batch;
+use smart_statements::optional::duplicate_optional;
+use smart_statements::report::Report;
+use smart_statements::signed::{MEMBER, Signed, Statement, within_limit};
+use smart_statements::signed_list::SignedList;
 use std::alloc::{AllocError, Global};
 
 /// A member asks for a regency of a view, whose leader then takes over (Mod-SMaRt, EDCC 2012).

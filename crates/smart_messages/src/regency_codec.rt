@@ -1,20 +1,20 @@
 //! How the messages that change the regency are spelled and read.
 ghost use Rattle.std.specs.Prelude.{◌≡◌, ◌++◌, OnOk};
 ghost use Rattle.smart_base.specs.Cuts.{Gives};
-ghost use Rattle.smart_messages.specs.Kinds.{requests};
-ghost use Rattle.smart_messages.specs.Messages.{batch_text};
-ghost use Rattle.smart_messages.specs.Reading.{batch_at};
+ghost use Rattle.smart_statements.specs.Kinds.{requests};
+ghost use Rattle.smart_statements.specs.Batches.{batch_text};
+ghost use Rattle.smart_statements.specs.Reading.{batch_at};
 ghost use Rattle.smart_messages.specs.RegencyMessages.{change_spelling, stop_message_at, stop_data_at, sync_message_at, change_body_at};
-ghost use Rattle.smart_messages.specs.SignedLists.{optional, optional_at};
+ghost use Rattle.smart_statements.specs.SignedLists.{optional, optional_at};
 
-use crate::batch::Batch;
-use crate::optional::take_flag;
 use crate::regency::{RegencyMessage, Reported, Stop, Sync};
-use crate::report::Report;
-use crate::signed::Signed;
 use smart_base::cursor::Cursor;
 use smart_base::fault::ReadError;
 use smart_base::field::put_u8;
+use smart_statements::batch::Batch;
+use smart_statements::optional::take_flag;
+use smart_statements::report::Report;
+use smart_statements::signed::Signed;
 use std::alloc::{AllocError, Global};
 
 #[tactic(auto, unfolding(crate::specs::RegencyMessages::stop_message_at))]
@@ -24,7 +24,7 @@ fn read_stop(alloc: Global, cut: &mut Cursor<'_>) -> Result<RegencyMessage, Read
     Ok(RegencyMessage::Stop(Signed::<Stop>::read(alloc, cut)?))
 }
 
-#[tactic(auto, unfolding(crate::specs::SignedLists::optional_at, crate::specs::SignedLists::some_at))]
+#[tactic(auto, unfolding(smart_statements::specs::SignedLists::optional_at, smart_statements::specs::SignedLists::some_at))]
 fn read_batch(alloc: Global, cut: &mut Cursor<'_>) -> Result<Option<Batch>, ReadError>
     ensures { Gives result cut.new (optional_at (batch_at requests) cut.old) }
 {

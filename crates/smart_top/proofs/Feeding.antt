@@ -129,10 +129,6 @@ line-halted courses bytes written now now' line script script' halts.WriteFault 
 line-halted courses bytes written now now' line script script' halts.SinkMemory taken never same told = line-broken courses bytes written now now' line script told.0 taken told.1
 line-halted courses bytes written now now' line script script' halts.NoMemory taken never same told = line-unwritten courses bytes (10 ∷ []) written now now' line script taken (same refl)
 
-pub none_is : {A : Type 0} (x : Option A) → is_some x ≡ false → x ≡ None
-none_is None is = refl
-none_is (Some x) is = absurd (cc)
-
 -- a byte that ends no line
 
 byte-line : (bytes line line' : List ℕ) (b : ℕ) → (b == 10) ≡ false → line' ≡ line ++ b ∷ [] → line ≡ rest_of [] bytes → line' ≡ rest_of [] (bytes ++ b ∷ [])

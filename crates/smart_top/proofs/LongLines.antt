@@ -7,12 +7,12 @@ use Rattle.std.proofs.lemmas.List.{append_assoc, append-nil, length-append}
 use Rattle.world_rules.specs.Scripts.{is_printed, is_short, line_of}
 use Rattle.world_rules.specs.declared.line.Kind.{Kind}
 use Rattle.world_rules.specs.declared.line.Kind.TheVariants as kinds
-use Rattle.world_laws.proofs.Lists.{either, either_by}
 use Rattle.smart_top.specs.declared.status.Refusal.TheVariants as refusals
 use Rattle.smart_top.specs.Apps.{Courses}
 use Rattle.smart_top.specs.declared.app.AppPlay.{AppPlay}
 use Rattle.smart_top.specs.Readings.{Reading, unread, refusing, whole_lines, rest_of, last_line, script_lines, line_done, told_done, taken_at, told_at, is_full, line_taken, line_told, reading_after, told_after}
 use Rattle.smart_top.proofs.ReadingLaws.{chosen_true, after-append, told-append, after-refused, told_after-refused, whole-append, rest-append}
+use Rattle.agreement_laws.proofs.Lists.{either, either_by}
 
 -- a line of more than 65,536 bytes
 abbrev pub IsLong : List ℕ → Type 0

@@ -16,18 +16,13 @@ use Rattle.world_rules.specs.declared.line.OutLine.{OutLine}
 use Rattle.world_rules.specs.declared.line.Kind.{Kind}
 use Rattle.world_rules.specs.declared.line.Kind.TheVariants as kinds
 use Rattle.world_laws.specs.Cores.{trimmed_world}
-use Rattle.world_laws.proofs.CoreWorlds.{core_line, there_same, begun_same}
+use Rattle.world_laws.proofs.CoreWorlds.{core_line, there_same, begun_same, choice_same, rested_same}
 use Rattle.smart_top.specs.Apps.{core_courses, node_courses, play_begun, play_after, answer_until, answer_in, play_answer, app_begun, app_after, app_answer}
 use Rattle.smart_top.specs.Readings.{Reading, unread, group_taken, app_taken, header_taken, played_to, line_done, told_by, told_done, taken_at, told_at, is_full, line_taken, line_told, reading_after, told_after, end_by, end_of, last_told}
 use Rattle.smart_top.specs.declared.app.AppPlay.{AppPlay}
 use Rattle.smart_top.specs.declared.app.AppPlay.TheVariants as plays
 use Rattle.smart_top.specs.declared.status.Refusal.{Refusal}
 use Rattle.smart_top.specs.declared.status.Refusal.TheVariants as refusals
-
--- a choice
-choice_same : {A B : Type 0} (t : A → B) (b : Bool) (x y : A) (v w : B) → v ≡ t x → w ≡ t y → cond b v w ≡ t (cond b x y)
-choice_same t true x y v w left right = left
-choice_same t false x y v w left right = right
 
 -- a choice of what is told
 choice_told : {A : Type 0} (b : Bool) (x y v w : A) → v ≡ x → w ≡ y → cond b v w ≡ cond b x y
@@ -43,11 +38,6 @@ trimmed_play p = record p { world = trimmed_world p.world }
 -- a play that begins
 begun_play : {S : Type 0} (m : Meaning S) (view : View) → play_begun m view ≡ trimmed_play (play_begun m view)
 begun_play m view = ap (λ w. record (play_begun m view) { world = w }) (sym (begun_same m view))
-
--- a world between two lines
-rested_same : {S : Type 0} (w : World S) → rested (trimmed_world w) ≡ trimmed_world (rested w)
-unfolding trimmed_world
-rested_same w = refl
 
 -- a play behind one more line
 after_play : {S : Type 0} (m : Meaning S) (p : Play S) (line : Line) → play_after (core_course m) (trimmed_play p) line ≡ trimmed_play (play_after (course_of m) p line)

@@ -8,11 +8,11 @@ use Rattle.world_rules.specs.declared.line.App.{App}
 use Rattle.world_rules.specs.declared.line.Line.{Line}
 use Rattle.world_rules.specs.declared.line.OutLine.{OutLine}
 use Rattle.world_rules.specs.declared.line.Kind.{Kind}
-use Rattle.world_laws.proofs.Lists.{either, either_by}
 use Rattle.smart_top.specs.Apps.{Courses, app_after, app_answer}
 use Rattle.smart_top.specs.Readings.{Reading, group_taken, app_taken, header_taken, played_to, line_done, taken_at, is_full, line_taken}
 use Rattle.smart_top.specs.declared.app.AppPlay.{AppPlay}
 use Rattle.smart_top.specs.declared.status.Refusal.{Refusal}
+use Rattle.agreement_laws.proofs.Lists.{either, either_by}
 
 -- a script that has counted one more line than another, unless it refuses one
 abbrev Counts : Reading → Reading → Type 0

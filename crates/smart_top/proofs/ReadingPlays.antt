@@ -19,7 +19,6 @@ use Rattle.world_rules.specs.declared.line.Kind.{Kind}
 use Rattle.world_rules.specs.declared.line.Kind.TheVariants as kinds
 use Rattle.world_rules.specs.declared.message.Ending.{Ending}
 use Rattle.world_script.proofs.Members.{first_view}
-use Rattle.world_laws.proofs.Lists.{either, either_by}
 use Rattle.world_laws.proofs.Grows.{world_after-append}
 use Rattle.smart_top.specs.Apps.{node_courses, play_begun, play_after, answer_until, play_answer, app_begun, app_after, app_answer}
 use Rattle.smart_top.specs.Readings.{Reading, unread, counted, refusing, group_taken, app_taken, header_taken, played_to, line_done, taken_at, is_full, line_taken, reading_after}
@@ -28,6 +27,7 @@ use Rattle.smart_top.specs.declared.app.AppPlay.{AppPlay}
 use Rattle.smart_top.specs.declared.app.AppPlay.TheVariants as plays
 use Rattle.smart_top.specs.declared.status.Refusal.{Refusal}
 use Rattle.smart_top.specs.declared.status.Refusal.TheVariants as refusals
+use Rattle.agreement_laws.proofs.Lists.{either, either_by}
 
 -- the group of a header
 

@@ -5,6 +5,4 @@ pub mod app;
 pub mod reader;
 pub mod script;
 pub mod status;
-#[cfg(test)]
-mod tests;
 pub mod top;

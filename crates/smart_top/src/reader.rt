@@ -13,7 +13,7 @@ use smart_base::sequence::{Bytes, Sequence};
 use smart_io::stream::{Sink, write_all};
 use std::alloc::{AllocError, Global};
 use world_rules::line::OutLine;
-use world_script::text::text_of;
+use world_text::text::text_of;
 
 /// How many bytes a line may have.
 const LONGEST: usize = 65536;

@@ -12,21 +12,22 @@ use Rattle.smart_base.specs.Laws.{bind_ok, bind_is, ok_is, then_law, last_law, r
 use Rattle.smart_base.specs.FieldLaws.{u8_law, u16_law, u32_law, u64_law, count_law, digest_law, and_true}
 use Rattle.smart_base.specs.declared.fault.ReadError.{ReadError}
 use Rattle.smart_base.proofs.ViewLaws.{view_law}
-use Rattle.smart_messages.specs.Forms.{SignedBy}
-use Rattle.smart_messages.specs.Kinds.{requests}
-use Rattle.smart_messages.specs.Spelling.{slot, FitsSlot}
-use Rattle.smart_messages.specs.Reading.{slot_at, batch_at}
-use Rattle.smart_messages.specs.Messages.{Batch, batch_text, FitsBatch}
-use Rattle.smart_messages.specs.Statements.{slot_law}
-use Rattle.smart_messages.specs.SignedLists.{listed, FitsList, list_at, optional, FitsOptional, optional_at}
-use Rattle.smart_messages.specs.SignedListLaws.{list_law, optional_law}
-use Rattle.smart_messages.specs.Reports.{votes_of, FitsVote, marks, FitsMark}
-use Rattle.smart_messages.specs.ReportLaws.{votes_law, mark_law}
-use Rattle.smart_messages.specs.declared.statement.Slot.{Slot}
-use Rattle.smart_messages.specs.declared.statement.VoteKind.TheVariants as votes
-use Rattle.smart_messages.specs.declared.statement.Ballot.{Ballot}
-use Rattle.smart_messages.specs.declared.report.Mark.{Mark}
-use Rattle.smart_messages.proofs.Messages.{batch_law, picked}
+use Rattle.smart_statements.specs.Forms.{SignedBy}
+use Rattle.smart_statements.specs.Kinds.{requests}
+use Rattle.smart_statements.specs.Spelling.{slot, FitsSlot}
+use Rattle.smart_statements.specs.Reading.{slot_at, batch_at}
+use Rattle.smart_statements.specs.Batches.{Batch, batch_text, FitsBatch}
+use Rattle.smart_statements.specs.Statements.{slot_law}
+use Rattle.smart_statements.specs.SignedLists.{listed, FitsList, list_at, optional, FitsOptional, optional_at}
+use Rattle.smart_statements.specs.SignedListLaws.{list_law, optional_law}
+use Rattle.smart_statements.specs.Reports.{votes_of, FitsVote, marks, FitsMark}
+use Rattle.smart_statements.specs.ReportLaws.{votes_law, mark_law}
+use Rattle.smart_statements.specs.declared.statement.Slot.{Slot}
+use Rattle.smart_statements.specs.declared.statement.VoteKind.TheVariants as votes
+use Rattle.smart_statements.specs.declared.statement.Ballot.{Ballot}
+use Rattle.smart_statements.specs.declared.report.Mark.{Mark}
+use Rattle.smart_statements.proofs.Batches.{batch_law}
+use Rattle.smart_statements.proofs.Branches.{picked}
 use Rattle.vote_book.specs.Entries.{opening, FitsOpening, member_at, opening_at, write, FitsWrite, write_at, accept, FitsAccept, accept_at, promise, FitsPromise, promise_at, start, FitsStart, regency_start_at, decision, FitsDecision, decision_at, installation, FitsInstallation, installation_at, own_mark, own_mark_at, entry_kind, entry_content, entry_text, FitsEntry, read_as, content_at, entry_kind_at, entry_at, entry_decoded}
 use Rattle.vote_book.specs.declared.entry.Opening.{Opening}
 use Rattle.vote_book.specs.declared.entry.Write.{Write}

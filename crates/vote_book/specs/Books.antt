@@ -1,7 +1,7 @@
 -- A member's book: its entries, oldest first, and which entry it admits behind them. A rule with no other source here is this project's own.
 use Rattle.std.specs.Prelude.{◌≡◌, ℕ, ◌+◌, ◌-◌, ◌<◌, ◌≤◌, ◌⊎◌, max, List, [], ◌∷◌, ◌++◌, length, Option, None, Some}
 use Rattle.smart_base.specs.Lists.{or_else}
-use Rattle.smart_messages.specs.declared.statement.Slot.{Slot}
+use Rattle.smart_statements.specs.declared.statement.Slot.{Slot}
 use Rattle.vote_book.specs.declared.entry.LogEntry.{LogEntry}
 use Rattle.vote_book.specs.declared.entry.LogEntry.TheVariants.{Opened, Wrote, Accepted, Promised, Synced, Decided, Installed, Marked}
 use Rattle.vote_book.specs.declared.entry.Write.{Write}

@@ -6,14 +6,14 @@ use Rattle.smart_base.specs.Fields.{count_at, digest_at}
 use Rattle.smart_base.specs.Spelling.{u8, u16, u32, u64, IsCount}
 use Rattle.smart_base.specs.Views.{is_view}
 use Rattle.smart_base.specs.ViewBytes.{view_text, start_at, view_at}
-use Rattle.smart_messages.specs.Kinds.{requests}
-use Rattle.smart_messages.specs.Spelling.{slot, FitsSlot}
-use Rattle.smart_messages.specs.Reading.{slot_at, batch_at}
-use Rattle.smart_messages.specs.Messages.{batch_text, FitsBatch}
-use Rattle.smart_messages.specs.SignedLists.{listed, FitsList, list_at, optional, FitsOptional, optional_at}
-use Rattle.smart_messages.specs.Reports.{votes_of, FitsVote, marks, FitsMark}
-use Rattle.smart_messages.specs.declared.statement.VoteKind.TheVariants as votes
-use Rattle.smart_messages.specs.declared.report.Mark.{Mark}
+use Rattle.smart_statements.specs.Kinds.{requests}
+use Rattle.smart_statements.specs.Spelling.{slot, FitsSlot}
+use Rattle.smart_statements.specs.Reading.{slot_at, batch_at}
+use Rattle.smart_statements.specs.Batches.{batch_text, FitsBatch}
+use Rattle.smart_statements.specs.SignedLists.{listed, FitsList, list_at, optional, FitsOptional, optional_at}
+use Rattle.smart_statements.specs.Reports.{votes_of, FitsVote, marks, FitsMark}
+use Rattle.smart_statements.specs.declared.statement.VoteKind.TheVariants as votes
+use Rattle.smart_statements.specs.declared.report.Mark.{Mark}
 use Rattle.vote_book.specs.declared.entry.Opening.{Opening}
 use Rattle.vote_book.specs.declared.entry.Write.{Write}
 use Rattle.vote_book.specs.declared.entry.Accept.{Accept}

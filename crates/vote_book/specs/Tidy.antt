@@ -1,7 +1,7 @@
 -- Tidy books. Lawful entries need not be tidy, yet a member keeps its own so: what is left where the front of a log is dropped has to be lawful still, and
 -- of entries that are lawful alone it need not be. The rules are this project's own.
 use Rattle.std.specs.Prelude.{◌≡◌, ℕ, ◌<◌, List, ◌∷◌, ◌++◌}
-use Rattle.smart_messages.specs.declared.statement.Slot.{Slot}
+use Rattle.smart_statements.specs.declared.statement.Slot.{Slot}
 use Rattle.vote_book.specs.declared.entry.LogEntry.{LogEntry}
 use Rattle.vote_book.specs.declared.entry.LogEntry.TheVariants.{Opened, Wrote, Accepted, Promised, Synced, Decided, Installed, Marked}
 use Rattle.vote_book.specs.declared.entry.Promise.{Promise}

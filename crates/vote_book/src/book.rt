@@ -12,8 +12,6 @@ mod accepts;
 mod index;
 mod sets;
 mod starts;
-#[cfg(test)]
-mod tests;
 
 use crate::book::accepts::OpenAccept;
 use crate::book::index::BookIndex;
@@ -21,7 +19,7 @@ use crate::entry::{Accept, LogEntry, Start};
 use crate::votes::OwnVotes;
 use smart_base::bytes::Digest32;
 use smart_base::number::{Place, Regency, ViewNo};
-use smart_messages::statement::Slot;
+use smart_statements::statement::Slot;
 use std::alloc::{AllocError, Global};
 use std::marker::Model;
 

@@ -3,9 +3,9 @@ ghost use Rattle.std.specs.Prelude.{◌≡◌, ◌++◌, ℕ, List, IfOk, OnOk, 
 ghost use Rattle.smart_base.specs.Cuts.{IsBytes, Gives, GivesAll, Takes};
 ghost use Rattle.smart_base.specs.Fields.{digest_at};
 ghost use Rattle.smart_base.specs.ViewBytes.{start_at};
-ghost use Rattle.smart_messages.specs.Reading.{slot_at};
-ghost use Rattle.smart_messages.specs.Spelling.{slot as slot_text};
-ghost use Rattle.smart_messages.specs.SignedLists.{optional, optional_at};
+ghost use Rattle.smart_statements.specs.Reading.{slot_at};
+ghost use Rattle.smart_statements.specs.Spelling.{slot as slot_text};
+ghost use Rattle.smart_statements.specs.SignedLists.{optional, optional_at};
 ghost use Rattle.vote_book.specs.Entries.{opening, member_at, opening_at, write, write_at, accept, accept_at, promise, promise_at, start, regency_start_at, decision, decision_at, installation, installation_at, own_mark, own_mark_at, entry_text, FitsEntry, content_at, entry_kind_at, entry_at, entry_decoded};
 ghost use Rattle.vote_book.specs.declared.entry.LogEntry.{LogEntry};
 
@@ -17,11 +17,11 @@ use smart_base::field::{put_u8, put_u16, put_u32, put_u64, take_count, take_dige
 use smart_base::name::MemberId;
 use smart_base::number::{Place, Regency, ViewNo};
 use smart_base::view_bytes::{put_view, read_view};
-use smart_messages::batch::Batch;
-use smart_messages::optional::take_flag;
-use smart_messages::report::Mark;
-use smart_messages::signed_list::SignedList;
-use smart_messages::statement::{Ballot, Slot, VoteKind};
+use smart_statements::batch::Batch;
+use smart_statements::optional::take_flag;
+use smart_statements::report::Mark;
+use smart_statements::signed_list::SignedList;
+use smart_statements::statement::{Ballot, Slot, VoteKind};
 use std::alloc::{AllocError, Global};
 
 /// A member's number: at least 1.
@@ -64,7 +64,7 @@ impl Opening {
     }
 }
 
-#[tactic(auto, unfolding(smart_messages::specs::Reading::slot_at))]
+#[tactic(auto, unfolding(smart_statements::specs::Reading::slot_at))]
 fn take_slot(cut: &mut Cursor<'_>) -> Result<Slot, Unread>
     ensures { Takes result cut.new (slot_at cut.old) }
 {
@@ -169,7 +169,7 @@ fn take_base(cut: &mut Cursor<'_>) -> Result<u64, Unread>
     }
 }
 
-#[tactic(auto, unfolding(smart_messages::specs::SignedLists::optional_at, smart_messages::specs::SignedLists::some_at))]
+#[tactic(auto, unfolding(smart_statements::specs::SignedLists::optional_at, smart_statements::specs::SignedLists::some_at))]
 fn take_bound(cut: &mut Cursor<'_>) -> Result<Option<Digest32>, Unread>
     ensures { Takes result cut.new (optional_at digest_at cut.old) }
 {

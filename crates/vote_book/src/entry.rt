@@ -6,10 +6,10 @@ use smart_base::duplicate::Duplicate;
 use smart_base::name::MemberId;
 use smart_base::number::{Place, Regency, ViewNo};
 use smart_base::view::View;
-use smart_messages::batch::Batch;
-use smart_messages::report::Mark;
-use smart_messages::signed_list::SignedList;
-use smart_messages::statement::{Ballot, Slot};
+use smart_statements::batch::Batch;
+use smart_statements::report::Mark;
+use smart_statements::signed_list::SignedList;
+use smart_statements::statement::{Ballot, Slot};
 use std::alloc::{AllocError, Global};
 
 /// How a book begins: whose it is, every how many places its group marks one, and the first view.

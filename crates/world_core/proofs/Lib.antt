@@ -1,9 +1,1 @@
-pub mod Counting
-pub mod Turns
 pub mod Played
-pub mod Hearing
-pub mod Asking
-pub mod Idling
-pub mod Giving
-pub mod Calling
-pub mod Stopping

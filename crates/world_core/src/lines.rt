@@ -4,172 +4,122 @@ ghost use Rattle.std.specs.List.{list_all};
 ghost use Rattle.world_rules.specs.Worlds.{core_course, shows};
 ghost use Rattle.world_rules.specs.Plays.{has_member, has_party, is_there, line_played};
 
-use crate::clients::show_clients;
-use crate::host::{host_index, show_hosts};
-use crate::state::WorldState;
+use crate::arrivals::give_number;
+use crate::byzantine::{declare_faulty, declare_rogue, inject};
+use crate::flow::flow;
 use smart_base::name::MemberId;
 use smart_base::party::Party;
 use smart_service::service::Service;
 use std::alloc::AllocError;
-use world_ledger::injection::is_injectable;
+use world_clients::clients::{ask, repeat, show_clients, tell_client};
+use world_hosts::host::{host_index, show_hosts};
+use world_injections::injection::is_injectable;
+use world_nodes::crashes::{crash_all, crash_member, restart_all, restart_member};
+use world_nodes::deliveries::{call_member, deliver, settle_member, tick};
+use world_nodes::events::settle_all;
 use world_rules::line::Line;
+use world_state::state::WorldState;
 
-impl<S: Service> WorldState<S> {
-    fn has_member(&self, member: MemberId) -> bool
-        ensures { result ≡ has_member self.now member }
-    {
-        host_index(self.hosts.as_slice(), member).is_some()
+fn has_member<S: Service>(world: &WorldState<S>, member: MemberId) -> bool
+    ensures { result ≡ has_member world.now member }
+{
+    host_index(world.hosts.as_slice(), member).is_some()
+}
+
+fn has_members<S: Service>(world: &WorldState<S>, members: &[MemberId]) -> bool
+    ensures { result ≡ list_all (has_member world.now) members.now }
+{
+    members.iter().all(|member| has_member(world, *member))
+}
+
+fn has_party<S: Service>(world: &WorldState<S>, party: &Party) -> bool
+    ensures { result ≡ has_party world.now party.now }
+{
+    match party {
+        Party::Member(id) => has_member(world, *id),
+        Party::Client(_) => true,
     }
+}
 
-    fn has_members(&self, members: &[MemberId]) -> bool
-        ensures { result ≡ list_all (has_member self.now) members.now }
-    {
-        members.iter().all(|member| self.has_member(*member))
-    }
+fn has_parties<S: Service>(world: &WorldState<S>, parties: &[Party]) -> bool
+    ensures { result ≡ list_all (has_party world.now) parties.now }
+{
+    parties.iter().all(|party| has_party(world, party))
+}
 
-    fn has_party(&self, party: &Party) -> bool
-        ensures { result ≡ has_party self.now party.now }
-    {
-        match party {
-            Party::Member(id) => self.has_member(*id),
-            Party::Client(_) => true,
+/// Whether all that a line names is there.
+#[tactic(auto, unfolding(world_rules::specs::Plays::is_there))]
+pub fn is_there<S: Service>(world: &WorldState<S>, line: &Line) -> bool
+    ensures { result ≡ is_there world.now line.now }
+{
+    match line {
+        Line::Nothing
+        | Line::Ask { .. }
+        | Line::Again { .. }
+        | Line::Tell { .. }
+        | Line::CrashAll { .. }
+        | Line::RestartAll
+        | Line::SettleAll
+        | Line::Show
+        | Line::Rogue { .. } => true,
+        Line::Flow { members } | Line::Deliver { members } | Line::Tick { members } => {
+            has_members(world, members.as_slice())
         }
-    }
-
-    fn has_parties(&self, parties: &[Party]) -> bool
-        ensures { result ≡ list_all (has_party self.now) parties.now }
-    {
-        parties.iter().all(|party| self.has_party(party))
-    }
-
-    /// Whether all that a line names is there.
-    #[tactic(auto, unfolding(world_rules::specs::Plays::is_there))]
-    pub fn is_there(&self, line: &Line) -> bool
-        ensures { result ≡ is_there self.now line.now }
-    {
-        match line {
-            Line::Nothing
-            | Line::Ask { .. }
-            | Line::Again { .. }
-            | Line::Tell { .. }
-            | Line::CrashAll { .. }
-            | Line::RestartAll
-            | Line::SettleAll
-            | Line::Show
-            | Line::Rogue { .. } => true,
-            Line::Flow { members } | Line::Deliver { members } | Line::Tick { members } => {
-                self.has_members(members.as_slice())
-            }
-            Line::Give { number, to } => {
-                1 <= *number
-                    && *number <= self.sent.as_slice().len() as u64
-                    && self.has_parties(to.as_slice())
-            }
-            Line::Disk { member, .. }
-            | Line::Crash { member, .. }
-            | Line::Restart { member }
-            | Line::Settle { member }
-            | Line::Faulty { member } => self.has_member(*member),
-            Line::Inject(form) => is_injectable(self.sent.as_slice(), form),
+        Line::Give { number, to } => {
+            1 <= *number
+                && *number <= world.sent.as_slice().len() as u64
+                && has_parties(world, to.as_slice())
         }
+        Line::Disk { member, .. }
+        | Line::Crash { member, .. }
+        | Line::Restart { member }
+        | Line::Settle { member }
+        | Line::Faulty { member } => has_member(world, *member),
+        Line::Inject(form) => is_injectable(world.sent.as_slice(), form),
     }
+}
 
-    /// Tells where all members stand, and what all clients that asked have seen.
-    fn show(&mut self) -> Result<(), AllocError>
-        ensures { OnOk result (self.new ≡ shows self.old) }
-    {
-        show_hosts(
-            &mut self.told,
-            self.faulty.as_slice(),
-            self.hosts.as_slice(),
-        )?;
-        show_clients(&mut self.told, self.clients.as_slice())?;
-        Ok(())
-    }
+/// Tells where all members stand, and what all clients that asked have seen.
+fn show<S: Service>(world: &mut WorldState<S>) -> Result<(), AllocError>
+    ensures { OnOk result (world.new ≡ shows world.old) }
+{
+    show_hosts(
+        &mut world.told,
+        world.faulty.as_slice(),
+        world.hosts.as_slice(),
+    )?;
+    show_clients(&mut world.told, world.clients.as_slice())?;
+    Ok(())
+}
 
-    /// Plays a line of a script.
-    #[tactic(auto, unfolding(world_rules::specs::Plays::line_played))]
-    pub fn play(&mut self, line: &Line) -> Result<(), AllocError>
-        ensures { OnOk result (self.new ≡ line_played (core_course S.meaning) self.old line.now) }
-    {
-        match line {
-            Line::Nothing => Ok(()),
-            Line::Ask { client, op } => {
-                self.ask(client.get() as usize, op)?;
-                Ok(())
-            }
-            Line::Again { client } => {
-                self.repeat(client.get() as usize)?;
-                Ok(())
-            }
-            Line::Tell { from, to } => {
-                self.tell_client(from.get() as usize, to.get() as usize)?;
-                Ok(())
-            }
-            Line::Flow { members } => {
-                self.flow(members.as_slice())?;
-                Ok(())
-            }
-            Line::Give { number, to } => {
-                self.give_number(*number, to.as_slice())?;
-                Ok(())
-            }
-            Line::Deliver { members } => {
-                self.deliver(members.as_slice())?;
-                Ok(())
-            }
-            Line::Tick { members } => {
-                self.tick(members.as_slice())?;
-                Ok(())
-            }
-            Line::Disk { member, count } => {
-                self.call_member(*member, *count)?;
-                Ok(())
-            }
-            Line::Crash {
-                member,
-                image,
-                patches,
-            } => {
-                self.crash_member(*member, *image, patches.as_slice())?;
-                Ok(())
-            }
-            Line::CrashAll { image } => {
-                self.crash_all(*image)?;
-                Ok(())
-            }
-            Line::Restart { member } => {
-                self.restart_member(*member)?;
-                Ok(())
-            }
-            Line::RestartAll => {
-                self.restart_all()?;
-                Ok(())
-            }
-            Line::Settle { member } => {
-                self.settle_member(*member)?;
-                Ok(())
-            }
-            Line::SettleAll => {
-                self.settle_all(&[])?;
-                Ok(())
-            }
-            Line::Show => {
-                self.show()?;
-                Ok(())
-            }
-            Line::Faulty { member } => {
-                self.declare_faulty(*member)?;
-                Ok(())
-            }
-            Line::Rogue { client } => {
-                self.declare_rogue(*client)?;
-                Ok(())
-            }
-            Line::Inject(form) => {
-                self.inject(form)?;
-                Ok(())
-            }
-        }
+/// Plays a line of a script.
+#[tactic(auto, unfolding(world_rules::specs::Plays::line_played))]
+pub fn play<S: Service>(world: &mut WorldState<S>, line: &Line) -> Result<(), AllocError>
+    ensures { OnOk result (world.new ≡ line_played (core_course S.meaning) world.old line.now) }
+{
+    match line {
+        Line::Nothing => Ok(()),
+        Line::Ask { client, op } => ask(world, client.get() as usize, op),
+        Line::Again { client } => repeat(world, client.get() as usize),
+        Line::Tell { from, to } => tell_client(world, from.get() as usize, to.get() as usize),
+        Line::Flow { members } => flow(world, members.as_slice()),
+        Line::Give { number, to } => give_number(world, *number, to.as_slice()),
+        Line::Deliver { members } => deliver(world, members.as_slice()),
+        Line::Tick { members } => tick(world, members.as_slice()),
+        Line::Disk { member, count } => call_member(world, *member, *count),
+        Line::Crash {
+            member,
+            image,
+            patches,
+        } => crash_member(world, *member, *image, patches.as_slice()),
+        Line::CrashAll { image } => crash_all(world, *image),
+        Line::Restart { member } => restart_member(world, *member),
+        Line::RestartAll => restart_all(world),
+        Line::Settle { member } => settle_member(world, *member),
+        Line::SettleAll => settle_all(world, &[]),
+        Line::Show => show(world),
+        Line::Faulty { member } => declare_faulty(world, *member),
+        Line::Rogue { client } => declare_rogue(world, *client),
+        Line::Inject(form) => inject(world, form),
     }
 }

@@ -6,21 +6,22 @@ ghost use Rattle.world_rules.specs.Plays.{is_there, line_played, rested, IsPlay}
 ghost use Rattle.world_rules.specs.declared.message.Ending.TheVariants as endings;
 ghost use Rattle.world_rules.specs.declared.message.Premise.{Premise};
 
-use crate::host::Host;
-use crate::state::WorldState;
+use crate::lines;
 use client_quorum::client::Acceptance;
 use node_rules::node::Delivery;
 use smart_base::duplicate::Duplicate;
 use smart_base::name::MemberId;
 use smart_base::sequence::Sequence;
 use smart_base::view::View;
-use smart_messages::batch::Batch;
 use smart_service::service::Service;
+use smart_statements::batch::Batch;
 use std::alloc::{AllocError, Global};
 use std::marker::Model;
 use vote_book::entry::LogEntry;
+use world_hosts::host::Host;
 use world_rules::line::{Line, OutLine};
 use world_rules::message::{Ending, Premise, Sent};
+use world_state::state::WorldState;
 
 /// Why a line was not played to its end. The play is over then, unless the line was not begun.
 #[derive(Clone, Copy, Debug, PartialEq, Eq)]
@@ -47,12 +48,22 @@ impl From<AllocError> for WorldEnd {
 }
 
 /// The play of a script over a service: the world, and the lines that it stands for.
-#[derive(Drop)]
 pub struct World<S: Service> {
     group: View,
     lines: Sequence<Line>,
     state: WorldState<S>,
     over: bool,
+}
+
+impl<S: Service> Drop for World<S> {
+    fn drop(self) {
+        let World {
+            group: _group,
+            lines: _lines,
+            state: _state,
+            over: _over,
+        } = self;
+    }
 }
 
 impl<S: Service> Model for World<S> {
@@ -96,11 +107,11 @@ impl<S: Service> World<S> {
         ensures premise { (which : Premise) → IsErrOf result (WorldEnd.Premise which) → (line_played (core_course S.meaning) self.old.world line).ending ≡ Some (endings.Premise which) }
         ensures over { IfErr result (λ end. (end ≡ WorldEnd.Refer → ⊥) → self.new.over ≡ true) }
     {
-        if !self.state.is_there(&line) {
+        if !lines::is_there(&self.state, &line) {
             return Err(WorldEnd::Refer);
         }
         self.over = true;
-        self.state.play(&line)?;
+        lines::play(&mut self.state, &line)?;
         match self.state.ending() {
             Some(Ending::Limit) => return Err(WorldEnd::Limit),
             Some(Ending::Premise(which)) => return Err(WorldEnd::Premise(which)),

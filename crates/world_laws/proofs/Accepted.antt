@@ -2,10 +2,10 @@
 use Rattle.std.proofs.Common.{◌≤◌, ◌&&◌, Bool, true, false, filter, eqb-true, inl, inr, ◌≡◌, ℕ, ◌+◌, ◌<◌, ◌==◌, ◌++◌, List, [], ◌∷◌, length, refl, ap, ◌∙◌, sym, Option, Some, None, subst, append-nil, ◌⊎◌}
 use Rattle.smart_base.specs.Lists.{Each, same_bytes}
 use Rattle.smart_base.specs.Views.{View, quorum}
-use Rattle.smart_messages.specs.Forms.{SignedBy}
-use Rattle.smart_messages.specs.Messages.{Batch}
-use Rattle.smart_messages.specs.declared.statement.Request.{Request}
-use Rattle.smart_messages.specs.declared.statement.Answer.{Answer}
+use Rattle.smart_statements.specs.Forms.{SignedBy}
+use Rattle.smart_statements.specs.Batches.{Batch}
+use Rattle.smart_statements.specs.declared.statement.Request.{Request}
+use Rattle.smart_statements.specs.declared.statement.Answer.{Answer}
 use Rattle.smart_messages.specs.declared.message.Message.TheVariants.{Reply}
 use Rattle.smart_service.specs.Services.{Meaning}
 use Rattle.smart_service.specs.declared.table.TableLine.{TableLine}
@@ -21,11 +21,10 @@ use Rattle.client_quorum.specs.declared.client.Acceptance.{Acceptance}
 use Rattle.client_quorum.specs.declared.client.Heard.{Heard}
 use Rattle.client_quorum.specs.declared.client.Heard.TheVariants as hears
 use Rattle.replica_laws.specs.Lines.{HasLine}
-use Rattle.world_laws.proofs.Lists.{and_true, either, each_end, each_weaker, each_both, each_get, or_true}
-use Rattle.world_laws.proofs.Equal.{same_bytes-equal}
+use Rattle.world_laws.proofs.Lists.{each_get}
 use Rattle.std.proofs.lemmas.Bool.{leb-true}
 use Rattle.std.specs.Prelude.{slice_get}
-use Rattle.smart_messages.specs.Kinds.{answers}
+use Rattle.smart_statements.specs.Kinds.{answers}
 use Rattle.replica_rules.specs.Seals.{is_verified}
 use Rattle.world_rules.specs.Secrets.{group_secret}
 use Rattle.world_rules.specs.Premises.{is_among}
@@ -41,6 +40,10 @@ use Rattle.world_laws.proofs.Asked.{RequestsAsked, StandsRight, stands_right}
 use Rattle.world_laws.proofs.Hearing.{Accepts, accepts_waiting}
 use Rattle.world_laws.proofs.Asking.{ClientsRight}
 use Rattle.world_rules.specs.declared.message.Sent.{Sent}
+use Rattle.smart_base.proofs.SameLists.{and_true}
+use Rattle.agreement_laws.proofs.Lists.{either, each_end, each_both, or_true}
+use Rattle.smart_base.proofs.ViewFacts.{each-weaken}
+use Rattle.vote_book.proofs.Tested.{same_bytes_is}
 
 -- the line of the execution that an accepted reply tells
 abbrev pub line_accepted : Acceptance → TableLine
@@ -83,7 +86,7 @@ unfolding stepped
 told-stepped course m w i h o told =
     let more : List Batch = chosen_with w.chosen (next_place o.node) o.node.waiting in
     keeps-sends_all (AcceptedTold m) h.node.id (λ v held is. told-posts m v (from_node h.node.id held) is) _ (leaving o.node.firm o.node.held)
-    (record { all = each_weaker (IsTold m w.view w.chosen) (IsTold m w.view more) (told-chosen m w.view w.chosen (next_place o.node) o.node.waiting) w.accepted told.all })
+    (record { all = each-weaken (IsTold m w.view w.chosen) (IsTold m w.view more) (told-chosen m w.view w.chosen (next_place o.node) o.node.waiting) w.accepted told.all })
 
 -- a client hears
 
@@ -114,7 +117,7 @@ told_same m v chosen q r a waited same executed =
     let one = and_true (r.view == a.view) (r.place == a.place) two.0 in
     subst (HasLine (executions m v chosen))
     (lines_one (line_told r) (line_accepted (acceptance q a)) (sym (eqb-true q.client r.client own.0)) (sym (eqb-true q.seq r.seq own.1)) (eqb-true r.place a.place one.1)
-    (eqb-true r.index a.index two.1) (eqb-true r.view a.view one.0) (same_bytes-equal r.reply a.reply three.1)) executed
+    (eqb-true r.index a.index two.1) (eqb-true r.view a.view one.0) (same_bytes_is r.reply a.reply three.1)) executed
 
 -- where a member that is not faulty gave a reply, the reply tells an execution
 told_given : {S : Type 0} (m : Meaning S) (w : World S) (q : Request) (a : Answer) (member : ℕ) (replies : List (SignedBy Answer)) → Telling m w → is_among w.faulty member ≡ false

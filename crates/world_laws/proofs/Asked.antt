@@ -7,13 +7,13 @@ use Rattle.std.specs.Option.{option_and_then}
 use Rattle.smart_base.specs.Lists.{Each, same_bytes}
 use Rattle.smart_base.specs.Views.{View, is_view}
 use Rattle.smart_base.specs.declared.party.Party.TheVariants as parties
-use Rattle.smart_messages.specs.Forms.{SignedBy}
-use Rattle.smart_messages.specs.Kinds.{requests}
-use Rattle.smart_messages.specs.Messages.{Batch}
-use Rattle.smart_messages.specs.declared.statement.Request.{Request}
+use Rattle.smart_statements.specs.Forms.{SignedBy}
+use Rattle.smart_statements.specs.Kinds.{requests}
+use Rattle.smart_statements.specs.Batches.{Batch}
+use Rattle.smart_statements.specs.declared.statement.Request.{Request}
 use Rattle.smart_messages.specs.declared.message.Message.TheVariants.{Ask}
 use Rattle.smart_messages.specs.declared.any.AnyMessage.TheVariants.{Plain}
-use Rattle.smart_messages.specs.declared.entry.NodeEvent.{NodeEvent}
+use Rattle.smart_statements.specs.declared.entry.NodeEvent.{NodeEvent}
 use Rattle.smart_service.specs.Services.{Meaning}
 use Rattle.vote_book.specs.Books.{Among}
 use Rattle.vote_book.specs.declared.entry.Decision.{Decision}
@@ -27,7 +27,7 @@ use Rattle.node_rules.specs.Steps.{step_of, leaving}
 use Rattle.node_rules.specs.declared.node.Held.{Held}
 use Rattle.node_rules.specs.declared.node.Target.TheVariants as targets
 use Rattle.agreement_laws.specs.Statements.{Statement, Asked, statements}
-use Rattle.agreement_laws.proofs.Lists.{each_among}
+use Rattle.agreement_laws.proofs.Lists.{each_among, some_equal, either, each_end}
 use Rattle.node_laws.specs.Sound.{IsHeld, IsSound, IsBatchAt, AreAsked, HasBatch, HasDecided}
 use Rattle.node_laws.proofs.Passes.{sound_step}
 use Rattle.client_quorum.specs.Clients.{request_of}
@@ -44,7 +44,7 @@ use Rattle.world_rules.specs.declared.message.Content.{Content}
 use Rattle.world_rules.specs.declared.message.Content.TheVariants as contents
 use Rattle.world_rules.specs.declared.message.Sent.{Sent}
 use Rattle.world_laws.specs.Stated.{stated_in, stated, StatedAsked}
-use Rattle.world_laws.proofs.Lists.{some-equal, and_true, either, each_end, each_weaker, each_get}
+use Rattle.world_laws.proofs.Lists.{each_get}
 use Rattle.world_laws.proofs.Numbered.{EachAt, each_at_end, each_at_get, each_at_weaker}
 use Rattle.world_laws.proofs.Keeps.{IsRead, asked_by, by-posts, MayRead, may_read, KeepsAll, keeps-world_after, signed_by, from_node, from_client, from_script}
 use Rattle.world_laws.proofs.Asks.{sent_ask, asked_end, asked_now, asked_among}
@@ -56,7 +56,10 @@ use Rattle.world_laws.proofs.Unforged.{content_proper, IsOwnStated, fine_own}
 use Rattle.world_laws.proofs.Longer.{secret-step}
 use Rattle.world_laws.proofs.Witnessing.{stated_event, stated-grows, stated-either}
 use Rattle.world_laws.proofs.Chosen.{HostRight, ChosenRight}
-use Rattle.world_laws.proofs.ChosenKept.{asks_alone, chosen-kept, chosen-begun}
+use Rattle.world_laws.proofs.ChosenKept.{asks_alone, chosen-kept, chosen-begun, no_member}
+use Rattle.replica_laws.proofs.Checked.{fits_each}
+use Rattle.smart_base.proofs.SameLists.{and_true}
+use Rattle.smart_base.proofs.ViewFacts.{each-weaken}
 
 -- a request was asked, or its client is rogue
 abbrev pub AskedUnlessRogue : List ℕ → List Sent → Request → Type 0
@@ -98,7 +101,7 @@ asked-sent rogue sent s q asked = asked-more rogue rogue sent (sent ++ s ∷ [])
 good-more : (sent : List Sent) (s : Sent) (chosen : List Batch) → ChosenGood (stated sent) chosen → ChosenGood (stated (sent ++ s ∷ [])) chosen
 good-more sent s chosen good =
     each_at_weaker (λ i batch. Each (Stands (stated sent) (suc i)) batch) (λ i batch. Each (Stands (stated (sent ++ s ∷ [])) (suc i)) batch)
-    (λ i batch each. each_weaker (Stands (stated sent) (suc i)) (Stands (stated (sent ++ s ∷ [])) (suc i)) (λ q is. (stated-grows sent s (Asked q) is.0, is.1)) batch each) chosen good
+    (λ i batch each. each-weaken (Stands (stated sent) (suc i)) (Stands (stated (sent ++ s ∷ [])) (suc i)) (λ q is. (stated-grows sent s (Asked q) is.0, is.1)) batch each) chosen good
 
 -- messages leave
 
@@ -128,14 +131,11 @@ asked-sends_all {S = S} id w (h ∷ hs) each is =
     let s : Sent = from_node id h in
     let after : World S = posts w s in
     asked-sends_all id after hs
-    (each_weaker (λ (x : Held). StatesAsked w.rogue w.sent (contents.Message x.message)) (λ (x : Held). StatesAsked after.rogue after.sent (contents.Message x.message))
+    (each-weaken (λ (x : Held). StatesAsked w.rogue w.sent (contents.Message x.message)) (λ (x : Held). StatesAsked after.rogue after.sent (contents.Message x.message))
     (λ x states. states-posts w s (contents.Message x.message) states) hs each.1)
     (asked-posts w s (λ q there. asked-sent w.rogue w.sent s q.statement (each.0 q there)) tt is)
 
 -- what a node holds states requests that have been stated
-no_member : (i j : ℕ) → parties.Client i ≡ parties.Member j → ⊥
-no_member i j same = cc
-
 held_asked : (id : ℕ) (T : List Statement) (es : List LogEntry) (h : Held) (q : SignedBy Request) → IsHeld group_secret id T es h → Among (Asked q) (statements group_secret h.message) → Among (Asked q) T
 held_asked id T es h q is there =
     ⊎_elim {C = Among (Asked q) T} (λ old. old) (λ own. absurd (no_member q.signer id own.0)) (each_among _ (statements group_secret h.message) (Asked q) is.shown there)
@@ -148,11 +148,6 @@ leaving_asked rogue sent id firm T es (h ∷ hs) asked each =
     (λ q there. asked q (held_asked id T es h q each.0 there), leaving_asked rogue sent id firm T es hs asked each.1) tt
 
 -- a batch is chosen
-
--- of a batch that fits, each request does
-fits_each : (secret : List ℕ) (batch : Batch) (place : ℕ) → fits secret batch place ≡ true → list_all (request_fits secret place) batch ≡ true
-unfolding fits
-fits_each secret batch place is = (and_true _ (list_all (request_fits secret place) batch) (and_true _ _ is).0).1
 
 may_fit : (secret : List ℕ) (place : ℕ) (digest : List ℕ) (batch : Batch) → is_batch_for secret place digest batch ≡ true → list_all (request_fits secret place) batch ≡ true
 unfolding is_batch_for
@@ -176,7 +171,7 @@ waits-stand {S = S} T view n batch shared is at = stand (by n.waiting at is.wait
   where
     by : (waiting : Option Batch) → waiting ≡ Some batch → IfSome waiting (HasDecided n.entries (next_place n)) → HasDecided n.entries (next_place n) batch
     by None at has = absurd (cc)
-    by (Some b) at has = subst (λ (x : Batch). HasDecided n.entries (next_place n) x) (some-equal b batch at) has
+    by (Some b) at has = subst (λ (x : Batch). HasDecided n.entries (next_place n) x) (some_equal b batch at) has
 
     stand : HasDecided n.entries (next_place n) batch → Each (Stands T (next_place n)) batch
     stand has =
@@ -329,7 +324,7 @@ stands_at : {S : Type 0} (w : World S) (place : ℕ) (batch : Batch) (index : �
 stands_at w place batch index q None is good at same = absurd (cc)
 stands_at w place batch index q (Some x) is good at same =
     let own = each_get (Stands (stated w.sent) place) batch index x good at in
-    subst (StandsRight w.rogue w.sent place) (some-equal x.statement q same) (record { asked = is.each x own.0; below = own.1 })
+    subst (StandsRight w.rogue w.sent place) (some_equal x.statement q same) (record { asked = is.each x own.0; below = own.1 })
 
 -- the request at an index of a batch that is found stands right
 stands_found : {S : Type 0} (w : World S) (place : ℕ) (found : Option Batch) (index : ℕ) (q : Request) → RequestsAsked w → ((batch : Batch) → found ≡ Some batch → Each (Stands (stated w.sent) place) batch)

@@ -3,9 +3,9 @@ use Rattle.std.proofs.Common.{◌≡◌, ℕ, zero, suc, ◌+◌, ◌++◌, ◌�
 use Rattle.std.specs.Prelude.{slice_get, slice_set}
 use Rattle.smart_base.specs.Lists.{Each}
 use Rattle.smart_base.specs.Views.{View}
-use Rattle.smart_messages.specs.Forms.{SignedBy}
-use Rattle.smart_messages.specs.declared.statement.Request.{Request}
-use Rattle.smart_messages.specs.declared.statement.Answer.{Answer}
+use Rattle.smart_statements.specs.Forms.{SignedBy}
+use Rattle.smart_statements.specs.declared.statement.Request.{Request}
+use Rattle.smart_statements.specs.declared.statement.Answer.{Answer}
 use Rattle.smart_messages.specs.declared.message.Message.TheVariants.{Ask, Propose, Vote, Reply}
 use Rattle.smart_messages.specs.declared.any.AnyMessage.TheVariants.{Plain, Change}
 use Rattle.smart_service.specs.Services.{Meaning}
@@ -24,13 +24,14 @@ use Rattle.client_quorum.specs.declared.client.Heard.TheVariants as hears
 use Rattle.world_rules.specs.declared.message.Ending.{Ending}
 use Rattle.world_rules.specs.declared.message.Origin.TheVariants as origins
 use Rattle.world_rules.specs.declared.message.Sent.{Sent}
-use Rattle.world_laws.proofs.Lists.{some-equal, each_end, each_weaker}
 use Rattle.world_laws.proofs.Numbered.{EachAt, each_at_get, each_at_weaker, each_at_set}
 use Rattle.world_laws.proofs.Keeps.{ask_of, asked_by, by-posts-ended, KeepsLives, live-world_after, signed_by, from_node, from_client, from_script, keeps-sends_all}
 use Rattle.world_laws.proofs.Asks.{asked_end, asked_now, sent_ask}
 use Rattle.world_laws.proofs.Hearing.{Accepts, accepts_waiting}
 use Rattle.world_rules.specs.declared.message.Content.{Content}
 use Rattle.world_rules.specs.declared.message.Content.TheVariants as contents
+use Rattle.agreement_laws.proofs.Lists.{some_equal, each_end}
+use Rattle.smart_base.proofs.ViewFacts.{each-weaken}
 
 -- a request that waits is its client's last, states no place below those of all that the client accepted, and was asked, unless its message
 -- had no number any more
@@ -114,7 +115,7 @@ right-sent sent sent' ending ending' clients accepted forth back on is =
           })
           clients is.each;
       one = λ q r asked_q asked_r. is.one q r (back q asked_q) (back r asked_r);
-      asked = each_weaker (λ (a : Acceptance). HasAsked sent a.request) (λ (a : Acceptance). HasAsked sent' a.request) (λ a asked. forth a.request asked) accepted is.asked;
+      asked = each-weaken (λ (a : Acceptance). HasAsked sent a.request) (λ (a : Acceptance). HasAsked sent' a.request) (λ a asked. forth a.request asked) accepted is.asked;
       rising = is.rising;
     }
 
@@ -152,7 +153,7 @@ right-ask sent sent' ending ending' clients accepted i c op at forth back now on
           is.each
           (record {
             id = own.id;
-            waits = λ q waits. subst (Waits sent' ending' accepted i (c.last + 1)) (some-equal new q waits) (record { client = own.id; seq = refl; after = own.seen; asked = now });
+            waits = λ q waits. subst (Waits sent' ending' accepted i (c.last + 1)) (some_equal new q waits) (record { client = own.id; seq = refl; after = own.seen; asked = now });
             last = λ q asked is_i. elim (back q asked) [ inl before ↦ more (own.last q before is_i) | inr same ↦ last_is (ap (λ (r : Request). r.seq) same) ];
             seen = own.seen;
           });
@@ -167,7 +168,7 @@ right-ask sent sent' ending ending' clients accepted i c op at forth back now on
               | inr r_new ↦ q_new ∙ sym r_new
             ]
           ];
-      asked = each_weaker (λ (a : Acceptance). HasAsked sent a.request) (λ (a : Acceptance). HasAsked sent' a.request) (λ a asked. forth a.request asked) accepted is.asked;
+      asked = each-weaken (λ (a : Acceptance). HasAsked sent a.request) (λ (a : Acceptance). HasAsked sent' a.request) (λ a asked. forth a.request asked) accepted is.asked;
       rising = is.rising;
     }
   where
@@ -240,13 +241,13 @@ right-accept sent ending clients accepted i c a q at waits on is =
             waits = λ r none. absurd (no_request r none);
             last = own.last;
             seen = each_end (λ (b : Acceptance). b.request.client ≡ i → b.place ≤ max c.seen a.statement.place) accepted (acceptance q a.statement)
-                (each_weaker (λ (b : Acceptance). b.request.client ≡ i → b.place ≤ c.seen) (λ (b : Acceptance). b.request.client ≡ i → b.place ≤ max c.seen a.statement.place) (λ b low is_i. higher (low is_i)) accepted own.seen)
+                (each-weaken (λ (b : Acceptance). b.request.client ≡ i → b.place ≤ c.seen) (λ (b : Acceptance). b.request.client ≡ i → b.place ≤ max c.seen a.statement.place) (λ b low is_i. higher (low is_i)) accepted own.seen)
                 (λ is_i. highest);
           });
       one = is.one;
       asked = each_end (λ (b : Acceptance). HasAsked sent b.request) accepted (acceptance q a.statement) is.asked (old.asked on);
       rising = rises_end accepted (acceptance q a.statement) is.rising
-          (each_weaker (λ (b : Acceptance). b.request.client ≡ i → b.place ≤ q.after) (λ (b : Acceptance). q.client ≡ b.request.client → b.place ≤ q.after)
+          (each-weaken (λ (b : Acceptance). b.request.client ≡ i → b.place ≤ q.after) (λ (b : Acceptance). q.client ≡ b.request.client → b.place ≤ q.after)
           (λ b low same. low (sym same ∙ old.client)) accepted old.after);
     }
   where
@@ -303,7 +304,7 @@ right-learn sent ending clients accepted i c place at is =
             id = own.id;
             waits = own.waits;
             last = own.last;
-            seen = each_weaker (λ (a : Acceptance). a.request.client ≡ i → a.place ≤ c.seen) (λ (a : Acceptance). a.request.client ≡ i → a.place ≤ max c.seen place)
+            seen = each-weaken (λ (a : Acceptance). a.request.client ≡ i → a.place ≤ c.seen) (λ (a : Acceptance). a.request.client ≡ i → a.place ≤ max c.seen place)
                 (λ a low is_i. higher (low is_i)) accepted own.seen;
           });
       one = is.one;

@@ -1,7 +1,7 @@
 -- Who asks a request.
 use Rattle.std.proofs.Common.{◌++◌, List, [], ◌∷◌, refl, Some, inl, inr, sym}
-use Rattle.smart_messages.specs.Kinds.{requests}
-use Rattle.smart_messages.specs.declared.statement.Request.{Request}
+use Rattle.smart_statements.specs.Kinds.{requests}
+use Rattle.smart_statements.specs.declared.statement.Request.{Request}
 use Rattle.smart_messages.specs.declared.message.Message.TheVariants.{Ask}
 use Rattle.smart_messages.specs.declared.any.AnyMessage.TheVariants.{Plain}
 use Rattle.replica_rules.specs.Seals.{signed}

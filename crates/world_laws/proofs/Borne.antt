@@ -16,8 +16,8 @@ use Rattle.std.specs.Prelude.{slice_get, slice_set}
 use Rattle.smart_base.specs.Lists.{Each}
 use Rattle.smart_base.specs.Views.{View, is_view}
 use Rattle.smart_messages.specs.declared.any.AnyMessage.{AnyMessage}
-use Rattle.smart_messages.specs.declared.entry.NodeEvent.{NodeEvent}
-use Rattle.smart_messages.specs.declared.entry.NodeEvent.TheVariants.{Arrive, Tick, Deliver, Firm}
+use Rattle.smart_statements.specs.declared.entry.NodeEvent.{NodeEvent}
+use Rattle.smart_statements.specs.declared.entry.NodeEvent.TheVariants.{Arrive, Tick, Deliver, Firm}
 use Rattle.smart_service.specs.Services.{Meaning}
 use Rattle.vote_book.specs.declared.entry.LogEntry.{LogEntry}
 use Rattle.node_rules.specs.Nodes.{Node}
@@ -38,9 +38,11 @@ use Rattle.replica_laws.proofs.Leaving.{leaving_rest}
 use Rattle.replica_laws.proofs.Onward.{rests-more, NodeRests, Onward, onward-step, rests-released, rests-opened, Longer, longer-append}
 use Rattle.world_laws.specs.Sending.{IsRested, Bears, IsBorneAt, IsBorne, SentFirm, IsOwnSent}
 use Rattle.world_laws.specs.Settling.{flow_begins, flow_goes, message_goes, node_goes, settles_present}
-use Rattle.world_laws.proofs.Lists.{either, some-equal, each_end, each_weaker, each_set, each_get, repeated_keeps, each_from_keeps, either_by}
+use Rattle.world_laws.proofs.Lists.{each_set, each_get, repeated_keeps, each_from_keeps}
 use Rattle.world_laws.proofs.Stores.{Fits, IsTold, may-told, firm-grows, fits-called, fits-stepped, fits-opened}
-use Rattle.world_laws.proofs.Keeps.{after_call, called, ask_of, asked_by, by-posts, Keeps, KeepsLive, live, keeps-world_after, live-settle_once, live-settle, live-settle_all, live-flow_once, at_listed-keeps, signed_by, from_node, from_client, from_script, live-settles_present, IsDown, KeepsAll, with_host, node_resumed, entries_left, is-up, not_false}
+use Rattle.world_laws.proofs.Keeps.{after_call, called, ask_of, asked_by, by-posts, Keeps, KeepsLive, live, keeps-world_after, live-settle_once, live-settle, live-settle_all, live-flow_once, at_listed-keeps, signed_by, from_node, from_client, from_script, live-settles_present, IsDown, KeepsAll, with_host, node_resumed, entries_left, is-up}
+use Rattle.agreement_laws.proofs.Lists.{either, some_equal, each_end, either_by, not_false}
+use Rattle.smart_base.proofs.ViewFacts.{each-weaken}
 
 -- worlds
 
@@ -84,7 +86,7 @@ borne-sends_all id w [] each is = is
 borne-sends_all {S = S} id w (h ∷ hs) each is =
     let next : World S = posts w (from_node id h) in
     borne-sends_all id next hs
-    (each_weaker (LeavesRight id w.hosts) (LeavesRight id next.hosts) (λ x right. (right.0, borne-stays w (from_node id h) (origins.Node id) (contents.Message x.message) right.1)) hs each.1)
+    (each-weaken (LeavesRight id w.hosts) (LeavesRight id next.hosts) (λ x right. (right.0, borne-stays w (from_node id h) (origins.Node id) (contents.Message x.message) right.1)) hs each.1)
     (borne-posts w (from_node id h) each.0.0 each.0.1 is)
 
 -- a host in another's place
@@ -93,7 +95,7 @@ borne-sends_all {S = S} id w (h ∷ hs) each is =
 borne_set : {S : Type 0} (id : ℕ) (x : Content) (hs : List (Host S)) (i : ℕ) (h h' : Host S) → slice_get hs i ≡ Some h → (Bears id x h → Bears id x h') → IsBorneAt hs id x → IsBorneAt (slice_set hs i h') id x
 borne_set id x [] i h h' at more is = absurd (cc)
 borne_set {S = S} id x (y ∷ hs) zero h h' at more is =
-    ⊎_elim {C = IsBorneAt (h' ∷ hs) id x} (λ here. inl (more (subst (λ (g : Host S). Bears id x g) (some-equal y h at) here))) (λ later. inr later) is
+    ⊎_elim {C = IsBorneAt (h' ∷ hs) id x} (λ here. inl (more (subst (λ (g : Host S). Bears id x g) (some_equal y h at) here))) (λ later. inr later) is
 borne_set {S = S} id x (y ∷ hs) (suc i) h h' at more is =
     ⊎_elim {C = IsBorneAt (y ∷ slice_set hs i h') id x} (λ here. inl here) (λ later. inr (borne_set id x hs i h h' at more later)) is
 
@@ -130,7 +132,7 @@ borne-with {S = S} w i h h' at same more rests is = record {
   hosts = each_set HostRests w.hosts i h' is.hosts rests;
   sent = record {
     own = is.sent.own;
-    borne = each_weaker (λ (s : Sent). IsBorne w.hosts s.origin s.content) (λ (s : Sent). IsBorne (slice_set w.hosts i h') s.origin s.content)
+    borne = each-weaken (λ (s : Sent). IsBorne w.hosts s.origin s.content) (λ (s : Sent). IsBorne (slice_set w.hosts i h') s.origin s.content)
         (λ s borne. borne-set w.hosts i h h' at same more s.origin s.content borne) w.sent is.sent.borne;
   };
 }
@@ -175,7 +177,7 @@ borne-event {S = S} m w i h event up at told is =
     let new : HostRests h' = rests-after m h event up later rests in
     let b : Borne (with_host w i h') = borne-with w i h h' at later.id (longer-append h.life.diary (drop (length h.life.diary) (take o.node.firm o.node.entries))) new is in
     borne-sends_all h.node.id _ (leaving o.node.firm o.node.held)
-    (each_weaker (λ (x : Held). IsOwn o.node.id x.to x.message × RestsOn (take o.node.firm o.node.entries) x.message)
+    (each-weaken (λ (x : Held). IsOwn o.node.id x.to x.message × RestsOn (take o.node.firm o.node.entries) x.message)
     (LeavesRight h.node.id (slice_set w.hosts i h'))
     (λ x right. (
       subst (λ (k : ℕ). IsOwn k x.to x.message) later.id right.0,

@@ -3,7 +3,7 @@ use Rattle.std.proofs.Common.{◌≡◌, ℕ, suc, ◌+◌, ◌≤◌, ◌++◌,
 use Rattle.std.specs.Prelude.{slice_get}
 use Rattle.smart_base.specs.Lists.{Each}
 use Rattle.smart_base.specs.Views.{View}
-use Rattle.smart_messages.specs.Messages.{Batch}
+use Rattle.smart_statements.specs.Batches.{Batch}
 use Rattle.replica_rules.specs.Seals.{digest_of}
 use Rattle.agreement_laws.specs.Statements.{Statement}
 use Rattle.agreement_laws.specs.Certificates.{IsDecision}
@@ -11,10 +11,10 @@ use Rattle.certificates.specs.Certificates.{accept_of}
 use Rattle.certificates.specs.Collects.{slot_of}
 use Rattle.agreement_laws.proofs.Growing.{IsDrawn-more}
 use Rattle.world_rules.specs.Secrets.{group_secret}
-use Rattle.smart_messages.specs.Forms.{SignedBy}
-use Rattle.smart_messages.specs.declared.statement.Ballot.{Ballot}
+use Rattle.smart_statements.specs.Forms.{SignedBy}
+use Rattle.smart_statements.specs.declared.statement.Ballot.{Ballot}
 use Rattle.world_laws.specs.Stated.{Certified, AllCertified}
-use Rattle.world_laws.proofs.Lists.{some-equal}
+use Rattle.agreement_laws.proofs.Lists.{some_equal}
 
 -- two decisions of one place have one digest, whatever their regencies
 pub record DecidesOnce (stated : List Statement) (view : View) : Type 0 where
@@ -61,7 +61,7 @@ pub certified-get : (stated : List Statement) (view : View) (place : ℕ) (bs : 
 certified-get stated view place [] i b all at = absurd (cc)
 certified-get stated view place (x ∷ bs) zero b all at =
     let e : place ≡ 0 + place = omega arith in
-    subst (λ (k : ℕ). Certified stated view k (digest_of b)) e (subst (λ (y : Batch). Certified stated view place (digest_of y)) (some-equal x b at) all.0)
+    subst (λ (k : ℕ). Certified stated view k (digest_of b)) e (subst (λ (y : Batch). Certified stated view place (digest_of y)) (some_equal x b at) all.0)
 certified-get stated view place (x ∷ bs) (suc i) b all at =
     let e : i + suc place ≡ suc i + place = omega arith in
     subst (λ (k : ℕ). Certified stated view k (digest_of b)) e (certified-get stated view (suc place) bs i b all.1 at)

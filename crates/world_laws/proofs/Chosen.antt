@@ -3,7 +3,7 @@ use Rattle.std.proofs.Common.{◌≡◌, ◌⊎◌, inl, inr, ℕ, suc, ◌+◌,
 use Rattle.std.specs.Prelude.{map, slice_get, IfSome}
 use Rattle.smart_base.specs.Lists.{Each}
 use Rattle.smart_base.specs.Views.{View, is_view}
-use Rattle.smart_messages.specs.Messages.{Batch}
+use Rattle.smart_statements.specs.Batches.{Batch}
 use Rattle.smart_service.specs.Services.{Meaning}
 use Rattle.vote_book.specs.declared.entry.Decision.{Decision}
 use Rattle.vote_book.specs.declared.entry.LogEntry.{LogEntry}
@@ -16,12 +16,12 @@ use Rattle.agreement_laws.specs.Fronts.{IsFront}
 use Rattle.agreement_laws.specs.Statements.{Statement}
 use Rattle.agreement_laws.specs.Certificates.{IsBacked, IsDecision}
 use Rattle.agreement_laws.specs.Law.{Witnessed}
-use Rattle.agreement_laws.proofs.Lists.{each_among}
+use Rattle.agreement_laws.proofs.Lists.{each_among, either, either_by, some_equal}
 use Rattle.agreement_laws.proofs.Regencies.{decided_once}
 use Rattle.node_laws.specs.Sound.{IsWithin, IsSound, HasDecided}
 use Rattle.node_laws.proofs.More.{sound_more}
 use Rattle.node_laws.specs.Restored.{IsSoundBook}
-use Rattle.node_laws.proofs.Restored.{book_sound, front_sound, front_decided, book_more}
+use Rattle.node_laws.proofs.Restored.{book_sound, front_sound, front_decided, book_more, decided_append}
 use Rattle.world_rules.specs.Secrets.{group_secret}
 use Rattle.world_rules.specs.Premises.{is_among, too_many}
 use Rattle.world_rules.specs.Worlds.{Host, World, chosen_with}
@@ -29,18 +29,18 @@ use Rattle.node_rules.specs.Deliveries.{AtPlaces}
 use Rattle.world_rules.specs.declared.message.Sent.{Sent}
 use Rattle.node_rules.specs.Reopening.{decided_of}
 use Rattle.replica_laws.specs.Books.{DeliversInOrder}
-use Rattle.replica_laws.proofs.InOrder.{get-end}
 use Rattle.replica_laws.proofs.Follows.{DecidesNext, WasDue}
 use Rattle.world_laws.specs.Stated.{stated_in, stated, diary, Certified, AllCertified}
 use Rattle.world_laws.proofs.Stores.{Fits}
 use Rattle.world_laws.proofs.Lives.{Lasts}
 use Rattle.world_laws.proofs.Few.{FewHost, few-sent}
-use Rattle.world_laws.proofs.Lists.{each_weaker, either, either_by, some-equal}
 use Rattle.world_laws.proofs.Fronts.{front-same, front-append, front-length, front-get, front-batch_at, batch_at-next}
 use Rattle.world_laws.proofs.Certified.{DecidesOnce, Exact, certified-front, all_certified_more, certified-end, certified-get}
 use Rattle.world_laws.proofs.Grounded.{EntryMet, NodeMet, Grounded}
 use Rattle.world_laws.proofs.Witnessing.{HostStands, witnessing, AllShown, stated-end, stated-grows, among-all}
 use Rattle.world_laws.proofs.Unforged.{Unforged}
+use Rattle.vote_book.proofs.Reports.{get_last}
+use Rattle.smart_base.proofs.ViewFacts.{each-weaken}
 
 -- a batch that was delivered is the list's batch at its place
 abbrev pub DeliveredIs : List Batch → Delivery → Type 0
@@ -145,19 +145,7 @@ waits-certified {S = S} T view n batch shared is at = entry-certified T view n (
   where
     by : (waiting : Option Batch) → waiting ≡ Some batch → IfSome waiting (HasDecided n.entries (next_place n)) → HasDecided n.entries (next_place n) batch
     by None at has = absurd (cc)
-    by (Some b) at has = subst (λ (x : Batch). HasDecided n.entries (next_place n) x) (some-equal b batch at) has
-
--- what a longer book decides
-decided-more : (es more : List LogEntry) → decided_of (es ++ more) ≡ decided_of es ++ decided_of more
-decided-more [] more = refl
-decided-more (Opened o ∷ es) more = decided-more es more
-decided-more (Wrote w ∷ es) more = decided-more es more
-decided-more (Accepted a ∷ es) more = decided-more es more
-decided-more (Promised p ∷ es) more = decided-more es more
-decided-more (Synced s ∷ es) more = decided-more es more
-decided-more (Decided d ∷ es) more = ap (λ (bs : List Batch). d.batch ∷ bs) (decided-more es more)
-decided-more (Installed i ∷ es) more = decided-more es more
-decided-more (Marked m ∷ es) more = decided-more es more
+    by (Some b) at has = subst (λ (x : Batch). HasDecided n.entries (next_place n) x) (some_equal b batch at) has
 
 -- nothing, or one value
 one_or_none : (bs : List Batch) → length bs ≤ 1 → (bs ≡ []) ⊎ ((b : Batch) × (bs ≡ b ∷ []))
@@ -170,7 +158,7 @@ pub decided-step : {S : Type 0} (T : List Statement) (m : Meaning S) (view : Vie
     → AllCertified T view 1 (decided_of n.entries) → AllCertified T view 1 (decided_of n'.entries)
 decided-step {S = S} T m view n n' shared is book next order all =
     let more : List Batch = decided_of book.rest in
-    let whole : decided_of n'.entries ≡ decided_of n.entries ++ more = ap decided_of book.is ∙ decided-more n.entries book.rest in
+    let whole : decided_of n'.entries ≡ decided_of n.entries ++ more = ap decided_of book.is ∙ decided_append n.entries book.rest in
     let long : length (decided_of n'.entries) ≡ length (decided_of n.entries) + length more = ap (λ (bs : List Batch). length bs) whole ∙ length-append (decided_of n.entries) more in
     subst (λ (bs : List Batch). AllCertified T view 1 bs) (sym whole) (by more whole long n'.waiting refl (one_or_none more (omega (arith, next.most, long))))
   where
@@ -187,8 +175,8 @@ decided-step {S = S} T m view n n' shared is book next order all =
         let place : length (decided_of n.entries) ≡ n'.replica.place = omega (arith, full, long, longer) in
         let last : slice_get (decided_of n'.entries) n'.replica.place ≡ Some one.0 =
         ap (λ (bs : List Batch). slice_get bs n'.replica.place) (whole ∙ ap (λ (bs : List Batch). decided_of n.entries ++ bs) one.1)
-        ∙ (ap (λ (k : ℕ). slice_get (decided_of n.entries ++ one.0 ∷ []) k) (sym place) ∙ get-end (decided_of n.entries) one.0) in
-        let same : batch ≡ one.0 = some-equal batch one.0 (sym at ∙ (order.waiting ∙ last)) in
+        ∙ (ap (λ (k : ℕ). slice_get (decided_of n.entries ++ one.0 ∷ []) k) (sym place) ∙ get_last (decided_of n.entries) one.0) in
+        let same : batch ≡ one.0 = some_equal batch one.0 (sym at ∙ (order.waiting ∙ last)) in
         let c : Certified T view (next_place n') (digest_of batch) = waits-certified T view n' batch shared is at in
         let here : Certified T view (length (decided_of n.entries) + 1) (digest_of one.0) =
         subst (λ (b : Batch). Certified T view (length (decided_of n.entries) + 1) (digest_of b)) same
@@ -201,7 +189,7 @@ decided-step {S = S} T m view n n' shared is book next order all =
 pub right-witnessed : {S : Type 0} (m : Meaning S) (w : World S) → WorldRight m w → Witnessed group_secret digest_of w.view (is_among w.faulty) (diary w) (stated w.sent)
 right-witnessed {S = S} m w r =
     witnessing w r.viewed r.few
-    (each_weaker (HostRight w.sent m w.view w.chosen) (HostStands (stated w.sent) w.view) (λ h right. record { lawful = right.diary.sound.lawful; backed = right.diary.sound.backed }) w.hosts r.right)
+    (each-weaken (HostRight w.sent m w.view w.chosen) (HostStands (stated w.sent) w.view) (λ h right. record { lawful = right.diary.sound.lawful; backed = right.diary.sound.backed }) w.hosts r.right)
     r.ids r.shown
 
 -- so a place has one decision
@@ -258,8 +246,8 @@ host_longer sent m view chosen more front h r =
       within = omega (arith, r.within, front-length chosen more front);
       count = r.count;
       places = r.places;
-      agrees = each_weaker (DeliveredIs chosen) (DeliveredIs more) (λ d at. front-batch_at chosen more d.place d.batch front at) h.delivered r.agrees;
-      earlier = each_weaker (DeliveredIs chosen) (DeliveredIs more) (λ d at. front-batch_at chosen more d.place d.batch front at) h.earlier r.earlier;
+      agrees = each-weaken (DeliveredIs chosen) (DeliveredIs more) (λ d at. front-batch_at chosen more d.place d.batch front at) h.delivered r.agrees;
+      earlier = each-weaken (DeliveredIs chosen) (DeliveredIs more) (λ d at. front-batch_at chosen more d.place d.batch front at) h.earlier r.earlier;
       diary = book_longer sent view chosen more front h.life.diary r.diary;
       aside = book_longer sent view chosen more front h.life.aside r.aside;
       few = r.few;

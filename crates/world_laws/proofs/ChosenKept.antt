@@ -1,5 +1,4 @@
 -- Each event of a world keeps the list of chosen batches right.
-use Rattle.replica_laws.specs.Sending.{ForEvent}
 use Rattle.replica_laws.proofs.Sources.{HasSource}
 use Rattle.durable_store.specs.Restored.{Images, restores}
 use Rattle.durable_store.specs.Standing.{MayLeave}
@@ -17,15 +16,15 @@ use Rattle.smart_base.specs.Lists.{Each, Distinct}
 use Rattle.smart_base.specs.Views.{View, is_view}
 use Rattle.smart_base.specs.declared.party.Party.{Party}
 use Rattle.smart_base.specs.declared.party.Party.TheVariants as parties
-use Rattle.smart_messages.specs.Forms.{SignedBy}
-use Rattle.smart_messages.specs.Kinds.{requests}
-use Rattle.smart_messages.specs.Messages.{Batch}
-use Rattle.smart_messages.specs.declared.statement.Request.{Request}
-use Rattle.smart_messages.specs.declared.statement.Answer.{Answer}
+use Rattle.smart_statements.specs.Forms.{SignedBy}
+use Rattle.smart_statements.specs.Kinds.{requests}
+use Rattle.smart_statements.specs.Batches.{Batch}
+use Rattle.smart_statements.specs.declared.statement.Request.{Request}
+use Rattle.smart_statements.specs.declared.statement.Answer.{Answer}
 use Rattle.smart_messages.specs.declared.message.Message.TheVariants.{Ask}
 use Rattle.smart_messages.specs.declared.any.AnyMessage.TheVariants.{Plain}
-use Rattle.smart_messages.specs.declared.entry.NodeEvent.{NodeEvent}
-use Rattle.smart_messages.specs.declared.entry.NodeEvent.TheVariants.{Arrive, Tick, Deliver, Firm}
+use Rattle.smart_statements.specs.declared.entry.NodeEvent.{NodeEvent}
+use Rattle.smart_statements.specs.declared.entry.NodeEvent.TheVariants.{Arrive, Tick, Deliver, Firm}
 use Rattle.smart_service.specs.Services.{Meaning}
 use Rattle.vote_book.specs.Books.{Among}
 use Rattle.replica_rules.specs.Replicas.{state, batch_at}
@@ -35,9 +34,9 @@ use Rattle.node_rules.specs.Steps.{Outcome, made_firm, step_of, leaving, opened}
 use Rattle.node_rules.specs.declared.node.Held.{Held}
 use Rattle.agreement_laws.specs.Fronts.{IsFront}
 use Rattle.agreement_laws.specs.Statements.{Statement, Asked, signer_of, within}
-use Rattle.agreement_laws.proofs.Lists.{among_flat}
+use Rattle.agreement_laws.proofs.Lists.{among_flat, each_append, each_both, some_equal}
 use Rattle.vote_book.specs.declared.entry.LogEntry.{LogEntry}
-use Rattle.smart_base.proofs.ViewFacts.{view-distinct}
+use Rattle.smart_base.proofs.ViewFacts.{view-distinct, each-weaken}
 use Rattle.client_quorum.specs.Clients.{request_of}
 use Rattle.node_laws.specs.Sound.{IsHeld, IsSound}
 use Rattle.node_laws.proofs.Passes.{sound_step, sound_released, sound_opened}
@@ -61,7 +60,7 @@ use Rattle.replica_laws.proofs.InOrder.{in_order-step, in_order-released, in_ord
 use Rattle.replica_laws.proofs.Follows.{next-step, WasDue, due-step}
 use Rattle.replica_laws.proofs.Counted.{places-append, advances-step}
 use Rattle.world_laws.specs.Stated.{HasDiary, stated_in, stated, AllCertified, IsWitnessed}
-use Rattle.world_laws.proofs.Lists.{each_append, each_weaker, each_both, each_set, each_get, some-equal}
+use Rattle.world_laws.proofs.Lists.{each_set, each_get}
 use Rattle.world_laws.proofs.Keeps.{after_call, IsRead, called, ask_of, asked_by, by-posts, Keeps, keeps-world_after, ReadsSent, MayRead, may_read, signed_by, from_node, from_client, from_script, IsDown, KeepsAll, with_host, entries_left, node_resumed}
 use Rattle.replica_laws.proofs.FitNodes.{IsBrief}
 use Rattle.world_laws.proofs.NoClash.{IsMet}
@@ -75,6 +74,7 @@ use Rattle.world_laws.proofs.Longer.{front_same, Longer, longer-step}
 use Rattle.world_laws.proofs.Stores.{Fits, IsTold, may-told, firm-grows, fits-stepped, fits-opened, firm-heard}
 use Rattle.world_laws.proofs.Witnessing.{stated_event, stated-grows, StatesShown, ShowsOwn, Firmer, firm_of, shown-faulty, shown-sent, shown-set, leave_shown}
 use Rattle.world_laws.proofs.Chosen.{DeliveredIs, HostRight, WorldRight, Based, ChosenRight, chosen-front, within-step, certified-step, decided-step, right-witnessed, right-once, host-front, waiting-at, due-agrees, host_longer, certified_sent, host_sent, BookRight, front_right, book_longer, none_right}
+use Rattle.node_rules.proofs.Rulewise.{ForEvent}
 
 -- messages leave
 
@@ -84,7 +84,7 @@ right-posts {S = S} m w s states r =
     by-posts (λ (v : World S). WorldRight m v) w s
     (λ ending. record { right = r.right; ids = r.ids; viewed = r.viewed; certified = r.certified; few = r.few; shown = r.shown; short = r.short })
     (λ free room. record {
-      right = each_weaker (HostRight w.sent m w.view w.chosen) (HostRight (w.sent ++ s ∷ []) m w.view w.chosen) (host_sent w.sent s m w.view w.chosen) w.hosts r.right;
+      right = each-weaken (HostRight w.sent m w.view w.chosen) (HostRight (w.sent ++ s ∷ []) m w.view w.chosen) (host_sent w.sent s m w.view w.chosen) w.hosts r.right;
       ids = r.ids;
       viewed = r.viewed;
       certified = certified_sent w.sent s w.view 1 w.chosen r.certified;
@@ -106,13 +106,12 @@ right-sends_all m id w [] each r = r
 right-sends_all {S = S} m id w (h ∷ hs) each r =
     let next : World S = posts w (from_node id h) in
     right-sends_all m id next hs
-    (each_weaker (λ (x : Held). StatesShown w.faulty (stated w.sent) w.hosts (contents.Message x.message)) (λ (x : Held). StatesShown next.faulty (stated next.sent) next.hosts (contents.Message x.message))
+    (each-weaken (λ (x : Held). StatesShown w.faulty (stated w.sent) w.hosts (contents.Message x.message)) (λ (x : Held). StatesShown next.faulty (stated next.sent) next.hosts (contents.Message x.message))
     (λ x states. states-posts w (from_node id h) (contents.Message x.message) states) hs each.1)
     (right-posts m w (from_node id h) each.0 r)
 
--- who is no member
-
-no_member : (i j : ℕ) → parties.Client i ≡ parties.Member j → ⊥
+-- a client is no member
+pub no_member : (i j : ℕ) → parties.Client i ≡ parties.Member j → ⊥
 no_member i j same = cc
 
 -- a client's statement is no member's
@@ -163,7 +162,7 @@ host-met w i h at g = (each_get (HostMet (IsMet w.sent)) w.hosts i h g.hosts at)
 -- hosts keep their names
 ids-set : {S : Type 0} (hs : List (Host S)) (i : ℕ) (h h' : Host S) → slice_get hs i ≡ Some h → h'.node.id ≡ h.node.id → map (λ y. y.node.id) (slice_set hs i h') ≡ map (λ y. y.node.id) hs
 ids-set [] i h h' at same = absurd (cc)
-ids-set {S = S} (x ∷ hs) zero h h' at same = ap (λ y. y ∷ map (λ z. z.node.id) hs) (same ∙ sym (ap (λ (z : Host S). z.node.id) (some-equal x h at)))
+ids-set {S = S} (x ∷ hs) zero h h' at same = ap (λ y. y ∷ map (λ z. z.node.id) hs) (same ∙ sym (ap (λ (z : Host S). z.node.id) (some_equal x h at)))
 ids-set (x ∷ hs) (suc i) h h' at same = ap (λ ys. x.node.id ∷ ys) (ids-set hs i h h' at same)
 
 -- a host's node takes an event
@@ -241,10 +240,10 @@ host-stepped {S = S} m w i h event up at may came firm r =
       places = places-append (h.resumed + 1) h.delivered (flat_map delivery_in o.fired) hr.places
           (subst (λ (k : ℕ). AtPlaces k (flat_map delivery_in o.fired)) (omega (arith, hr.count)) (advances-step m h.node event).places);
       agrees = each_append (DeliveredIs more) h.delivered (flat_map delivery_in o.fired)
-          (each_weaker (DeliveredIs w.chosen) (DeliveredIs more) (λ x is. front-batch_at w.chosen more x.place x.batch front is) h.delivered hr.agrees)
-          (each_weaker (WasDue h.node) (DeliveredIs more) (λ x was. front-batch_at w.chosen more x.place x.batch front (due-agrees m w.view w.chosen h.node x hr.order own was))
+          (each-weaken (DeliveredIs w.chosen) (DeliveredIs more) (λ x is. front-batch_at w.chosen more x.place x.batch front is) h.delivered hr.agrees)
+          (each-weaken (WasDue h.node) (DeliveredIs more) (λ x was. front-batch_at w.chosen more x.place x.batch front (due-agrees m w.view w.chosen h.node x hr.order own was))
           (flat_map delivery_in o.fired) (due-step m h.node event));
-      earlier = each_weaker (DeliveredIs w.chosen) (DeliveredIs more) (λ x is. front-batch_at w.chosen more x.place x.batch front is) h.earlier hr.earlier;
+      earlier = each-weaken (DeliveredIs w.chosen) (DeliveredIs more) (λ x is. front-batch_at w.chosen more x.place x.batch front is) h.earlier hr.earlier;
       diary = subst (λ (es : List LogEntry). BookRight w.sent w.view more es) (sym (lasts.up up)) (front_right w.sent w.view more n'.firm n'.entries book);
       aside = book_longer w.sent w.view w.chosen more front h.life.aside hr.aside;
       few = few-after m w.sent h o (few-step m w.sent h event came hr.few) (begun-step m h.node event hr.few.begun) (lasts.up up) hr.few;
@@ -282,7 +281,7 @@ right-event {S = S} m w i h event up at may came firm r =
     (held_as (stated w.sent) h' n' (l.shared ∙ hr.shared) refl refl s.held))
     (record {
       right = each_set (HostRight w.sent m w.view more) w.hosts i h'
-          (each_weaker (HostRight w.sent m w.view w.chosen) (HostRight w.sent m w.view more) (host_longer w.sent m w.view w.chosen more front) w.hosts r.1.right) here;
+          (each-weaken (HostRight w.sent m w.view w.chosen) (HostRight w.sent m w.view more) (host_longer w.sent m w.view w.chosen more front) w.hosts r.1.right) here;
       ids = ids;
       viewed = r.1.viewed;
       certified = certified-step (stated w.sent) m w.view w.chosen n' n'.waiting refl (in_order-step m w.view h.node event hr.order) here.decided r.1.certified;
@@ -369,9 +368,6 @@ keeps-both course P Q k l =
       same = λ w mark told is. (k.same w mark told is.0, l.same w mark told is.1);
     }
 
-pub all-both : {S : Type 0} (course : Course S) (P Q : World S → Type 0) → KeepsAll course P → KeepsAll course Q → KeepsAll course (λ w. P w × Q w)
-all-both course P Q k l = record { kept = keeps-both course P Q k.kept l.kept; resume = λ w i h down at is. (k.resume w i h down at is.0, l.resume w i h down at is.1) }
-
 -- each event keeps the base
 keeps-based : {S : Type 0} (m : Meaning S) → IsBrief m → Keeps (course_of m) Based
 keeps-based m brief = keeps-both (course_of m) Grounded Unforged (keeps-grounded m brief) (keeps-unforged (course_of m)).kept
@@ -433,7 +429,7 @@ right-reads m w r = grounded-reads w r.0.0
 pub chosen-witnessed : {S : Type 0} (m : Meaning S) (w : World S) → ChosenRight m w → IsWitnessed w
 chosen-witnessed {S = S} m w r =
     record {
-      diaries = each_weaker (HostRight w.sent m w.view w.chosen) (λ (h : Host S). HasDiary h) (λ h right. record { up = right.lasts.up; down = λ down. left-restored h (right.lasts.down down) }) w.hosts r.1.right;
+      diaries = each-weaken (HostRight w.sent m w.view w.chosen) (λ (h : Host S). HasDiary h) (λ h right. record { up = right.lasts.up; down = λ down. left-restored h (right.lasts.down down) }) w.hosts r.1.right;
       witnessed = right-witnessed m w r.1;
       chosen = r.1.certified;
     }

@@ -4,7 +4,7 @@ use Rattle.std.proofs.lemmas.List.{drop-map}
 use Rattle.std.proofs.Math.Seq.{drop-append_seam}
 use Rattle.smart_base.specs.Lists.{Each}
 use Rattle.smart_base.specs.Views.{View}
-use Rattle.smart_messages.specs.Messages.{Batch}
+use Rattle.smart_statements.specs.Batches.{Batch}
 use Rattle.smart_service.specs.Services.{Meaning}
 use Rattle.vote_book.specs.Entries.{entry_text, FitsEntry}
 use Rattle.vote_book.specs.declared.entry.LogEntry.{LogEntry}
@@ -25,7 +25,6 @@ use Rattle.world_rules.specs.Secrets.{group_secret}
 use Rattle.world_rules.specs.Worlds.{course_of, Host, host_crashed, host_resumed}
 use Rattle.world_rules.specs.declared.message.Sent.{Sent}
 use Rattle.world_laws.specs.Stated.{stated, AllCertified}
-use Rattle.world_laws.proofs.Lists.{either, each_append}
 use Rattle.world_laws.proofs.Keeps.{entries_left, after_call}
 use Rattle.world_laws.proofs.Stores.{fits-called}
 use Rattle.world_laws.proofs.Lives.{texts, book_left, Lasts, Crashed, crashed, left-restored, held_book, lasts-called, lasts-crashed, Resumed, resumed, lasts-resumed, fits-resumed}
@@ -34,6 +33,7 @@ use Rattle.replica_laws.proofs.Sources.{from-reopened}
 use Rattle.world_laws.proofs.Few.{sources, few-called, few-crashed, begun-reopened, few-book}
 use Rattle.world_laws.proofs.Fitting.{FitHost, spelled-life}
 use Rattle.world_laws.proofs.Chosen.{BookRight, HostRight, DeliveredIs, front_right, none_right, own_right}
+use Rattle.agreement_laws.proofs.Lists.{either, each_append}
 
 -- ---- a device call
 

@@ -4,11 +4,11 @@ use Rattle.std.specs.Prelude.{slice_get, slice_set, option_map}
 use Rattle.std.specs.List.{flat_map, list_all, position_or_len}
 use Rattle.smart_base.specs.Views.{View}
 use Rattle.smart_messages.specs.Messages.{decoded}
-use Rattle.smart_messages.specs.declared.statement.Request.{Request}
+use Rattle.smart_statements.specs.declared.statement.Request.{Request}
 use Rattle.smart_messages.specs.declared.message.Message.{Message}
 use Rattle.smart_messages.specs.declared.message.Message.TheVariants.{Ask, Propose, Vote, Reply}
-use Rattle.smart_messages.specs.declared.entry.NodeEvent.{NodeEvent}
-use Rattle.smart_messages.specs.declared.entry.NodeEvent.TheVariants.{Arrive, Tick, Deliver, Firm}
+use Rattle.smart_statements.specs.declared.entry.NodeEvent.{NodeEvent}
+use Rattle.smart_statements.specs.declared.entry.NodeEvent.TheVariants.{Arrive, Tick, Deliver, Firm}
 use Rattle.smart_service.specs.Services.{Meaning}
 use Rattle.node_rules.specs.Nodes.{Node, next_place}
 use Rattle.node_rules.specs.Steps.{Outcome, step_of, leaving, opened}
@@ -43,11 +43,11 @@ use Rattle.smart_base.specs.declared.party.Party.{Party}
 use Rattle.smart_base.specs.declared.party.Party.TheVariants as parties
 use Rattle.world_rules.specs.declared.line.OutLine.{OutLine}
 use Rattle.world_rules.specs.declared.line.OutLine.TheVariants as outs
-use Rattle.world_laws.proofs.Lists.{map_length}
 use Rattle.world_laws.proofs.Keeps.{from_node, from_client, from_script, signed_by, ask_of, asked_by}
 use Rattle.world_rules.specs.Injections.{injected}
 use Rattle.world_rules.specs.declared.line.Injection.{Injection}
 use Rattle.world_rules.specs.declared.message.Content.{Content}
+use Rattle.std.proofs.lemmas.List.{length-map}
 
 -- lists, choices and repeated steps
 
@@ -64,7 +64,7 @@ map_set t (y ∷ xs) zero x = refl
 map_set t (y ∷ xs) (suc i) x = ap (λ ys. t y ∷ ys) (map_set t xs i x)
 
 -- a choice
-choice_same : {A B : Type 0} (t : A → B) (b : Bool) (x y : A) (v w : B) → v ≡ t x → w ≡ t y → cond b v w ≡ t (cond b x y)
+pub choice_same : {A B : Type 0} (t : A → B) (b : Bool) (x y : A) (v w : B) → v ≡ t x → w ≡ t y → cond b v w ≡ t (cond b x y)
 choice_same t true x y v w left right = left
 choice_same t false x y v w left right = right
 
@@ -190,7 +190,7 @@ settle_same m i w = until_rest_same trimmed_world (settle_once (core_course m) i
 -- there are as many hosts
 hosts_same : {S : Type 0} (w : World S) → length (trimmed_world w).hosts ≡ length w.hosts
 unfolding trimmed_world
-hosts_same w = map_length trimmed_host w.hosts
+hosts_same w = length-map w.hosts trimmed_host
 
 -- what happens at the host at an index happens alike
 abbrev Alike : {S : Type 0} → (ℕ → World S → World S) → (ℕ → World S → World S) → Type 0
@@ -229,7 +229,7 @@ host_index_same : {S : Type 0} (hosts : List (Host S)) (member : ℕ) → host_i
 host_index_same {S} hosts member =
     let p : Host S → Bool = λ h. h.node.id == member in
     ap (λ k. cond (nat_lt k (length (map trimmed_host hosts))) (Some k) None) (position_same hosts member)
-    ∙ ap (λ l. cond (nat_lt (position_or_len p hosts) l) (Some (position_or_len p hosts)) None) (map_length trimmed_host hosts)
+    ∙ ap (λ l. cond (nat_lt (position_or_len p hosts) l) (Some (position_or_len p hosts)) None) (length-map hosts trimmed_host)
 
 at_index_same : {S : Type 0} (f g : ℕ → World S → World S) → Alike f g → (w : World S) (found : Option ℕ) → at_index f (trimmed_world w) found ≡ trimmed_world (at_index g w found)
 at_index_same f g same w None = refl
@@ -658,7 +658,7 @@ there_same w (lines.Rogue client) = refl
 there_same w (lines.Inject form) = refl
 
 -- between two lines
-rested_same : {S : Type 0} (w : World S) → rested (trimmed_world w) ≡ trimmed_world (rested w)
+pub rested_same : {S : Type 0} (w : World S) → rested (trimmed_world w) ≡ trimmed_world (rested w)
 unfolding trimmed_world
 rested_same w = refl
 

@@ -3,8 +3,8 @@ use Rattle.std.proofs.Common.{◌≡◌, inl, inr, ℕ, ◌+◌, ◌^◌, ◌<�
 use Rattle.smart_base.specs.Views.{View}
 use Rattle.smart_messages.specs.RegencyMessages.{any_decoded}
 use Rattle.smart_messages.specs.declared.any.AnyMessage.{AnyMessage}
-use Rattle.smart_messages.specs.declared.entry.NodeEvent.{NodeEvent}
-use Rattle.smart_messages.specs.declared.entry.NodeEvent.TheVariants.{Arrive, Tick, Deliver, Firm}
+use Rattle.smart_statements.specs.declared.entry.NodeEvent.{NodeEvent}
+use Rattle.smart_statements.specs.declared.entry.NodeEvent.TheVariants.{Arrive, Tick, Deliver, Firm}
 use Rattle.smart_service.specs.Services.{Meaning}
 use Rattle.agreement_laws.specs.Fronts.{IsFront}
 use Rattle.agreement_laws.specs.Statements.{Statement}
@@ -14,21 +14,22 @@ use Rattle.durable_store.specs.Restored.{Images}
 use Rattle.durable_store.specs.States.{StoreState}
 use Rattle.world_rules.specs.Crashes.{is_unclosed, still_aside}
 use Rattle.node_rules.specs.Nodes.{Node}
-use Rattle.node_rules.specs.Reopening.{decided_of, entries_in, reopened}
+use Rattle.node_rules.specs.Reopening.{decided_of, reopened}
 use Rattle.node_rules.specs.Steps.{Outcome, step_of, opened}
 use Rattle.node_laws.specs.Restored.{IsSoundBook}
 use Rattle.node_laws.proofs.Reopened.{reopened_is}
-use Rattle.replica_laws.specs.Sending.{ForRead, ForEvent}
-use Rattle.replica_laws.proofs.Sources.{HasSource, FromBook, FromSources, from-take, book-more, from-more, from-step, from-released, from-opened, from-reopened, few_entries}
+use Rattle.replica_laws.proofs.Sources.{HasSource, FromBook, FromSources, from-take, book-more, from-more, from-step, from-released, from-opened, few_entries}
 use Rattle.world_rules.specs.Premises.{bytes_of}
 use Rattle.world_rules.specs.Secrets.{group_secret}
-use Rattle.world_rules.specs.Worlds.{course_of, Host, World, life_firm, life_crashed, host_of_node, host_after, host_crashed, host_resumed}
+use Rattle.world_rules.specs.Worlds.{course_of, Host, World, life_firm, life_crashed, host_of_node, host_after, host_crashed}
 use Rattle.world_rules.specs.declared.message.Content.{Content}
 use Rattle.world_rules.specs.declared.message.Sent.{Sent}
-use Rattle.world_laws.proofs.Lists.{map_length, either}
-use Rattle.world_laws.proofs.Keeps.{HasContent, MayCome, after_call, entries_left, node_resumed}
+use Rattle.world_laws.proofs.Keeps.{HasContent, MayCome, after_call}
 use Rattle.world_laws.proofs.Lives.{book_left}
 use Rattle.world_laws.proofs.Longer.{longer-step, told_firm}
+use Rattle.agreement_laws.proofs.Lists.{either}
+use Rattle.node_rules.proofs.Rulewise.{ForRead, ForEvent}
+use Rattle.std.proofs.lemmas.List.{length-map}
 
 -- ---- the bytes of what was sent
 
@@ -142,16 +143,6 @@ unfolding reopened
 begun-reopened m secret id view period [] = omega arith
 begun-reopened {S = S} m secret id view period (e ∷ es) = subst (λ (n : Node S). 0 < length n.entries) (sym (reopened_is m secret id view period e es)) (omega arith)
 
--- and goes on from its diary
-pub few-resumed : {S : Type 0} (m : Meaning S) (w : World S) (h : Host S) → entries_in (entries_left h) ≡ h.life.diary → FewHost w.sent h
-    → FewHost w.sent (host_resumed h (node_resumed (course_of m) w h))
-few-resumed {S = S} m w h same is = record {
-  node = from-reopened (sources w.sent) m group_secret h.node.id w.view 1024 (entries_in (entries_left h)) (subst (λ (es : List LogEntry). FromBook (sources w.sent) es) (sym same) is.diary);
-  begun = begun-reopened m group_secret h.node.id w.view 1024 (entries_in (entries_left h));
-  diary = is.diary;
-  aside = is.aside;
-}
-
 -- a host that has just opened
 pub few-opened : {S : Type 0} (m : Meaning S) (sent : List Sent) (id : ℕ) (view : View) → FewHost sent (host_of_node (opened m group_secret id view 1024))
 few-opened m sent id view =
@@ -166,7 +157,7 @@ pub few-book : (secret : List ℕ) (stated : List Statement) (view : View) (sent
     → length es < 2 ^ 28
 few-book secret stated view sent es book from few =
     let most = few_entries secret stated view (sources sent) es book from in
-    let long = map_length (λ (s : Sent). bytes_of s.content) sent in
+    let long = length-map sent (λ (s : Sent). bytes_of s.content) in
     omega (arith, most, long, few)
 
 -- no more of them are decisions

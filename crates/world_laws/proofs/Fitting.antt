@@ -4,18 +4,18 @@ use Rattle.std.proofs.lemmas.Bool.{ltb-true, leb-true}
 use Rattle.std.specs.Prelude.{slice_get}
 use Rattle.smart_base.specs.Lists.{Each}
 use Rattle.smart_base.specs.Views.{View, ascends, is_view}
-use Rattle.smart_messages.specs.Forms.{SignedBy}
+use Rattle.smart_statements.specs.Forms.{SignedBy}
 use Rattle.smart_messages.specs.RegencyMessages.{any_spelling, FitsAny, any_decoded}
 use Rattle.smart_messages.specs.declared.any.AnyMessage.{AnyMessage}
-use Rattle.smart_messages.specs.Spelling.{IsSigner, FitsRequest}
+use Rattle.smart_statements.specs.Spelling.{IsSigner, FitsRequest}
 use Rattle.smart_messages.proofs.Messages.{spelling_is}
 use Rattle.smart_messages.proofs.AnyMessages.{any_spelling_is}
-use Rattle.smart_messages.specs.declared.statement.Request.{Request}
-use Rattle.smart_messages.specs.declared.statement.Answer.{Answer}
+use Rattle.smart_statements.specs.declared.statement.Request.{Request}
+use Rattle.smart_statements.specs.declared.statement.Answer.{Answer}
 use Rattle.smart_messages.specs.declared.message.Message.TheVariants.{Reply, Ask}
 use Rattle.smart_messages.specs.declared.any.AnyMessage.TheVariants.{Plain, Change}
-use Rattle.smart_messages.specs.declared.entry.NodeEvent.{NodeEvent}
-use Rattle.smart_messages.specs.declared.entry.NodeEvent.TheVariants.{Arrive, Tick, Deliver, Firm}
+use Rattle.smart_statements.specs.declared.entry.NodeEvent.{NodeEvent}
+use Rattle.smart_statements.specs.declared.entry.NodeEvent.TheVariants.{Arrive, Tick, Deliver, Firm}
 use Rattle.smart_service.specs.Services.{Meaning}
 use Rattle.node_rules.specs.Steps.{Outcome, step_of, leaving}
 use Rattle.node_rules.specs.declared.node.Held.{Held}
@@ -29,15 +29,14 @@ use Rattle.world_rules.specs.declared.message.Origin.{Origin}
 use Rattle.world_rules.specs.declared.message.Origin.TheVariants as origins
 use Rattle.world_rules.specs.declared.message.Sent.{Sent}
 use Rattle.world_laws.specs.Sending.{AllGenuine, IsReadIfShort, IsHeardAs, IsReadAs, IsGenuineContent, IsGenuineFrom}
-use Rattle.world_laws.proofs.Lists.{and_true, either, some-equal, each_end, each_weaker, each_set, each_get, each_both}
+use Rattle.world_laws.proofs.Lists.{each_set, each_get}
 use Rattle.world_laws.proofs.Keeps.{with_host, entries_left, node_resumed, after_call, change-unheard, MayCome, read_whole, FitsParts, parts_fit, long_unread, ask_of, asked_by, Keeps, by-posts, ReadsSent, signed_by, OwnWaits, from_node, from_client, HasContent, IsRead, heard_has, from_script}
-use Rattle.smart_messages.specs.Kinds.{requests}
-use Rattle.smart_messages.specs.Statements.{request_small}
+use Rattle.smart_statements.specs.Kinds.{requests}
+use Rattle.smart_statements.specs.Statements.{request_small}
 use Rattle.smart_messages.specs.declared.regency.RegencyMessage.TheVariants as changes
 use Rattle.replica_rules.specs.Seals.{signed}
 use Rattle.world_rules.specs.Secrets.{group_secret}
 use Rattle.replica_laws.proofs.Genuine.{FitsHeld, IsGood, good-genuine, signed-verified, signed-fits, ask-good}
-use Rattle.replica_laws.specs.Sending.{ForRead}
 use Rattle.replica_laws.proofs.FitNodes.{IsBrief, FitsEvent, fit-released}
 use Rattle.replica_laws.proofs.FitNodes as nodes
 use Rattle.replica_laws.proofs.FitBooks.{FitBook, spelled-step, spelled-opened}
@@ -50,6 +49,11 @@ use Rattle.world_laws.proofs.Lives.{EachLife, life-weaker, life-firm, life-calle
 use Rattle.world_laws.proofs.Reopens.{fit_reopened}
 use Rattle.world_rules.specs.declared.message.Content.{Content}
 use Rattle.world_rules.specs.declared.message.Content.TheVariants as contents
+use Rattle.replica_laws.proofs.Waiting.{each-leaving}
+use Rattle.smart_base.proofs.SameLists.{and_true}
+use Rattle.agreement_laws.proofs.Lists.{some_equal, each_end, each_both}
+use Rattle.smart_base.proofs.ViewFacts.{each-weaken}
+use Rattle.node_rules.proofs.Rulewise.{ForRead}
 
 -- what a client sends has a spelling
 pub record FitClient (c : Client) : Type 0 where
@@ -130,11 +134,6 @@ may-fit w h Tick is may = tt
 may-fit w h Deliver is may = tt
 may-fit w h (Firm count) is may = tt
 
--- what leaves, of what is held
-each-leaving : (P : Held → Type 0) (firm : ℕ) (held : List Held) → Each P held → Each P (leaving firm held)
-each-leaving P firm [] each = tt
-each-leaving P firm (h ∷ hs) each = either (Each P) (nat_le h.needs firm) (h ∷ leaving firm hs) [] (each.0, each-leaving P firm hs each.1) tt
-
 -- something is sent
 fit-posts : {S : Type 0} (w : World S) (s : Sent) → IsRead s.content → IsTaggedFrom s.origin s.content → AllFit w → AllFit (posts w s)
 fit-posts {S = S} w s read tagged is =
@@ -176,7 +175,7 @@ pub fit-resumes : {S : Type 0} (m : Meaning S) → IsBrief m → (w : World S) (
     → length (decided_of h.life.diary) < 2 ^ 63 → AllFit w → AllFit (with_host w i (host_resumed h (node_resumed (course_of m) w h)))
 fit-resumes {S = S} m brief w i h at viewed same few is =
     let fit : FitHost h = each_get FitHost w.hosts i h is.hosts at in
-    let kept : Each (nodes.FitsEntry group_secret) h.life.diary = each_weaker EntryFits (nodes.FitsEntry group_secret) (λ e fits. fits.0) h.life.diary fit.life.diary in
+    let kept : Each (nodes.FitsEntry group_secret) h.life.diary = each-weaken EntryFits (nodes.FitsEntry group_secret) (λ e fits. fits.0) h.life.diary fit.life.diary in
     let node : FitBook group_secret (node_resumed (course_of m) w h) =
     subst (λ (es : List LogEntry). FitBook group_secret (reopened m group_secret h.node.id w.view 1024 es)) (sym same)
     (fit_reopened group_secret m brief h.node.id w.view 1024 h.life.diary fit.node.node.named viewed (omega arith) kept (spelled-life h.life fit.life).diary few) in
@@ -188,7 +187,7 @@ no_request id q same = absurd (cc)
 
 -- where one does
 one_waits : (id : ℕ) (new : Request) → FitsRequest id new → (q : Request) → Some new ≡ Some q → FitsRequest id q
-one_waits id new fit q same = subst (FitsRequest id) (some-equal new q same) fit
+one_waits id new fit q same = subst (FitsRequest id) (some_equal new q same) fit
 
 -- a client that has heard a reply
 fit-after_heard : (c : Client) (a : SignedBy Answer) (h : Heard) → a.statement.place < 2 ^ 63 → FitClient c → FitClient (after_heard c a h)
@@ -318,8 +317,8 @@ genuine-from origins.Script x read tagged = tt
 pub all_genuine : {S : Type 0} (w : World S) → AllFit w → AllGenuine w
 all_genuine w fit =
     record {
-      read = each_weaker (λ (s : Sent). IsRead s.content) (λ (s : Sent). IsReadAs s.content) (λ s. reads-as s.content) w.sent fit.sent;
-      heard = each_weaker (λ (s : Sent). IsRead s.content) (λ (s : Sent). IsHeardAs s.content) (λ s. heard-as s.content) w.sent fit.sent;
+      read = each-weaken (λ (s : Sent). IsRead s.content) (λ (s : Sent). IsReadAs s.content) (λ s. reads-as s.content) w.sent fit.sent;
+      heard = each-weaken (λ (s : Sent). IsRead s.content) (λ (s : Sent). IsHeardAs s.content) (λ s. heard-as s.content) w.sent fit.sent;
       genuine = each_both (λ (s : Sent). IsRead s.content) (λ (s : Sent). IsTaggedFrom s.origin s.content) (λ (s : Sent). IsGenuineFrom s.origin s.content) (λ s. genuine-from s.origin s.content)
           w.sent fit.sent fit.tagged;
     }

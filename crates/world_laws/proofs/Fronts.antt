@@ -1,7 +1,7 @@
 -- Lists that begin with another.
 use Rattle.std.proofs.Common.{◌≡◌, ℕ, zero, suc, ◌+◌, ◌≤◌, ◌++◌, List, [], ◌∷◌, length, refl, ap, arith, Some, take, add-one}
 use Rattle.std.specs.Prelude.{slice_get}
-use Rattle.smart_messages.specs.Messages.{Batch}
+use Rattle.smart_statements.specs.Batches.{Batch}
 use Rattle.replica_rules.specs.Replicas.{batch_at}
 
 -- a list begins with another

@@ -1,13 +1,13 @@
 -- What a client accepts, a quorum of members gave it, whatever it hears.
 use Rattle.std.proofs.Common.{◌≡◌, ℕ, ◌≤◌, ◌++◌, ◌==◌, Bool, true, false, ◌&&◌, List, [], ◌∷◌, length, filter, refl, ap, ◌∙◌, sym, arith, cond, Option, Some, None, nat_le, subst, eq-eqb, eqb-true, inl, inr}
-use Rattle.std.proofs.lemmas.Bool.{leb-true}
+use Rattle.std.proofs.lemmas.Bool.{leb-true, or_left, or_right, and_from}
 use Rattle.std.specs.List.{list_any}
 use Rattle.smart_base.specs.Lists.{Each, same_bytes}
 use Rattle.smart_base.specs.Views.{View, quorum}
-use Rattle.smart_messages.specs.Forms.{SignedBy}
-use Rattle.smart_messages.specs.Kinds as kinds
-use Rattle.smart_messages.specs.declared.statement.Request.{Request}
-use Rattle.smart_messages.specs.declared.statement.Answer.{Answer}
+use Rattle.smart_statements.specs.Forms.{SignedBy}
+use Rattle.smart_statements.specs.Kinds as kinds
+use Rattle.smart_statements.specs.declared.statement.Request.{Request}
+use Rattle.smart_statements.specs.declared.statement.Answer.{Answer}
 use Rattle.smart_messages.specs.declared.message.Message.TheVariants.{Reply}
 use Rattle.replica_rules.specs.Seals.{is_verified}
 use Rattle.world_rules.specs.Secrets.{group_secret}
@@ -20,9 +20,10 @@ use Rattle.client_quorum.specs.declared.client.Ignored.{Ignored}
 use Rattle.client_quorum.specs.declared.client.Heard.{Heard}
 use Rattle.client_quorum.specs.declared.client.Heard.TheVariants as hears
 use Rattle.world_laws.specs.Sending.{is_reply, has_given, hears_all, IsGiven}
-use Rattle.world_laws.proofs.Lists.{and_true, either, some-equal, each_end, each_weaker, or_true, or_left, or_right}
-use Rattle.world_laws.proofs.Equal.{and_intro}
 use Rattle.world_laws.proofs.Hearing.{CountsFor, Accepts, counts_where_not_ignored, accepts_waiting}
+use Rattle.smart_base.proofs.SameLists.{and_true}
+use Rattle.agreement_laws.proofs.Lists.{either, some_equal, each_end, or_true}
+use Rattle.smart_base.proofs.ViewFacts.{each-weaken}
 
 -- a reply that a client keeps is one that counts as given, with its signer's tag, to the request that waits
 pub record IsKept (Given : SignedBy Answer → Type 0) (waiting : Option Request) (r : SignedBy Answer) : Type 0 where
@@ -83,7 +84,7 @@ kept_reply Given test q a gives member (r ∷ rs) kept is =
 counts_waited : (v : View) (c : Client) (a : SignedBy Answer) (q : Request) → CountsFor v c a q → is_waited_for c.waiting a.statement ≡ true
 counts_waited v c a q counts =
     subst (λ (waiting : Option Request). is_waited_for waiting a.statement ≡ true) (sym counts.waits)
-    (and_intro (q.client == a.statement.client) (q.seq == a.statement.seq) (eq-eqb q.client a.statement.client counts.client) (eq-eqb q.seq a.statement.seq counts.seq))
+    (and_from (q.client == a.statement.client) (q.seq == a.statement.seq) (eq-eqb q.client a.statement.client counts.client) (eq-eqb q.seq a.statement.seq counts.seq))
 
 -- so it is kept
 pub kept_last : (Given : SignedBy Answer → Type 0) (v : View) (c : Client) (a : SignedBy Answer) (q : Request) → Given a → CountsFor v c a q → IsKept Given c.waiting a
@@ -128,7 +129,7 @@ AmongHeard answers r = (p : SignedBy Answer → Bool) → p r ≡ true → list_
 each_among : (answers : List (SignedBy Answer)) → Each (AmongHeard answers) answers
 each_among [] = tt
 each_among (a ∷ answers) =
-    (λ p is. or_left (p a) (list_any p answers) is, each_weaker (AmongHeard answers) (AmongHeard (a ∷ answers)) (λ r among. λ p is. or_right (p a) (list_any p answers) (among p is)) answers (each_among answers))
+    (λ p is. or_left (p a) (list_any p answers) is, each-weaken (AmongHeard answers) (AmongHeard (a ∷ answers)) (λ r among. λ p is. or_right (p a) (list_any p answers) (among p is)) answers (each_among answers))
 
 -- no request waits but one
 abbrev WaitsFor : Request → Client → Type 0
@@ -159,7 +160,7 @@ quorum_given view c q answers a acc is =
     let Given : SignedBy Answer → Type 0 = AmongHeard (answers ++ a ∷ []) in
     let client : Client = hears_all view (asking c q) answers in
     let parts = each_front Given answers a (each_among (answers ++ a ∷ [])) in
-    let first : WaitsFor q (asking c q) = λ other waits. sym (some-equal q other waits) in
+    let first : WaitsFor q (asking c q) = λ other waits. sym (some_equal q other waits) in
     let kept : ClientKeeps Given client × WaitsFor q client = keeps_all Given q view (asking c q) answers parts.0 (tt, first) in
     let taken : Accepts view client a acc = accepts_waiting view client a acc is in
     record {
@@ -168,7 +169,7 @@ quorum_given view c q answers a acc is =
       enough = quorum_gave Given (has_given (answers ++ a ∷ []))
           (λ q' a' r among tagged own is_it.
           among (λ x. (x.signer == r.signer) && is_verified kinds.answers group_secret x && is_reply (acceptance q' a') (Reply x))
-          (and_intro ((r.signer == r.signer) && is_verified kinds.answers group_secret r) (is_reply (acceptance q' a') (Reply r))
-          (and_intro (r.signer == r.signer) (is_verified kinds.answers group_secret r) (eq-eqb r.signer r.signer refl) tagged) is_it))
+          (and_from ((r.signer == r.signer) && is_verified kinds.answers group_secret r) (is_reply (acceptance q' a') (Reply r))
+          (and_from (r.signer == r.signer) (is_verified kinds.answers group_secret r) (eq-eqb r.signer r.signer refl) tagged) is_it))
           view client a acc parts.1 kept.0 taken;
     }

@@ -4,11 +4,11 @@ use Rattle.std.specs.Prelude.{option_map, slice_get}
 use Rattle.std.specs.List.{list_any, filter_map}
 use Rattle.smart_base.specs.Lists.{Each}
 use Rattle.smart_base.specs.Views.{View, is_view}
-use Rattle.smart_messages.specs.Forms.{SignedBy}
-use Rattle.smart_messages.specs.Messages.{Batch}
-use Rattle.smart_messages.specs.declared.statement.VoteKind.TheVariants.{Write}
-use Rattle.smart_messages.specs.declared.statement.Request.{Request}
-use Rattle.smart_messages.specs.declared.report.Report.{Report}
+use Rattle.smart_statements.specs.Forms.{SignedBy}
+use Rattle.smart_statements.specs.Batches.{Batch}
+use Rattle.smart_statements.specs.declared.statement.VoteKind.TheVariants.{Write}
+use Rattle.smart_statements.specs.declared.statement.Request.{Request}
+use Rattle.smart_statements.specs.declared.report.Report.{Report}
 use Rattle.smart_messages.specs.declared.regency.Sync.{Sync}
 use Rattle.smart_messages.specs.declared.message.Proposed.{Proposed}
 use Rattle.smart_messages.specs.declared.message.Message.{Message}
@@ -16,8 +16,8 @@ use Rattle.smart_messages.specs.declared.message.Message.TheVariants.{Ask, Propo
 use Rattle.smart_messages.specs.declared.regency.RegencyMessage.TheVariants as changes
 use Rattle.smart_messages.specs.declared.any.AnyMessage.{AnyMessage}
 use Rattle.smart_messages.specs.declared.any.AnyMessage.TheVariants.{Plain, Change}
-use Rattle.smart_messages.specs.declared.entry.NodeEvent.{NodeEvent}
-use Rattle.smart_messages.specs.declared.entry.NodeEvent.TheVariants.{Arrive, Tick, Deliver, Firm}
+use Rattle.smart_statements.specs.declared.entry.NodeEvent.{NodeEvent}
+use Rattle.smart_statements.specs.declared.entry.NodeEvent.TheVariants.{Arrive, Tick, Deliver, Firm}
 use Rattle.smart_service.specs.Services.{Meaning}
 use Rattle.smart_service.specs.declared.table.TableLine.{TableLine}
 use Rattle.vote_book.specs.BookReports.{accept_for}
@@ -39,13 +39,12 @@ use Rattle.world_rules.specs.Premises.{met, batches}
 use Rattle.world_rules.specs.Worlds.{course_of, Host, World, host_crashed, host_resumed, posts, chosen_with, host_after, stepped, hearing, hosts_from, begun}
 use Rattle.world_rules.specs.declared.message.Sent.{Sent}
 use Rattle.world_rules.specs.declared.message.Content.{Content}
-use Rattle.node_laws.proofs.Lists.{guard, some_equal, each_filter_map_in, each_among, each_append}
+use Rattle.node_laws.proofs.Lists.{guard, each_filter_map_in}
 use Rattle.node_laws.proofs.Voting.{proposed_is, votable_is}
 use Rattle.node_laws.proofs.Deciding.{due_is, accept_for_is}
 use Rattle.replica_laws.proofs.Once.{entries_adopted}
-use Rattle.replica_laws.specs.Sending.{ForRead, ForEvent}
-use Rattle.replica_laws.proofs.Rulewise.{KeptByRules, keeps_step}
-use Rattle.world_laws.proofs.Lists.{either, each_end, each_weaker, each_set, each_get}
+use Rattle.node_rules.proofs.Rulewise.{KeptByRules, keeps_step, ForRead, ForEvent}
+use Rattle.world_laws.proofs.Lists.{each_set, each_get}
 use Rattle.world_laws.proofs.Certified.{Exact}
 use Rattle.world_laws.proofs.Keeps.{with_host, entries_left, node_resumed, after_call, HasMessage, ask_of, asked_by, Keeps, by-posts, ReadsSent, MayRead, may_read, signed_by, from_node, from_client, comes-as, keeps-sends_all, from_script}
 use Rattle.replica_laws.proofs.FitNodes.{IsBrief}
@@ -56,6 +55,8 @@ use Rattle.node_laws.proofs.Reopened.{reopened_is}
 use Rattle.durable_store.specs.Exact.{store_called}
 use Rattle.world_rules.specs.Secrets.{group_secret}
 use Rattle.world_laws.proofs.NoClash.{HasBatch, IsMet, has-left, has-right, met-grows, TextsExact, texts-end, met-exact}
+use Rattle.agreement_laws.proofs.Lists.{some_equal, each_among, each_append, either, each_end}
+use Rattle.smart_base.proofs.ViewFacts.{each-weaken}
 
 -- a node
 
@@ -317,8 +318,8 @@ entry-weaker M N weaker (Marked m) met = tt
 met-weaker : {S : Type 0} (M N : Batch → Type 0) → ((batch : Batch) → M batch → N batch) → (n : Node S) → NodeMet M n → NodeMet N n
 met-weaker M N weaker n is =
     record {
-      arrivals = each_weaker (ProposalMet M) (ProposalMet N) (proposal-weaker M N weaker) n.arrivals is.arrivals;
-      entries = each_weaker (EntryMet M) (EntryMet N) (entry-weaker M N weaker) n.entries is.entries;
+      arrivals = each-weaken (ProposalMet M) (ProposalMet N) (proposal-weaker M N weaker) n.arrivals is.arrivals;
+      entries = each-weaken (EntryMet M) (EntryMet N) (entry-weaker M N weaker) n.entries is.entries;
       waiting = for_batch-weaker M N weaker n.waiting is.waiting;
     }
 
@@ -368,8 +369,8 @@ met-posts {S = S} w s is =
     (λ ending. record { texts = is.texts; hosts = is.hosts; chosen = is.chosen })
     (λ free room. record {
       texts = texts-end w.sent s free is.texts;
-      hosts = each_weaker (HostMet (IsMet w.sent)) (HostMet (IsMet (w.sent ++ s ∷ []))) (host-weaker (IsMet w.sent) (IsMet (w.sent ++ s ∷ [])) (met-grows w.sent s)) w.hosts is.hosts;
-      chosen = each_weaker (IsMet w.sent) (IsMet (w.sent ++ s ∷ [])) (met-grows w.sent s) w.chosen is.chosen;
+      hosts = each-weaken (HostMet (IsMet w.sent)) (HostMet (IsMet (w.sent ++ s ∷ []))) (host-weaker (IsMet w.sent) (IsMet (w.sent ++ s ∷ [])) (met-grows w.sent s)) w.hosts is.hosts;
+      chosen = each-weaken (IsMet w.sent) (IsMet (w.sent ++ s ∷ [])) (met-grows w.sent s) w.chosen is.chosen;
     })
 
 -- the list with the batch that waits at a node

@@ -1,9 +1,9 @@
 -- The list of chosen batches only grows, and the view stays.
 use Rattle.std.proofs.Common.{◌≡◌, ℕ, zero, suc, ◌+◌, ◌≤◌, ◌==◌, ◌++◌, List, [], ◌∷◌, length, refl, ◌∙◌, arith, Option, Some, None, take}
 use Rattle.smart_base.specs.Views.{View}
-use Rattle.smart_messages.specs.Forms.{SignedBy}
-use Rattle.smart_messages.specs.Messages.{Batch}
-use Rattle.smart_messages.specs.declared.statement.Answer.{Answer}
+use Rattle.smart_statements.specs.Forms.{SignedBy}
+use Rattle.smart_statements.specs.Batches.{Batch}
+use Rattle.smart_statements.specs.declared.statement.Answer.{Answer}
 use Rattle.smart_service.specs.Services.{Meaning}
 use Rattle.node_rules.specs.Nodes.{next_place}
 use Rattle.node_rules.specs.Steps.{Outcome, leaving}
@@ -14,10 +14,10 @@ use Rattle.world_rules.specs.Promises.{world_at}
 use Rattle.client_quorum.specs.declared.client.Client.{Client}
 use Rattle.client_quorum.specs.declared.client.Heard.{Heard}
 use Rattle.world_rules.specs.declared.line.Line.{Line}
-use Rattle.world_laws.proofs.Lists.{either}
 use Rattle.world_laws.proofs.Keeps.{ask_of, asked_by, by-posts, KeepsAll, keeps-world_after, signed_by, from_node, from_client, from_script, keeps-sends_all}
 use Rattle.world_laws.proofs.Fronts.{IsFront, front-same, front-append}
 use Rattle.world_rules.specs.declared.message.Sent.{Sent}
+use Rattle.agreement_laws.proofs.Lists.{either}
 
 -- messages that leave change neither the list nor the view
 

@@ -2,10 +2,10 @@
 use Rattle.std.proofs.Common.{◌≡◌, ℕ, ◌++◌, ◌==◌, Bool, true, false, not, [], ◌∷◌, refl, cond, Option, Some, None, nat_le, subst, eqb-true}
 use Rattle.std.specs.List.{list_any}
 use Rattle.smart_base.specs.Views.{View, quorum, is_member}
-use Rattle.smart_messages.specs.Forms.{SignedBy}
-use Rattle.smart_messages.specs.Kinds.{answers}
-use Rattle.smart_messages.specs.declared.statement.Request.{Request}
-use Rattle.smart_messages.specs.declared.statement.Answer.{Answer}
+use Rattle.smart_statements.specs.Forms.{SignedBy}
+use Rattle.smart_statements.specs.Kinds.{answers}
+use Rattle.smart_statements.specs.declared.statement.Request.{Request}
+use Rattle.smart_statements.specs.declared.statement.Answer.{Answer}
 use Rattle.replica_rules.specs.Seals.{is_verified}
 use Rattle.world_rules.specs.Secrets.{group_secret}
 use Rattle.client_quorum.specs.Clients as clients
@@ -16,7 +16,7 @@ use Rattle.client_quorum.specs.declared.client.Acceptance.{Acceptance}
 use Rattle.client_quorum.specs.declared.client.Ignored.{Ignored}
 use Rattle.client_quorum.specs.declared.client.Ignored.TheVariants as reasons
 use Rattle.client_quorum.specs.declared.client.Heard.TheVariants as hears
-use Rattle.world_laws.proofs.Lists.{and_true}
+use Rattle.smart_base.proofs.SameLists.{and_true}
 
 -- the reply bears its member's tag and counts for the request that waits
 pub record CountsFor (v : View) (c : Client) (a : SignedBy Answer) (q : Request) : Type 0 where

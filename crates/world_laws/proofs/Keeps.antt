@@ -1,6 +1,6 @@
 -- What each event of a world keeps, the lines of a script keep.
 use Rattle.std.proofs.Common.{◌≡◌, not, ℕ, zero, suc, ◌+◌, ◌^◌, ◌<◌, ◌≤◌, ◌++◌, ◌∙◌, ◌&&◌, ◌||◌, ◌==◌, arith, Bool, true, false, List, [], ◌∷◌, length, refl, ap, cond, Option, Some, None, is_some, nat_lt, nat_le, inl, inr, ◌⊎◌, subst, Result, Ok, Err, ◌-◌, sym, append-nil, append_assoc, take, drop, eqb-true}
-use Rattle.std.proofs.lemmas.Bool.{ltb-true, leb-true, leb-false}
+use Rattle.std.proofs.lemmas.Bool.{ltb-true, leb-true, leb-false, or_parts}
 use Rattle.std.specs.Prelude.{slice_get, slice_set, get_or}
 use Rattle.std.specs.Option.{option_and_then}
 use Rattle.std.specs.Int.{w8}
@@ -10,8 +10,8 @@ use Rattle.smart_base.specs.Spelling.{u8}
 use Rattle.smart_base.specs.FieldLaws.{u8_law}
 use Rattle.smart_base.specs.Laws.{bind_is}
 use Rattle.smart_base.specs.Lists.{or_else, Each}
-use Rattle.smart_messages.specs.Forms.{SignedBy}
-use Rattle.smart_messages.specs.Kinds.{requests}
+use Rattle.smart_statements.specs.Forms.{SignedBy}
+use Rattle.smart_statements.specs.Kinds.{requests}
 use Rattle.smart_messages.specs.Messages.{Fits, spelling, decoded, message_at, is_kind, body_at}
 use Rattle.smart_messages.specs.RegencyMessages.{FitsAny, FitsChangeContent, any_at, any_spelling, any_decoded, change_spelling, change_kind, change_content}
 use Rattle.smart_messages.proofs.Messages.{decoded_is, spelling_is}
@@ -20,12 +20,12 @@ use Rattle.smart_messages.specs.declared.any.AnyMessage.{AnyMessage}
 use Rattle.smart_messages.specs.declared.any.AnyMessage.TheVariants.{Plain, Change}
 use Rattle.smart_messages.specs.declared.regency.RegencyMessage.{RegencyMessage}
 use Rattle.smart_messages.specs.declared.regency.RegencyMessage.TheVariants as changes
-use Rattle.smart_messages.specs.declared.statement.Request.{Request}
-use Rattle.smart_messages.specs.declared.statement.Answer.{Answer}
+use Rattle.smart_statements.specs.declared.statement.Request.{Request}
+use Rattle.smart_statements.specs.declared.statement.Answer.{Answer}
 use Rattle.smart_messages.specs.declared.message.Message.{Message}
 use Rattle.smart_messages.specs.declared.message.Message.TheVariants.{Ask, Propose, Vote, Reply}
-use Rattle.smart_messages.specs.declared.entry.NodeEvent.{NodeEvent}
-use Rattle.smart_messages.specs.declared.entry.NodeEvent.TheVariants.{Arrive, Tick, Deliver, Firm}
+use Rattle.smart_statements.specs.declared.entry.NodeEvent.{NodeEvent}
+use Rattle.smart_statements.specs.declared.entry.NodeEvent.TheVariants.{Arrive, Tick, Deliver, Firm}
 use Rattle.replica_rules.specs.Seals.{signed}
 use Rattle.node_rules.specs.Nodes.{Node, next_place}
 use Rattle.node_rules.specs.Steps.{Outcome, leaving}
@@ -64,13 +64,15 @@ use Rattle.world_rules.specs.declared.message.Ending.TheVariants.{Limit, Premise
 use Rattle.world_rules.specs.declared.message.Premise.TheVariants.{TooManyFaulty, Forged, Collision, NotAnImage}
 use Rattle.world_rules.specs.declared.line.Injection.{Injection}
 use Rattle.world_laws.specs.Sending.{IsUnread}
-use Rattle.world_laws.proofs.Lists.{and_true, or_false, either_by, repeated_keeps, until_rest_keeps, each_from_keeps, some-equal, either, each_append}
+use Rattle.world_laws.proofs.Lists.{repeated_keeps, until_rest_keeps, each_from_keeps}
 use Rattle.std.specs.List.{flat_map}
 use Rattle.smart_base.specs.declared.party.Party.{Party}
 use Rattle.smart_base.specs.declared.party.Party.TheVariants as parties
 use Rattle.node_rules.specs.declared.node.Fired.{Fired}
 use Rattle.node_rules.specs.declared.node.Fired.TheVariants as fires
 use Rattle.node_rules.specs.declared.node.Why.{Why}
+use Rattle.agreement_laws.proofs.Lists.{not_false, not_true, either_by, some_equal, either, each_append}
+use Rattle.smart_base.proofs.SameLists.{and_true}
 
 -- what is sent
 
@@ -374,14 +376,6 @@ none_is (Some x) none = absurd (cc)
 
 -- hosts
 
-pub not_false : (b : Bool) → not b ≡ false → b ≡ true
-not_false true is = refl
-not_false false is = absurd (cc)
-
-not_true : (b : Bool) → not b ≡ true → b ≡ false
-not_true true is = absurd (cc)
-not_true false is = refl
-
 -- a host that is up
 pub is-up : {S : Type 0} (w : World S) (h : Host S) → is_up w h ≡ true → IsUp w h
 is-up w h is = let both = and_true h.up (not (is_gone w h.node.id)) is in (both.0, not_true (is_gone w h.node.id) both.1)
@@ -630,7 +624,7 @@ live-tells course P k from to w p = either_by P (is_some w.ending) w _ (λ over.
 -- the content at an index of those that were sent was sent
 pub has_at : (sent : List Sent) (i : ℕ) (s : Sent) → slice_get sent i ≡ Some s → HasContent sent s.content
 has_at [] i s at = absurd (cc)
-has_at (t ∷ sent) zero s at = inl (ap (λ (x : Sent). x.content) (some-equal t s at))
+has_at (t ∷ sent) zero s at = inl (ap (λ (x : Sent). x.content) (some_equal t s at))
 has_at (t ∷ sent) (suc i) s at = inr (has_at sent i s at)
 
 -- a content goes to whom it is for
@@ -830,7 +824,7 @@ read-content bytes (Err at) are is = unread-none bytes at are is
 
 read-from : (bytes : List ℕ) (t : Bool) (x : Content) → are_bytes bytes ≡ t → cond t (Some (content_of bytes)) None ≡ Some x → IsRead x
 unfolding content_of
-read-from bytes true x are is = subst IsRead (some-equal (content_of bytes) x is) (read-content bytes (any_decoded bytes) (record { below = are-bytes bytes are }) refl)
+read-from bytes true x are is = subst IsRead (some_equal (content_of bytes) x is) (read-content bytes (any_decoded bytes) (record { below = are-bytes bytes are }) refl)
 read-from bytes false x are is = absurd (cc)
 
 read-found : (found : Option (List ℕ)) (x : Content) → option_and_then content_from found ≡ Some x → IsRead x
@@ -885,7 +879,7 @@ live-host_resumes : {S : Type 0} (course : Course S) (P : World S → Type 0) �
 live-host_resumes course P k i w None on at p = p
 live-host_resumes course P k i w (Some h) on at p =
     either_by P (h.up || is_gone w h.node.id) w _ (λ up. p)
-    (λ down. live-resumes_from course P k i w h (damaged group_secret w.view (entries_left h)) on (or_false h.up (is_gone w h.node.id) down) at p)
+    (λ down. live-resumes_from course P k i w h (damaged group_secret w.view (entries_left h)) on (or_parts h.up (is_gone w h.node.id) down) at p)
 
 live-resumes : {S : Type 0} (course : Course S) (P : World S → Type 0) → KeepsLives course P → (i : ℕ) (w : World S) → P w → P (resumes course i w)
 unfolding resumes

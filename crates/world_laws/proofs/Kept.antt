@@ -7,10 +7,10 @@ use Rattle.smart_base.specs.Lists.{Each}
 use Rattle.smart_base.specs.Views.{View}
 use Rattle.smart_base.proofs.ViewFacts.{quorum-honest}
 use Rattle.smart_base.specs.declared.party.Party.TheVariants.{Member}
-use Rattle.smart_messages.specs.Forms.{SignedBy}
-use Rattle.smart_messages.specs.Kinds.{answers}
-use Rattle.smart_messages.specs.Messages.{Batch}
-use Rattle.smart_messages.specs.declared.statement.Answer.{Answer}
+use Rattle.smart_statements.specs.Forms.{SignedBy}
+use Rattle.smart_statements.specs.Kinds.{answers}
+use Rattle.smart_statements.specs.Batches.{Batch}
+use Rattle.smart_statements.specs.declared.statement.Answer.{Answer}
 use Rattle.smart_messages.specs.declared.message.Message.TheVariants.{Ask, Propose, Vote, Reply}
 use Rattle.smart_messages.specs.declared.any.AnyMessage.TheVariants.{Plain, Change}
 use Rattle.smart_service.specs.Services.{Meaning}
@@ -32,9 +32,8 @@ use Rattle.agreement_laws.specs.Statements.{Replied}
 use Rattle.agreement_laws.specs.Diaries.{HasAnswered}
 use Rattle.node_rules.specs.Nodes.{Node}
 use Rattle.node_rules.specs.Reopening.{decided_of, damaged, entries_in, reopened}
-use Rattle.node_laws.proofs.Lists.{each_take}
 use Rattle.node_laws.proofs.Restored.{front_decided}
-use Rattle.node_laws.proofs.Reopened.{reopened_is, state_place, count_is}
+use Rattle.node_laws.proofs.Reopened.{reopened_is, count_is}
 use Rattle.node_laws.proofs.Undamaged.{undamaged, read_again}
 use Rattle.world_rules.specs.Secrets.{group_secret}
 use Rattle.world_rules.specs.Premises.{is_among}
@@ -46,7 +45,7 @@ use Rattle.world_rules.specs.declared.message.Sent.{Sent}
 use Rattle.client_quorum.specs.declared.client.Acceptance.{Acceptance}
 use Rattle.world_laws.specs.Stated.{stated}
 use Rattle.world_laws.specs.Sending.{has_replied, is_reply_of, is_of, is_for, is_reply, QuorumReplied}
-use Rattle.world_laws.proofs.Lists.{either, and_true, each_get}
+use Rattle.world_laws.proofs.Lists.{each_get}
 use Rattle.world_laws.proofs.Keeps.{HasMessage}
 use Rattle.world_laws.proofs.NoClash.{IsMet}
 use Rattle.world_laws.proofs.Lives.{left-restored, texts, texts-take, book_now, Lasts, stopped_firm, written_texts}
@@ -57,6 +56,9 @@ use Rattle.world_laws.proofs.Chosen.{BookRight, HostRight, ChosenRight, decided-
 use Rattle.world_laws.proofs.ChosenKept.{host-right, host-fit, diary-few}
 use Rattle.world_laws.proofs.Witnessing.{ShowsOwn, few_faulty}
 use Rattle.world_laws.proofs.Replied.{reply_there}
+use Rattle.agreement_laws.proofs.Lists.{each_take, either}
+use Rattle.smart_base.proofs.SameLists.{and_true}
+use Rattle.replica_rules.proofs.Places.{state_place}
 
 -- ---- what a crash leaves
 

@@ -3,10 +3,8 @@ pub mod Rests
 pub mod Keeps
 pub mod Numbered
 pub mod Hearing
-pub mod Bounded
 pub mod CoreWorlds
 pub mod Fronts
-pub mod Equal
 pub mod Given
 pub mod Asks
 pub mod Asking
@@ -37,9 +35,3 @@ pub mod Accepted
 pub mod Told
 pub mod Kept
 pub mod OneListLaw
-pub mod Calls
-pub mod Supplied
-pub mod Settles
-pub mod Example
-pub mod Later
-pub mod Survived

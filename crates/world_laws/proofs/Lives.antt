@@ -1,5 +1,5 @@
 -- What lasts of a member through its lives: its diary, the book that it put aside, and what its store has of them.
-use Rattle.std.proofs.Common.{◌≡◌, not, ℕ, zero, suc, ◌+◌, ◌-◌, ◌^◌, ◌≤◌, ◌++◌, ◌∙◌, sym, ap, refl, arith, subst, Bool, true, false, cond, List, [], ◌∷◌, length, take, drop, append-nil, min, length-append}
+use Rattle.std.proofs.Common.{◌≡◌, ℕ, zero, suc, ◌+◌, ◌-◌, ◌^◌, ◌≤◌, ◌++◌, ◌∙◌, sym, ap, refl, arith, subst, Bool, true, false, cond, List, [], ◌∷◌, length, take, drop, append-nil, min, length-append}
 use Rattle.std.proofs.lemmas.List.{take-append-drop, take-append-le, length-take-le, take-map, map-append, drop-map}
 use Rattle.std.proofs.Math.Seq.{take-append_seam}
 use Rattle.std.specs.Prelude.{map}
@@ -8,8 +8,7 @@ use Rattle.smart_base.specs.Views.{View}
 use Rattle.smart_service.specs.Services.{Meaning}
 use Rattle.vote_book.specs.Entries.{entry_text, FitsEntry}
 use Rattle.vote_book.specs.declared.entry.LogEntry.{LogEntry}
-use Rattle.disk_model.specs.Cells.{settled}
-use Rattle.durable_store.specs.Restored.{Images, log_image, restores, side_of}
+use Rattle.durable_store.specs.Restored.{Images, restores}
 use Rattle.durable_store.specs.States.{StoreState}
 use Rattle.durable_store.specs.Standing.{MayLeave, group_begins}
 use Rattle.durable_store.specs.Exact.{store_called, started, store_opened}
@@ -17,20 +16,20 @@ use Rattle.durable_store.specs.Lives.{no_bytes}
 use Rattle.store_form.specs.Spelling.{IsGroup}
 use Rattle.world_rules.specs.Crashes.{bytes_held, is_unclosed, written_book, still_aside}
 use Rattle.member_store.specs.Books.{Holds, Leaves}
-use Rattle.member_store.proofs.Opened.{empty_holds}
+use Rattle.member_store.proofs.Opened.{empty_holds, held_opened}
 use Rattle.member_store.proofs.Goes.{given_holds, called_holds, called_firm}
 use Rattle.member_store.proofs.Crashed.{crash_leaves}
 use Rattle.node_rules.specs.Nodes.{Node}
 use Rattle.node_rules.specs.Steps.{Outcome, opened}
 use Rattle.node_rules.specs.Reopening.{entries_in, reopened}
-use Rattle.node_laws.proofs.Lists.{each_take}
 use Rattle.node_laws.proofs.Undamaged.{read_again}
 use Rattle.node_laws.proofs.Reopened.{reopened_is}
 use Rattle.agreement_laws.specs.Fronts.{IsFront}
 use Rattle.world_rules.specs.Worlds.{course_of, Host, Life, with_front, life_firm, life_called, life_crashed, spelled_behind, host_of_node, host_after, host_crashed, host_resumed}
-use Rattle.world_laws.proofs.Lists.{either, each_append, each_weaker}
 use Rattle.world_laws.proofs.Keeps.{entries_left, after_call}
 use Rattle.world_laws.proofs.Stores.{Fits, coming, coming_none, behind-length}
+use Rattle.agreement_laws.proofs.Lists.{each_take, either, each_append}
+use Rattle.smart_base.proofs.ViewFacts.{each-weaken}
 
 -- entries, as they are spelled
 abbrev pub texts : List LogEntry → List (List ℕ)
@@ -96,7 +95,7 @@ pub record EachLife (P : LogEntry → Type 0) (l : Life) : Type 0 where
   pub aside : Each P l.aside
 
 pub life-weaker : (P Q : LogEntry → Type 0) → ((e : LogEntry) → P e → Q e) → (l : Life) → EachLife P l → EachLife Q l
-life-weaker P Q weaker l is = record { diary = each_weaker P Q weaker l.diary is.diary; aside = each_weaker P Q weaker l.aside is.aside }
+life-weaker P Q weaker l is = record { diary = each-weaken P Q weaker l.diary is.diary; aside = each-weaken P Q weaker l.aside is.aside }
 
 each-aside : (P : LogEntry → Type 0) (s : StoreState) (es : List LogEntry) → Each P es → Each P (still_aside s es)
 each-aside P s es is = either (λ (xs : List LogEntry). Each P xs) (is_unclosed s.log.job) es [] is tt
@@ -181,22 +180,8 @@ written_texts s book aside = either_same (is_unclosed s.log.job)
     either_same true = refl
     either_same false = refl
 
--- devices that are opened hold what was left of them
-pub held-opened : (left : Images) → bytes_held (store_opened left) ≡ left
-held-opened left = by (side_of left)
-  where
-    by : (odd : Bool)
-        → record {
-          even_log = (cond odd (settled (log_image (not odd) left)) (settled (log_image odd left))).now;
-          odd_log = (cond odd (settled (log_image odd left)) (settled (log_image (not odd) left))).now;
-          even_slot = left.even_slot;
-          odd_slot = left.odd_slot;
-        } ≡ left
-    by true = refl
-    by false = refl
-
 pub left-restored : {S : Type 0} (h : Host S) → (s : Stopped h) → entries_left h ≡ texts h.life.diary
-left-restored h s = ap (λ (t : StoreState). (restores (bytes_held t)).entries) s.opened ∙ (ap (λ (left : Images). (restores left).entries) (held-opened s.left) ∙ s.restored)
+left-restored h s = ap (λ (t : StoreState). (restores (bytes_held t)).entries) s.opened ∙ (ap (λ (left : Images). (restores left).entries) (held_opened s.left) ∙ s.restored)
 
 -- what is firm in a book of this life, a crash leaves
 left_front : {S : Type 0} (h : Host S) (left : Images) → h.up ≡ true → Lasts h → Leaves h.store (texts h.node.entries) (texts h.life.aside) left

@@ -1,12 +1,12 @@
 -- A node keeps its name and its secret, and its book only grows.
 use Rattle.std.proofs.Common.{◌≡◌, ℕ, ◌++◌, false, List, [], ◌∷◌, refl, ap, ◌∙◌, sym, Option, Some, None, Result, Ok, Err, append-nil, append_assoc}
-use Rattle.smart_messages.specs.Messages.{Batch}
+use Rattle.smart_statements.specs.Batches.{Batch}
 use Rattle.smart_messages.specs.RegencyMessages.{any_decoded}
 use Rattle.smart_messages.specs.declared.message.Proposed.{Proposed}
 use Rattle.smart_messages.specs.declared.any.AnyMessage.{AnyMessage}
 use Rattle.smart_messages.specs.declared.any.AnyMessage.TheVariants.{Plain}
-use Rattle.smart_messages.specs.declared.entry.NodeEvent.{NodeEvent}
-use Rattle.smart_messages.specs.declared.entry.NodeEvent.TheVariants.{Arrive, Tick, Deliver, Firm}
+use Rattle.smart_statements.specs.declared.entry.NodeEvent.{NodeEvent}
+use Rattle.smart_statements.specs.declared.entry.NodeEvent.TheVariants.{Arrive, Tick, Deliver, Firm}
 use Rattle.smart_service.specs.Services.{Meaning}
 use Rattle.smart_service.specs.declared.table.TableLine.{TableLine}
 use Rattle.vote_book.specs.declared.entry.Decision.{Decision}
@@ -21,11 +21,11 @@ use Rattle.node_rules.specs.Steps.{made_firm, passes, arrival_outcome, reading_o
 use Rattle.node_rules.specs.declared.node.Why.{Why}
 use Rattle.node_rules.specs.declared.node.Target.TheVariants as targets
 use Rattle.agreement_laws.specs.Fronts.{IsFront}
-use Rattle.replica_laws.proofs.Lists.{either}
-use Rattle.replica_laws.proofs.Again.{entries-noted, entries-answers_again}
-use Rattle.replica_laws.proofs.Once.{entries-kept, entries-joins, entries-leads, entries-proposes, entries-times, entries_adopted}
+use Rattle.replica_laws.proofs.Once.{entries_adopted}
 use Rattle.replica_laws.proofs.Leaves.{Leaves, leaves-adopts, leaves-joins, leaves-promises, leaves-leads, leaves-proposes, leaves-writes, leaves-accepts, leaves-times, leaves-answers_again, leaves-noted, leaves-kept}
-use Rattle.replica_laws.proofs.Rulewise.{KeptByRules, keeps_passes}
+use Rattle.node_rules.proofs.Rulewise.{KeptByRules, keeps_passes}
+use Rattle.agreement_laws.proofs.Lists.{either}
+use Rattle.node_rules.proofs.Entries.{noted_same, answers_again_same, kept_same, joins_same, leads_same, proposes_same, times_same}
 
 -- fronts
 
@@ -117,10 +117,10 @@ longer-delivers m a n is = longer-deliver_batch m a n n.waiting is
 longer-rules : {S : Type 0} (a : Node S) → KeptByRules (λ n. Longer a n)
 longer-rules a = record {
   by_adopts = λ n is. longer-leaves a n (adopts n) (leaves-adopts n) (front-adopts a.entries n is.book) is;
-  by_joins = λ n is. longer-as a n (joins n) (leaves-joins n) (entries-joins n) is;
+  by_joins = λ n is. longer-as a n (joins n) (leaves-joins n) (joins_same n) is;
   by_promises = λ n is. longer-leaves a n (promises n) (leaves-promises n) (front-promises a.entries n is.book) is;
-  by_leads = λ n is. longer-as a n (leads n) (leaves-leads n) (entries-leads n) is;
-  by_proposes = λ n is. longer-as a n (proposes n) (leaves-proposes n) (entries-proposes n) is;
+  by_leads = λ n is. longer-as a n (leads n) (leaves-leads n) (leads_same n) is;
+  by_proposes = λ n is. longer-as a n (proposes n) (leaves-proposes n) (proposes_same n) is;
   by_writes = λ n is. longer-leaves a n (writes n) (leaves-writes n) (front-writes a.entries n is.book) is;
   by_accepts = λ n is. longer-leaves a n (accepts n) (leaves-accepts n) (front-accepts a.entries n is.book) is;
   by_decides = λ n is. longer-decides a n is;
@@ -142,10 +142,10 @@ longer-arrival : {S : Type 0} (m : Meaning S) (n : Node S) (message : AnyMessage
 longer-arrival {S = S} m n message None =
     let told : Node S = noted n message in
     let k : Node S = kept told message in
-    let one : Longer n told = longer-as n n told (leaves-noted n message) (entries-noted n message) (longer-same n) in
-    let two : Longer n k = longer-as n told k (leaves-kept told message) (entries-kept told message) one in
-    longer-as n (passes k) (answers_again (passes k) message) (leaves-answers_again (passes k) message) (entries-answers_again (passes k) message) (longer-passes n k two)
-longer-arrival m n message (Some why) = longer-as n n (noted n message) (leaves-noted n message) (entries-noted n message) (longer-same n)
+    let one : Longer n told = longer-as n n told (leaves-noted n message) (noted_same n message) (longer-same n) in
+    let two : Longer n k = longer-as n told k (leaves-kept told message) (kept_same told message) one in
+    longer-as n (passes k) (answers_again (passes k) message) (leaves-answers_again (passes k) message) (answers_again_same (passes k) message) (longer-passes n k two)
+longer-arrival m n message (Some why) = longer-as n n (noted n message) (leaves-noted n message) (noted_same n message) (longer-same n)
 
 longer-reading : {S : Type 0} (m : Meaning S) (n : Node S) (read : Result AnyMessage ℕ) → Longer n (reading_outcome n read).node
 longer-reading m n (Ok message) = longer-arrival m n message (why_dropped n message)
@@ -155,7 +155,7 @@ longer-reading m n (Err at) = longer-same n
 pub longer-step : {S : Type 0} (m : Meaning S) (n : Node S) (event : NodeEvent) → Longer (told_firm n event) (step_of m n event).node
 unfolding step_of
 longer-step m n (Arrive bytes) = longer-reading m n (any_decoded bytes)
-longer-step m n Tick = longer-as n (passes n) (times (passes n)) (leaves-times (passes n)) (entries-times (passes n)) (longer-passes n n (longer-same n))
+longer-step m n Tick = longer-as n (passes n) (times (passes n)) (leaves-times (passes n)) (times_same (passes n)) (longer-passes n n (longer-same n))
 longer-step m n Deliver = longer-passes n (delivers m n) (longer-delivers m n n (longer-same n))
 longer-step {S = S} m n (Firm count) = let firmer : Node S = made_firm n count in longer-passes firmer firmer (longer-same firmer)
 

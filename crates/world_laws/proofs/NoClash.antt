@@ -1,27 +1,24 @@
 -- Batches that a play has met are one where their digests are.
-use Rattle.std.proofs.Common.{◌≡◌, ℕ, ◌++◌, ◌&&◌, ◌∙◌, Bool, true, false, not, List, [], ◌∷◌, refl, sym, ap, subst, inl, inr, ◌⊎◌, append-nil, length, Ok, ◌+◌, Option, Some, None}
+use Rattle.std.proofs.Common.{◌≡◌, ℕ, ◌++◌, ◌&&◌, ◌∙◌, Bool, true, false, not, List, [], ◌∷◌, refl, sym, ap, subst, inl, inr, ◌⊎◌, append-nil, Option, Some, None}
 use Rattle.std.specs.Prelude.{option_to_list}
 use Rattle.std.proofs.lemmas.Grind.{flat_map-append}
 use Rattle.std.specs.List.{list_any}
-use Rattle.smart_base.specs.Cuts.{Cut}
 use Rattle.smart_base.specs.Lists.{Each, same_bytes}
-use Rattle.smart_messages.specs.Kinds.{requests}
-use Rattle.smart_messages.specs.Messages.{Batch, batch_text, FitsBatch}
-use Rattle.smart_messages.specs.Reading.{batch_at}
-use Rattle.smart_messages.proofs.Messages.{batch_law}
+use Rattle.smart_statements.specs.Batches.{Batch, batch_text, FitsBatch}
 use Rattle.smart_messages.specs.declared.message.Message.TheVariants.{Ask, Propose, Vote, Reply}
 use Rattle.smart_messages.specs.declared.regency.RegencyMessage.TheVariants as changes
 use Rattle.smart_messages.specs.declared.any.AnyMessage.TheVariants.{Plain, Change}
-use Rattle.smart_messages.specs.SignedLists.{FitsOptional}
+use Rattle.smart_statements.specs.SignedLists.{FitsOptional}
 use Rattle.replica_rules.specs.Seals.{digest_of}
 use Rattle.world_rules.specs.Premises.{met, clash, collides, batches}
 use Rattle.world_rules.specs.declared.message.Sent.{Sent}
-use Rattle.world_laws.proofs.Lists.{or_false}
-use Rattle.world_laws.proofs.Equal.{same_bytes-equal, bytes-itself}
 use Rattle.world_laws.proofs.Certified.{Exact}
 use Rattle.world_rules.specs.declared.message.Content.{Content}
 use Rattle.world_rules.specs.declared.message.Content.TheVariants as contents
 use Rattle.world_laws.proofs.Keeps.{IsRead}
+use Rattle.smart_statements.proofs.Batches.{batch_is}
+use Rattle.vote_book.proofs.Tested.{same_bytes_is, same_bytes_self}
+use Rattle.std.proofs.lemmas.Bool.{or_parts}
 
 -- a batch is among batches
 abbrev pub HasBatch : List Batch → Batch → Type 0
@@ -65,8 +62,8 @@ pub record TextsExact (sent : List Sent) : Type 0 where
 -- batches that do not clash
 no_clash : (a b : Batch) → clash a b ≡ false → digest_of a ≡ digest_of b → batch_text a ≡ batch_text b
 no_clash a b none same =
-    same_bytes-equal (batch_text a) (batch_text b)
-    (second (same_bytes (digest_of a) (digest_of b)) (same_bytes (batch_text a) (batch_text b)) (subst (λ (d : List ℕ). same_bytes (digest_of a) d ≡ true) same (bytes-itself (digest_of a))) none)
+    same_bytes_is (batch_text a) (batch_text b)
+    (second (same_bytes (digest_of a) (digest_of b)) (same_bytes (batch_text a) (batch_text b)) (subst (λ (d : List ℕ). same_bytes (digest_of a) d ≡ true) same (same_bytes_self (digest_of a))) none)
   where
     second : (x y : Bool) → x ≡ true → (x && not y) ≡ false → y ≡ true
     second true true is none = refl
@@ -77,7 +74,7 @@ no_clash a b none same =
 none_passes : (p : Batch → Bool) (bs : List Batch) (b : Batch) → list_any p bs ≡ false → HasBatch bs b → p b ≡ false
 none_passes p [] b none has = absurd has
 none_passes p (x ∷ xs) b none has =
-    let parts = or_false (p x) (list_any p xs) none in
+    let parts = or_parts (p x) (list_any p xs) none in
     elim has [ inl here ↦ subst (λ (y : Batch). p y ≡ false) here parts.0 | inr later ↦ none_passes p xs b parts.1 later ]
 
 -- a batch that may be there is one at most
@@ -123,17 +120,6 @@ texts-end sent s free exact =
 
 -- batches of one text
 
--- a text is one batch's
-pub text-batch : (a b : Batch) → FitsBatch a → FitsBatch b → batch_text a ≡ batch_text b → a ≡ b
-text-batch a b fa fb same =
-    let c : Cut = record { at = 0; left = batch_text a } in
-    let d : Cut = record { at = 0 + length (batch_text a); left = [] } in
-    let one : batch_at requests c ≡ Ok (a, d) = batch_law.again c a d fa (record { left = sym (append-nil (batch_text a)); at = refl }) in
-    let other : batch_at requests c ≡ Ok (b, d) =
-    batch_law.again c b d fb (record { left = same ∙ sym (append-nil (batch_text b)); at = ap (λ (t : List ℕ). 0 + length t) same }) in
-    let pairs : (a, d) ≡ (b, d) = cc in
-    ap (λ (x : Batch × Cut). x.0) pairs
-
 -- a batch that may be there and has a spelling
 there_fits : (found : Option Batch) (batch : Batch) → FitsOptional FitsBatch found → HasBatch (option_to_list found) batch → FitsBatch batch
 there_fits None batch fits has = absurd has
@@ -158,4 +144,4 @@ met-fits (s ∷ sent) batch each is =
 -- so batches that were met are one where their digests are
 pub met-exact : (sent : List Sent) → Each (λ s. IsRead s.content) sent → TextsExact sent → Exact (IsMet sent)
 met-exact sent each exact =
-    record { one = λ a b ma mb same. text-batch a b (met-fits sent a each ma) (met-fits sent b each mb) (exact.same a b ma mb same) }
+    record { one = λ a b ma mb same. batch_is a b (met-fits sent a each ma) (met-fits sent b each mb) (exact.same a b ma mb same) }

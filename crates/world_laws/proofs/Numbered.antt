@@ -1,7 +1,7 @@
 -- What holds of each value of a list and its index.
 use Rattle.std.proofs.Common.{◌≡◌, ℕ, zero, suc, ◌++◌, List, [], ◌∷◌, length, Some, subst, arith}
 use Rattle.std.specs.Prelude.{slice_get, slice_set}
-use Rattle.world_laws.proofs.Lists.{some-equal}
+use Rattle.agreement_laws.proofs.Lists.{some_equal}
 
 -- what holds of each value and its index, from 0 on
 abbrev pub EachAt : {A : Type 0} → (ℕ → A → Type 0) → List A → Type 0
@@ -16,7 +16,7 @@ each_at_end P (y ∷ xs) x each is = (each.0, each_at_end (λ i. P (suc i)) xs x
 -- the value at an index
 pub each_at_get : {A : Type 0} (P : ℕ → A → Type 0) (xs : List A) (i : ℕ) (x : A) → EachAt P xs → slice_get xs i ≡ Some x → P i x
 each_at_get P [] i x each at = absurd (cc)
-each_at_get P (y ∷ xs) zero x each at = subst (P zero) (some-equal y x at) each.0
+each_at_get P (y ∷ xs) zero x each at = subst (P zero) (some_equal y x at) each.0
 each_at_get P (y ∷ xs) (suc i) x each at = each_at_get (λ j. P (suc j)) xs i x each.1 at
 
 -- what follows from what holds of each

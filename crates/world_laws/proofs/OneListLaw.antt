@@ -1,5 +1,5 @@
 -- One list holds throughout a script.
-use Rattle.std.proofs.Common.{◌≡◌, ⊎_elim, ℕ, true, List, take, refl}
+use Rattle.std.proofs.Common.{◌≡◌, ℕ, true, List, take, refl}
 use Rattle.smart_base.specs.Lists.{Each}
 use Rattle.smart_base.specs.Views.{View, is_view}
 use Rattle.smart_service.specs.Services.{Meaning}
@@ -11,7 +11,6 @@ use Rattle.world_laws.proofs.Keeps.{KeepsAll, keeps-world_after}
 use Rattle.world_laws.proofs.Kept.{all_recover, replied_kept}
 use Rattle.world_laws.specs.Sending.{QuorumReplied}
 use Rattle.client_quorum.specs.declared.client.Acceptance.{Acceptance}
-use Rattle.world_laws.proofs.Lists.{each_weaker}
 use Rattle.replica_laws.proofs.FitNodes.{IsBrief}
 use Rattle.world_laws.proofs.Unforged.{member_states}
 use Rattle.world_laws.proofs.Replied.{RightBorne, right-borne-kept, reply_there, Replied, keeps-replied, replied-begun}
@@ -25,6 +24,7 @@ use Rattle.world_laws.proofs.Asking.{right-after}
 use Rattle.world_laws.proofs.Accepted.{AcceptedTold, AcceptedRight, Telling, keeps-told, told-begun, accepted-right}
 use Rattle.world_laws.proofs.Told.{lines-answered}
 use Rattle.world_laws.proofs.Past.{past-known}
+use Rattle.smart_base.proofs.ViewFacts.{each-weaken}
 
 -- the list is right, all replies tell of it, clients keep replies that were sent, and accepted replies tell of the list
 abbrev pub Heard : {S : Type 0} → Meaning S → World S → Type 0
@@ -70,7 +70,7 @@ one_list-at m brief view is ls k =
       hosts = chosen-prefix m (world_at m view ls k) (told_right-at m brief view is ls k).0.0.0.0;
       recovers = all_recover m (world_at m view ls k) (told_right-at m brief view is ls k).0.0.0.0;
       accepted = (accepted-at m brief view is ls k).all;
-      kept = each_weaker (QuorumReplied (world_at m view ls k).view (world_at m view ls k).faulty (world_at m view ls k).sent) (λ (a : Acceptance). IsKept m (world_at m view ls k) a.place)
+      kept = each-weaken (QuorumReplied (world_at m view ls k).view (world_at m view ls k).faulty (world_at m view ls k).sent) (λ (a : Acceptance). IsKept m (world_at m view ls k) a.place)
           (λ a replied. replied_kept m (world_at m view ls k) a (told_right-at m brief view is ls k).0.0.0.0 replied) (world_at m view ls k).accepted (told_right-at m brief view is ls k).0.1.accepted;
       rising = (right-after m (course_of m) view (take k ls)).all.rising;
     }

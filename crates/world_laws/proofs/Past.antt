@@ -3,9 +3,9 @@ use Rattle.std.proofs.Common.{◌≡◌, ℕ, zero, suc, ◌≤◌, ◌++◌, Li
 use Rattle.std.specs.Prelude.{slice_get, slice_set}
 use Rattle.smart_base.specs.Lists.{Each}
 use Rattle.smart_base.specs.Views.{View}
-use Rattle.smart_messages.specs.Forms.{SignedBy}
-use Rattle.smart_messages.specs.declared.statement.Request.{Request}
-use Rattle.smart_messages.specs.declared.statement.Answer.{Answer}
+use Rattle.smart_statements.specs.Forms.{SignedBy}
+use Rattle.smart_statements.specs.declared.statement.Request.{Request}
+use Rattle.smart_statements.specs.declared.statement.Answer.{Answer}
 use Rattle.smart_service.specs.Services.{Meaning}
 use Rattle.node_rules.specs.Steps.{Outcome, leaving}
 use Rattle.client_quorum.specs.Clients.{request_of, asking, learning, after_heard}
@@ -22,7 +22,6 @@ use Rattle.world_rules.specs.declared.line.Line.{Line}
 use Rattle.world_rules.specs.declared.line.OutLine.{OutLine}
 use Rattle.world_rules.specs.declared.message.Ending.{Ending}
 use Rattle.world_rules.specs.declared.message.Sent.{Sent}
-use Rattle.world_laws.proofs.Lists.{some-equal, each_end, each_weaker}
 use Rattle.world_laws.proofs.Numbered.{EachAt, each_at_get, each_at_weaker, each_at_set, each_at_both}
 use Rattle.world_laws.proofs.Keeps.{ask_of, asked_by, by-posts-ended, KeepsAll, KeepsLives, keeps-world_after, live-world_after, signed_by, from_node, from_client, from_script, keeps-sends_all}
 use Rattle.world_laws.proofs.Hearing.{Accepts, accepts_waiting}
@@ -30,6 +29,8 @@ use Rattle.world_laws.proofs.Asks.{asked_grows}
 use Rattle.world_laws.proofs.Asking.{ClientRight, ClientsRight, keeps-right, rested-right, right-after}
 use Rattle.world_laws.proofs.Grows.{world_after-append}
 use Rattle.world_laws.proofs.Seen.{id_at, seen-told}
+use Rattle.agreement_laws.proofs.Lists.{some_equal, each_end}
+use Rattle.smart_base.proofs.ViewFacts.{each-weaken}
 
 -- what was sent stays
 
@@ -110,7 +111,7 @@ past-asked before known w i c op at id is =
     let own : ClientPast before known w.ending i c = each_at_get (ClientPast before known w.ending) w.clients i c is.each at in
     record {
       each = past-set before known w.ending w.clients i (asking c (request_of c op)) is.each
-          (record { seen = own.seen; waits = λ q waits on. subst (States before known) (some-equal (request_of c op) q waits) (inr (subst (λ (n : ℕ). known n ≤ c.seen) (sym id) own.seen)) });
+          (record { seen = own.seen; waits = λ q waits on. subst (States before known) (some_equal (request_of c op) q waits) (inr (subst (λ (n : ℕ). known n ≤ c.seen) (sym id) own.seen)) });
       accepted = is.accepted;
     }
 
@@ -200,7 +201,7 @@ stating-now known w seen right = (
   record {
     each = each_at_both (λ i (c : Client). c.seen ≡ known i) (ClientRight w.sent w.ending w.accepted) (ClientPast w.sent known w.ending)
         (λ i c sees own. record { seen = omega (arith, sees); waits = λ q waits on. inl ((own.waits q waits).asked on) }) w.clients seen right.all.each;
-    accepted = each_weaker (λ (a : Acceptance). HasAsked w.sent a.request) (λ (a : Acceptance). States w.sent known a.request) (λ a asked. inl asked) w.accepted right.all.asked;
+    accepted = each-weaken (λ (a : Acceptance). HasAsked w.sent a.request) (λ (a : Acceptance). States w.sent known a.request) (λ a asked. inl asked) w.accepted right.all.asked;
   },
 )
 
@@ -246,7 +247,7 @@ past-earlier {S = S} m view ls j k le =
     let told : List OutLine = lines_told (course_of m) (begun m view) (take j ls) in
     let later = world-more m view ls k j le in
     subst (λ (w : World S). AllAccepted w.sent told earlier) (sym later.1)
-    (each_weaker (λ (a : Acceptance). HasAsked earlier.sent a.request) (λ (a : Acceptance). IsPast (world_after (course_of m) earlier later.0).sent told a.request)
+    (each-weaken (λ (a : Acceptance). HasAsked earlier.sent a.request) (λ (a : Acceptance). IsPast (world_after (course_of m) earlier later.0).sent told a.request)
     (λ a asked. inl (keeps-world_after (course_of m) (λ (w : World S). HasAsked w.sent a.request) (keeps-sent (course_of m) a.request) earlier later.0 asked))
     earlier.accepted (right-after m (course_of m) view (take k ls)).all.asked)
 

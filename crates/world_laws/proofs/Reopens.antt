@@ -3,8 +3,8 @@ use Rattle.std.proofs.Common.{◌≡◌, ℕ, ◌+◌, ◌^◌, ◌<◌, ◌==�
 use Rattle.std.proofs.lemmas.List.{take_all}
 use Rattle.smart_base.specs.Lists.{Each}
 use Rattle.smart_base.specs.Views.{View, is_view, present}
-use Rattle.smart_messages.specs.Messages.{Batch, FitsBatch}
-use Rattle.smart_messages.specs.Spelling.{IsSigner}
+use Rattle.smart_statements.specs.Batches.{Batch, FitsBatch}
+use Rattle.smart_statements.specs.Spelling.{IsSigner}
 use Rattle.smart_service.specs.Services.{Meaning}
 use Rattle.smart_service.specs.declared.replica.Replica.{Replica}
 use Rattle.vote_book.specs.Entries.{FitsEntry}
@@ -15,18 +15,19 @@ use Rattle.agreement_laws.specs.Statements.{Statement}
 use Rattle.node_rules.specs.Nodes.{Node, regency_in, greatest_regency, regency_of}
 use Rattle.node_rules.specs.Reopening.{decided_of, reopened, stopped}
 use Rattle.node_rules.specs.Steps.{opened}
-use Rattle.node_laws.proofs.Reopened.{reopened_is, state_place, sound_reopened}
+use Rattle.node_laws.proofs.Reopened.{reopened_is, sound_reopened}
 use Rattle.node_laws.specs.Restored.{IsSoundBook}
 use Rattle.node_laws.specs.Sound.{IsSound}
 use Rattle.replica_laws.specs.Books.{DeliversInOrder}
-use Rattle.replica_laws.proofs.Lists.{either}
 use Rattle.replica_laws.proofs.Again.{each-delivered}
-use Rattle.replica_laws.proofs.Executions.{state-views, views-delivered}
-use Rattle.replica_laws.proofs.InOrder.{get-past, place-delivered}
+use Rattle.replica_laws.proofs.Executions.{state-views}
+use Rattle.replica_laws.proofs.InOrder.{get-past}
 use Rattle.replica_laws.proofs.Onward.{NodeRests}
 use Rattle.replica_laws.proofs.FitNodes.{FitNode, FitsLine, IsBrief, fit-as, lines_of-fit, view-low}
 use Rattle.replica_laws.proofs.FitNodes as nodes
 use Rattle.replica_laws.proofs.FitBooks.{FitBook, spelled-opened}
+use Rattle.agreement_laws.proofs.Lists.{either}
+use Rattle.replica_rules.proofs.Places.{state_place, views_delivered, place_delivered}
 
 -- the node that goes on from some entries
 going : {S : Type 0} → Meaning S → List ℕ → ℕ → View → List LogEntry → Node S
@@ -89,8 +90,8 @@ lines-fit : {S : Type 0} (m : Meaning S) → IsBrief m → (r : Replica S) (bs :
 lines-fit m brief r [] view low fit lines = lines
 lines-fit {S = S} m brief r (b ∷ bs) view low fit lines =
     lines-fit m brief (delivered m r b) bs
-    (subst (λ (vs : List View). (present vs).number < 2 ^ 32) (sym (views-delivered m r b)) view)
-    (let next : (delivered m r b).place ≡ r.place + 1 = place-delivered m r b in omega (arith, next, low))
+    (subst (λ (vs : List View). (present vs).number < 2 ^ 32) (sym (views_delivered m r b)) view)
+    (let next : (delivered m r b).place ≡ r.place + 1 = place_delivered m r b in omega (arith, next, low))
     fit.1 (each-delivered FitsLine m r b lines (executed-fit m brief r b view (omega (arith, low)) fit.0))
 
 going_fits : {S : Type 0} (secret : List ℕ) (m : Meaning S) → IsBrief m → (id : ℕ) (view : View) (es : List LogEntry) → IsSigner 1 id → is_view view ≡ true

@@ -4,9 +4,9 @@ use Rattle.std.specs.Prelude.{slice_get}
 use Rattle.std.specs.List.{list_any}
 use Rattle.smart_base.specs.Lists.{Each}
 use Rattle.smart_base.specs.Views.{View, is_view}
-use Rattle.smart_messages.specs.Forms.{SignedBy}
-use Rattle.smart_messages.specs.Kinds.{answers}
-use Rattle.smart_messages.specs.declared.statement.Answer.{Answer}
+use Rattle.smart_statements.specs.Forms.{SignedBy}
+use Rattle.smart_statements.specs.Kinds.{answers}
+use Rattle.smart_statements.specs.declared.statement.Answer.{Answer}
 use Rattle.smart_messages.specs.declared.message.Message.TheVariants.{Reply}
 use Rattle.smart_service.specs.Services.{Meaning}
 use Rattle.replica_rules.specs.Seals.{is_verified}
@@ -30,11 +30,10 @@ use Rattle.world_rules.specs.declared.message.Origin.{Origin}
 use Rattle.world_rules.specs.declared.message.Origin.TheVariants as origins
 use Rattle.world_rules.specs.declared.message.Sent.{Sent}
 use Rattle.world_laws.specs.Sending.{IsOwnSent, is_reply, is_of, is_for, is_reply_of, has_replied, QuorumReplied, QuorumsReplied}
-use Rattle.world_laws.proofs.Lists.{and_true, each_end, each_weaker, each_set, each_get, or_left, or_right, or_true}
-use Rattle.world_laws.proofs.Equal.{and_intro}
+use Rattle.world_laws.proofs.Lists.{each_set, each_get}
 use Rattle.world_laws.proofs.Keeps.{HasContent, HasMessage, ask_of, asked_by, by-posts, keeps-sends_all, has_end, heard_has, KeepsAll, keeps-world_after, signed_by, from_node, from_client, from_script}
 use Rattle.replica_laws.proofs.FitNodes.{IsBrief}
-use Rattle.agreement_laws.proofs.Lists.{each_among}
+use Rattle.agreement_laws.proofs.Lists.{each_among, each_end, or_true}
 use Rattle.world_laws.proofs.Hearing.{accepts_waiting}
 use Rattle.world_laws.proofs.Given.{IsKept, ClientKeeps, filter_more, keeps_heard, quorum_gave}
 use Rattle.smart_messages.specs.declared.any.AnyMessage.TheVariants.{Plain}
@@ -47,6 +46,9 @@ use Rattle.world_laws.proofs.Borne.{Borne, right-borne, borne-begun}
 use Rattle.world_laws.proofs.Unforged.{any_more, NodeStates, member_states, reply_content}
 use Rattle.world_laws.proofs.Chosen.{ChosenRight}
 use Rattle.world_laws.proofs.ChosenKept.{right-reads, chosen-begun}
+use Rattle.smart_base.proofs.SameLists.{and_true}
+use Rattle.smart_base.proofs.ViewFacts.{each-weaken}
+use Rattle.std.proofs.lemmas.Bool.{or_left, or_right, and_from}
 
 -- the list is right, and what was sent is each one's own
 abbrev pub RightBorne : {S : Type 0} → Meaning S → World S → Type 0
@@ -85,7 +87,7 @@ replied_faulty faulty more sent a grows member is =
     any_where _ _
     (λ s passes.
     let both = and_true (is_reply_of member a s.content) (is_among faulty member || (is_of member s.origin && is_for a.request.client s.to)) passes in
-    and_intro (is_reply_of member a s.content) (is_among more member || (is_of member s.origin && is_for a.request.client s.to)) both.0
+    and_from (is_reply_of member a s.content) (is_among more member || (is_of member s.origin && is_for a.request.client s.to)) both.0
     (⊎_elim (λ breaks. or_left (is_among more member) (is_of member s.origin && is_for a.request.client s.to) (grows member breaks))
     (λ own. or_right (is_among more member) (is_of member s.origin && is_for a.request.client s.to) own)
     (or_true (is_among faulty member) (is_of member s.origin && is_for a.request.client s.to) both.1))) sent is
@@ -106,10 +108,10 @@ replied-posts {S = S} w s is =
     by-posts (λ (v : World S). Replied v) w s
     (λ ending. record { clients = is.clients; accepted = is.accepted })
     (λ free room. record {
-      clients = each_weaker (ClientKeeps (WasSent w.sent)) (ClientKeeps (WasSent (w.sent ++ s ∷ [])))
-          (λ c kept. each_weaker (IsKept (WasSent w.sent) c.waiting) (IsKept (WasSent (w.sent ++ s ∷ [])) c.waiting)
+      clients = each-weaken (ClientKeeps (WasSent w.sent)) (ClientKeeps (WasSent (w.sent ++ s ∷ [])))
+          (λ c kept. each-weaken (IsKept (WasSent w.sent) c.waiting) (IsKept (WasSent (w.sent ++ s ∷ [])) c.waiting)
           (λ r k. record { given = has_end w.sent s (contents.Message (Plain (Reply r))) k.given; tagged = k.tagged; waited_for = k.waited_for }) c.replies kept) w.clients is.clients;
-      accepted = each_weaker (QuorumReplied w.view w.faulty w.sent) (QuorumReplied w.view w.faulty (w.sent ++ s ∷ [])) (quorum_more w.view w.faulty w.sent s) w.accepted is.accepted;
+      accepted = each-weaken (QuorumReplied w.view w.faulty w.sent) (QuorumReplied w.view w.faulty (w.sent ++ s ∷ [])) (quorum_more w.view w.faulty w.sent s) w.accepted is.accepted;
     })
 
 -- a node's step
@@ -148,11 +150,11 @@ sent_reply {S = S} m w r a right has tagged client is = by (is_among w.faulty r.
     test s = is_reply_of r.signer a s.content && (is_among w.faulty r.signer || (is_of r.signer s.origin && is_for a.request.client s.to))
 
     reply : is_reply_of r.signer a (contents.Message (Plain (Reply r))) ≡ true
-    reply = and_intro ((r.signer == r.signer) && is_verified answers group_secret r) (is_reply a (Reply r)) (and_intro (r.signer == r.signer) (is_verified answers group_secret r) (eq-eqb r.signer r.signer refl) tagged) is
+    reply = and_from ((r.signer == r.signer) && is_verified answers group_secret r) (is_reply a (Reply r)) (and_from (r.signer == r.signer) (is_verified answers group_secret r) (eq-eqb r.signer r.signer refl) tagged) is
 
     passes : (s : Sent) → s.content ≡ contents.Message (Plain (Reply r)) → (is_among w.faulty r.signer || (is_of r.signer s.origin && is_for a.request.client s.to)) ≡ true → test s ≡ true
     passes s same fine =
-        and_intro (is_reply_of r.signer a s.content) (is_among w.faulty r.signer || (is_of r.signer s.origin && is_for a.request.client s.to))
+        and_from (is_reply_of r.signer a s.content) (is_among w.faulty r.signer || (is_of r.signer s.origin && is_for a.request.client s.to))
         (subst (λ (x : Content). is_reply_of r.signer a x ≡ true) (sym same) reply) fine
 
     mine : NodeStates w.sent r.signer (statements.Replied r) → has_replied w.faulty w.sent a r.signer ≡ true
@@ -165,7 +167,7 @@ sent_reply {S = S} m w r a right has tagged client is = by (is_among w.faulty r.
         among_any test s w.sent source.there
         (passes s same
         (or_right (is_among w.faulty r.signer) (is_of r.signer s.origin && is_for a.request.client s.to)
-        (and_intro (is_of r.signer s.origin) (is_for a.request.client s.to)
+        (and_from (is_of r.signer s.origin) (is_for a.request.client s.to)
         (subst (λ (o : Origin). is_of r.signer o ≡ true) (sym source.from) (eq-eqb r.signer r.signer refl))
         (own_for r.signer s.to r a.request.client own_node client))))
 
@@ -232,7 +234,7 @@ keeps-replied m P right k =
           k.kept.declare w faulty rogue ending how p.0,
           record {
             clients = p.1.clients;
-            accepted = each_weaker (QuorumReplied w.view w.faulty w.sent) (QuorumReplied w.view faulty w.sent) (quorum_faulty w.view w.faulty faulty w.sent how.more_faulty) w.accepted p.1.accepted;
+            accepted = each-weaken (QuorumReplied w.view w.faulty w.sent) (QuorumReplied w.view faulty w.sent) (quorum_faulty w.view w.faulty faulty w.sent how.more_faulty) w.accepted p.1.accepted;
           },
         );
         same = λ w mark told p. (k.kept.same w mark told p.0, record { clients = p.1.clients; accepted = p.1.accepted });

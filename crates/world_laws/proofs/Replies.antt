@@ -4,20 +4,20 @@ use Rattle.std.specs.Prelude.{slice_get}
 use Rattle.std.proofs.lemmas.List.{take-append-drop}
 use Rattle.smart_base.specs.Lists.{Each}
 use Rattle.smart_base.specs.Views.{View, is_member}
-use Rattle.smart_messages.specs.Forms.{SignedBy}
-use Rattle.smart_messages.specs.Messages.{Batch}
+use Rattle.smart_statements.specs.Forms.{SignedBy}
+use Rattle.smart_statements.specs.Batches.{Batch}
 use Rattle.smart_messages.specs.RegencyMessages.{any_decoded}
-use Rattle.smart_messages.specs.declared.statement.Request.{Request}
-use Rattle.smart_messages.specs.declared.statement.Answer.{Answer}
-use Rattle.smart_messages.specs.declared.report.Report.{Report}
+use Rattle.smart_statements.specs.declared.statement.Request.{Request}
+use Rattle.smart_statements.specs.declared.statement.Answer.{Answer}
+use Rattle.smart_statements.specs.declared.report.Report.{Report}
 use Rattle.smart_messages.specs.declared.regency.Sync.{Sync}
 use Rattle.smart_messages.specs.declared.regency.RegencyMessage.TheVariants as changes
 use Rattle.smart_messages.specs.declared.message.Proposed.{Proposed}
 use Rattle.smart_messages.specs.declared.message.Message.TheVariants.{Ask, Propose, Vote, Reply}
 use Rattle.smart_messages.specs.declared.any.AnyMessage.{AnyMessage}
 use Rattle.smart_messages.specs.declared.any.AnyMessage.TheVariants.{Plain, Change}
-use Rattle.smart_messages.specs.declared.entry.NodeEvent.{NodeEvent}
-use Rattle.smart_messages.specs.declared.entry.NodeEvent.TheVariants.{Arrive, Tick, Deliver, Firm}
+use Rattle.smart_statements.specs.declared.entry.NodeEvent.{NodeEvent}
+use Rattle.smart_statements.specs.declared.entry.NodeEvent.TheVariants.{Arrive, Tick, Deliver, Firm}
 use Rattle.smart_service.specs.Services.{Meaning}
 use Rattle.smart_service.specs.declared.replica.Replica.{Replica}
 use Rattle.smart_service.specs.declared.table.TableLine.{TableLine}
@@ -46,17 +46,20 @@ use Rattle.world_rules.specs.declared.message.Content.{Content}
 use Rattle.world_rules.specs.declared.message.Content.TheVariants as contents
 use Rattle.world_rules.specs.declared.message.Sent.{Sent}
 use Rattle.agreement_laws.specs.Statements.{Replied}
-use Rattle.agreement_laws.proofs.Lists.{each_among}
+use Rattle.agreement_laws.proofs.Lists.{each_among, either, each_end}
 use Rattle.replica_laws.specs.Lines.{HasLine}
 use Rattle.replica_laws.proofs.Executions.{executions-more, executed-at}
 use Rattle.replica_laws.proofs.Again.{ForLine, answering-each, each-after_batches}
 use Rattle.replica_laws.proofs.Leaves.{leaves-adopts, leaves-joins, leaves-promises, leaves-leads, leaves-proposes, leaves-writes, leaves-accepts, leaves-noted, leaves-kept}
-use Rattle.replica_laws.proofs.Waiting.{each-leaving, each-staying}
-use Rattle.replica_laws.proofs.Rulewise.{KeptByRules, keeps_passes}
-use Rattle.world_laws.proofs.Lists.{either, each_end, each_weaker, each_set, each_get}
+use Rattle.replica_laws.proofs.Waiting.{each-leaving}
+use Rattle.node_rules.proofs.Rulewise.{KeptByRules, keeps_passes}
+use Rattle.world_laws.proofs.Lists.{each_set, each_get}
 use Rattle.world_laws.proofs.Keeps.{after_call, with_host, entries_left, node_resumed, ask_of, asked_by, by-posts, KeepsAll, signed_by, from_node, from_client, from_script}
 use Rattle.world_laws.proofs.Unforged.{NodeStates, reply_content}
 use Rattle.world_laws.proofs.Aligned.{Aligned, AllAligned, line_told, IsExecuted}
+use Rattle.replica_laws.proofs.Replying.{replica-decides}
+use Rattle.node_laws.proofs.Passes.{each_staying}
+use Rattle.smart_base.proofs.ViewFacts.{each-weaken}
 
 -- a message that is a reply tells an execution of a list
 abbrev pub ReplyRight : {S : Type 0} → Meaning S → View → List Batch → AnyMessage → Type 0
@@ -263,14 +266,6 @@ held-decides : {S : Type 0} (m : Meaning S) (v : View) (chosen : List Batch) (n 
 unfolding decides
 held-decides m v chosen n held = held-decide_batch m v chosen n (deciding n) held
 
-replica-decides : {S : Type 0} (n : Node S) → (decides n).replica ≡ n.replica
-unfolding decides decide_batch
-replica-decides {S = S} n = by (deciding n)
-  where
-    by : (d : Option Decision) → (decide_batch n d).replica ≡ n.replica
-    by None = refl
-    by (Some d) = refl
-
 -- the rules behind delivery hold no reply, and leave the replica
 held-rules : {S : Type 0} (m : Meaning S) (v : View) (chosen : List Batch) (r : Replica S) → KeptByRules (λ n. HeldRight m v chosen n × (n.replica ≡ r))
 held-rules m v chosen r = record {
@@ -330,7 +325,7 @@ right-sends_all m id w [] each r = r
 right-sends_all {S = S} m id w (h ∷ hs) each r =
     let next : World S = posts w (from_node id h) in
     right-sends_all m id next hs
-    (each_weaker (λ (x : Held). ReplyRight m w.view w.chosen x.message) (λ (x : Held). ReplyRight m next.view next.chosen x.message)
+    (each-weaken (λ (x : Held). ReplyRight m w.view w.chosen x.message) (λ (x : Held). ReplyRight m next.view next.chosen x.message)
     (λ x. same_list-posts m w (from_node id h) x.message) hs each.1)
     (right-posts m w (from_node id h) each.0 r)
 
@@ -343,15 +338,15 @@ right-stepped {S = S} course m w i h o held r =
     let chosen : List Batch = chosen_with w.chosen (next_place o.node) o.node.waiting in
     let more : (x : AnyMessage) → ReplyRight m w.view w.chosen x → ReplyRight m w.view chosen x = right-chosen m w.view w.chosen (next_place o.node) o.node.waiting in
     let all : Each (λ (x : Held). ReplyRight m w.view chosen x.message) o.node.held =
-    each_weaker (λ (x : Held). ReplyRight m w.view w.chosen x.message) (λ (x : Held). ReplyRight m w.view chosen x.message) (λ x. more x.message) o.node.held held in
+    each-weaken (λ (x : Held). ReplyRight m w.view w.chosen x.message) (λ (x : Held). ReplyRight m w.view chosen x.message) (λ x. more x.message) o.node.held held in
     right-sends_all m h.node.id _ (leaving o.node.firm o.node.held) (each-leaving (λ x. ReplyRight m w.view chosen x.message) o.node.firm o.node.held all)
     (record {
-      sent = each_weaker (λ (s : Sent). RightFrom m w.view w.chosen s.origin s.content) (λ (s : Sent). RightFrom m w.view chosen s.origin s.content)
+      sent = each-weaken (λ (s : Sent). RightFrom m w.view w.chosen s.origin s.content) (λ (s : Sent). RightFrom m w.view chosen s.origin s.content)
           (λ s. from-chosen m w.view w.chosen (next_place o.node) o.node.waiting s.origin s.content) w.sent r.sent;
       held = each_set (λ (g : Host S). HeldRight m w.view chosen g.node) w.hosts i (host_after course h o)
-          (each_weaker (λ (g : Host S). HeldRight m w.view w.chosen g.node) (λ (g : Host S). HeldRight m w.view chosen g.node)
-          (λ g. each_weaker (λ (x : Held). ReplyRight m w.view w.chosen x.message) (λ (x : Held). ReplyRight m w.view chosen x.message) (λ x. more x.message) g.node.held) w.hosts r.held)
-          (each-staying (λ x. ReplyRight m w.view chosen x.message) o.node.firm o.node.held all);
+          (each-weaken (λ (g : Host S). HeldRight m w.view w.chosen g.node) (λ (g : Host S). HeldRight m w.view chosen g.node)
+          (λ g. each-weaken (λ (x : Held). ReplyRight m w.view w.chosen x.message) (λ (x : Held). ReplyRight m w.view chosen x.message) (λ x. more x.message) g.node.held) w.hosts r.held)
+          (each_staying (λ x. ReplyRight m w.view chosen x.message) o.node.firm o.node.held all);
     })
 
 -- a client that hears sends nothing

@@ -1,5 +1,5 @@
 -- What is repeated until it rests.
-use Rattle.std.proofs.Common.{◌≡◌, ℕ, zero, suc, ◌+◌, ◌-◌, ◌≤◌, refl, ap, ◌∙◌, sym, arith}
+use Rattle.std.proofs.Common.{◌≡◌, ℕ, zero, suc, ◌+◌, ◌-◌, ◌≤◌, refl, ap, ◌∙◌, arith}
 use Rattle.world_rules.specs.Repeats.{repeated, turns, until_rest}
 
 -- where f changes nothing, no number of turns does
@@ -7,10 +7,6 @@ pub repeated_idle : {A : Type 0} (f : A → A) (k : ℕ) (x : A) → f x ≡ x �
 unfolding repeated
 repeated_idle f zero x idle = refl
 repeated_idle f (suc k) x idle = ap (repeated f k) idle ∙ repeated_idle f k x idle
-
--- where f changes nothing, it changes nothing after any number of turns
-pub rests_still : {A : Type 0} (f : A → A) (k : ℕ) (x : A) → f x ≡ x → f (repeated f k x) ≡ repeated f k x
-rests_still f k x idle = ap f (repeated_idle f k x idle) ∙ (idle ∙ sym (repeated_idle f k x idle))
 
 -- turns, and then more turns
 pub repeated_more : {A : Type 0} (f : A → A) (k j : ℕ) (x : A) → repeated f (k + j) x ≡ repeated f j (repeated f k x)

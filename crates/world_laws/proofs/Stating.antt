@@ -8,26 +8,26 @@ use Rattle.smart_base.specs.Spelling.{Law, u8}
 use Rattle.smart_base.specs.declared.party.Party.{Party}
 use Rattle.smart_base.specs.declared.party.Party.TheVariants as parties
 use Rattle.smart_keys.proofs.Tags.{is_tag-equal}
-use Rattle.smart_messages.specs.Forms.{Form, SignedBy, party_of}
-use Rattle.smart_messages.specs.Kinds.{requests, proposals, ballots, answers}
-use Rattle.smart_messages.specs.Messages.{Batch, FitsBatch}
-use Rattle.smart_messages.specs.SignedLists.{FitsOptional}
-use Rattle.smart_messages.specs.Reports.{reports, report, FitsReport, marks, mark, FitsMark, FitsVote, votes_of, FitsEvidence, FitsLockCertificate}
+use Rattle.smart_statements.specs.Forms.{Form, SignedBy, party_of}
+use Rattle.smart_statements.specs.Kinds.{requests, proposals, ballots, answers}
+use Rattle.smart_statements.specs.Batches.{Batch, FitsBatch}
+use Rattle.smart_statements.specs.SignedLists.{FitsOptional}
+use Rattle.smart_statements.specs.Reports.{reports, report, FitsReport, marks, mark, FitsMark, FitsVote, votes_of, FitsEvidence, FitsLockCertificate}
 use Rattle.smart_messages.specs.Regencies.{stops, stop, FitsStop, syncs, sync, FitsSync, view_infos, view_info, FitsViewInfo}
-use Rattle.smart_messages.specs.Spelling as spells
-use Rattle.smart_messages.specs.Spelling.{FitsProposal, FitsBallot, FitsAnswer, FitsRequest, FitsSigned}
-use Rattle.smart_messages.specs.Statements.{request_law, proposal_law, ballot_law, answer_law}
-use Rattle.smart_messages.specs.ReportLaws.{report_law, mark_law}
+use Rattle.smart_statements.specs.Spelling as spells
+use Rattle.smart_statements.specs.Spelling.{FitsProposal, FitsBallot, FitsAnswer, FitsRequest, FitsSigned}
+use Rattle.smart_statements.specs.Statements.{request_law, proposal_law, ballot_law, answer_law}
+use Rattle.smart_statements.specs.ReportLaws.{report_law, mark_law}
 use Rattle.smart_messages.specs.RegencyLaws.{stop_law, sync_law, view_info_law}
-use Rattle.smart_messages.specs.declared.statement.Request.{Request}
-use Rattle.smart_messages.specs.declared.statement.VoteKind.{VoteKind}
-use Rattle.smart_messages.specs.declared.statement.VoteKind.TheVariants.{Write, Accept}
-use Rattle.smart_messages.specs.declared.statement.Ballot.{Ballot}
-use Rattle.smart_messages.specs.declared.report.Mark.{Mark}
-use Rattle.smart_messages.specs.declared.report.Report.{Report}
-use Rattle.smart_messages.specs.declared.report.Evidence.{Evidence}
-use Rattle.smart_messages.specs.declared.report.Evidence.TheVariants as evidence
-use Rattle.smart_messages.specs.declared.report.LockCertificate.{LockCertificate}
+use Rattle.smart_statements.specs.declared.statement.Request.{Request}
+use Rattle.smart_statements.specs.declared.statement.VoteKind.{VoteKind}
+use Rattle.smart_statements.specs.declared.statement.VoteKind.TheVariants.{Write, Accept}
+use Rattle.smart_statements.specs.declared.statement.Ballot.{Ballot}
+use Rattle.smart_statements.specs.declared.report.Mark.{Mark}
+use Rattle.smart_statements.specs.declared.report.Report.{Report}
+use Rattle.smart_statements.specs.declared.report.Evidence.{Evidence}
+use Rattle.smart_statements.specs.declared.report.Evidence.TheVariants as evidence
+use Rattle.smart_statements.specs.declared.report.LockCertificate.{LockCertificate}
 use Rattle.smart_messages.specs.declared.regency.RegencyMessage.TheVariants as changes
 use Rattle.smart_messages.specs.declared.message.Message.TheVariants.{Ask, Propose, Vote, Reply}
 use Rattle.smart_messages.specs.declared.any.AnyMessage.{AnyMessage}
@@ -41,9 +41,9 @@ use Rattle.world_rules.specs.Premises.{claim_of, bytes_stated, claims, same_part
 use Rattle.world_rules.specs.declared.message.Content.{Content}
 use Rattle.world_rules.specs.declared.message.Content.TheVariants as contents
 use Rattle.world_laws.specs.Stated.{stated_in}
-use Rattle.world_laws.proofs.Lists.{and_true}
 use Rattle.world_laws.proofs.Keeps.{FitsParts}
-use Rattle.world_laws.proofs.Equal.{same_bytes-equal}
+use Rattle.smart_base.proofs.SameLists.{and_true}
+use Rattle.vote_book.proofs.Tested.{same_bytes_is}
 
 -- statements that are alike are one
 
@@ -245,7 +245,7 @@ same_party-equal (parties.Client a) (parties.Client b) same = ap (λ (i : ℕ). 
 pub same_claim-one : (s t : Statement) → Proper s → Proper t → same_claim (claim_of s) (claim_of t) ≡ true → s ≡ t
 same_claim-one s t ps pt same =
     let both = and_true (same_party (signer_of s) (signer_of t)) (same_bytes (bytes_stated s) (bytes_stated t)) same in
-    one_claim s t ps pt (same_party-equal (signer_of s) (signer_of t) both.0) (same_bytes-equal (bytes_stated s) (bytes_stated t) both.1)
+    one_claim s t ps pt (same_party-equal (signer_of s) (signer_of t) both.0) (same_bytes_is (bytes_stated s) (bytes_stated t) both.1)
 
 -- what a content states it claims
 pub claims_stated : (x : Content) → claims x ≡ map claim_of (stated_in x)

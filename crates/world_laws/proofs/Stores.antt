@@ -1,8 +1,8 @@
 -- What a host's store has of its node's book.
 use Rattle.std.proofs.Common.{◌≡◌, ℕ, ◌+◌, ◌-◌, ◌^◌, ◌≤◌, min, cond, List, [], length, drop, refl, ap, ◌∙◌, arith, Some, None, subst, ◌&&◌, ◌∷◌}
-use Rattle.std.proofs.lemmas.List.{length-append, length-drop}
-use Rattle.smart_messages.specs.declared.entry.NodeEvent.{NodeEvent}
-use Rattle.smart_messages.specs.declared.entry.NodeEvent.TheVariants.{Arrive, Tick, Deliver, Firm}
+use Rattle.std.proofs.lemmas.List.{length-append, length-drop, length-map}
+use Rattle.smart_statements.specs.declared.entry.NodeEvent.{NodeEvent}
+use Rattle.smart_statements.specs.declared.entry.NodeEvent.TheVariants.{Arrive, Tick, Deliver, Firm}
 use Rattle.smart_service.specs.Services.{Meaning}
 use Rattle.smart_base.specs.Views.{View}
 use Rattle.agreement_laws.specs.Fronts.{IsFront}
@@ -18,9 +18,9 @@ use Rattle.durable_store.specs.Turns.{closing, adds, rests, ends_group}
 use Rattle.node_rules.specs.Nodes.{Node}
 use Rattle.node_rules.specs.Steps.{made_firm, step_of, opened}
 use Rattle.world_rules.specs.Worlds.{course_of, Host, World, spelled_behind, host_after, host_of_node}
-use Rattle.world_laws.proofs.Lists.{either, map_length}
 use Rattle.world_laws.proofs.Keeps.{Hears, MayCome}
 use Rattle.world_laws.proofs.Longer.{told_firm, longer-step}
+use Rattle.agreement_laws.proofs.Lists.{either}
 
 -- how many entries the running job makes firm
 abbrev pub coming : Job → ℕ → ℕ
@@ -90,7 +90,7 @@ fits-called {S = S} n s f =
 
 -- how many entries stand behind some
 pub behind-length : (count : ℕ) (entries : List LogEntry) → length (spelled_behind count entries) ≡ length entries - count
-behind-length count entries = map_length entry_text (drop count entries) ∙ length-drop count entries
+behind-length count entries = length-map (drop count entries) entry_text ∙ length-drop count entries
 
 pub front-long : (front entries : List LogEntry) → IsFront front entries → length front ≤ length entries
 front-long front entries f =

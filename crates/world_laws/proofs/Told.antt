@@ -4,10 +4,10 @@ use Rattle.std.specs.Prelude.{slice_get}
 use Rattle.std.specs.List.{flat_map}
 use Rattle.smart_base.specs.Lists.{Each}
 use Rattle.smart_base.specs.Views.{View}
-use Rattle.smart_messages.specs.Forms.{SignedBy}
-use Rattle.smart_messages.specs.Messages.{Batch}
-use Rattle.smart_messages.specs.declared.statement.Request.{Request}
-use Rattle.smart_messages.specs.declared.statement.Answer.{Answer}
+use Rattle.smart_statements.specs.Forms.{SignedBy}
+use Rattle.smart_statements.specs.Batches.{Batch}
+use Rattle.smart_statements.specs.declared.statement.Request.{Request}
+use Rattle.smart_statements.specs.declared.statement.Answer.{Answer}
 use Rattle.smart_service.specs.Services.{Meaning}
 use Rattle.node_rules.specs.Steps.{Outcome, leaving}
 use Rattle.client_quorum.specs.Clients.{learning}
@@ -23,13 +23,14 @@ use Rattle.world_rules.specs.declared.line.Line.{Line}
 use Rattle.world_rules.specs.declared.line.OutLine.{OutLine}
 use Rattle.world_rules.specs.declared.line.OutLine.TheVariants as outs
 use Rattle.world_rules.specs.declared.message.Sent.{Sent}
-use Rattle.world_laws.proofs.Lists.{each_end, each_append, each_weaker}
 use Rattle.world_laws.proofs.Numbered.{each_at_get}
 use Rattle.world_laws.proofs.Keeps.{IsBeside, outcome-beside, ask_of, asked_by, by-posts, KeepsAll, KeepsLives, live-line_played, keeps-world_after, signed_by, learned_line, from_node, from_client, from_script, keeps-sends_all}
 use Rattle.world_laws.proofs.Hearing.{Accepts, accepts_waiting}
 use Rattle.world_laws.proofs.Asking.{ClientRight, ClientsRight, keeps-right, rested-right, right-begun}
 use Rattle.world_laws.proofs.Accepted.{AcceptedRight, RightUnlessRogue}
 use Rattle.world_laws.proofs.Grows.{view-stays}
+use Rattle.agreement_laws.proofs.Lists.{each_end, each_append}
+use Rattle.smart_base.proofs.ViewFacts.{each-weaken}
 
 -- the line that tells of an accepted reply
 abbrev line_of : Acceptance → OutLine
@@ -86,7 +87,7 @@ stems-stepped course w i h o is =
     keeps-sends_all ToldStems h.node.id (λ v held stems. stems-posts v (from_node h.node.id held) stems) _ (leaving o.node.firm o.node.held)
     (record {
       all = each_append (Stems w.accepted) w.told _ is.all
-          (each_weaker IsBeside (Stems w.accepted) (λ line beside. inl beside) (told_drop h.node.id o.dropped ++ flat_map (told_fired h.node.id) o.fired) (outcome-beside h.node.id o));
+          (each-weaken IsBeside (Stems w.accepted) (λ line beside. inl beside) (told_drop h.node.id o.dropped ++ flat_map (told_fired h.node.id) o.fired) (outcome-beside h.node.id o));
     })
 
 -- a client hears
@@ -113,7 +114,7 @@ stems-hearing w i c a own is =
     let h : Heard = heard w.view c a in
     let more : List Acceptance = w.accepted ++ acceptance_in h in
     record {
-      all = each_end (Stems more) w.told (told_heard c.id h) (each_weaker (Stems w.accepted) (Stems more) (stems_more w.accepted (acceptance_in h)) w.told is.all) (stems-heard w.accepted w.view c a h refl own);
+      all = each_end (Stems more) w.told (told_heard c.id h) (each-weaken (Stems w.accepted) (Stems more) (stems_more w.accepted (acceptance_in h)) w.told is.all) (stems-heard w.accepted w.view c a h refl own);
     }
 
 -- all that is told stems from what was accepted, whatever happens
@@ -199,7 +200,7 @@ lines-stem {S = S} course w (l ∷ ls) is =
     let after : World S = world_after course (rested played) ls in
     let stemming : Stemming played = live-line_played course Stemming (keeps-stemming course) w l is in
     each_append (Stems after.accepted) played.told (lines_told course (rested played) ls)
-    (each_weaker (Stems played.accepted) (Stems after.accepted) (λ line stems. keeps-world_after course (λ (v : World S). Stems v.accepted line) (keeps-stems course line) (rested played) ls stems) played.told stemming.1.all)
+    (each-weaken (Stems played.accepted) (Stems after.accepted) (λ line stems. keeps-world_after course (λ (v : World S). Stems v.accepted line) (keeps-stems course line) (rested played) ls stems) played.told stemming.1.all)
     (lines-stem course (rested played) ls (rested-stemming played stemming))
 
 -- a line that tells of no accepted reply
@@ -254,6 +255,6 @@ pub lines-answered : {S : Type 0} (m : Meaning S) (view : View) (ls : List Line)
 lines-answered {S = S} m view ls right =
     let after : World S = world_after (course_of m) (begun m view) ls in
     let same : after.view ≡ view = view-stays m (begun m view) ls in
-    each_weaker (Stems after.accepted) (IsAnswered m view after.rogue after.chosen)
+    each-weaken (Stems after.accepted) (IsAnswered m view after.rogue after.chosen)
     (stems-answered m view after.rogue after.sent after.chosen after.accepted (subst (λ (v : View). Each (RightUnlessRogue m v after.rogue after.sent after.chosen) after.accepted) same right.all))
     (lines_told (course_of m) (begun m view) ls) (lines-stem (course_of m) (begun m view) ls (right-begun m view, record { all = tt }))

@@ -5,16 +5,16 @@ use Rattle.std.specs.List.{list_any}
 use Rattle.smart_base.specs.Lists.{Each}
 use Rattle.smart_base.specs.declared.party.Party.{Party}
 use Rattle.smart_base.specs.declared.party.Party.TheVariants as parties
-use Rattle.smart_messages.specs.Forms.{SignedBy}
-use Rattle.smart_messages.specs.Messages.{Batch}
-use Rattle.smart_messages.specs.declared.statement.Request.{Request}
-use Rattle.smart_messages.specs.declared.statement.Ballot.{Ballot}
-use Rattle.smart_messages.specs.declared.statement.Answer.{Answer}
-use Rattle.smart_messages.specs.declared.report.Mark.{Mark}
-use Rattle.smart_messages.specs.declared.report.Report.{Report}
-use Rattle.smart_messages.specs.declared.report.Evidence.{Evidence}
-use Rattle.smart_messages.specs.declared.report.Evidence.TheVariants as evidence
-use Rattle.smart_messages.specs.declared.report.LockCertificate.{LockCertificate}
+use Rattle.smart_statements.specs.Forms.{SignedBy}
+use Rattle.smart_statements.specs.Batches.{Batch}
+use Rattle.smart_statements.specs.declared.statement.Request.{Request}
+use Rattle.smart_statements.specs.declared.statement.Ballot.{Ballot}
+use Rattle.smart_statements.specs.declared.statement.Answer.{Answer}
+use Rattle.smart_statements.specs.declared.report.Mark.{Mark}
+use Rattle.smart_statements.specs.declared.report.Report.{Report}
+use Rattle.smart_statements.specs.declared.report.Evidence.{Evidence}
+use Rattle.smart_statements.specs.declared.report.Evidence.TheVariants as evidence
+use Rattle.smart_statements.specs.declared.report.LockCertificate.{LockCertificate}
 use Rattle.smart_messages.specs.declared.regency.RegencyMessage.TheVariants as changes
 use Rattle.smart_messages.specs.declared.message.Message.TheVariants.{Ask, Propose, Vote, Reply}
 use Rattle.smart_messages.specs.declared.any.AnyMessage.{AnyMessage}
@@ -24,7 +24,7 @@ use Rattle.vote_book.proofs.Tested.{passing}
 use Rattle.node_rules.specs.Steps.{Outcome, leaving}
 use Rattle.node_rules.specs.declared.node.Target.{Target}
 use Rattle.agreement_laws.specs.Statements.{Statement, Asked, Proposed, Voted, Stopped, Reported, Synced, Marked, Replied, Informed, signer_of, within, in_report, parts_of_evidence, parts_of_lock, requests_of, said}
-use Rattle.agreement_laws.proofs.Lists.{among_either, each_among, given, within_one}
+use Rattle.agreement_laws.proofs.Lists.{among_either, each_among, given, within_one, each_end}
 use Rattle.world_rules.specs.Premises.{Claim, claim_of, claims, same_claim, is_among, is_from, is_stated, is_excused, is_forgery, is_forged}
 use Rattle.world_rules.specs.Worlds.{Course, Host, World, posts, stepped, hearing}
 use Rattle.world_rules.specs.declared.message.Content.{Content}
@@ -34,9 +34,11 @@ use Rattle.world_rules.specs.declared.message.Origin.TheVariants as origins
 use Rattle.world_rules.specs.declared.message.Sent.{Sent}
 use Rattle.world_laws.specs.Sending.{IsNodes, IsClients, IsOwnSent}
 use Rattle.world_laws.specs.Stated.{stated_in, stated}
-use Rattle.world_laws.proofs.Lists.{and_true, or_false, each_end, each_weaker}
 use Rattle.world_laws.proofs.Keeps.{IsRead, ask_of, asked_by, by-posts, KeepsAll, keeps-sends_all, signed_by, from_node, from_client, from_script}
 use Rattle.world_laws.proofs.Stating.{Proper, claims_stated, same_claim-one, message_proper, IsSaid, message_says}
+use Rattle.smart_base.proofs.SameLists.{and_true}
+use Rattle.smart_base.proofs.ViewFacts.{each-weaken}
+use Rattle.std.proofs.lemmas.Bool.{or_parts}
 
 -- what is injected
 
@@ -80,7 +82,7 @@ stated_fine a false is = absurd (cc)
 none_more : (p q : Claim → Bool) → ((c : Claim) → p c ≡ false → q c ≡ false) → (cs : List Claim) → list_any p cs ≡ false → list_any q cs ≡ false
 none_more p q more [] none = refl
 none_more p q more (c ∷ cs) none =
-    let parts = or_false (p c) (list_any p cs) none in
+    let parts = or_parts (p c) (list_any p cs) none in
     neither (q c) (list_any q cs) (more c parts.0) (none_more p q more cs parts.1)
   where
     neither : (a b : Bool) → a ≡ false → b ≡ false → (a || b) ≡ false
@@ -120,7 +122,7 @@ unforged-posts {S = S} w s fine is =
     by-posts (λ (v : World S). Unforged v) w s (λ ending. record { each = is.each })
     (λ free room. record {
       each = each_end (λ (t : Sent). IsFine w.faulty w.rogue (w.sent ++ s ∷ []) t.origin t.content) w.sent s
-          (each_weaker (λ (t : Sent). IsFine w.faulty w.rogue w.sent t.origin t.content) (λ (t : Sent). IsFine w.faulty w.rogue (w.sent ++ s ∷ []) t.origin t.content)
+          (each-weaken (λ (t : Sent). IsFine w.faulty w.rogue w.sent t.origin t.content) (λ (t : Sent). IsFine w.faulty w.rogue (w.sent ++ s ∷ []) t.origin t.content)
           (λ t. more t.origin t.content) w.sent is.each)
           (more s.origin s.content fine);
     })
@@ -147,7 +149,7 @@ keeps-unforged course =
         inject = λ w x read fine is. unforged-posts w (from_script x) fine is;
         declare = λ w faulty rogue ending how is.
             record {
-              each = each_weaker (λ (s : Sent). IsFine w.faulty w.rogue w.sent s.origin s.content) (λ (s : Sent). IsFine faulty rogue w.sent s.origin s.content)
+              each = each-weaken (λ (s : Sent). IsFine w.faulty w.rogue w.sent s.origin s.content) (λ (s : Sent). IsFine faulty rogue w.sent s.origin s.content)
                   (λ s. fine_more w.faulty w.rogue faulty rogue w.sent w.sent (excused_more w.faulty w.rogue faulty rogue how.more_faulty how.more_rogue) (λ c is. is) s.origin s.content)
                   w.sent is.each;
             };
@@ -209,8 +211,8 @@ claim_own sent x read proper is =
 -- a claim of a content that is not forged is of one who is excused, or it is stated
 none_claims : (p : Claim → Bool) (xs : List Statement) (x : Statement) → list_any p (map claim_of xs) ≡ false → Among x xs → p (claim_of x) ≡ false
 none_claims p [] x none there = absurd there
-none_claims p (y ∷ ys) x none (inl is) = subst (λ (z : Statement). p (claim_of z) ≡ false) (sym is) (or_false (p (claim_of y)) (list_any p (map claim_of ys)) none).0
-none_claims p (y ∷ ys) x none (inr there) = none_claims p ys x (or_false (p (claim_of y)) (list_any p (map claim_of ys)) none).1 there
+none_claims p (y ∷ ys) x none (inl is) = subst (λ (z : Statement). p (claim_of z) ≡ false) (sym is) (or_parts (p (claim_of y)) (list_any p (map claim_of ys)) none).0
+none_claims p (y ∷ ys) x none (inr there) = none_claims p ys x (or_parts (p (claim_of y)) (list_any p (map claim_of ys)) none).1 there
 
 -- so a statement in it that is read is of one who is excused, or stands in a message that its signer has sent
 pub fine_own : (faulty rogue : List ℕ) (sent : List Sent) (content : Content) (x : Statement) → is_forged faulty rogue sent content ≡ false → Each (λ s. IsRead s.content) sent → IsRead content

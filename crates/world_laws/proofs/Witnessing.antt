@@ -1,6 +1,6 @@
 -- What members have stated is witnessed by what became firm at them.
 use Rattle.std.proofs.Common.{◌≡◌, ⊎_elim, ◌⊎◌, ℕ, zero, suc, ◌+◌, ◌*◌, ◌^◌, ◌≤◌, ◌==◌, ◌&&◌, ◌||◌, Bool, true, false, List, [], ◌∷◌, ◌++◌, take, length, filter, refl, ap, sym, ◌∙◌, subst, inl, inr, Option, Some, eqb-true, eq-eqb, nat_le, append-nil}
-use Rattle.std.proofs.lemmas.Bool.{ltb-false, leb-true}
+use Rattle.std.proofs.lemmas.Bool.{ltb-false, leb-true, or_parts}
 use Rattle.std.proofs.lemmas.Grind.{flat_map-append}
 use Rattle.std.specs.Prelude.{map, slice_get, slice_set}
 use Rattle.std.specs.List.{list_any, flat_map}
@@ -8,8 +8,8 @@ use Rattle.smart_base.specs.Lists.{Each, Distinct}
 use Rattle.smart_base.specs.Views.{View, ascends, is_view}
 use Rattle.smart_base.specs.declared.party.Party.TheVariants.{Member}
 use Rattle.smart_messages.specs.declared.any.AnyMessage.{AnyMessage}
-use Rattle.smart_messages.specs.declared.entry.NodeEvent.{NodeEvent}
-use Rattle.smart_messages.specs.declared.entry.NodeEvent.TheVariants.{Arrive, Tick, Deliver, Firm}
+use Rattle.smart_statements.specs.declared.entry.NodeEvent.{NodeEvent}
+use Rattle.smart_statements.specs.declared.entry.NodeEvent.TheVariants.{Arrive, Tick, Deliver, Firm}
 use Rattle.vote_book.specs.Books.{Among, Lawful}
 use Rattle.vote_book.specs.declared.entry.LogEntry.{LogEntry}
 use Rattle.replica_rules.specs.Seals.{digest_of}
@@ -20,7 +20,7 @@ use Rattle.agreement_laws.specs.Statements.{Statement, signer_of, statements, Is
 use Rattle.agreement_laws.specs.Diaries.{IsShown}
 use Rattle.agreement_laws.specs.Certificates.{IsBacked}
 use Rattle.agreement_laws.specs.Law.{FewFaulty, Witnessed}
-use Rattle.agreement_laws.proofs.Lists.{among_left, among_right, among_either, each_from}
+use Rattle.agreement_laws.proofs.Lists.{among_left, among_right, among_either, each_from, either, either_by, some_equal}
 use Rattle.agreement_laws.proofs.Growing.{take-longer, IsShown-front}
 use Rattle.agreement_laws.proofs.Closed.{closed}
 use Rattle.node_laws.specs.Sound.{AreAmong, IsStated, IsStatedEvent, IsHeld}
@@ -31,8 +31,10 @@ use Rattle.world_rules.specs.declared.message.Content.{Content}
 use Rattle.world_rules.specs.declared.message.Content.TheVariants as contents
 use Rattle.world_rules.specs.declared.message.Sent.{Sent}
 use Rattle.world_laws.specs.Stated.{stated_in, stated, diary_of, diary}
-use Rattle.world_laws.proofs.Lists.{and_true, or_false, either, either_by, some-equal, each_weaker, each_set}
+use Rattle.world_laws.proofs.Lists.{each_set}
 use Rattle.world_laws.proofs.Keeps.{HasContent, MayRead}
+use Rattle.smart_base.proofs.SameLists.{and_true}
+use Rattle.smart_base.proofs.ViewFacts.{each-weaken}
 
 -- what has been stated
 
@@ -124,7 +126,7 @@ not_fewer few more id grows none = by (is_among few id) refl
 pub shown-faulty : {S : Type 0} (faulty more : List ℕ) (stated : List Statement) (hosts : List (Host S)) → ((member : ℕ) → is_among faulty member ≡ true → is_among more member ≡ true) → AllShown faulty stated hosts
     → AllShown more stated hosts
 shown-faulty faulty more stated hosts grows all x there =
-    each_weaker (ShowsOwn faulty x) (ShowsOwn more x) (λ h shows who correct. shows who (not_fewer faulty more h.node.id grows correct)) hosts (all x there)
+    each-weaken (ShowsOwn faulty x) (ShowsOwn more x) (λ h shows who correct. shows who (not_fewer faulty more h.node.id grows correct)) hosts (all x there)
 
 -- where more is sent
 pub shown-sent : {S : Type 0} (faulty : List ℕ) (sent : List Sent) (s : Sent) (hosts : List (Host S)) → StatesShown faulty (stated sent) hosts s.content → AllShown faulty (stated sent) hosts
@@ -150,7 +152,7 @@ shown-set {S = S} faulty stated hosts i h h' at f all x there =
   where
     get : (hs : List (Host S)) (j : ℕ) → Each (ShowsOwn faulty x) hs → slice_get hs j ≡ Some h → ShowsOwn faulty x h
     get [] j each at = absurd (cc)
-    get (g ∷ hs) zero each at = subst (ShowsOwn faulty x) (some-equal g h at) each.0
+    get (g ∷ hs) zero each at = subst (ShowsOwn faulty x) (some_equal g h at) each.0
     get (g ∷ hs) (suc j) each at = get hs j each.1 at
 
 -- what one host shows, is shown at all, as each has its own member
@@ -158,7 +160,7 @@ shown-set {S = S} faulty stated hosts i h h' at f all x there =
 -- a host's name is among the names
 named_at : {S : Type 0} (hs : List (Host S)) (i : ℕ) (h : Host S) → slice_get hs i ≡ Some h → list_any (λ y. y == h.node.id) (map (λ g. g.node.id) hs) ≡ true
 named_at [] i h at = absurd (cc)
-named_at {S = S} (g ∷ hs) zero h at = first (g.node.id == h.node.id) (list_any (λ y. y == h.node.id) (map (λ k. k.node.id) hs)) (eq-eqb g.node.id h.node.id (ap (λ (k : Host S). k.node.id) (some-equal g h at)))
+named_at {S = S} (g ∷ hs) zero h at = first (g.node.id == h.node.id) (list_any (λ y. y == h.node.id) (map (λ k. k.node.id) hs)) (eq-eqb g.node.id h.node.id (ap (λ (k : Host S). k.node.id) (some_equal g h at)))
   where
     first : (a b : Bool) → a ≡ true → (a || b) ≡ true
     first true b is = refl
@@ -180,7 +182,7 @@ members_same a b same = cc
 shows_none : {S : Type 0} (faulty : List ℕ) (x : Statement) (id : ℕ) (hs : List (Host S)) → signer_of x ≡ Member id → list_any (λ y. y == id) (map (λ g. g.node.id) hs) ≡ false → Each (ShowsOwn faulty x) hs
 shows_none faulty x id [] who none = tt
 shows_none faulty x id (g ∷ hs) who none =
-    let parts = or_false (g.node.id == id) (list_any (λ y. y == id) (map (λ k. k.node.id) hs)) none in
+    let parts = or_parts (g.node.id == id) (list_any (λ y. y == id) (map (λ k. k.node.id) hs)) none in
     (λ own correct. absurd (no_other (sym (eq-eqb g.node.id id (members_same g.node.id id (sym own ∙ who))) ∙ parts.0)), shows_none faulty x id hs who parts.1)
   where
     no_other : true ≡ false → ⊥
@@ -190,7 +192,7 @@ pub shown_own : {S : Type 0} (faulty : List ℕ) (x : Statement) (hs : List (Hos
     → IsShown digest_of (firm_of h) x → Each (ShowsOwn faulty x) hs
 shown_own faulty x [] i h once at who shown = absurd (cc)
 shown_own {S = S} faulty x (g ∷ hs) zero h once at who shown =
-    let same : g ≡ h = some-equal g h at in
+    let same : g ≡ h = some_equal g h at in
     let own : signer_of x ≡ Member g.node.id = who ∙ ap (λ (k : Host S). Member k.node.id) (sym same) in
     (λ mine correct. subst (λ (k : Host S). IsShown digest_of (firm_of k) x) (sym same) shown, shows_none faulty x g.node.id hs own once.0)
 shown_own {S = S} faulty x (g ∷ hs) (suc i) h once at who shown = (
@@ -278,10 +280,10 @@ witnessing {S = S} w viewed few hosts ids all =
       few = few_faulty w.view w.faulty viewed few;
       lawful = λ member correct.
           by_host (λ (es : List LogEntry). Lawful 0 0 es) none_lawful w.hosts
-          (each_weaker (HostStands (stated w.sent) w.view) (λ (h : Host S). Lawful 0 0 (firm_of h)) (λ h is. is.lawful) w.hosts hosts) member;
+          (each-weaken (HostStands (stated w.sent) w.view) (λ (h : Host S). Lawful 0 0 (firm_of h)) (λ h is. is.lawful) w.hosts hosts) member;
       backed = λ member correct.
           by_host (Each (IsBacked group_secret digest_of w.view (stated w.sent))) tt w.hosts
-          (each_weaker (HostStands (stated w.sent) w.view) (λ (h : Host S). Each (IsBacked group_secret digest_of w.view (stated w.sent)) (firm_of h)) (λ h is. is.backed) w.hosts hosts) member;
+          (each-weaken (HostStands (stated w.sent) w.view) (λ (h : Host S). Each (IsBacked group_secret digest_of w.view (stated w.sent)) (firm_of h)) (λ h is. is.backed) w.hosts hosts) member;
       shown = λ member correct x there who.
           shown_at w.faulty x w.hosts member (all x there) (subst (λ (ms : List ℕ). list_any (λ y. y == member) ms ≡ true) (sym ids) correct.within) who correct.correct;
       closed = stated_closed w.sent;

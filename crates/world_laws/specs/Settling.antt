@@ -1,16 +1,12 @@
 -- The worlds of a play in which a node settles.
-use Rattle.std.specs.Prelude.{ℕ, ◌+◌, ◌≡◌, List, slice_get}
+use Rattle.std.specs.Prelude.{ℕ, ◌+◌, List, slice_get}
 use Rattle.smart_base.specs.Views.{View}
-use Rattle.smart_messages.specs.declared.entry.NodeEvent.TheVariants.{Arrive}
+use Rattle.smart_statements.specs.declared.entry.NodeEvent.TheVariants.{Arrive}
 use Rattle.smart_service.specs.Services.{Meaning}
 use Rattle.world_rules.specs.Repeats.{repeated, each_from}
 use Rattle.world_rules.specs.Worlds.{course_of, World, node_takes, settle_once, at_listed, settle_present, settle_all, gives, flow_once, begun}
 use Rattle.world_rules.specs.Plays.{world_after}
 use Rattle.world_rules.specs.declared.line.Line.{Line}
-
--- the node at an index has settled: to take what is due changes nothing
-abbrev pub HasSettled : {S : Type 0} → Meaning S → ℕ → World S → Type 0
-HasSettled m i w = settle_once (course_of m) i w ≡ w
 
 -- the node at an index settles, if it runs
 abbrev pub settles_present : {S : Type 0} → Meaning S → List ℕ → ℕ → World S → World S

@@ -4,12 +4,12 @@ use Rattle.smart_base.specs.Lists.{Each}
 use Rattle.vote_book.specs.Entries.{entry_text}
 use Rattle.durable_store.specs.Restored.{restores}
 use Rattle.world_rules.specs.Crashes.{bytes_held}
-use Rattle.smart_messages.specs.declared.statement.Ballot.{Ballot}
+use Rattle.smart_statements.specs.declared.statement.Ballot.{Ballot}
 use Rattle.std.specs.List.{flat_map}
 use Rattle.smart_base.specs.Views.{View}
-use Rattle.smart_messages.specs.Forms.{SignedBy}
-use Rattle.smart_messages.specs.Messages.{Batch}
-use Rattle.smart_messages.specs.declared.statement.Request.{Request}
+use Rattle.smart_statements.specs.Forms.{SignedBy}
+use Rattle.smart_statements.specs.Batches.{Batch}
+use Rattle.smart_statements.specs.declared.statement.Request.{Request}
 use Rattle.vote_book.specs.declared.entry.LogEntry.{LogEntry}
 use Rattle.replica_rules.specs.Seals.{digest_of}
 use Rattle.vote_book.specs.Books.{Among}

@@ -1,10 +1,10 @@
 //! Laws of what is sent, and of what it rests on.
 ghost use Rattle.std.specs.Prelude.{◌≡◌, ◌++◌, ◌∷◌, [], ℕ, List, true};
 ghost use Rattle.smart_base.specs.Views.{View, is_view};
-ghost use Rattle.smart_messages.specs.Forms.{SignedBy};
-ghost use Rattle.smart_messages.specs.declared.statement.Request.{Request};
-ghost use Rattle.smart_messages.specs.declared.statement.Answer.{Answer};
-ghost use Rattle.smart_messages.specs.declared.entry.NodeEvent.{NodeEvent};
+ghost use Rattle.smart_statements.specs.Forms.{SignedBy};
+ghost use Rattle.smart_statements.specs.declared.statement.Request.{Request};
+ghost use Rattle.smart_statements.specs.declared.statement.Answer.{Answer};
+ghost use Rattle.smart_statements.specs.declared.entry.NodeEvent.{NodeEvent};
 ghost use Rattle.node_rules.specs.Steps.{opened};
 ghost use Rattle.node_rules.specs.Kept.{node_after};
 ghost use Rattle.world_rules.specs.Repeats.{repeated};

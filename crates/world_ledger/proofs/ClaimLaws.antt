@@ -3,15 +3,15 @@ use Rattle.std.proofs.Common.{◌≡◌, Bool, true, false, cond, List, [], ◌�
 use Rattle.std.proofs.lemmas.List.Elements.{filter-append}
 use Rattle.std.proofs.lemmas.List.{append-nil}
 use Rattle.std.specs.List.{flat_map}
-use Rattle.smart_messages.specs.Forms.{Form, SignedBy}
-use Rattle.smart_messages.specs.Kinds.{requests, proposals, ballots}
-use Rattle.smart_messages.specs.Messages.{Batch}
-use Rattle.smart_messages.specs.Reports.{marks, reports}
+use Rattle.smart_statements.specs.Forms.{Form, SignedBy}
+use Rattle.smart_statements.specs.Kinds.{requests, proposals, ballots}
+use Rattle.smart_statements.specs.Batches.{Batch}
+use Rattle.smart_statements.specs.Reports.{marks, reports}
 use Rattle.smart_messages.specs.Regencies.{syncs}
-use Rattle.smart_messages.specs.declared.report.Evidence.{Evidence}
-use Rattle.smart_messages.specs.declared.report.Evidence.TheVariants as evidence
-use Rattle.smart_messages.specs.declared.report.LockCertificate.{LockCertificate}
-use Rattle.smart_messages.specs.declared.report.Report.{Report}
+use Rattle.smart_statements.specs.declared.report.Evidence.{Evidence}
+use Rattle.smart_statements.specs.declared.report.Evidence.TheVariants as evidence
+use Rattle.smart_statements.specs.declared.report.LockCertificate.{LockCertificate}
+use Rattle.smart_statements.specs.declared.report.Report.{Report}
 use Rattle.smart_messages.specs.declared.regency.RegencyMessage.TheVariants as changes
 use Rattle.smart_messages.specs.declared.message.Message.TheVariants.{Ask, Propose, Vote, Reply}
 use Rattle.smart_messages.specs.declared.any.AnyMessage.{AnyMessage}

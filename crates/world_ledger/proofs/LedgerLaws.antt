@@ -9,7 +9,7 @@ use Rattle.std.proofs.lemmas.List.Concat.{flat_map-append}
 use Rattle.std.proofs.lemmas.List.Folds.{list_any-append}
 use Rattle.smart_base.specs.Lists.{Each, same_bytes}
 use Rattle.smart_base.proofs.SameLists.{same_list-equal}
-use Rattle.smart_messages.specs.Messages.{Batch, batch_text}
+use Rattle.smart_statements.specs.Batches.{Batch, batch_text}
 use Rattle.smart_messages.specs.declared.any.AnyMessage.{AnyMessage}
 use Rattle.smart_messages.specs.declared.any.AnyMessage.TheVariants.{Plain, Change}
 use Rattle.smart_messages.specs.declared.regency.RegencyMessage.TheVariants as changes

@@ -1,5 +1,3 @@
 pub mod LedgerLaws
 pub mod StatedLaws
-pub mod InjectionLaws
 pub mod ClaimLaws
-pub mod SizeLaws

@@ -2,7 +2,7 @@
 use Rattle.std.specs.Prelude.{◌≡◌, ℕ, ◌⊎◌, Bool, List, [], ◌∷◌, Option, Some, cond, nat_eq}
 use Rattle.std.specs.Cmp.Lexicographic.{pointwise}
 use Rattle.smart_base.specs.Lists.{Each}
-use Rattle.smart_messages.specs.Messages.{Batch, batch_text}
+use Rattle.smart_statements.specs.Batches.{Batch, batch_text}
 use Rattle.replica_rules.specs.Seals.{digest_of}
 use Rattle.world_rules.specs.Premises.{met}
 use Rattle.world_rules.specs.declared.message.Sent.{Sent}

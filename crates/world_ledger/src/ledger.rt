@@ -12,8 +12,9 @@ ghost use Rattle.world_ledger.specs.Statements.{same_stated};
 ghost use Rattle.world_ledger.specs.Ledgers.{indexed, IsIndexed};
 
 use crate::content::batch_met;
+use crate::party::signer_of;
 use crate::secret::GroupRing;
-use crate::stated::{Stated, StatedIndex, is_excused, own_statements, put_all, signer_of};
+use crate::stated::{Stated, StatedIndex, is_excused, own_statements, put_all};
 use smart_base::equality::same_bytes;
 use smart_base::keys::Digester;
 use smart_base::name::{ClientId, MemberId};
@@ -21,11 +22,11 @@ use smart_base::sequence::Bytes;
 use smart_keys::hash::Sha;
 use smart_keys::ring::Ring;
 use smart_messages::any::AnyMessage;
-use smart_messages::batch::Batch;
 use smart_messages::message::Message;
 use smart_messages::regency::RegencyMessage;
-use smart_messages::report::{Evidence, LockCertificate, Report};
-use smart_messages::signed::{Signed, Statement};
+use smart_statements::batch::Batch;
+use smart_statements::report::{Evidence, LockCertificate, Report};
+use smart_statements::signed::{Signed, Statement};
 use std::alloc::{AllocError, Global};
 use std::collections::{HashMap, HashSet};
 use std::marker::Model;
@@ -37,12 +38,22 @@ type TextIndex = HashMap<[u8; 32], Bytes>;
 /// All messages that were sent, in order. No two different batches in them have one digest. Two
 /// indexes say of a further batch whether it has another's digest, and of a statement whether its
 /// signer has sent it, without a walk over the messages.
-#[derive(Drop)]
 pub struct Ledger {
     ring: GroupRing,
     sent: Vec<Sent>,
     texts: TextIndex,
     stated: StatedIndex,
+}
+
+impl Drop for Ledger {
+    fn drop(self) {
+        let Ledger {
+            ring: _ring,
+            sent: _sent,
+            texts: _texts,
+            stated: _stated,
+        } = self;
+    }
 }
 
 impl Model for Ledger {

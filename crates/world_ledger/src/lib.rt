@@ -1,9 +1,8 @@
-//! The messages that were sent, what stands in them, and what a script injects.
+//! The messages that were sent, and what stands in them.
 #![tactic(auto)]
 
 pub mod content;
-pub mod injection;
 pub mod ledger;
+pub mod party;
 pub mod secret;
-mod size;
 mod stated;

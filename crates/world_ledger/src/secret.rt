@@ -11,9 +11,14 @@ use std::marker::Model;
 const SECRET: &[u8] = b"world";
 
 /// The ring that holds the group's secret.
-#[derive(Drop)]
 pub struct GroupRing {
     ring: Ring,
+}
+
+impl Drop for GroupRing {
+    fn drop(self) {
+        let GroupRing { ring: _ring } = self;
+    }
 }
 
 impl Model for GroupRing {

@@ -3,21 +3,22 @@
 ghost use Rattle.std.specs.Prelude.{◌≡◌, ◌≤◌, ◌||◌, ◌++◌, IfOk, OnOk, map, filter, vec_len};
 ghost use Rattle.std.specs.HashSet.{contains, spare};
 ghost use Rattle.std.specs.List.{list_any, flat_map};
-ghost use Rattle.smart_messages.specs.Forms.{Form, party_of};
+ghost use Rattle.smart_statements.specs.Forms.{Form, party_of};
 ghost use Rattle.world_rules.specs.Secrets.{group_secret};
 ghost use Rattle.world_rules.specs.Premises.{claims, is_from, is_among, is_excused};
 ghost use Rattle.world_ledger.specs.Claims.{claims_of, claims_of_each, in_evidence, in_lock, in_report, in_plain, in_change, in_message};
 ghost use Rattle.world_ledger.specs.declared.stated.Stated.{Stated};
 ghost use Rattle.world_ledger.specs.Statements.{claim_of, same_stated, is_own};
 
+use crate::party::signer_of;
 use smart_base::name::{ClientId, MemberId};
 use smart_base::party::Party;
 use smart_keys::ring::Ring;
 use smart_messages::any::AnyMessage;
 use smart_messages::message::Message;
 use smart_messages::regency::RegencyMessage;
-use smart_messages::report::{Evidence, LockCertificate, Report};
-use smart_messages::signed::{MEMBER, Signed, Statement};
+use smart_statements::report::{Evidence, LockCertificate, Report};
+use smart_statements::signed::{Signed, Statement};
 use std::alloc::{AllocError, Global};
 use std::collections::HashSet;
 use world_rules::message::{Content, Origin, Sent};
@@ -57,24 +58,6 @@ impl Stated {
     {
         Stated::new(alloc, signer_of(signed), signed.bytes())
     }
-}
-
-/// The party of a kind and a number.
-pub fn party_of(kind: u8, number: u16) -> Party
-    ensures { result ≡ party_of kind number }
-{
-    if kind == MEMBER {
-        Party::Member(MemberId::new(number))
-    } else {
-        Party::Client(ClientId::new(number))
-    }
-}
-
-/// Who signed.
-pub fn signer_of<S: Statement>(signed: &Signed<S>) -> Party
-    ensures { result ≡ party_of (Form.kind S.form) signed.now.signer }
-{
-    party_of(S::kind(), signed.signer())
 }
 
 fn is_from(party: Party, origin: &Origin) -> bool

@@ -1,8 +1,8 @@
 -- What a client of a script's group makes of a reply.
 use Rattle.std.specs.Prelude.{Option}
 use Rattle.smart_base.specs.Views.{View}
-use Rattle.smart_messages.specs.Forms.{SignedBy}
-use Rattle.smart_messages.specs.declared.statement.Answer.{Answer}
+use Rattle.smart_statements.specs.Forms.{SignedBy}
+use Rattle.smart_statements.specs.declared.statement.Answer.{Answer}
 use Rattle.client_quorum.specs.Clients as clients
 use Rattle.client_quorum.specs.declared.client.Client.{Client}
 use Rattle.client_quorum.specs.declared.client.Ignored.{Ignored}

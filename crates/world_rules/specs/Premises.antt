@@ -5,11 +5,11 @@ use Rattle.smart_base.specs.Lists.{same_bytes}
 use Rattle.smart_base.specs.Views.{View}
 use Rattle.smart_base.specs.declared.party.Party.{Party}
 use Rattle.smart_base.specs.declared.party.Party.TheVariants as parties
-use Rattle.smart_messages.specs.Kinds.{requests, proposals, ballots, answers}
-use Rattle.smart_messages.specs.Reports.{marks, reports}
+use Rattle.smart_statements.specs.Kinds.{requests, proposals, ballots, answers}
+use Rattle.smart_statements.specs.Reports.{marks, reports}
 use Rattle.smart_messages.specs.Regencies.{stops, syncs, view_infos}
 use Rattle.smart_messages.specs.RegencyMessages.{any_spelling}
-use Rattle.smart_messages.specs.Messages.{Batch, batch_text}
+use Rattle.smart_statements.specs.Batches.{Batch, batch_text}
 use Rattle.smart_messages.specs.declared.message.Message.TheVariants.{Ask, Propose, Vote, Reply}
 use Rattle.smart_messages.specs.declared.regency.RegencyMessage.TheVariants as changes
 use Rattle.smart_messages.specs.declared.any.AnyMessage.{AnyMessage}

@@ -8,7 +8,7 @@ use smart_base::name::{ClientId, MemberId};
 use smart_base::number::{Place, Regency, ViewNo};
 use smart_base::party::Party;
 use smart_base::sequence::{Bytes, Sequence};
-use smart_messages::statement::{Answer, Slot, VoteKind};
+use smart_statements::statement::{Answer, Slot, VoteKind};
 
 /// The service that a script's header names.
 #[derive(Clone, Copy, Debug, PartialEq, Eq)]

@@ -1,4 +1,4 @@
-//! The lines of a script, read, and those of its transcript, written.
+//! The lines of a script, read.
 #![tactic(auto)]
 
 pub mod crash;
@@ -6,7 +6,4 @@ pub mod forms;
 pub mod hex;
 pub mod numbers;
 pub mod reading;
-#[cfg(test)]
-mod tests;
-pub mod text;
 pub mod words;

@@ -3,7 +3,7 @@ ghost use Rattle.std.specs.Prelude.{◌≡◌, ◌++◌, ◌∷◌, [], length, 
 ghost use Rattle.vote_book.specs.BookIndex.{is_open, is_open_for, is_greater, greatest_open};
 
 use smart_base::number::{Place, ViewNo};
-use smart_messages::statement::Slot;
+use smart_statements::statement::Slot;
 use std::alloc::{AllocError, Global};
 use std::marker::Model;
 

@@ -15,7 +15,7 @@ use smart_base::bytes::Digest32;
 use smart_base::equality::same_bytes;
 use smart_base::number::Place;
 use smart_base::sequence::Sequence;
-use smart_messages::statement::Slot;
+use smart_statements::statement::Slot;
 use std::alloc::{AllocError, Global};
 
 /// What earlier entries are to a later one.

@@ -1,12 +1,12 @@
 //! Sets of slots and of places.
 ghost use Rattle.std.specs.Prelude.{◌≡◌, ◌||◌, ℕ, nat_eq, [], OnOk, OnErr};
-ghost use Rattle.smart_messages.specs.Equality.{same_slot};
+ghost use Rattle.smart_statements.specs.Equality.{same_slot};
 ghost use Rattle.vote_book.specs.BookIndex.{has_slot, has_place};
-ghost use Rattle.smart_messages.specs.declared.statement.Slot.{Slot};
+ghost use Rattle.smart_statements.specs.declared.statement.Slot.{Slot};
 
 use indexmap::IndexSet;
 use smart_base::number::{Regency, ViewNo};
-use smart_messages::statement::Slot;
+use smart_statements::statement::Slot;
 use std::alloc::{AllocError, Global};
 use std::marker::Model;
 

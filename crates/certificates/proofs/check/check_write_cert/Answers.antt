@@ -1,6 +1,6 @@
 use Rattle.std.proofs.lemmas.List.{length-map}
-use Rattle.smart_messages.specs.Forms.{SignedBy}
-use Rattle.smart_messages.specs.declared.statement.Ballot.{Ballot}
+use Rattle.smart_statements.specs.Forms.{SignedBy}
+use Rattle.smart_statements.specs.declared.statement.Ballot.{Ballot}
 use Rattle.certificates.specs.Certificates.{write_of}
 use Rattle.certificates.proofs.Exact.{passed-exact}
 use Rattle.certificates.proofs.Equal.{votes-exact}

@@ -1,9 +1,10 @@
 use Rattle.std.proofs.Common.{◌++◌, ℕ, List}
 use Rattle.smart_base.specs.Spelling.{u8}
 use Rattle.smart_base.proofs.Written.{wrote}
-use Rattle.smart_messages.specs.Kinds.{proposals}
-use Rattle.smart_messages.specs.Messages.{batch_text, spelling}
-use Rattle.smart_messages.specs.Spelling.{signed}
+use Rattle.smart_statements.specs.Kinds.{proposals}
+use Rattle.smart_statements.specs.Batches.{batch_text}
+use Rattle.smart_messages.specs.Messages.{spelling}
+use Rattle.smart_statements.specs.Spelling.{signed}
 use Rattle.smart_messages.proofs.codec.put_message.Goals as goal
 
 pub returns-in_ok-put-in-Propose-2 : goal.returns-in_ok-put-in-Propose-2

@@ -1,11 +1,11 @@
 use Rattle.std.proofs.Common.{◌++◌, ℕ, List}
 use Rattle.smart_base.specs.Spelling.{u8}
 use Rattle.smart_base.proofs.Written.{wrote}
-use Rattle.smart_messages.specs.Messages.{batch_text}
+use Rattle.smart_statements.specs.Batches.{batch_text}
 use Rattle.smart_messages.specs.RegencyMessages.{change_spelling}
-use Rattle.smart_messages.specs.Reports.{reports}
-use Rattle.smart_messages.specs.SignedLists.{optional}
-use Rattle.smart_messages.specs.Spelling.{signed}
+use Rattle.smart_statements.specs.Reports.{reports}
+use Rattle.smart_statements.specs.SignedLists.{optional}
+use Rattle.smart_statements.specs.Spelling.{signed}
 use Rattle.smart_messages.proofs.regency_codec.put_change.Goals as goal
 
 pub returns-in_ok-put_batch-in-StopData : goal.returns-in_ok-put_batch-in-StopData

@@ -1,8 +1,9 @@
 use Rattle.std.proofs.Common.{◌∙◌, sym, ap, Err}
 use Rattle.std.specs.Prelude.{is_some}
 use Rattle.smart_top.specs.Apps.{core_courses}
-use Rattle.smart_top.proofs.Feeding.{line-played, line-refused, line-halted, none_is}
+use Rattle.smart_top.proofs.Feeding.{line-played, line-refused, line-halted}
 use Rattle.smart_top.proofs.reader.end_line.Goals as goal
+use Rattle.world_laws.proofs.Keeps.{none_is}
 
 pub returns-in-Err-clause-halted : goal.returns-in-Err-clause-halted
 returns-in-Err-clause-halted g c = λ bytes written taken.

@@ -1,6 +1,6 @@
 use Rattle.std.proofs.Common.{◌∷◌, ◌∙◌, ◌+◌, drop, sym, ap, List, map}
 use Rattle.std.proofs.lemmas.List.{drop_more}
-use Rattle.smart_messages.specs.Forms.{SignedBy}
+use Rattle.smart_statements.specs.Forms.{SignedBy}
 use Rattle.world_ledger.specs.Claims.{claims_of}
 use Rattle.world_ledger.specs.Statements.{claim_of, is_own}
 use Rattle.world_ledger.proofs.StatedLaws.{kept-more}

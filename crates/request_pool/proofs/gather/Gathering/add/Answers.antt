@@ -1,5 +1,5 @@
 use Rattle.std.proofs.Common.{◌++◌, ◌∷◌, [], ap, ◌∙◌}
-use Rattle.smart_messages.specs.Messages.{Batch}
+use Rattle.smart_statements.specs.Batches.{Batch}
 use Rattle.replica_rules.specs.Pools.{is_within}
 use Rattle.request_pool.proofs.Batches.{counted_more}
 use Rattle.request_pool.proofs.gather.Gathering.add.Goals as goal

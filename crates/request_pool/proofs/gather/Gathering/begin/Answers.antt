@@ -1,5 +1,5 @@
 use Rattle.std.proofs.Common.{◌++◌, ◌∷◌, [], ap, ◌∙◌}
-use Rattle.smart_messages.specs.Messages.{Batch}
+use Rattle.smart_statements.specs.Batches.{Batch}
 use Rattle.request_pool.proofs.Batches.{counted_one}
 use Rattle.request_pool.proofs.gather.Gathering.begin.Goals as goal
 

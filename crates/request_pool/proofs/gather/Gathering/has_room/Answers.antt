@@ -1,6 +1,6 @@
 use Rattle.std.proofs.Common.{◌+◌, ◌<◌, ◌++◌, ◌∷◌, [], ◌&&◌, Bool, ap, sym, ◌∙◌, arith, length, nat_le}
 use Rattle.std.proofs.lemmas.Bool.{lt-ltb}
-use Rattle.smart_messages.specs.Messages.{Batch}
+use Rattle.smart_statements.specs.Batches.{Batch}
 use Rattle.replica_rules.specs.Pools.{is_within}
 use Rattle.request_pool.proofs.Batches.{within_by_count}
 use Rattle.request_pool.proofs.gather.Gathering.has_room.Goals as goal

@@ -1,5 +1,5 @@
 use Rattle.std.proofs.Common.{◌≡◌, ap, ◌∙◌}
-use Rattle.smart_messages.specs.declared.statement.Request.{Request}
+use Rattle.smart_statements.specs.declared.statement.Request.{Request}
 use Rattle.request_pool.proofs.Entries.{put_stands, put_values, put_found}
 use Rattle.request_pool.proofs.pool.RequestPool.put.Goals as goal
 

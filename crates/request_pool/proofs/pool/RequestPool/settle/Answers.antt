@@ -1,6 +1,6 @@
 use Rattle.std.proofs.Common.{rules}
-use Rattle.smart_messages.specs.Forms.{SignedBy}
-use Rattle.smart_messages.specs.declared.statement.Request.{Request}
+use Rattle.smart_statements.specs.Forms.{SignedBy}
+use Rattle.smart_statements.specs.declared.statement.Request.{Request}
 use Rattle.replica_rules.specs.Replicas.{is_next}
 use Rattle.indexmap.proofs.CallerLemmas.{filter-RetainsPairs}
 use Rattle.request_pool.proofs.Entries.{settled_stands, settled_values}

@@ -1,7 +1,7 @@
 use Rattle.std.proofs.Common.{◌∷◌, ◌∙◌, ◌+◌, drop, sym, ap, List}
 use Rattle.std.proofs.lemmas.List.{drop_more}
-use Rattle.smart_messages.specs.Forms.{SignedBy}
-use Rattle.smart_messages.specs.declared.report.Report.{Report}
+use Rattle.smart_statements.specs.Forms.{SignedBy}
+use Rattle.smart_statements.specs.declared.report.Report.{Report}
 use Rattle.world_rules.specs.Premises.{is_forgery}
 use Rattle.world_ledger.specs.Claims.{in_report}
 use Rattle.world_ledger.proofs.LedgerLaws.{any-here, any-later}

@@ -1,6 +1,0 @@
-use Rattle.node_core.proofs.Accepts.{decided_where}
-use Rattle.node_core.proofs.node.NodeState.decision_in.Goals as goal
-
-pub returns-clause-decision : goal.returns-clause-decision
-returns-clause-decision g c =
-    decided_where c.args.self.now c.args.regency c.slot_in-slot.result c.in_ok-first.first c.in_ok-found.found c.slot_in-slot.ensures c.in_ok-first.ensures.decision c.in_ok-found.ensures.decision

@@ -1,6 +1,0 @@
-use Rattle.std.proofs.Common.{◌∙◌}
-use Rattle.node_core.proofs.Following.{free_after}
-use Rattle.node_core.proofs.node.NodeState.is_free.Goals as goal
-
-pub returns : goal.returns
-returns g c = c.is_free.ensures ∙ free_after c.args.self.now _ c.self.inside.instance c.self.view_is c.self.invariant.instance

@@ -1,6 +1,0 @@
-use Rattle.std.proofs.Common.{◌∙◌}
-use Rattle.node_core.proofs.Following.{open_after}
-use Rattle.node_core.proofs.node.NodeState.is_open.Goals as goal
-
-pub returns : goal.returns
-returns g c = c.is_open.ensures ∙ open_after c.args.self.now _ c.self.inside.instance c.view.result.now c.self.view_is c.view.ensures c.self.invariant.instance

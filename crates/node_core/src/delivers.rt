@@ -1,0 +1,103 @@
+//! What a node delivers, and the replies to what it executed.
+ghost use Rattle.std.specs.Prelude.{◌≡◌, ◌++◌, IfOk, OnOk, OnErr};
+ghost use Rattle.node_rules.specs.Rules.{reply_of, replying, delivers, delivery, answer_line, fired_if};
+ghost use Rattle.smart_messages.specs.declared.any.AnyMessage.TheVariants as messages;
+ghost use Rattle.node_rules.specs.declared.node.Fired.TheVariants as fires;
+
+use delivery::replica::deliver;
+use node_rules::node::{Delivery, Fired, Target};
+use node_state::state::NodeState;
+use smart_base::sequence::Sequence;
+use smart_messages::any::AnyMessage;
+use smart_messages::message::Message;
+use smart_service::service::Service;
+use smart_service::table::TableLine;
+use smart_statements::statement::Answer;
+use std::alloc::AllocError;
+
+/// The node's reply to a request that was executed.
+fn reply_of<S: Service>(node: &NodeState<S>, line: TableLine) -> Result<AnyMessage, AllocError>
+    ensures { IfOk result (λ reply. reply ≡ messages.Plain (reply_of node.now.secret node.now.id line)) }
+{
+    let answer = Answer {
+        view: line.view,
+        place: line.place,
+        index: line.index,
+        client: line.client,
+        seq: line.seq,
+        reply: line.reply,
+    };
+    Ok(AnyMessage::Plain(Message::Reply(node.keys.sealed(node.alloc, answer)?)))
+}
+
+/// Holds the replies to the requests that were executed.
+fn replying<S: Service>(
+    node: &mut NodeState<S>,
+    lines: Sequence<TableLine>,
+) -> Result<(), AllocError>
+    ensures node { OnOk result (node.new ≡ replying node.old lines) }
+    ensures err { OnErr result (node.new.entries ≡ node.old.entries) }
+{
+    for line in lines.into_vec() {
+        let client = line.client;
+        let reply = reply_of(node, line)?;
+        node.hold(Target::Client(client), reply)?;
+    }
+    Ok(())
+}
+
+/// Delivers the batch that waits, and tells of it.
+#[tactic(auto, unfolding(node_rules::specs::Rules::delivers, node_rules::specs::Rules::deliver_batch, node_rules::specs::Rules::delivery))]
+pub fn delivers<S: Service>(node: &mut NodeState<S>) -> Result<Sequence<Fired>, AllocError>
+    ensures node { OnOk result (node.new ≡ delivers S.meaning node.old) }
+    ensures fired { IfOk result (λ fired. fired ≡ delivery S.meaning node.old node.old.waiting) }
+    ensures err { OnErr result (node.new.entries ≡ node.old.entries) }
+{
+    if node.replica.spent() {
+        return Err(AllocError);
+    }
+    let mut fired = Sequence::new(node.alloc);
+    let answers = node.view().is_member(node.id());
+    let votes = node.votes_at(node.place().get() + 2, node.regency());
+    match node.waiting.take() {
+        None => Ok(fired),
+        Some(batch) => {
+            node.instance.delivered(votes);
+            let lines = deliver(node.alloc, &mut node.replica, &batch)?;
+            node.pool.settle(&node.replica.replica().table);
+            node.impatient = false;
+            fired.push(Fired::Delivered(Delivery {
+                place: node.place(),
+                batch,
+                executed: lines.len() as u64,
+            }))?;
+            if answers {
+                replying(node, lines)?;
+            }
+            Ok(fired)
+        }
+    }
+}
+
+/// Holds the reply of a line, where there is one. Adds what this tells.
+#[tactic(auto, unfolding(node_rules::specs::Rules::answer_line))]
+pub fn answer_line<S: Service>(
+    node: &mut NodeState<S>,
+    line: Option<TableLine>,
+    fired: &mut Sequence<Fired>,
+) -> Result<(), AllocError>
+    ensures node { OnOk result (node.new ≡ answer_line node.old line) }
+    ensures fired { OnOk result (fired.new ≡ fired.old ++ fired_if fires.Answered line) }
+    ensures err { OnErr result (node.new.entries ≡ node.old.entries) }
+{
+    match line {
+        None => Ok(()),
+        Some(line) => {
+            fired.push(Fired::Answered)?;
+            let client = line.client;
+            let reply = reply_of(node, line)?;
+            node.hold(Target::Client(client), reply)?;
+            Ok(())
+        }
+    }
+}

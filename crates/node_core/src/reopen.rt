@@ -1,0 +1,170 @@
+//! A node that begins, and one that goes on after a crash.
+ghost use Rattle.std.specs.Prelude.{◌≡◌, ℕ, [], false, None, Some, IfOk, OnOk, IsErrOf};
+ghost use Rattle.vote_book.specs.Books.{last_made};
+ghost use Rattle.node_rules.specs.Reopening.{damaged, entries_in, reopened};
+ghost use Rattle.node_restart.specs.declared.fault.ReopenFault.TheVariants.{Damaged};
+ghost use Rattle.node_state.specs.Following.{Follows};
+ghost use Rattle.node_core.specs.Resuming.{going_on};
+ghost use Rattle.node_rules.specs.Steps.{opened};
+
+use consensus_instance::instance::Instance;
+use delivery::replica::KeptReplica;
+use node_restart::fault::ReopenFault;
+use node_restart::restart::{Restart, restarted};
+use node_state::find::{first_beginning, greatest_regency, start_at};
+use node_state::seal::MemberKeys;
+use node_state::state::NodeState;
+use outbox::outbox::Outbox;
+use regency_sync::synchronizer::Synchronizer;
+use request_pool::pool::RequestPool;
+use smart_base::duplicate::Duplicate;
+use smart_base::name::MemberId;
+use smart_base::number::Place;
+use smart_base::sequence::Bytes;
+use smart_base::view::View;
+use smart_keys::ring::Ring;
+use smart_service::service::Service;
+use std::alloc::{AllocError, Global};
+use vote_book::book::Book;
+use vote_book::entry::{LogEntry, Opening};
+
+/// A node with an empty book.
+pub fn begin<S: Service>(
+    alloc: Global,
+    id: MemberId,
+    view: View,
+    period: u32,
+    ring: Ring,
+) -> Result<NodeState<S>, AllocError>
+    ensures { IfOk result (λ node. node ≡ opened S.meaning ring id view period) }
+{
+    let instance = Instance::begin(alloc, id, &view);
+    let opening = Opening {
+        member: id,
+        period,
+        view: view.duplicate(alloc)?,
+    };
+    let replica = KeptReplica::empty(alloc, view)?;
+    let mut book = Book::begin(alloc, Place::zero());
+    book.end_restored();
+    book.push(LogEntry::Opened(opening))?;
+    Ok(NodeState {
+        alloc,
+        keys: MemberKeys::new(id, ring),
+        replica,
+        waiting: None,
+        pool: RequestPool::new(alloc),
+        instance,
+        synchronizer: Synchronizer::begin(alloc, id),
+        book,
+        restored: 0,
+        firm: 0,
+        held: Outbox::new(alloc),
+        proposed: Vec::new(alloc),
+        impatient: false,
+        behind: false,
+    })
+}
+
+/// The instance of a member that goes on behind a place, and its part in changing the regency, as its
+/// book says.
+#[derive(Drop)]
+struct Summaries {
+    instance: Instance,
+    synchronizer: Synchronizer,
+}
+
+/// What a member that goes on from a book keeps beside it.
+fn summarize(alloc: Global, id: MemberId, view: &View, place: Place, book: &Book) -> Summaries
+    requires { last_made book.now.entries ≡ place }
+    ensures follows { Follows id view.now place None book.now.entries result.instance result.synchronizer }
+    ensures arrivals { result.instance.arrivals ≡ [] }
+    ensures stops { result.synchronizer.stops ≡ [] }
+    ensures reports { result.synchronizer.reports ≡ [] }
+    ensures syncs { result.synchronizer.syncs ≡ [] }
+    ensures stop_made { result.synchronizer.stop_made ≡ false }
+    ensures sync_made { result.synchronizer.sync_made ≡ false }
+{
+    let number = view.number();
+    let regency = greatest_regency(number, book.pushed());
+    let start = start_at(book, view, regency);
+    let votes = book.votes_at(number, place.get() + 1, regency);
+    let synced = first_beginning(book, number, regency).is_some();
+    Summaries {
+        instance: Instance::resume(alloc, id, place, regency, start, votes),
+        synchronizer: Synchronizer::resume(alloc, id, regency, synced),
+    }
+}
+
+/// A node that goes on from restored entries, or the number of the first that is damaged.
+pub fn reopen<S: Service>(
+    alloc: Global,
+    id: MemberId,
+    view: View,
+    period: u32,
+    ring: Ring,
+    restored: &[Bytes],
+) -> Result<NodeState<S>, ReopenFault>
+    ensures whole { OnOk result (damaged ring view restored.now ≡ None) }
+    ensures node { IfOk result (λ node. node ≡ reopened S.meaning ring id view period (entries_in restored.now)) }
+    ensures cause { (entry : ℕ) → IsErrOf result (Damaged entry) → damaged ring view restored.now ≡ Some entry }
+{
+    if restored.is_empty() {
+        let node = reopen_empty(alloc, id, view, period, ring)?;
+        return Ok(node);
+    }
+    match restarted(alloc, &ring, view, restored) {
+        Ok(back) => Ok(go_on(alloc, id, ring, back)),
+        Err(fault) => Err(fault),
+    }
+}
+
+/// A node of which nothing was restored: it opens its book anew.
+#[tactic(auto, unfolding(node_rules::specs::Reopening::reopened))]
+fn reopen_empty<S: Service>(
+    alloc: Global,
+    id: MemberId,
+    view: View,
+    period: u32,
+    ring: Ring,
+) -> Result<NodeState<S>, AllocError>
+    ensures { IfOk result (λ node. node ≡ reopened S.meaning ring id view period []) }
+{
+    let mut node = begin(alloc, id, view, period, ring)?;
+    node.behind = true;
+    Ok(node)
+}
+
+/// A node that goes on from what its entries gave back.
+fn go_on<S: Service>(alloc: Global, id: MemberId, ring: Ring, back: Restart<S>) -> NodeState<S>
+    ensures { result ≡ going_on ring id back }
+{
+    let (replica, book) = back.finish();
+    let Summaries {
+        instance,
+        synchronizer,
+    } = summarize(
+        alloc,
+        id,
+        replica.replica().views.present(),
+        replica.replica().place,
+        &book,
+    );
+    let firm = book.pushed().len() as u64;
+    NodeState {
+        alloc,
+        keys: MemberKeys::new(id, ring),
+        replica,
+        waiting: None,
+        pool: RequestPool::new(alloc),
+        instance,
+        synchronizer,
+        book,
+        restored: firm,
+        firm,
+        held: Outbox::new(alloc),
+        proposed: Vec::new(alloc),
+        impatient: false,
+        behind: true,
+    }
+}

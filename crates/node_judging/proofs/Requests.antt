@@ -1,0 +1,144 @@
+-- What becomes of a request that is offered to the pool.
+use Rattle.std.proofs.Common.{◌≡◌, ℕ, ◌+◌, ◌==◌, Bool, true, false, not, refl, ap, sym, ◌∙◌, cond, arith, nat_lt, nat_le, List, Option, Some, None}
+use Rattle.std.proofs.lemmas.Bool.{ltb-true, ltb-false, leb-true, leb-false, eqb-true, eq-eqb, false_from_ne_true}
+use Rattle.std.proofs.Math.Bool.{or-false}
+use Rattle.smart_base.specs.Views.{is_member}
+use Rattle.smart_statements.specs.Forms.{SignedBy}
+use Rattle.smart_statements.specs.Kinds.{requests}
+use Rattle.smart_statements.specs.Batches.{Batch}
+use Rattle.smart_messages.specs.Messages.{Fits}
+use Rattle.smart_statements.specs.declared.statement.Request.{Request}
+use Rattle.smart_statements.specs.declared.statement.Answer.{Answer}
+use Rattle.smart_messages.specs.declared.any.AnyMessage.{AnyMessage}
+use Rattle.smart_messages.specs.declared.any.AnyMessage.TheVariants.{Plain, Change}
+use Rattle.smart_messages.specs.declared.message.Message.TheVariants.{Ask, Propose, Vote, Reply}
+use Rattle.smart_service.specs.Tables.{last_seq}
+use Rattle.smart_service.specs.declared.replica.Replica.{Replica}
+use Rattle.request_pool.specs.Offers.{has_client, offer_of, pool_after}
+use Rattle.request_pool.specs.declared.pool.Offer.{Offer}
+use Rattle.request_pool.specs.declared.pool.Offer.TheVariants as offers
+use Rattle.replica_rules.specs.Seals.{is_verified}
+use Rattle.replica_rules.specs.Replicas.{is_next}
+use Rattle.node_rules.specs.Nodes.{Node, view_of}
+use Rattle.node_rules.specs.Arrivals.{why_ask, noted, kept, kept_plain}
+use Rattle.node_rules.specs.declared.node.Why.{Why}
+use Rattle.node_rules.specs.declared.node.Why.TheVariants.{BadTag, Stranger, OldSeq, FarSeq}
+use Rattle.node_rules.specs.Rules.{answering}
+use Rattle.node_judging.specs.Arriving.{why_offered, kept_unless}
+use Rattle.node_judging.specs.Asking.{asked_by, line_asked}
+
+-- a request that was read is its signer's
+pub own_request : (q : SignedBy Request) → Fits (Ask q) → q.signer ≡ q.statement.client
+own_request q fits = sym fits.content_fits.statement_fits.client_is
+
+-- a request does not tell a node that it is behind
+pub ask_noted : {S : Type 0} (n : Node S) (q : SignedBy Request) → noted n (Plain (Ask q)) ≡ n
+unfolding noted
+ask_noted {S = S} n q = ap (λ (b : Bool). record n { behind = b }) (or-false n.behind)
+
+-- no reply is kept, and none tells a node that it is behind
+pub reply_noted : {S : Type 0} (n : Node S) (a : SignedBy Answer) → noted n (Plain (Reply a)) ≡ n
+unfolding noted
+reply_noted {S = S} n a = ap (λ (b : Bool). record n { behind = b }) (or-false n.behind)
+
+pub reply_kept : {S : Type 0} (n : Node S) (a : SignedBy Answer) (why : Option Why) → kept_unless why (noted n (Plain (Reply a))) (Plain (Reply a)) ≡ n
+unfolding kept_plain
+reply_kept n a None = reply_noted n a
+reply_kept n a (Some why) = reply_noted n a
+
+-- the line of what was asked is that by which a node answers
+pub asked_answering : {S : Type 0} (n : Node S) (m : AnyMessage) → line_asked n (asked_by m) ≡ answering n m
+unfolding answering
+asked_answering n (Plain (Ask q)) = refl
+asked_answering n (Plain (Propose p)) = refl
+asked_answering n (Plain (Vote b)) = refl
+asked_answering n (Plain (Reply a)) = refl
+asked_answering n (Change m) = refl
+
+-- the answer to a request, and why it is dropped, by what is found of it
+
+abbrev answer_by : Bool → Bool → Bool → Bool → Bool → Offer
+answer_by verified stranger old ahead had =
+    cond (not verified) offers.BadTag (cond stranger offers.Stranger (cond old offers.Old (cond ahead offers.Ahead (cond had offers.Replaced offers.Kept))))
+
+abbrev why_by : Bool → Bool → Bool → Bool → Option Why
+why_by verified stranger older ahead =
+    cond (not verified) (Some BadTag) (cond stranger (Some Stranger) (cond older (Some OldSeq) (cond ahead (Some FarSeq) None)))
+
+same_why : (verified stranger old older ahead had : Bool) → (old ≡ false → older ≡ false) → (old ≡ true → ahead ≡ false)
+    → why_offered (answer_by verified stranger old ahead had) older ≡ why_by verified stranger older ahead
+same_why false stranger old older ahead had new near = refl
+same_why true true old older ahead had new near = refl
+same_why true false true true ahead had new near = refl
+same_why true false true false true had new near = let no : true ≡ false = near refl in absurd (cc)
+same_why true false true false false had new near = refl
+same_why true false false true ahead had new near = let no : true ≡ false = new refl in absurd (cc)
+same_why true false false false true had new near = refl
+same_why true false false false false true new near = refl
+same_why true false false false false false new near = refl
+
+kept_next : {S : Type 0} (n : Node S) (q : SignedBy Request) → is_next n.replica.table q.statement ≡ true → record n { pool = pool_after offers.Kept n.pool q } ≡ kept n (Plain (Ask q))
+unfolding kept_plain
+kept_next n q next = rw next refl
+
+kept_last : {S : Type 0} (n : Node S) (q : SignedBy Request) → is_next n.replica.table q.statement ≡ false → n ≡ kept n (Plain (Ask q))
+unfolding kept_plain
+kept_last n q next = rw next refl
+
+same_kept : {S : Type 0} (n : Node S) (q : SignedBy Request) (verified stranger old older ahead had : Bool)
+    → (old ≡ true → is_next n.replica.table q.statement ≡ false) → (old ≡ false → ahead ≡ false → is_next n.replica.table q.statement ≡ true)
+    → record n { pool = pool_after (answer_by verified stranger old ahead had) n.pool q } ≡ kept_unless (why_offered (answer_by verified stranger old ahead had) older) n (Plain (Ask q))
+same_kept n q false stranger old older ahead had last next = refl
+same_kept n q true true old older ahead had last next = refl
+same_kept n q true false true true ahead had last next = refl
+same_kept n q true false true false ahead had last next = kept_last n q (last refl)
+same_kept n q true false false older true had last next = refl
+same_kept n q true false false older false true last next = kept_next n q (next refl refl)
+same_kept n q true false false older false false last next = kept_next n q (next refl refl)
+
+-- where a number stands to that of the last executed request
+
+not_older : (seq last : ℕ) → nat_le seq last ≡ false → nat_lt seq last ≡ false
+not_older seq last is = false_from_ne_true (nat_lt seq last) (λ less. omega (arith, leb-false seq last is, ltb-true seq last less))
+
+not_ahead : (seq last : ℕ) → nat_le seq last ≡ true → nat_lt (last + 1) seq ≡ false
+not_ahead seq last is = false_from_ne_true (nat_lt (last + 1) seq) (λ more. omega (arith, leb-true seq last is, ltb-true (last + 1) seq more))
+
+not_next : (seq last : ℕ) → nat_le seq last ≡ true → (seq == last + 1) ≡ false
+not_next seq last is = false_from_ne_true (seq == last + 1) (λ same. omega (arith, leb-true seq last is, eqb-true seq (last + 1) same))
+
+is_next_where : (seq last : ℕ) → nat_le seq last ≡ false → nat_lt (last + 1) seq ≡ false → (seq == last + 1) ≡ true
+is_next_where seq last new near = eq-eqb seq (last + 1) (omega (arith, leb-false seq last new, ltb-false (last + 1) seq near))
+
+offered_why : {S : Type 0} (n : Node S) (q : SignedBy Request) → is_member (view_of n) n.id ≡ true → q.signer ≡ q.statement.client → (q.signer == 0) ≡ false
+    → why_offered (offer_of n.secret n.pool q (last_seq n.replica.table q.statement.client)) (nat_lt q.statement.seq (last_seq n.replica.table q.statement.client)) ≡ why_ask n q
+unfolding why_ask
+offered_why n q member own known =
+    let last = last_seq n.replica.table q.statement.client in
+    let seq = q.statement.seq in
+    same_why (is_verified requests n.secret q) (nat_lt 1024 q.statement.client) (nat_le seq last) (nat_lt seq last) (nat_lt (last + 1) seq) (has_client n.pool q.statement.client)
+    (not_older seq last) (not_ahead seq last)
+    ∙ rw (member, known, own) refl
+
+offered_kept : {S : Type 0} (n : Node S) (q : SignedBy Request)
+    → record n { pool = pool_after (offer_of n.secret n.pool q (last_seq n.replica.table q.statement.client)) n.pool q }
+    ≡ kept_unless (why_offered (offer_of n.secret n.pool q (last_seq n.replica.table q.statement.client)) (nat_lt q.statement.seq (last_seq n.replica.table q.statement.client))) n (Plain (Ask q))
+offered_kept n q =
+    let last = last_seq n.replica.table q.statement.client in
+    let seq = q.statement.seq in
+    same_kept n q (is_verified requests n.secret q) (nat_lt 1024 q.statement.client) (nat_le seq last) (nat_lt seq last) (nat_lt (last + 1) seq) (has_client n.pool q.statement.client)
+    (not_next seq last) (is_next_where seq last)
+
+-- why a request is dropped that was offered to a node's pool, and the node behind it
+
+pub why_where : {S : Type 0} (n inside : Node S) (q : SignedBy Request) (asked : Request) (r : Replica S) (secret : List ℕ) (last : ℕ) (answer : Offer) (why : Option Why) → inside ≡ n
+    → is_member (view_of n) n.id ≡ true → q.signer ≡ q.statement.client → (q.signer == 0) ≡ false → asked ≡ q.statement → r ≡ inside.replica → secret ≡ inside.secret
+    → last ≡ last_seq r.table asked.client → answer ≡ offer_of secret inside.pool q last → why ≡ why_offered answer (nat_lt asked.seq last) → why ≡ why_ask n q
+why_where n inside q asked r secret last answer why same member own known is replica key found offer due =
+    rw (due, offer, found, is, replica, key, same) (offered_why n q member own known)
+
+pub kept_where : {S : Type 0} (n inside : Node S) (q : SignedBy Request) (asked : Request) (r : Replica S) (secret : List ℕ) (last : ℕ) (answer : Offer) (why : Option Why) (pool : Batch) → inside ≡ n
+    → asked ≡ q.statement → r ≡ inside.replica → secret ≡ inside.secret → last ≡ last_seq r.table asked.client → answer ≡ offer_of secret inside.pool q last
+    → why ≡ why_offered answer (nat_lt asked.seq last) → pool ≡ pool_after answer inside.pool q → record inside { pool = pool } ≡ kept_unless why n (Plain (Ask q))
+kept_where n inside q asked r secret last answer why pool same is replica key found offer due after =
+    rw (after, due, offer, found, is, replica, key, same) (offered_kept n q)

@@ -1,0 +1,248 @@
+//! Which of the messages that change the regency a node drops, and what it keeps of the others.
+ghost use Rattle.std.specs.Prelude.{◌≡◌, ◌||◌, ◌&&◌, is_none, IfOk, OnErr};
+ghost use Rattle.std.specs.List.{list_any};
+ghost use Rattle.smart_statements.specs.Forms.{SignedBy};
+ghost use Rattle.smart_statements.specs.declared.report.Report.{Report};
+ghost use Rattle.replica_rules.specs.Seals.{is_verified};
+ghost use Rattle.node_rules.specs.Arrivals.{signer_why, why_stop, is_marks, rests_on_marks, bears_lock, is_proven, why_report, is_collect, why_sync, why_dropped, is_newer, noted};
+ghost use Rattle.node_judging.specs.Arriving.{kept_unless};
+ghost use Rattle.smart_messages.specs.declared.any.AnyMessage.TheVariants as messages;
+ghost use Rattle.smart_messages.specs.declared.regency.RegencyMessage.TheVariants as changes;
+
+use crate::reasons::{is_newer, regency_why, signer_why, view_why, wish_why};
+use certificates::collect::{check_collect, check_evidence, has_no_false_lock};
+use node_restart::batch::is_batch_for;
+use node_rules::node::Why;
+use node_state::state::NodeState;
+use regency_sync::choosing::choice;
+use smart_base::number::{Place, ViewNo};
+use smart_messages::regency::{RegencyMessage, Reported, Stop, Sync};
+use smart_service::service::Service;
+use smart_statements::batch::Batch;
+use smart_statements::report::{Evidence, LockCertificate, Report};
+use smart_statements::signed::{Signed, Statement};
+use std::alloc::AllocError;
+
+fn is_marks(evidence: &Evidence) -> bool
+    ensures { result ≡ is_marks evidence.now }
+{
+    match evidence {
+        Evidence::Nothing | Evidence::Decided(_) => false,
+        Evidence::Marked(_) => true,
+    }
+}
+
+/// Whether marks are what shows a report's last place.
+fn rests_on_marks(report: &Report) -> bool
+    ensures { result ≡ rests_on_marks report.now }
+{
+    report.last != Place::zero() && is_marks(&report.evidence)
+}
+
+/// Whether marks are what shows the last place of one of some reports.
+fn rest_on_marks(reports: &[Signed<Report>]) -> bool
+    ensures { result ≡ list_any (λ (r : SignedBy Report). rests_on_marks r.statement) reports.now }
+{
+    reports
+        .iter()
+        .any(|report| rests_on_marks(report.statement()))
+}
+
+/// Keeps a message that changes the regency, or tells why it is dropped.
+pub fn take_change<S: Service>(
+    node: &mut NodeState<S>,
+    message: RegencyMessage,
+) -> Result<Option<Why>, AllocError>
+    ensures why { IfOk result (λ why. why ≡ why_dropped node.old (messages.Change message)) }
+    ensures node { IfOk result (λ why. node.new ≡ kept_unless why (noted node.old (messages.Change message)) (messages.Change message)) }
+    ensures err { OnErr result (node.new.entries ≡ node.old.entries) }
+{
+    match message {
+        RegencyMessage::Stop(stop) => take_stop(node, stop),
+        RegencyMessage::StopData(reported) => take_report(node, reported),
+        RegencyMessage::Sync(sync) => take_sync(node, sync),
+    }
+}
+
+/// Notes whether a member's message of a view tells the node that it is behind.
+fn note_view<S: Service, T: Statement>(node: &mut NodeState<S>, signed: &Signed<T>, view: ViewNo)
+    ensures { node.new ≡ record node.old { behind = node.old.behind || (is_none (signer_why node.old (is_verified T.form node.old.secret signed.now) signed.now.signer) && is_newer node.old view) } }
+{
+    node.behind = node.behind || is_newer(node, view) && signer_why(node, signed).is_none();
+}
+
+/// Keeps a member's wish, or tells why it is dropped.
+#[tactic(auto, unfolding(node_rules::specs::Arrivals::noted, node_rules::specs::Arrivals::kept_change))]
+fn take_stop<S: Service>(
+    node: &mut NodeState<S>,
+    stop: Signed<Stop>,
+) -> Result<Option<Why>, AllocError>
+    ensures why { IfOk result (λ why. why ≡ why_stop node.old stop) }
+    ensures node { IfOk result (λ why. node.new ≡ kept_unless why (noted node.old (messages.Change (changes.Stop stop))) (messages.Change (changes.Stop stop))) }
+    ensures err { OnErr result (node.new.entries ≡ node.old.entries) }
+{
+    let dropped = why_stop(node, &stop);
+    note_view(node, &stop, stop.statement().view);
+    if dropped.is_none() {
+        node.synchronizer.on_stop(stop)?;
+    }
+    Ok(dropped)
+}
+
+/// Keeps a member's report, or tells why it is dropped.
+#[tactic(auto, unfolding(node_rules::specs::Arrivals::noted, node_rules::specs::Arrivals::kept_change))]
+fn take_report<S: Service>(
+    node: &mut NodeState<S>,
+    reported: Reported,
+) -> Result<Option<Why>, AllocError>
+    ensures why { IfOk result (λ why. why ≡ why_report node.old reported) }
+    ensures node { IfOk result (λ why. node.new ≡ kept_unless why (noted node.old (messages.Change (changes.StopData reported))) (messages.Change (changes.StopData reported))) }
+    ensures err { OnErr result (node.new.entries ≡ node.old.entries) }
+{
+    let dropped = why_report(node, &reported)?;
+    let Reported { head, batch } = reported;
+    note_view(node, &head, head.statement().view);
+    if dropped.is_none() {
+        node.synchronizer.on_stopdata(head, batch)?;
+    }
+    Ok(dropped)
+}
+
+/// Keeps the beginning of a regency, or tells why it is dropped.
+#[tactic(auto, unfolding(node_rules::specs::Arrivals::noted, node_rules::specs::Arrivals::kept_change))]
+fn take_sync<S: Service>(
+    node: &mut NodeState<S>,
+    sync: Signed<Sync>,
+) -> Result<Option<Why>, AllocError>
+    ensures why { IfOk result (λ why. why ≡ why_sync node.old sync) }
+    ensures node { IfOk result (λ why. node.new ≡ kept_unless why (noted node.old (messages.Change (changes.Sync sync))) (messages.Change (changes.Sync sync))) }
+    ensures err { OnErr result (node.new.entries ≡ node.old.entries) }
+{
+    let dropped = why_sync(node, &sync);
+    note_view(node, &sync, sync.statement().view);
+    if dropped.is_none() {
+        let base = choice(sync.statement().collect.as_slice()).base;
+        node.behind = node.behind || node.decided_place().get() + 1 < base;
+        node.synchronizer.on_sync(sync)?;
+    }
+    Ok(dropped)
+}
+
+#[tactic(auto, unfolding(node_rules::specs::Arrivals::why_stop))]
+fn why_stop<S: Service>(node: &NodeState<S>, stop: &Signed<Stop>) -> Option<Why>
+    ensures { result ≡ why_stop node.now stop.now }
+{
+    if let Some(why) = signer_why(node, stop) {
+        return Some(why);
+    }
+    if let Some(why) = view_why(node, stop.statement().view) {
+        return Some(why);
+    }
+    if let Some(why) = wish_why(node, stop.statement().regency) {
+        return Some(why);
+    }
+    if node.synchronizer().repeats_stop(stop) {
+        Some(Why::Repeated)
+    } else {
+        None
+    }
+}
+
+/// Whether the batch on which a report's signer is locked comes with it, and may stand at a place.
+fn bears_lock<S: Service>(
+    node: &NodeState<S>,
+    place: u64,
+    lock: &Option<LockCertificate>,
+    batch: &Option<Batch>,
+) -> Result<bool, AllocError>
+    ensures { IfOk result (λ bears. bears ≡ bears_lock node.now.secret place lock.now batch.now) }
+{
+    match lock {
+        None => Ok(true),
+        Some(lock) => match batch {
+            None => Ok(false),
+            Some(batch) => {
+                is_batch_for(node.alloc, node.keys.ring(), place, &lock.digest, batch)
+            }
+        },
+    }
+}
+
+/// Whether what a report rests on holds.
+#[tactic(auto, unfolding(node_rules::specs::Arrivals::is_proven))]
+fn is_proven<S: Service>(node: &NodeState<S>, reported: &Reported) -> Result<bool, AllocError>
+    ensures { IfOk result (λ proven. proven ≡ is_proven node.now reported.now) }
+{
+    let ring = node.keys.ring();
+    let report = reported.head.statement();
+    let views = node.replica.replica().views.as_slice();
+    if !check_evidence(ring, views, report.last, &report.evidence)
+        || rests_on_marks(report)
+        || !has_no_false_lock(ring, node.view(), report.last, report.regency, &report.lock)
+    {
+        return Ok(false);
+    }
+    bears_lock(node, report.last.get() + 1, &report.lock, &reported.batch)
+}
+
+#[tactic(auto, unfolding(node_rules::specs::Arrivals::why_report))]
+fn why_report<S: Service>(
+    node: &NodeState<S>,
+    reported: &Reported,
+) -> Result<Option<Why>, AllocError>
+    ensures { IfOk result (λ why. why ≡ why_report node.now reported.now) }
+{
+    let head = &reported.head;
+    if let Some(why) = signer_why(node, head) {
+        return Ok(Some(why));
+    }
+    if let Some(why) = view_why(node, head.statement().view) {
+        return Ok(Some(why));
+    }
+    if let Some(why) = regency_why(node, head.statement().regency) {
+        return Ok(Some(why));
+    }
+    if node.view().leader(head.statement().regency) != node.id() {
+        Ok(Some(Why::NotLeader))
+    } else if !is_proven(node, reported)? {
+        Ok(Some(Why::BadProof))
+    } else if node.synchronizer().repeats_report(head) {
+        Ok(Some(Why::Repeated))
+    } else {
+        Ok(None)
+    }
+}
+
+/// Whether the reports with which a regency begins are a collect.
+#[tactic(auto, unfolding(node_rules::specs::Arrivals::is_collect))]
+fn is_collect<S: Service>(node: &NodeState<S>, sync: &Sync) -> bool
+    ensures { result ≡ is_collect node.now sync.now }
+{
+    let views = node.replica.replica().views.as_slice();
+    let reports = sync.collect.as_slice();
+    check_collect(node.keys.ring(), views, sync.regency, reports).is_ok() && !rest_on_marks(reports)
+}
+
+#[tactic(auto, unfolding(node_rules::specs::Arrivals::why_sync))]
+fn why_sync<S: Service>(node: &NodeState<S>, sync: &Signed<Sync>) -> Option<Why>
+    ensures { result ≡ why_sync node.now sync.now }
+{
+    if let Some(why) = signer_why(node, sync) {
+        return Some(why);
+    }
+    if let Some(why) = view_why(node, sync.statement().view) {
+        return Some(why);
+    }
+    let regency = sync.statement().regency;
+    if regency < node.regency() {
+        Some(Why::OldRegency)
+    } else if sync.signer() != node.view().leader(regency).get() {
+        Some(Why::NotLeader)
+    } else if !is_collect(node, sync.statement()) {
+        Some(Why::BadProof)
+    } else if node.synchronizer().repeats_sync(sync) {
+        Some(Why::Repeated)
+    } else {
+        None
+    }
+}

@@ -1,0 +1,4 @@
+pub mod Following
+pub mod Walks
+pub mod Broken
+pub mod Starts

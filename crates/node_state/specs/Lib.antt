@@ -1,0 +1,3 @@
+pub mod Keyrings
+pub mod Following
+pub mod Broken

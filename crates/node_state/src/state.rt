@@ -1,0 +1,189 @@
+//! The node itself.
+ghost use Rattle.std.specs.Prelude.{◌≡◌, true, length, IfOk, OnOk, OnErr};
+ghost use Rattle.std.specs.Option.{option_copied};
+ghost use Rattle.vote_book.specs.BookReports.{lock_of};
+ghost use Rattle.vote_book.specs.Standing.{own_votes};
+ghost use Rattle.node_rules.specs.Nodes.{view_of, regency_of, decided_place, open_slot, is_free, is_open, synchronizer_of, holding};
+ghost use Rattle.node_rules.specs.Steps.{first_leaving, after_first, leaving, released};
+
+use crate::seal::MemberKeys;
+use consensus_instance::instance::Instance;
+use delivery::replica::KeptReplica;
+use node_rules::node::{Held, Target};
+use outbox::outbox::Outbox;
+use regency_sync::synchronizer::Synchronizer;
+use request_pool::pool::RequestPool;
+use smart_base::name::MemberId;
+use smart_base::number::{Place, Regency};
+use smart_base::sequence::Sequence;
+use smart_base::view::View;
+use smart_messages::any::AnyMessage;
+use smart_service::service::Service;
+use smart_statements::batch::Batch;
+use smart_statements::statement::Slot;
+use std::alloc::{AllocError, Global};
+use std::marker::Model;
+use vote_book::book::Book;
+use vote_book::entry::Accept;
+use vote_book::votes::OwnVotes;
+
+/// What a node is: its copy of what is replicated, what it has heard and written down, and the
+/// messages that it holds until its book is firm. The crates of its rules change its fields.
+#[derive(Drop)]
+pub struct NodeState<S> {
+    pub alloc: Global,
+    pub keys: MemberKeys,
+    pub replica: KeptReplica<S>,
+    pub waiting: Option<Batch>,
+    pub pool: RequestPool,
+    /// What was kept of proposals and votes, and what the book says of the next place.
+    pub instance: Instance,
+    /// What was kept of wishes, reports and beginnings of regencies, and what the book says of them.
+    pub synchronizer: Synchronizer,
+    pub book: Book,
+    /// How many entries were restored when this life began.
+    pub restored: u64,
+    pub firm: u64,
+    pub held: Outbox,
+    pub proposed: Vec<Slot>,
+    pub impatient: bool,
+    pub behind: bool,
+}
+
+impl<S> Model for NodeState<S> {
+    ghost use Rattle.smart_base.specs.Views.{present};
+    ghost use Rattle.node_rules.specs.Nodes.{Node};
+    ghost use Rattle.node_state.specs.Following.{Follows};
+
+    ghost Value = { Node S };
+
+    ghost view = { λ c. record {
+      id = c.keys.member;
+      secret = c.keys.secret;
+      replica = c.replica.replica;
+      waiting = c.waiting;
+      pool = c.pool;
+      arrivals = c.instance.arrivals;
+      stops = c.synchronizer.stops;
+      reports = c.synchronizer.reports;
+      syncs = c.synchronizer.syncs;
+      entries = c.book.entries;
+      restored = c.restored;
+      firm = c.firm;
+      held = c.held;
+      proposed = c.proposed.items;
+      stop_made = c.synchronizer.stop_made;
+      sync_made = c.synchronizer.sync_made;
+      impatient = c.impatient;
+      behind = c.behind;
+    } };
+
+    ghost invariant = { λ c. Follows c.keys.member (present c.replica.replica.views) c.replica.replica.place c.waiting c.book.entries c.instance c.synchronizer };
+}
+
+impl<S: Service> NodeState<S> {
+    pub fn id(&self) -> MemberId
+        ensures { result ≡ self.now.id }
+    {
+        self.keys.member()
+    }
+
+    pub fn place(&self) -> Place
+        ensures { result ≡ self.now.replica.place }
+    {
+        self.replica.replica().place
+    }
+
+    pub fn view(&self) -> &View
+        ensures { result.now ≡ view_of self.now }
+    {
+        self.replica.replica().views.present()
+    }
+
+    /// How many entries the book has.
+    pub fn made(&self) -> u64
+        ensures { result ≡ length self.now.entries }
+    {
+        self.book.pushed().len() as u64
+    }
+
+    pub fn release(&mut self) -> Option<Held>
+        ensures held { result ≡ first_leaving self.old.firm self.old.held }
+        ensures node { self.new ≡ record self.old { held = after_first self.old.firm self.old.held } }
+    {
+        self.held.release(self.firm)
+    }
+
+    pub fn release_all(&mut self) -> Result<Sequence<Held>, AllocError>
+        ensures held { IfOk result (λ left. left ≡ leaving self.old.firm self.old.held) }
+        ensures node { OnOk result (self.new ≡ released self.old) }
+        ensures err { OnErr result (self.new ≡ self.old) }
+    {
+        self.held.release_all(self.firm)
+    }
+
+    /// The regency in force.
+    pub fn regency(&self) -> Regency
+        ensures { result ≡ regency_of self.now }
+    {
+        self.instance.regency()
+    }
+
+    /// What the node has heard and done to change the regency.
+    pub fn synchronizer(&self) -> &Synchronizer
+        ensures { result.now ≡ synchronizer_of self.now }
+    {
+        &self.synchronizer
+    }
+
+    pub fn lock(&self) -> Option<&Accept>
+        ensures { option_copied result ≡ lock_of (view_of self.now).number self.now.entries }
+    {
+        self.book.lock(self.view().number())
+    }
+
+    /// What the node has voted in a regency of the view in force at a place.
+    pub fn votes_at(&self, place: u64, regency: Regency) -> OwnVotes
+        ensures { result ≡ own_votes (record { view = (view_of self.now).number; place = place; regency = regency }) self.now.entries }
+    {
+        self.book.votes_at(self.view().number(), place, regency)
+    }
+
+    /// The last place that is delivered or decided.
+    pub fn decided_place(&self) -> Place
+        ensures { result ≡ decided_place self.now }
+    {
+        self.instance.decided_place()
+    }
+
+    /// Whether no batch waits, and there is a next place.
+    pub fn is_free(&self) -> bool
+        ensures { result ≡ is_free self.now }
+    {
+        self.instance.is_free()
+    }
+
+    /// Whether a vote is open at the next place.
+    pub fn is_open(&self) -> bool
+        ensures { result ≡ is_open self.now }
+    {
+        self.instance.is_open(self.view())
+    }
+
+    /// The slot in which the node takes part.
+    pub fn open_slot(&self) -> Slot
+        requires { is_free self.now ≡ true }
+        ensures { result ≡ open_slot self.now }
+    {
+        self.instance.open_slot(self.view())
+    }
+
+    /// Holds a message until all entries made so far are firm.
+    pub fn hold(&mut self, to: Target, message: AnyMessage) -> Result<(), AllocError>
+        ensures node { OnOk result (self.new ≡ holding self.old to message) }
+        ensures err { OnErr result (self.new.entries ≡ self.old.entries) }
+    {
+        let needs = self.made();
+        self.held.hold(to, message, needs)
+    }
+}

@@ -1,0 +1,99 @@
+//! What time does where something waits.
+ghost use Rattle.std.specs.Prelude.{◌≡◌, ◌+◌, ◌<◌, ◌^◌, ◌++◌, true, IfOk, OnOk, slice_get, OnErr};
+ghost use Rattle.node_rules.specs.Nodes.{regency_of, is_synced};
+ghost use Rattle.node_rules.specs.Changes.{fired_when, is_pressed, timing, passes_on, presses, times};
+ghost use Rattle.node_rules.specs.declared.node.Fired.TheVariants as fires;
+
+use crate::asks::asks_next;
+use node_rules::node::{Fired, Target};
+use node_state::state::NodeState;
+use smart_base::duplicate::Duplicate;
+use smart_base::sequence::Sequence;
+use smart_messages::any::AnyMessage;
+use smart_messages::message::Message;
+use smart_service::service::Service;
+use smart_statements::signed::Signed;
+use smart_statements::statement::Request;
+use std::alloc::AllocError;
+
+/// Whether the node takes part in the regency in force.
+fn is_synced<S: Service>(node: &NodeState<S>) -> bool
+    ensures { result ≡ is_synced node.now }
+{
+    node.instance.start().is_some()
+}
+
+/// Whether something waits, and the node does something about it.
+fn is_pressed<S: Service>(node: &NodeState<S>) -> bool
+    ensures { result ≡ is_pressed node.now }
+{
+    node.view().is_member(node.id()) && !node.behind && (!node.pool.is_empty() || !is_synced(node))
+}
+
+#[tactic(auto, unfolding(node_rules::specs::Changes::timing))]
+fn timing<S: Service>(node: &NodeState<S>) -> bool
+    ensures value { result ≡ timing node.now }
+    ensures next { result ≡ true → node.now.impatient ≡ true → regency_of node.now + 1 < 2 ^ 32 }
+{
+    is_pressed(node) && (!node.impatient || node.regency().get() < u32::MAX)
+}
+
+/// A copy of the request that has waited longest.
+fn oldest<S: Service>(node: &NodeState<S>) -> Result<Option<Signed<Request>>, AllocError>
+    ensures { IfOk result (λ request. request ≡ slice_get node.now.pool 0) }
+{
+    match node.pool.oldest() {
+        None => Ok(None),
+        Some(request) => Ok(Some(request.duplicate(node.alloc)?)),
+    }
+}
+
+/// The leader is passed the request that has waited longest.
+fn passes_on<S: Service>(node: &mut NodeState<S>) -> Result<(), AllocError>
+    ensures node { OnOk result (node.new ≡ passes_on node.old node.old.pool) }
+    ensures err { OnErr result (node.new.entries ≡ node.old.entries) }
+{
+    let leader = node.view().leader(node.regency());
+    match oldest(node)? {
+        None => Ok(()),
+        Some(request) => {
+            node.hold(
+                Target::Node(leader),
+                AnyMessage::Plain(Message::Ask(request)),
+            )?;
+            Ok(())
+        }
+    }
+}
+
+#[tactic(auto, unfolding(node_rules::specs::Changes::presses))]
+fn presses<S: Service>(node: &mut NodeState<S>) -> Result<(), AllocError>
+    requires { node.old.impatient ≡ true → regency_of node.old + 1 < 2 ^ 32 }
+    ensures node { OnOk result (node.new ≡ presses node.old) }
+    ensures err { OnErr result (node.new.entries ≡ node.old.entries) }
+{
+    if node.impatient {
+        asks_next(node)?;
+    } else {
+        node.impatient = true;
+        passes_on(node)?;
+    }
+    Ok(())
+}
+
+/// What time does where something waits. Adds what this tells.
+#[tactic(auto, unfolding(node_rules::specs::Changes::times))]
+pub fn times<S: Service>(
+    node: &mut NodeState<S>,
+    fired: &mut Sequence<Fired>,
+) -> Result<(), AllocError>
+    ensures node { OnOk result (node.new ≡ times node.old) }
+    ensures fired { OnOk result (fired.new ≡ fired.old ++ fired_when fires.Timed (timing node.old)) }
+    ensures err { OnErr result (node.new.entries ≡ node.old.entries) }
+{
+    if timing(node) {
+        fired.push(Fired::Timed)?;
+        presses(node)?;
+    }
+    Ok(())
+}

@@ -1,0 +1,191 @@
+//! What a node adopts, joins, promises and leads: what is due, what the rule does with it, and both.
+ghost use Rattle.std.specs.Prelude.{◌≡◌, ◌+◌, ◌<◌, ◌^◌, ◌++◌, true, IfOk, IfSome, OnOk, Some, OnErr};
+ghost use Rattle.std.specs.Option.{option_copied};
+ghost use Rattle.node_rules.specs.Nodes.{view_of, regency_of};
+ghost use Rattle.node_rules.specs.Rules.{fired_if};
+ghost use Rattle.node_rules.specs.Changes.{fired_when, fired_adopt, adoption, adopts, joining, joins, next_promise, promising, promise_next, promises, leading, lead_with, leads};
+ghost use Rattle.node_rules.specs.Steps.{turns, fired_turns};
+ghost use Rattle.node_state.specs.Following.{is_unbegun};
+ghost use Rattle.node_state.specs.Broken.{IsPartly};
+ghost use Rattle.node_rules.specs.declared.node.Fired.TheVariants as fires;
+
+use crate::asks::asks_next;
+use crate::reports::reported_by;
+use crate::starts::{adopt_start, promise_to, start_by_sync};
+use node_rules::node::{Fired, Target};
+use node_state::state::NodeState;
+use smart_base::duplicate::Duplicate;
+use smart_base::number::Regency;
+use smart_base::sequence::Sequence;
+use smart_messages::any::AnyMessage;
+use smart_messages::regency::{RegencyMessage, Sync};
+use smart_service::service::Service;
+use smart_statements::report::Report;
+use smart_statements::signed::Signed;
+use smart_statements::signed_list::SignedList;
+use std::alloc::AllocError;
+use vote_book::entry::Promise;
+
+/// Adopts, joins, promises and leads.
+#[tactic(auto, unfolding(node_rules::specs::Steps::turns, node_rules::specs::Steps::fired_turns))]
+pub fn turns<S: Service>(
+    node: &mut NodeState<S>,
+    fired: &mut Sequence<Fired>,
+) -> Result<(), AllocError>
+    ensures node { OnOk result (node.new ≡ turns node.old) }
+    ensures fired { OnOk result (fired.new ≡ fired.old ++ fired_turns node.old) }
+    ensures err { OnErr result (IsPartly node.old.entries node.new.entries (turns node.old).entries) }
+{
+    adopts(node, fired)?;
+    joins(node, fired)?;
+    promises(node, fired)?;
+    leads(node, fired)?;
+    Ok(())
+}
+
+/// The beginning of a regency that is to be adopted, if one is: of the view in force, and of a
+/// regency that is later, or has not begun.
+#[tactic(auto, unfolding(node_rules::specs::Changes::adoption))]
+fn adoption<S: Service>(node: &NodeState<S>) -> Option<&Signed<Sync>>
+    ensures sync { option_copied result ≡ adoption node.now }
+    ensures view { IfSome result (λ s. s.now.statement.view ≡ (view_of node.now).number) }
+    ensures later { IfSome result (λ s. is_unbegun node.now s.now.statement.regency ≡ true) }
+{
+    node.synchronizer().adopting(node.view())
+}
+
+#[tactic(auto, unfolding(node_rules::specs::Changes::adopts, node_rules::specs::Changes::adopts_by))]
+fn adopts<S: Service>(
+    node: &mut NodeState<S>,
+    fired: &mut Sequence<Fired>,
+) -> Result<(), AllocError>
+    ensures node { OnOk result (node.new ≡ adopts node.old) }
+    ensures fired { OnOk result (fired.new ≡ fired.old ++ fired_adopt (adoption node.old)) }
+    ensures err { OnErr result (IsPartly node.old.entries node.new.entries (adopts node.old).entries) }
+{
+    match adoption(node) {
+        None => Ok(()),
+        Some(sync) => {
+            let start = start_by_sync(sync.statement());
+            fired.push(Fired::Adopted(start.duplicate(node.alloc)?))?;
+            adopt_start(node, start)?;
+            Ok(())
+        }
+    }
+}
+
+#[tactic(auto, unfolding(node_rules::specs::Changes::joining))]
+fn joining<S: Service>(node: &NodeState<S>) -> bool
+    ensures value { result ≡ joining node.now }
+    ensures next { result ≡ true → regency_of node.now + 1 < 2 ^ 32 }
+{
+    node.synchronizer().is_joining(node.view())
+}
+
+#[tactic(auto, unfolding(node_rules::specs::Changes::joins))]
+fn joins<S: Service>(node: &mut NodeState<S>, fired: &mut Sequence<Fired>) -> Result<(), AllocError>
+    ensures node { OnOk result (node.new ≡ joins node.old) }
+    ensures fired { OnOk result (fired.new ≡ fired.old ++ fired_when fires.Joined (joining node.old)) }
+    ensures err { OnErr result (node.new.entries ≡ node.old.entries) }
+{
+    if joining(node) {
+        fired.push(Fired::Joined)?;
+        asks_next(node)?;
+    }
+    Ok(())
+}
+
+#[tactic(auto, unfolding(node_rules::specs::Changes::promising))]
+fn promising<S: Service>(node: &NodeState<S>) -> bool
+    ensures value { result ≡ promising node.now }
+    ensures next { result ≡ true → regency_of node.now + 1 < 2 ^ 32 }
+{
+    node.synchronizer().is_promising(node.view())
+}
+
+fn next_promise<S: Service>(node: &NodeState<S>) -> Promise
+    requires { regency_of node.now + 1 < 2 ^ 32 }
+    ensures { result ≡ next_promise node.now }
+{
+    Promise {
+        view: node.view().number(),
+        regency: Regency::new(node.regency().get() + 1),
+    }
+}
+
+#[tactic(auto, unfolding(node_rules::specs::Changes::promise_next))]
+fn promise_next<S: Service>(node: &mut NodeState<S>) -> Result<(), AllocError>
+    requires { regency_of node.old + 1 < 2 ^ 32 }
+    ensures node { OnOk result (node.new ≡ promise_next node.old) }
+    ensures err { OnErr result (IsPartly node.old.entries node.new.entries (promise_next node.old).entries) }
+{
+    let promise = next_promise(node);
+    let regency = promise.regency;
+    let leader = node.view().leader(regency);
+    let reported = reported_by(node, regency)?;
+    promise_to(node, promise)?;
+    node.impatient = true;
+    let message = RegencyMessage::StopData(reported);
+    node.hold(Target::Node(leader), AnyMessage::Change(message))?;
+    Ok(())
+}
+
+#[tactic(auto, unfolding(node_rules::specs::Changes::promises))]
+fn promises<S: Service>(
+    node: &mut NodeState<S>,
+    fired: &mut Sequence<Fired>,
+) -> Result<(), AllocError>
+    ensures node { OnOk result (node.new ≡ promises node.old) }
+    ensures fired { OnOk result (fired.new ≡ fired.old ++ fired_when (fires.Promised (next_promise node.old)) (promising node.old)) }
+    ensures err { OnErr result (IsPartly node.old.entries node.new.entries (promises node.old).entries) }
+{
+    if promising(node) {
+        fired.push(Fired::Promised(next_promise(node)))?;
+        promise_next(node)?;
+    }
+    Ok(())
+}
+
+/// The reports with which the node is to begin its regency, if it is to.
+#[tactic(auto, unfolding(node_rules::specs::Changes::leading))]
+fn leading<S: Service>(node: &NodeState<S>) -> Result<Option<SignedList<Report>>, AllocError>
+    ensures { IfOk result (λ reports. reports ≡ leading node.now) }
+{
+    node.synchronizer().collecting(node.alloc, node.view())
+}
+
+#[tactic(auto, unfolding(node_rules::specs::Changes::lead_with))]
+fn lead_with<S: Service>(
+    node: &mut NodeState<S>,
+    collect: SignedList<Report>,
+) -> Result<(), AllocError>
+    ensures node { OnOk result (node.new ≡ lead_with node.old (Some collect)) }
+    ensures err { OnErr result (node.new.entries ≡ node.old.entries) }
+{
+    let sync = Sync {
+        view: node.view().number(),
+        regency: node.regency(),
+        collect,
+    };
+    let signed = node.keys.sealed(node.alloc, sync)?;
+    node.synchronizer.sync_made();
+    let message = RegencyMessage::Sync(signed);
+    node.hold(Target::View, AnyMessage::Change(message))?;
+    Ok(())
+}
+
+#[tactic(auto, unfolding(node_rules::specs::Changes::leads, node_rules::specs::Changes::lead_with))]
+fn leads<S: Service>(node: &mut NodeState<S>, fired: &mut Sequence<Fired>) -> Result<(), AllocError>
+    ensures node { OnOk result (node.new ≡ leads node.old) }
+    ensures fired { OnOk result (fired.new ≡ fired.old ++ fired_if fires.Led (leading node.old)) }
+    ensures err { OnErr result (node.new.entries ≡ node.old.entries) }
+{
+    match leading(node)? {
+        None => Ok(()),
+        Some(collect) => {
+            fired.push(Fired::Led)?;
+            lead_with(node, collect)?;
+            Ok(())
+        }
+    }
+}

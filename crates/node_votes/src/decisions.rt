@@ -1,0 +1,203 @@
+//! What a node decides: what is due, what the rule does with it, and both.
+ghost use Rattle.std.specs.Prelude.{◌≡◌, ◌++◌, true, IfOk, IfSome, OnOk, IsSome, Some, option_map, filter_map, OnErr};
+ghost use Rattle.std.specs.Option.{option_copied};
+ghost use Rattle.smart_base.specs.Lists.{or_else};
+ghost use Rattle.node_state.specs.Following.{named};
+ghost use Rattle.node_rules.specs.Rules.{slot_in, decision_in, decision_ahead, deciding, decide_batch, decides, fired_if};
+ghost use Rattle.node_rules.specs.Nodes.{next_place, is_free, view_of, regency_of};
+ghost use Rattle.node_rules.specs.Votes.{named_in, named_by, accepted_in, decision_by};
+ghost use Rattle.consensus_instance.specs.Instances.{name_of};
+ghost use Rattle.node_rules.specs.declared.node.Fired.TheVariants as fires;
+
+use node_rules::node::Fired;
+use node_state::find::accept_by_quorum;
+use node_state::state::NodeState;
+use smart_base::bytes::Digest32;
+use smart_base::duplicate::Duplicate;
+use smart_base::number::Regency;
+use smart_base::sequence::Sequence;
+use smart_messages::message::Proposed;
+use smart_service::service::Service;
+use smart_statements::batch::Batch;
+use smart_statements::statement::{Slot, VoteKind};
+use std::alloc::AllocError;
+use vote_book::entry::{Accept, Decision, LogEntry};
+
+/// The slot of the next place in a regency.
+fn slot_in<S: Service>(node: &NodeState<S>, regency: Regency) -> Slot
+    requires { is_free node.now ≡ true }
+    ensures { result ≡ slot_in node.now regency }
+{
+    Slot {
+        view: node.view().number(),
+        place: node.place().next(),
+        regency,
+    }
+}
+
+/// The decision in a slot of a batch, whose digest comes with it.
+fn decision_of<S: Service>(
+    node: &NodeState<S>,
+    slot: &Slot,
+    digest: &Digest32,
+    batch: &Batch,
+) -> Result<Decision, AllocError>
+    ensures decision { IfOk result (λ d. Some d ≡ decision_by (view_of node.now) slot.now node.now.arrivals (Some (record { digest = digest.now; batch = batch.now }))) }
+    ensures slot { IfOk result (λ d. d.slot ≡ slot.now) }
+{
+    let view = node.view();
+    let accepts = node
+        .instance
+        .votes(node.alloc, view, VoteKind::Accept, slot, digest)?;
+    Ok(Decision {
+        slot: *slot,
+        batch: batch.duplicate(node.alloc)?,
+        accepts,
+    })
+}
+
+/// The first proposal for the place of a slot, in the regency in force or a later one, whose batch
+/// a quorum accepted in that slot.
+fn proposed_by_quorum<'a, S: Service>(node: &'a NodeState<S>, slot: &Slot) -> Option<&'a Proposed>
+    ensures { option_map name_of (option_copied result) ≡ accepted_in (view_of node.now) slot.now node.now.arrivals (filter_map (named_in slot.now.view slot.now.place (regency_of node.now)) node.now.arrivals) }
+{
+    node.instance.accepted_proposal(node.view(), slot)
+}
+
+/// The decision in a slot of a batch that was proposed.
+fn proposed_decision<S: Service>(
+    node: &NodeState<S>,
+    slot: &Slot,
+) -> Result<Option<Decision>, AllocError>
+    ensures decision { IfOk result (λ d. d ≡ decision_by (view_of node.now) slot.now node.now.arrivals (accepted_in (view_of node.now) slot.now node.now.arrivals (filter_map (named_in slot.now.view slot.now.place (regency_of node.now)) node.now.arrivals))) }
+    ensures slot { IfOk result (λ d. IfSome d (λ d. d.slot ≡ slot.now)) }
+{
+    match proposed_by_quorum(node, slot) {
+        None => Ok(None),
+        Some(proposed) => {
+            let digest = &proposed.head.statement().digest;
+            Ok(Some(decision_of(node, slot, digest, &proposed.batch)?))
+        }
+    }
+}
+
+/// The first batch that the node accepted at the place of a slot, in whatever regency, and that a
+/// quorum accepted in that slot.
+fn accepted_by_quorum<'a, S: Service>(node: &'a NodeState<S>, slot: &Slot) -> Option<&'a Accept>
+    requires free { is_free node.now ≡ true }
+    requires place { slot.now.place ≡ next_place node.now }
+    ensures { option_map named (option_copied result) ≡ accepted_in (view_of node.now) slot.now node.now.arrivals (filter_map (named_by slot.now.view slot.now.place) node.now.entries) }
+{
+    accept_by_quorum(&node.book, &node.instance, node.view(), slot)
+}
+
+/// The decision in a slot of a batch that the node accepted.
+fn own_decision<S: Service>(
+    node: &NodeState<S>,
+    slot: &Slot,
+) -> Result<Option<Decision>, AllocError>
+    requires free { is_free node.now ≡ true }
+    requires place { slot.now.place ≡ next_place node.now }
+    ensures decision { IfOk result (λ d. d ≡ decision_by (view_of node.now) slot.now node.now.arrivals (accepted_in (view_of node.now) slot.now node.now.arrivals (filter_map (named_by slot.now.view slot.now.place) node.now.entries))) }
+    ensures slot { IfOk result (λ d. IfSome d (λ d. d.slot ≡ slot.now)) }
+{
+    match accepted_by_quorum(node, slot) {
+        None => Ok(None),
+        Some(accept) => { Ok(Some(decision_of(node, slot, &accept.digest, &accept.batch)?)) }
+    }
+}
+
+/// A decision in a slot of the next place, or else one of a batch that the node accepted.
+fn or_own<S: Service>(
+    node: &NodeState<S>,
+    first: Option<Decision>,
+    slot: &Slot,
+) -> Result<Option<Decision>, AllocError>
+    requires free { is_free node.now ≡ true }
+    requires place { slot.now.place ≡ next_place node.now }
+    requires slot { IfSome first (λ d. d.slot ≡ slot.now) }
+    ensures decision { IfOk result (λ d. d ≡ or_else first (decision_by (view_of node.now) slot.now node.now.arrivals (accepted_in (view_of node.now) slot.now node.now.arrivals (filter_map (named_by slot.now.view slot.now.place) node.now.entries)))) }
+    ensures slot { IfOk result (λ d. IfSome d (λ d. d.slot ≡ slot.now)) }
+{
+    if first.is_some() {
+        return Ok(first);
+    }
+    own_decision(node, slot)
+}
+
+/// The decision that is due in a regency at the next place.
+fn decision_in<S: Service>(
+    node: &NodeState<S>,
+    regency: Regency,
+) -> Result<Option<Decision>, AllocError>
+    requires { is_free node.now ≡ true }
+    ensures decision { IfOk result (λ d. d ≡ decision_in node.now regency) }
+    ensures place { IfOk result (λ d. IfSome d (λ d. d.slot.place ≡ next_place node.now)) }
+{
+    let slot = slot_in(node, regency);
+    let first = proposed_decision(node, &slot)?;
+    let found = or_own(node, first, &slot)?;
+    Ok(found)
+}
+
+/// The decision that is due in the next regency.
+fn decision_ahead<S: Service>(node: &NodeState<S>) -> Result<Option<Decision>, AllocError>
+    requires { is_free node.now ≡ true }
+    ensures decision { IfOk result (λ d. d ≡ decision_ahead node.now) }
+    ensures place { IfOk result (λ d. IfSome d (λ d. d.slot.place ≡ next_place node.now)) }
+{
+    let present = node.regency().get();
+    if present == u32::MAX {
+        return Ok(None);
+    }
+    decision_in(node, Regency::new(present + 1))
+}
+
+#[tactic(auto, unfolding(node_rules::specs::Rules::deciding))]
+fn deciding<S: Service>(node: &NodeState<S>) -> Result<Option<Decision>, AllocError>
+    ensures decision { IfOk result (λ d. d ≡ deciding node.now) }
+    ensures free { IfOk result (λ d. IsSome d → is_free node.now ≡ true) }
+    ensures place { IfOk result (λ d. IfSome d (λ d. d.slot.place ≡ next_place node.now)) }
+{
+    if !node.is_free() {
+        return Ok(None);
+    }
+    let found = decision_in(node, node.regency())?;
+    if found.is_some() {
+        return Ok(found);
+    }
+    decision_ahead(node)
+}
+
+#[tactic(auto, unfolding(node_rules::specs::Rules::decide_batch))]
+fn decide_batch<S: Service>(node: &mut NodeState<S>, decision: Decision) -> Result<(), AllocError>
+    requires free { is_free node.old ≡ true }
+    requires place { decision.slot.place ≡ next_place node.old }
+    ensures node { OnOk result (node.new ≡ decide_batch node.old (Some decision)) }
+    ensures err { OnErr result (node.new.entries ≡ node.old.entries) }
+{
+    let batch = decision.batch.duplicate(node.alloc)?;
+    node.book.push(LogEntry::Decided(decision))?;
+    node.waiting = Some(batch);
+    node.instance.decided();
+    Ok(())
+}
+
+#[tactic(auto, unfolding(node_rules::specs::Rules::decides, node_rules::specs::Rules::decide_batch))]
+pub fn decides<S: Service>(
+    node: &mut NodeState<S>,
+    fired: &mut Sequence<Fired>,
+) -> Result<(), AllocError>
+    ensures node { OnOk result (node.new ≡ decides node.old) }
+    ensures fired { OnOk result (fired.new ≡ fired.old ++ fired_if (fires.Decided (next_place node.old)) (deciding node.old)) }
+    ensures err { OnErr result (node.new.entries ≡ node.old.entries) }
+{
+    match deciding(node)? {
+        None => Ok(()),
+        Some(decision) => {
+            fired.push(Fired::Decided(node.place().next()))?;
+            decide_batch(node, decision)?;
+            Ok(())
+        }
+    }
+}

@@ -1,0 +1,5 @@
+//! The rules by which a member's node orders requests: it proposes, writes, accepts and decides.
+#![tactic(auto)]
+
+pub mod decisions;
+pub mod votes;

@@ -1,3 +1,0 @@
-pub mod Lives
-pub mod Restoring
-pub mod Staying

@@ -1,5 +1,0 @@
-use Rattle.smart_messages.proofs.Messages.{batch_is}
-use Rattle.smart_messages.proofs.laws.batches_with_one_text_are_one.Goals as goal
-
-pub returns : goal.returns
-returns c = batch_is

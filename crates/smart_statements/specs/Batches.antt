@@ -1,0 +1,21 @@
+-- Batches: their text, and which have one.
+use Rattle.std.specs.Prelude.{ℕ, ◌<◌, ◌≤◌, List, ◌++◌, length}
+use Rattle.std.specs.List.{flat_map, AllByRecursion}
+use Rattle.smart_base.specs.Spelling.{u16}
+use Rattle.smart_statements.specs.Forms.{SignedBy}
+use Rattle.smart_statements.specs.Kinds.{requests}
+use Rattle.smart_statements.specs.Spelling.{signed, FitsSigned, FitsRequest}
+use Rattle.smart_statements.specs.declared.statement.Request.{Request}
+
+-- the requests of one place
+abbrev pub Batch : Type 0
+Batch = List (SignedBy Request)
+
+-- a batch: its digest is taken over this text
+unfoldable pub batch_text : Batch → List ℕ
+batch_text rs = u16 (length rs) ++ flat_map (signed requests) rs
+
+pub record FitsBatch (rs : Batch) : Type 0 where
+  pub count_fits : (0 < length rs) × (length rs ≤ 64)
+  pub each_fits : AllByRecursion (FitsSigned requests FitsRequest) rs
+  pub bytes_fit : length (batch_text rs) ≤ 262144

@@ -1,0 +1,11 @@
+pub mod Batches
+pub mod Equality
+pub mod Forms
+pub mod Kinds
+pub mod Reading
+pub mod ReportLaws
+pub mod Reports
+pub mod SignedListLaws
+pub mod SignedLists
+pub mod Spelling
+pub mod Statements

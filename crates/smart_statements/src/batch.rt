@@ -1,0 +1,134 @@
+//! The requests of one place.
+ghost use Rattle.std.specs.Prelude.{◌≡◌, ◌<◌, ◌≤◌, [], ◌∷◌, ◌++◌, length, IfOk, OnOk};
+ghost use Rattle.smart_base.specs.Cuts.{Gives};
+ghost use Rattle.smart_statements.specs.Kinds.{requests};
+ghost use Rattle.smart_statements.specs.Batches.{batch_text};
+ghost use Rattle.smart_statements.specs.Reading.{requests_at, batch_at};
+
+use crate::signed::{Every, Signed};
+use crate::signed_list::{put_each, read_each};
+use crate::statement::Request;
+use smart_base::cursor::Cursor;
+use smart_base::duplicate::Duplicate;
+use smart_base::fault::ReadError;
+use smart_base::field::{put_u16, take_items};
+use smart_base::sequence::Sequence;
+use std::alloc::{AllocError, Global};
+use std::marker::Model;
+
+/// The most requests that a batch has.
+pub const BATCH_REQUESTS: u16 = 64;
+
+/// The most bytes that a batch has.
+pub const BATCH_BYTES: usize = 262_144;
+
+/// The requests of one place, in the order in which they are executed: 1 to 64.
+#[derive(Drop)]
+pub struct Batch {
+    list: Sequence<Signed<Request>>,
+}
+
+impl Model for Batch {
+    ghost use Rattle.std.specs.Prelude.{List, length, ◌<◌, ◌≤◌};
+    ghost use Rattle.smart_statements.specs.Forms.{SignedBy};
+    ghost use Rattle.smart_statements.specs.declared.statement.Request.{Request};
+
+    ghost Value = { List (SignedBy Request) };
+
+    ghost view = { λ b. b.list };
+
+    ghost invariant = { λ b. (0 < length b.list) × (length b.list ≤ 64) };
+}
+
+impl Batch {
+    pub fn from_list(list: Sequence<Signed<Request>>) -> Batch
+        requires some { 0 < length list }
+        requires few { length list ≤ 64 }
+        ensures { result ≡ list }
+    {
+        Batch { list }
+    }
+
+    /// The batch of one request.
+    pub fn single(alloc: Global, request: Signed<Request>) -> Result<Batch, AllocError>
+        ensures { IfOk result (λ batch. batch ≡ request ∷ []) }
+    {
+        let mut list = Vec::new(alloc);
+        list.push(request)?;
+        Ok(Batch {
+            list: Sequence::from_vec(list),
+        })
+    }
+
+    pub fn len(&self) -> usize
+        ensures value { result ≡ length self.now }
+        ensures some { 0 < result }
+        ensures few { result ≤ 64 }
+    {
+        self.list.len()
+    }
+
+    pub fn as_slice(&self) -> &[Signed<Request>]
+        ensures value { result.now ≡ self.now }
+        ensures some { 0 < length result.now }
+        ensures few { length result.now ≤ 64 }
+    {
+        self.list.as_slice()
+    }
+
+    /// The requests as a list. It takes no memory.
+    pub fn into_list(self) -> Sequence<Signed<Request>>
+        ensures { result ≡ self }
+    {
+        let Batch { list } = self;
+        list
+    }
+
+    /// Adds the batch's bytes.
+    #[tactic(auto, unfolding(crate::specs::Batches::batch_text))]
+    pub fn put(&self, out: &mut Vec<u8>) -> Result<(), AllocError>
+        ensures { OnOk result (out.new.items ≡ out.old.items ++ batch_text self.now) }
+    {
+        put_u16(out, self.len() as u16)?;
+        put_each(out, self.as_slice())?;
+        Ok(())
+    }
+
+    /// The batch's bytes, over which its digest is taken.
+    pub fn text(&self, alloc: Global) -> Result<Vec<u8>, AllocError>
+        ensures { IfOk result (λ text. text.items ≡ batch_text self.now) }
+    {
+        let mut out = Vec::new(alloc);
+        self.put(&mut out)?;
+        Ok(out)
+    }
+
+    /// Reads a batch. A field that ends past its limit of bytes cannot be read.
+    #[tactic(auto, unfolding(crate::specs::Reading::batch_at, smart_base::specs::Cuts::limited))]
+    pub fn read(alloc: Global, cut: &mut Cursor<'_>) -> Result<Batch, ReadError>
+        ensures { Gives result cut.new (batch_at requests cut.old) }
+    {
+        let mut inner = cut.front(BATCH_BYTES);
+        let room = inner.rest().len();
+        let batch = read_requests(alloc, &mut inner)?;
+        cut.skip(room.saturating_sub(inner.rest().len()));
+        Ok(batch)
+    }
+}
+
+#[tactic(auto, unfolding(crate::specs::Reading::requests_at))]
+fn read_requests(alloc: Global, cut: &mut Cursor<'_>) -> Result<Batch, ReadError>
+    ensures { Gives result cut.new (requests_at requests cut.old) }
+{
+    let count = take_items(cut, BATCH_REQUESTS)?;
+    let list = read_each::<Request, Every>(alloc, &Every, count, cut)?;
+    Ok(Batch { list })
+}
+
+impl Duplicate for Batch {
+    fn duplicate(&self, alloc: Global) -> Result<Batch, AllocError> {
+        Ok(Batch {
+            list: self.list.duplicate(alloc)?,
+        })
+    }
+}

@@ -1,0 +1,278 @@
+//! A statement, its bytes and the tag over them.
+ghost use Rattle.std.specs.Prelude.{◌≡◌, ◌+◌, ◌++◌, ◌<◌, ◌^◌, ◌⊎◌, ℕ, List, length, OnOk, IfOk, IfErr};
+ghost use Rattle.smart_base.specs.declared.keys.SignRefused.TheVariants.{NoMemory};
+ghost use Rattle.smart_base.specs.Cuts.{Gives, Takes};
+ghost use Rattle.smart_base.specs.Spelling.{Law};
+ghost use Rattle.smart_statements.specs.Forms.{Form, party_of};
+ghost use Rattle.smart_statements.specs.Reading.{signed_at, signer_at};
+ghost use Rattle.smart_statements.specs.Spelling.{signed};
+
+use smart_base::bytes::Tag;
+use smart_base::cursor::Cursor;
+use smart_base::duplicate::Duplicate;
+use smart_base::fault::{ReadError, Unread};
+use smart_base::field::{copied, put_short, put_text, put_u8, put_u16, take_kind, take_tag};
+use smart_base::keys::{SignRefused, Signer, Verifier};
+use smart_base::name::{ClientId, MemberId};
+use smart_base::party::Party;
+use smart_base::sequence::Bytes;
+use std::alloc::{AllocError, Global};
+use std::marker::Model;
+
+/// The kind of those signers that are members.
+pub const MEMBER: u8 = 1;
+
+/// The kind of those signers that are clients.
+pub const CLIENT: u8 = 2;
+
+/// A kind of statement.
+pub trait Statement: Duplicate {
+    ghost form: { Form Self };
+
+    // Which statements of this signer have a spelling.
+    ghost fits: { ℕ → Self → Type 0 };
+
+    /// The kind of its signers.
+    fn kind() -> u8
+        ensures { result ≡ Form.kind form };
+
+    /// Reads a statement beside its signer's number.
+    fn read(alloc: Global, signer: u16, cut: &mut Cursor<'_>) -> Result<Self, ReadError>
+        ensures { Gives result cut.new (Form.read form signer cut.old) };
+
+    /// Adds the statement's bytes. One whose text has 2^32 bytes or more is beyond the memory that a
+    /// statement may take.
+    fn put(&self, out: &mut Vec<u8>) -> Result<(), AllocError>
+        ensures text { OnOk result (out.new.items ≡ out.old.items ++ Form.spell form self.now) }
+        ensures small { OnOk result (length (Form.spell form self.now) < 2 ^ 32) };
+
+    // What is read is what is spelled.
+    ghost agree: { (signer : ℕ) → Law (fits signer) (Form.spell form) (Form.read form signer) };
+}
+
+/// Refuses, as want of memory is refused, a statement's text of 2^32 bytes or more behind the first
+/// `before` bytes: its length would need more than four bytes.
+pub fn within_limit(out: &Vec<u8>, before: usize) -> Result<(), AllocError>
+    ensures { OnOk result (length out.now.items < before + 2 ^ 32) }
+{
+    if out.len().saturating_sub(before) < 1 << 32 {
+        Ok(())
+    } else {
+        Err(AllocError)
+    }
+}
+
+/// Which statements of a kind are read.
+pub trait Selection<S: Statement> {
+    ghost form: { Self → Form S };
+
+    // Which of them have a spelling.
+    ghost fits: { Self → ℕ → S → Type 0 };
+
+    /// Reads one of them beside its signer's number.
+    fn read(&self, alloc: Global, signer: u16, cut: &mut Cursor<'_>) -> Result<S, ReadError>
+        ensures { Gives result cut.new (Form.read (form self.now) signer cut.old) };
+
+    // They have the kind of signers that all have.
+    ghost of_kind: { (which : Self) → Form.kind (form which) ≡ Form.kind S.form };
+
+    // What is read is what is spelled.
+    ghost agree: { (which : Self) (signer : ℕ) → Law (fits which signer) (Form.spell S.form) (Form.read (form which) signer) };
+}
+
+/// All statements of a kind.
+#[derive(Drop)]
+pub struct Every;
+
+impl<S: Statement> Selection<S> for Every {
+    ghost use Rattle.std.specs.Prelude.{refl};
+
+    ghost form = { λ which. S.form };
+
+    ghost fits = { λ which. S.fits };
+
+    ghost of_kind = { λ which. refl };
+
+    ghost agree = { λ which. S.agree };
+
+    fn read(&self, alloc: Global, signer: u16, cut: &mut Cursor<'_>) -> Result<S, ReadError> {
+        S::read(alloc, signer, cut)
+    }
+}
+
+/// A statement with its signer and the tag over it. Its bytes are kept beside it, so that a check
+/// of the tag encodes nothing.
+#[derive(Drop)]
+pub struct Signed<S: Statement> {
+    signer: u16,
+    statement: S,
+    kept: Bytes,
+    tag: Tag,
+}
+
+impl<S: Statement> Model for Signed<S> {
+    ghost use Rattle.std.specs.Prelude.{◌≡◌, ◌<◌, ◌^◌, length};
+    ghost use Rattle.smart_statements.specs.Forms.{Form, SignedBy};
+
+    ghost Value = { SignedBy S };
+
+    ghost view = { λ s. record { signer = s.signer; statement = s.statement; tag = s.tag } };
+
+    // The kept bytes are the statement's spelling.
+    ghost invariant = { λ s. (s.kept ≡ Form.spell S.form s.statement) × (length s.kept < 2 ^ 32) };
+}
+
+/// The party of a kind and a number.
+fn party_of(kind: u8, number: u16) -> Party
+    ensures { result ≡ party_of kind number }
+{
+    if kind == MEMBER {
+        Party::Member(MemberId::new(number))
+    } else {
+        Party::Client(ClientId::new(number))
+    }
+}
+
+/// A signer's number: a member's is at least 1.
+#[tactic(auto, unfolding(smart_base::specs::Cuts::ranged))]
+fn take_signer(cut: &mut Cursor<'_>, kind: u8) -> Result<u16, Unread>
+    ensures { Takes result cut.new (signer_at kind cut.old) }
+{
+    let at = cut.at();
+    let found = cut.take_u16()?;
+    if kind == MEMBER && found == 0 {
+        Err(Unread { at })
+    } else {
+        Ok(found)
+    }
+}
+
+impl<S: Statement> Signed<S> {
+    /// Signs a statement. It is refused for want of memory, or where the key refuses. What the key
+    /// makes from then on it could have made before.
+    pub fn seal<K: Signer>(
+        alloc: Global,
+        key: &mut K,
+        signer: u16,
+        statement: S,
+    ) -> Result<Signed<S>, SignRefused>
+        ensures signer { IfOk result (λ s. s.signer ≡ signer) }
+        ensures statement { IfOk result (λ s. s.statement ≡ statement) }
+        ensures tag { IfOk result (λ s. K.makes key.old (Form.spell S.form statement) s.tag) }
+        ensures refused { IfErr result (λ why. (why ≡ NoMemory) ⊎ K.refuses key.old why) }
+        ensures later { (text tag : List ℕ) → K.makes key.new text tag → K.makes key.old text tag }
+    {
+        let mut kept = Vec::new(alloc);
+        statement.put(&mut kept)?;
+        let tag = key.sign(alloc, kept.as_slice())?;
+        Ok(Signed {
+            signer,
+            statement,
+            kept: Bytes::from_vec(kept),
+            tag,
+        })
+    }
+
+    /// The number of the member or client that signed.
+    pub fn signer(&self) -> u16
+        ensures { result ≡ self.now.signer }
+    {
+        self.signer
+    }
+
+    pub fn statement(&self) -> &S
+        ensures { result.now ≡ self.now.statement }
+    {
+        &self.statement
+    }
+
+    pub fn tag(&self) -> &Tag
+        ensures { result.now ≡ self.now.tag }
+    {
+        &self.tag
+    }
+
+    /// The statement's bytes, over which the tag is.
+    pub fn bytes(&self) -> &[u8]
+        ensures { result.now ≡ Form.spell S.form self.now.statement }
+    {
+        self.kept.as_slice()
+    }
+
+    /// Whether the tag is the signer's.
+    pub fn verifies<V: Verifier>(&self, keys: &V) -> bool
+        ensures { result ≡ V.verified keys.now (party_of (Form.kind S.form) self.now.signer) (Form.spell S.form self.now.statement) self.now.tag }
+    {
+        keys.verifies(
+            party_of(S::kind(), self.signer),
+            self.kept.as_slice(),
+            self.tag.as_slice(),
+        )
+    }
+
+    /// How many bytes `put` adds. It takes no memory.
+    pub fn text_len(&self) -> usize
+        ensures value { result ≡ length (signed S.form self.now) }
+        ensures small { result < 2 ^ 33 }
+    {
+        9 + self.kept.len() + self.tag.as_slice().len()
+    }
+
+    /// Adds the bytes of all.
+    pub fn put(&self, out: &mut Vec<u8>) -> Result<(), AllocError>
+        ensures { OnOk result (out.new.items ≡ out.old.items ++ signed S.form self.now) }
+    {
+        let kept = self.kept.as_slice();
+        let tag = self.tag.as_slice();
+        put_u8(out, S::kind())?;
+        put_u16(out, self.signer)?;
+        put_text(out, kept)?;
+        put_short(out, tag)?;
+        Ok(())
+    }
+
+    /// Reads a signed statement.
+    pub fn read(alloc: Global, cut: &mut Cursor<'_>) -> Result<Signed<S>, ReadError>
+        ensures { Gives result cut.new (signed_at S.form cut.old) }
+    {
+        Signed::<S>::read_selected(alloc, &Every, cut)
+    }
+
+    /// Reads a signed statement of some that its kind has.
+    #[tactic(auto, unfolding(crate::specs::Reading::signed_at, smart_base::specs::Cuts::sized_at, smart_base::specs::Cuts::whole))]
+    pub fn read_selected<W: Selection<S>>(
+        alloc: Global,
+        which: &W,
+        cut: &mut Cursor<'_>,
+    ) -> Result<Signed<S>, ReadError>
+        ensures { Gives result cut.new (signed_at (W.form which.now) cut.old) }
+    {
+        let kind = S::kind();
+        take_kind(cut, kind)?;
+        let signer = take_signer(cut, kind)?;
+        let mut body = cut.take_bytes()?;
+        let kept = copied(alloc, &body)?;
+        let statement = which.read(alloc, signer, &mut body)?;
+        if !body.is_done() {
+            return Err(ReadError::Unread { at: body.at() });
+        }
+        let tag = take_tag(alloc, cut)?;
+        Ok(Signed {
+            signer,
+            statement,
+            kept,
+            tag,
+        })
+    }
+}
+
+impl<S: Statement> Duplicate for Signed<S> {
+    fn duplicate(&self, alloc: Global) -> Result<Signed<S>, AllocError> {
+        Ok(Signed {
+            signer: self.signer,
+            statement: self.statement.duplicate(alloc)?,
+            kept: self.kept.duplicate(alloc)?,
+            tag: self.tag.duplicate(alloc)?,
+        })
+    }
+}

@@ -1,0 +1,19 @@
+//! Tests of what is stated, sent, voted and written down: what no clause of those crates says.
+#![tactic(auto)]
+
+#[cfg(test)]
+mod books;
+#[cfg(test)]
+mod certificates;
+#[cfg(test)]
+mod entries;
+#[cfg(test)]
+mod kit;
+#[cfg(test)]
+mod messages;
+#[cfg(test)]
+mod plain;
+#[cfg(test)]
+mod regencies;
+#[cfg(test)]
+mod texts;

@@ -1,0 +1,280 @@
+//! What clients hear, ask and are told.
+ghost use Rattle.std.specs.Prelude.{◌≡◌, ◌+◌, ◌<◌, ◌++◌, [], ◌∷◌, IfOk, OnOk, length, slice_get};
+ghost use Rattle.std.specs.List.{flat_map};
+ghost use Rattle.world_rules.specs.Secrets.{group_secret};
+ghost use Rattle.client_quorum.specs.Clients.{after_heard};
+ghost use Rattle.world_rules.specs.Clients.{heard};
+ghost use Rattle.smart_messages.specs.declared.any.AnyMessage.TheVariants as messages;
+ghost use Rattle.smart_messages.specs.declared.message.Message.TheVariants as plains;
+ghost use Rattle.world_rules.specs.Worlds.{sends, acceptance_in, told_heard, client_takes, asks, repeats, learns, tells, shown_client};
+ghost use Rattle.world_clients.specs.Replies.{takes_reply};
+ghost use Rattle.world_clients.specs.Asking.{repeats_by, repeats_found};
+
+use client_quorum::client::{Acceptance, Client, Heard, Ignored};
+use client_quorum::hearing::read_reply;
+use node_rules::node::Target;
+use smart_base::bytes::Payload;
+use smart_base::duplicate::Duplicate;
+use smart_base::name::ClientId;
+use smart_base::number::Place;
+use smart_base::view::View;
+use smart_keys::ring::Ring;
+use smart_messages::any::AnyMessage;
+use smart_messages::message::Message;
+use smart_service::service::Service;
+use smart_statements::signed::Signed;
+use smart_statements::statement::{Answer, Request};
+use std::alloc::{AllocError, Global};
+use world_rules::line::OutLine;
+use world_rules::message::Origin;
+use world_state::state::WorldState;
+
+/// What a transcript tells of what a client heard.
+fn told_heard(alloc: Global, id: ClientId, heard: &Heard) -> Result<OutLine, AllocError>
+    ensures { IfOk result (λ line. line ≡ told_heard id heard.now) }
+{
+    match heard {
+        Heard::Counted { have, need } => Ok(OutLine::Counted {
+            client: id,
+            have: *have,
+            need: *need,
+        }),
+        Heard::Accepted(a) => {
+            let reply = a.reply.duplicate(alloc)?;
+            Ok(OutLine::Accepted {
+                client: id,
+                seq: a.request.seq,
+                place: a.place,
+                index: a.index,
+                reply,
+            })
+        }
+        Heard::Ignored(why) => Ok(OutLine::Ignored {
+            client: id,
+            why: *why,
+        }),
+    }
+}
+
+fn keep_accepted(accepted: &mut Vec<Acceptance>, heard: Heard) -> Result<(), AllocError>
+    ensures { OnOk result (accepted.new.items ≡ accepted.old.items ++ acceptance_in heard) }
+{
+    if let Heard::Accepted(acceptance) = heard {
+        accepted.push(acceptance)?;
+    }
+    Ok(())
+}
+
+/// A client hears a reply: what it tells and accepts is added.
+fn hear_reply(
+    alloc: Global,
+    view: &View,
+    ring: &Ring,
+    client: &mut Client,
+    accepted: &mut Vec<Acceptance>,
+    told: &mut Vec<OutLine>,
+    answer: &Signed<Answer>,
+) -> Result<(), AllocError>
+    requires { ring.now ≡ group_secret }
+    ensures client { OnOk result (client.new ≡ after_heard client.old answer.now (heard view.now client.old answer.now)) }
+    ensures accepted { OnOk result (accepted.new.items ≡ accepted.old.items ++ acceptance_in (heard view.now client.old answer.now)) }
+    ensures told { OnOk result (told.new.items ≡ told.old.items ++ told_heard client.old.id (heard view.now client.old answer.now) ∷ []) }
+{
+    let id = client.id;
+    let heard = client.hear_reply(alloc, view, ring, answer)?;
+    told.push(told_heard(alloc, id, &heard)?)?;
+    keep_accepted(accepted, heard)?;
+    Ok(())
+}
+
+/// Tells the greatest place that a client knows, if it has asked.
+fn show_client(told: &mut Vec<OutLine>, client: &Client) -> Result<(), AllocError>
+    ensures { OnOk result (told.new.items ≡ told.old.items ++ shown_client client.now) }
+{
+    if client.last > 0 {
+        told.push(OutLine::Seen {
+            client: client.id,
+            place: client.seen,
+        })?;
+    }
+    Ok(())
+}
+
+/// Tells what all clients that asked have seen.
+pub fn show_clients(told: &mut Vec<OutLine>, clients: &[Client]) -> Result<(), AllocError>
+    ensures { OnOk result (told.new.items ≡ told.old.items ++ flat_map shown_client clients.now) }
+{
+    for client in clients {
+        show_client(told, client)?;
+    }
+    Ok(())
+}
+
+/// The client at an index hears a reply, or ignores what is none.
+#[tactic(auto, unfolding(crate::specs::Replies::takes_reply, world_rules::specs::Worlds::hearing))]
+fn takes_reply<S: Service>(
+    world: &mut WorldState<S>,
+    i: usize,
+    reply: &Option<Signed<Answer>>,
+) -> Result<(), AllocError>
+    ensures { OnOk result (world.new ≡ takes_reply i reply.now world.old) }
+{
+    if world.ending.is_some() || i >= world.clients.len() {
+        return Ok(());
+    }
+    match reply {
+        Some(answer) => {
+            hear_reply(
+                world.alloc,
+                &world.view,
+                world.ring.get(),
+                &mut world.clients[i],
+                &mut world.accepted,
+                &mut world.told,
+                answer,
+            )?;
+        }
+        None => {
+            let id = world.clients[i].id;
+            world.tell(OutLine::Ignored {
+                client: id,
+                why: Ignored::Unread,
+            })?;
+        }
+    }
+    Ok(())
+}
+
+/// The client at an index hears the bytes of a message. It reads replies alone.
+#[tactic(auto, using(crate::proofs::Hearing::takes_bytes))]
+pub fn client_takes<S: Service>(
+    world: &mut WorldState<S>,
+    i: usize,
+    bytes: &[u8],
+) -> Result<(), AllocError>
+    ensures { OnOk result (world.new ≡ client_takes i bytes.now world.old) }
+{
+    let reply = read_reply(world.alloc, bytes)?;
+    takes_reply(world, i, &reply)?;
+    Ok(())
+}
+
+/// The client at an index asks, if it is not rogue and none of its requests waits.
+#[tactic(auto, unfolding(world_rules::specs::Worlds::asks))]
+pub fn ask<S: Service>(world: &mut WorldState<S>, i: usize, op: &Payload) -> Result<(), AllocError>
+    ensures { OnOk result (world.new ≡ asks i op.now world.old) }
+{
+    if world.ending.is_some() || i >= world.clients.len() {
+        return Ok(());
+    }
+    let client = world.clients[i].id;
+    if world.is_rogue(client) {
+        world.tell(OutLine::IdleClient { client })?;
+        return Ok(());
+    }
+    if let Some(waiting) = &world.clients[i].waiting {
+        let seq = waiting.seq;
+        world.tell(OutLine::Busy { client, seq })?;
+        return Ok(());
+    }
+    // That an operation is short is known of its bytes.
+    let _short = op.as_slice();
+    if world.clients[i].last >= (1 << 63) - 1 {
+        return Ok(());
+    }
+    match world.clients[i].ask(world.alloc, world.ring.get(), op) {
+        Ok(request) => {
+            send_ask(world, client, request)?;
+            Ok(())
+        }
+        // None waits: its only want is memory.
+        Err(_) => Err(AllocError),
+    }
+}
+
+/// The client at an index sends its request that waits once more, unless it is rogue.
+#[tactic(auto, unfolding(world_rules::specs::Worlds::repeats))]
+pub fn repeat<S: Service>(world: &mut WorldState<S>, i: usize) -> Result<(), AllocError>
+    ensures { OnOk result (world.new ≡ repeats i world.old) }
+{
+    if world.ending.is_some() || i >= world.clients.len() {
+        return Ok(());
+    }
+    let id = world.clients[i].id;
+    if world.is_rogue(id) {
+        world.tell(OutLine::IdleClient { client: id })?;
+        return Ok(());
+    }
+    repeat_waiting(world, i)
+}
+
+/// The client sends the request that waits, if one does.
+#[tactic(auto, using(crate::proofs::Asking::repeats_waiting))]
+fn repeat_waiting<S: Service>(world: &mut WorldState<S>, i: usize) -> Result<(), AllocError>
+    requires { i < length world.old.clients }
+    ensures { OnOk result (world.new ≡ repeats_found world.old (slice_get world.old.clients i)) }
+{
+    let id = world.clients[i].id;
+    let request = world.clients[i].again(world.alloc, world.ring.get())?;
+    send_again(world, id, request)
+}
+
+fn send_again<S: Service>(
+    world: &mut WorldState<S>,
+    id: ClientId,
+    request: Option<Signed<Request>>,
+) -> Result<(), AllocError>
+    ensures { OnOk result (world.new ≡ repeats_by world.old id request) }
+{
+    match request {
+        None => world.tell(OutLine::IdleClient { client: id }),
+        Some(request) => send_ask(world, id, request),
+    }
+}
+
+/// A client's request leaves.
+fn send_ask<S: Service>(
+    world: &mut WorldState<S>,
+    client: ClientId,
+    request: Signed<Request>,
+) -> Result<(), AllocError>
+    ensures { OnOk result (world.new ≡ sends world.old (Origin.Client client) Target.View (messages.Plain (plains.Ask request))) }
+{
+    let message = AnyMessage::Plain(Message::Ask(request));
+    world.send(Origin::Client(client), Target::View, message)
+}
+
+/// The client at an index is told of a place.
+fn learn<S: Service>(world: &mut WorldState<S>, place: Place, i: usize) -> Result<(), AllocError>
+    ensures { OnOk result (world.new ≡ learns world.old place i (slice_get world.old.clients i)) }
+{
+    if i >= world.clients.len() {
+        return Ok(());
+    }
+    world.clients[i].tell(place);
+    let (client, place) = (world.clients[i].id, world.clients[i].seen);
+    world.tell(OutLine::Learned { client, place })?;
+    Ok(())
+}
+
+/// A client is told of the greatest place that another knows, unless that other is rogue.
+#[tactic(auto, unfolding(world_rules::specs::Worlds::tells))]
+pub fn tell_client<S: Service>(
+    world: &mut WorldState<S>,
+    from: usize,
+    to: usize,
+) -> Result<(), AllocError>
+    ensures { OnOk result (world.new ≡ tells from to world.old) }
+{
+    if world.ending.is_some() || from >= world.clients.len() {
+        return Ok(());
+    }
+    let teller = world.clients[from].id;
+    if world.is_rogue(teller) {
+        world.tell(OutLine::IdleClient { client: teller })?;
+        return Ok(());
+    }
+    let place = world.clients[from].seen;
+    learn(world, place, to)?;
+    Ok(())
+}

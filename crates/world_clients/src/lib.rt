@@ -1,0 +1,4 @@
+//! The clients of a world.
+#![tactic(auto)]
+
+pub mod clients;

@@ -1,8 +1,0 @@
-use Rattle.std.proofs.Common.{◌≡◌, drop}
-use Rattle.world_rules.specs.Worlds.{core_course, tries_each}
-use Rattle.world_core.proofs.state.WorldState.try_each.Given as goal
-
--- the members left make all
-abbrev pub invariant-loop-member : goal.invariant-loop-member
-invariant-loop-member g l =
-    tries_each (core_course g.S.Service.meaning) l.event (drop l.member-index l.members) l.self ≡ tries_each (core_course g.S.Service.meaning) l.event l.members l.fn.self

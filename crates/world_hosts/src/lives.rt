@@ -1,0 +1,174 @@
+//! Hosts whose nodes stop, and go on from what their devices hold.
+ghost use Rattle.std.specs.Prelude.{◌≡◌, ◌++◌, [], true, false, length, None, IfOk, IfErr, OnOk, OnErr, option_map};
+ghost use Rattle.durable_store.specs.Exact.{started, store_opened};
+ghost use Rattle.durable_store.specs.Restored.{restores};
+ghost use Rattle.world_rules.specs.Crashes.{bytes_held, images_left, wrong_images};
+ghost use Rattle.member_store.specs.Left.{Tells};
+ghost use Rattle.node_rules.specs.Reopening.{damaged};
+ghost use Rattle.world_rules.specs.Secrets.{group_secret};
+ghost use Rattle.world_rules.specs.Worlds.{core_course, spelled_behind, host_crashed, host_resumed};
+ghost use Rattle.world_hosts.specs.Lives.{held, node_from, node_in, host_with, told_with};
+
+use crate::host::{Host, PERIOD, behind};
+use member_store::crash::CrashFault;
+use member_store::store::MemberStore;
+use node_core::node::NodeCore;
+use node_restart::fault::ReopenFault;
+use smart_base::duplicate::Duplicate;
+use smart_base::name::MemberId;
+use smart_base::sequence::{Bytes, Sequence};
+use smart_base::view::View;
+use smart_keys::ring::Ring;
+use smart_service::service::Service;
+use std::alloc::{AllocError, Global};
+use world_rules::crash::{Image, Patch};
+use world_rules::line::OutLine;
+
+/// Stops a store. Its devices stay as they read, which a crash may leave of any, so that only memory
+/// can be wanting.
+fn stop(store: &mut MemberStore) -> Result<(), AllocError>
+    requires { store.old.runs ≡ true }
+    ensures { OnOk result (store.new ≡ record { runs = false; state = store_opened (bytes_held store.old.state) }) }
+{
+    match store.crash(Image::New, &[]) {
+        Ok(()) => Ok(()),
+        Err(_) => Err(AllocError),
+    }
+}
+
+/// The entries that the devices of a store hold which has stopped. It runs then.
+fn restored(store: &mut MemberStore) -> Result<Sequence<Bytes>, AllocError>
+    requires { store.old.runs ≡ false }
+    ensures runs { OnOk result (store.new ≡ record { runs = true; state = store.old.state }) }
+    ensures same { OnOk result (store_opened (bytes_held store.new.state) ≡ store.new.state) }
+    ensures entries { IfOk result (λ entries. entries ≡ (restores (bytes_held store.old.state)).entries) }
+{
+    store.what_is_left();
+    let entries = store.restart()?;
+    Ok(entries)
+}
+
+/// The node that goes on from entries, if none is damaged.
+fn reopened<S: Service>(
+    alloc: Global,
+    id: MemberId,
+    view: &View,
+    ring: &Ring,
+    restored: &[Bytes],
+) -> Result<Option<NodeCore<S>>, AllocError>
+    requires { ring.now ≡ group_secret }
+    ensures { IfOk result (λ node. option_map (λ n. n.node) node ≡ node_from S.meaning view.now id restored.now (damaged group_secret view.now restored.now)) }
+{
+    let view = view.duplicate(alloc)?;
+    let ring = ring.duplicate(alloc)?;
+    match NodeCore::reopen(alloc, id, view, PERIOD, ring, restored) {
+        Ok(node) => Ok(Some(node)),
+        Err(ReopenFault::Damaged { .. }) => Ok(None),
+        Err(ReopenFault::NoMemory) => Err(AllocError),
+    }
+}
+
+impl<S: Service> Host<S> {
+    /// Its node, which runs, stops, and this is left of its devices. What no crash leaves there is
+    /// refused, and changes nothing.
+    pub fn crash(&mut self, image: Image, patches: &[Patch]) -> Result<(), CrashFault>
+        requires { self.old.up ≡ true }
+        ensures right { OnOk result (wrong_images self.old.store (images_left image patches.now self.old.store) ≡ None) }
+        ensures left { OnOk result (self.new ≡ host_crashed (core_course S.meaning) self.old (images_left image patches.now self.old.store)) }
+        ensures wrong { IfErr result (λ e. Tells e (wrong_images self.old.store (images_left image patches.now self.old.store))) }
+        ensures err { OnErr result (self.new ≡ self.old) }
+    {
+        self.store.crash(image, patches)
+    }
+
+    /// What a node that goes on has written down behind what was restored waits in the store.
+    fn give_opening(&mut self, node: &NodeCore<S>) -> Result<(), AllocError>
+        requires { self.old.up ≡ true }
+        ensures { OnOk result (self.new ≡ record self.old { store = started self.old.store (spelled_behind node.now.node.restored node.now.node.entries) }) }
+    {
+        self.store.write_down(behind(node.book(), node.restored()))
+    }
+
+    /// A life ends: what was delivered in it was so earlier.
+    fn end_life(&mut self) -> Result<(), AllocError>
+        ensures { OnOk result (self.new ≡ record self.old { delivered = []; earlier = self.old.earlier ++ self.old.delivered }) }
+    {
+        self.earlier.append(&mut self.delivered)
+    }
+
+    /// Another node takes the place of the one before.
+    fn take(&mut self, node: NodeCore<S>)
+        ensures { self.new ≡ record self.old { node = node.node; resumed = node.node.replica.place } }
+    {
+        self.resumed = node.place();
+        self.node = node;
+    }
+
+    /// A node that goes on takes the place of the one before, over a store that runs again.
+    fn go_on(&mut self, node: NodeCore<S>) -> Result<(), AllocError>
+        requires { self.old.up ≡ true }
+        ensures { OnOk result (self.new ≡ host_resumed self.old node.node) }
+    {
+        self.give_opening(&node)?;
+        self.end_life()?;
+        self.take(node);
+        Ok(())
+    }
+
+    /// A node that goes on takes the place of the one before. Where there is none, the store stops again.
+    fn go_on_with(&mut self, node: Option<NodeCore<S>>) -> Result<(), AllocError>
+        requires up { self.old.up ≡ true }
+        requires held { store_opened (bytes_held self.old.store) ≡ self.old.store }
+        ensures { OnOk result (self.new ≡ host_with (record self.old { up = false }) (option_map (λ n. n.node) node)) }
+    {
+        match node {
+            Some(node) => self.go_on(node),
+            None => stop(&mut self.store),
+        }
+    }
+
+    /// Its store, which has stopped, runs again. The entries that its devices hold are given.
+    fn start(&mut self) -> Result<Sequence<Bytes>, AllocError>
+        requires { self.old.up ≡ false }
+        ensures host { OnOk result (self.new ≡ record self.old { up = true }) }
+        ensures held { OnOk result (store_opened (bytes_held self.new.store) ≡ self.new.store) }
+        ensures entries { IfOk result (λ entries. entries ≡ held self.old) }
+    {
+        restored(&mut self.store)
+    }
+}
+
+/// What a node that goes on from so many entries tells, if there is one.
+fn told<S: Service>(member: MemberId, entries: u64, node: &Option<NodeCore<S>>) -> Option<OutLine>
+    ensures { result ≡ told_with member entries (option_map (λ n. n.node) node.now) }
+{
+    match node {
+        Some(node) => Some(OutLine::Restarted {
+            member,
+            place: node.place(),
+            entries,
+        }),
+        None => None,
+    }
+}
+
+/// A host's node, which has stopped, goes on from what its devices hold, and what it tells is given.
+/// Where an entry is damaged the host stays as it is.
+pub fn resume<S: Service>(
+    alloc: Global,
+    host: &mut Host<S>,
+    view: &View,
+    ring: &Ring,
+) -> Result<Option<OutLine>, AllocError>
+    requires down { host.old.up ≡ false }
+    requires secret { ring.now ≡ group_secret }
+    ensures host { OnOk result (host.new ≡ host_with host.old (node_in S.meaning view.now host.old)) }
+    ensures line { IfOk result (λ line. line ≡ told_with host.old.node.id (length (held host.old)) (node_in S.meaning view.now host.old)) }
+{
+    let member = host.node.id();
+    let restored = host.start()?;
+    let node: Option<NodeCore<S>> = reopened(alloc, member, view, ring, restored.as_slice())?;
+    let line = told(member, restored.len() as u64, &node);
+    host.go_on_with(node)?;
+    Ok(line)
+}

@@ -1,0 +1,2 @@
+pub mod InjectionLaws
+pub mod SizeLaws

@@ -1,0 +1,3 @@
+pub mod Proposals
+pub mod Named
+pub mod Sizes

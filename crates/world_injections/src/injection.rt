@@ -1,0 +1,614 @@
+//! What a script injects.
+ghost use Rattle.std.specs.Prelude.{◌≡◌, ◌<◌, ◌≤◌, ◌^◌, true, Some, None, if◌then◌else◌, nat_lt, length, is_some, IfOk, IfSome, option_copied, option_map};
+ghost use Rattle.std.specs.List.{flat_map};
+ghost use Rattle.std.specs.Option.{option_and_then};
+ghost use Rattle.smart_statements.specs.Kinds.{requests, proposals, ballots};
+ghost use Rattle.smart_statements.specs.Reports.{reports};
+ghost use Rattle.smart_messages.specs.RegencyMessages.{any_spelling};
+ghost use Rattle.smart_statements.specs.Spelling.{signed as signed_text};
+ghost use Rattle.replica_rules.specs.Seals.{signed, digest_of};
+ghost use Rattle.world_rules.specs.Secrets.{group_secret};
+ghost use Rattle.world_rules.specs.Injections.{content_at, request_in, request_at, requests_at, batch_in, report_in, reports_at, short_bytes, locked_at, report_bytes, sync_bytes, proposal_bytes, vote_bytes, injected_bytes, are_bytes, injected};
+ghost use Rattle.smart_messages.specs.declared.message.Message.TheVariants as plains;
+ghost use Rattle.smart_messages.specs.declared.any.AnyMessage.TheVariants as messages;
+ghost use Rattle.smart_messages.specs.declared.regency.RegencyMessage.TheVariants as changes;
+ghost use Rattle.smart_messages.specs.Regencies.{stops};
+ghost use Rattle.world_injections.specs.Proposals.{is_proposable, proposable};
+ghost use Rattle.world_injections.specs.Sizes.{fits_report, fits_numbers};
+ghost use Rattle.world_injections.specs.Named.{asked_in, reported_in, locked_of};
+
+use crate::size::{batch_len, lock_len};
+use smart_base::bytes::{Digest32, Payload};
+use smart_base::duplicate::Duplicate;
+use smart_base::keys::Digester;
+use smart_base::name::{ClientId, MemberId};
+use smart_base::number::{Place, Regency, ViewNo};
+use smart_base::sequence::{Bytes, Sequence};
+use smart_keys::hash::Sha;
+use smart_keys::ring::Ring;
+use smart_messages::any::{AnyMessage, encode_any};
+use smart_messages::codec::MESSAGE_BYTES;
+use smart_messages::message::{Message, Proposed};
+use smart_messages::regency::{RegencyMessage, Reported, Stop, Sync};
+use smart_statements::batch::{BATCH_BYTES, BATCH_REQUESTS, Batch};
+use smart_statements::optional::duplicate_optional;
+use smart_statements::report::{Evidence, LockCertificate, Report};
+use smart_statements::signed::{Signed, Statement};
+use smart_statements::signed_list::SignedList;
+use smart_statements::statement::{Ballot, Proposal, Request, Slot, VoteKind};
+use std::alloc::{AllocError, Global};
+use world_ledger::content::{batch_in, read_content};
+use world_ledger::party::party_of;
+use world_rules::line::Injection;
+use world_rules::message::{Content, Sent};
+
+/// The most items of a list.
+const LIST_ITEMS: usize = 65_535;
+
+/// What a report takes over of another.
+#[derive(Drop)]
+struct Locked {
+    lock: Option<LockCertificate>,
+    batch: Option<Batch>,
+}
+
+/// The bytes of a batch before its requests.
+const HEAD_BYTES: usize = 2;
+
+/// The bytes of a report beside its lock and its batch.
+const REPORT_BYTES: usize = 60;
+
+/// The bytes of a beginning of a regency beside its reports.
+const SYNC_BYTES: usize = 53;
+
+/// The content of a number, which counts from 1.
+fn content_at(sent: &[Sent], number: u64) -> Option<&Content>
+    ensures { option_copied result ≡ content_at sent.now number }
+{
+    if number < 1 {
+        return None;
+    }
+    match sent.get((number - 1) as usize) {
+        None => None,
+        Some(message) => Some(&message.content),
+    }
+}
+
+/// The request that a content is.
+fn request_in(content: &Content) -> Option<&Signed<Request>>
+    ensures { option_copied result ≡ request_in content.now }
+{
+    match content {
+        Content::Message(AnyMessage::Plain(message)) => asked_in(message),
+        Content::Message(AnyMessage::Change(_)) | Content::Raw(_) => None,
+    }
+}
+
+fn asked_in(message: &Message) -> Option<&Signed<Request>>
+    ensures { option_copied result ≡ asked_in message.now }
+{
+    match message {
+        Message::Ask(request) => Some(request),
+        Message::Propose(_) | Message::Vote(_) | Message::Reply(_) => None,
+    }
+}
+
+/// The report that a content is.
+fn report_in(content: &Content) -> Option<&Reported>
+    ensures { option_copied result ≡ report_in content.now }
+{
+    match content {
+        Content::Message(AnyMessage::Change(message)) => reported_in(message),
+        Content::Message(AnyMessage::Plain(_)) | Content::Raw(_) => None,
+    }
+}
+
+fn reported_in(message: &RegencyMessage) -> Option<&Reported>
+    ensures { option_copied result ≡ reported_in message.now }
+{
+    match message {
+        RegencyMessage::StopData(reported) => Some(reported),
+        RegencyMessage::Stop(_) | RegencyMessage::Sync(_) => None,
+    }
+}
+
+fn report_at(sent: &[Sent], number: u64) -> Option<&Reported>
+    ensures { option_copied result ≡ option_and_then report_in (content_at sent.now number) }
+{
+    match content_at(sent, number) {
+        None => None,
+        Some(content) => report_in(content),
+    }
+}
+
+fn request_at(sent: &[Sent], number: u64) -> Option<&Signed<Request>>
+    ensures { option_copied result ≡ request_at sent.now number }
+{
+    match content_at(sent, number) {
+        None => None,
+        Some(content) => request_in(content),
+    }
+}
+
+/// The batch that the message of a number proposes.
+fn batch_at(sent: &[Sent], number: u64) -> Option<&Batch>
+    ensures { option_copied result ≡ option_and_then batch_in (content_at sent.now number) }
+{
+    match content_at(sent, number) {
+        None => None,
+        Some(content) => batch_in(content),
+    }
+}
+
+/// How many bytes the requests of messages have, where all are there.
+fn requests_len(sent: &[Sent], asks: &[u64]) -> Option<usize>
+    requires { length asks.now ≤ 64 }
+    ensures value { result ≡ option_map (λ qs. length (flat_map (signed_text requests) qs)) (requests_at sent.now asks.now) }
+    ensures small { IfSome result (λ bytes. bytes < 2 ^ 40) }
+{
+    let mut bytes = 0;
+    for number in asks {
+        match request_at(sent, *number) {
+            None => return None,
+            Some(request) => bytes += request.text_len(),
+        }
+    }
+    Some(bytes)
+}
+
+/// Whether the requests of messages are there and may stand in one batch.
+fn is_proposable(sent: &[Sent], asks: &[u64]) -> bool
+    ensures { result ≡ is_some (proposable (requests_at sent.now asks.now)) }
+{
+    if asks.len() < 1 || asks.len() > BATCH_REQUESTS as usize {
+        return false;
+    }
+    match requests_len(sent, asks) {
+        None => false,
+        Some(bytes) => HEAD_BYTES + bytes <= BATCH_BYTES,
+    }
+}
+
+/// How many bytes the reports of messages have, where all are there.
+fn reports_len(sent: &[Sent], numbers: &[u64]) -> Option<usize>
+    requires { length numbers.now < 2 ^ 16 }
+    ensures value { result ≡ option_map (λ rs. length (flat_map (signed_text reports) rs)) (reports_at sent.now numbers.now) }
+    ensures small { IfSome result (λ bytes. bytes < 2 ^ 50) }
+{
+    let mut bytes = 0;
+    for number in numbers {
+        match report_at(sent, *number) {
+            None => return None,
+            Some(reported) => bytes += reported.head.text_len(),
+        }
+    }
+    Some(bytes)
+}
+
+/// Whether a report that takes over what the report of a number has is there and short enough.
+fn fits_report(sent: &[Sent], lock: Option<u64>) -> bool
+    ensures { result ≡ fits_report (locked_at sent.now lock) }
+{
+    match lock {
+        None => true,
+        Some(number) => match report_at(sent, number) {
+            None => false,
+            Some(reported) => {
+                let lock = lock_len(&reported.head.statement().lock);
+                let batch = batch_len(&reported.batch);
+                REPORT_BYTES + (lock + batch) <= MESSAGE_BYTES
+            }
+        },
+    }
+}
+
+/// Whether the reports of messages are there, and few and short enough.
+fn fits_sync(sent: &[Sent], numbers: &[u64]) -> bool
+    ensures { result ≡ fits_numbers numbers.now (reports_at sent.now numbers.now) }
+{
+    if LIST_ITEMS < numbers.len() {
+        return false;
+    }
+    match reports_len(sent, numbers) {
+        None => false,
+        Some(bytes) => SYNC_BYTES + bytes <= MESSAGE_BYTES,
+    }
+}
+
+/// Whether a form can be injected: all that it names is there, and it passes no limit. It takes no
+/// memory to tell.
+#[tactic(auto, unfolding(world_rules::specs::Injections::injected_bytes), using(crate::proofs::SizeLaws::report_fits, crate::proofs::SizeLaws::sync_fits))]
+pub fn is_injectable(sent: &[Sent], form: &Injection) -> bool
+    ensures { result ≡ is_some (injected_bytes sent.now form.now) }
+{
+    match form {
+        Injection::Ask { .. }
+        | Injection::Stop { .. }
+        | Injection::Reply { .. }
+        | Injection::Raw { .. } => true,
+        Injection::Propose { asks, .. } => is_proposable(sent, asks.as_slice()),
+        Injection::Vote { proposal, .. } => batch_at(sent, *proposal).is_some(),
+        Injection::StopData {
+            evidence: None,
+            lock,
+            ..
+        } => fits_report(sent, *lock),
+        // So far no message is a decision.
+        Injection::StopData {
+            evidence: Some(_),
+            ..
+        } => false,
+        Injection::Sync { reports, .. } => fits_sync(sent, reports.as_slice()),
+    }
+}
+
+/// The requests of messages.
+fn requests_at(
+    alloc: Global,
+    sent: &[Sent],
+    asks: &[u64],
+) -> Result<Option<Sequence<Signed<Request>>>, AllocError>
+    ensures { IfOk result (λ qs. qs ≡ requests_at sent.now asks.now) }
+{
+    let mut list = Sequence::new(alloc);
+    for number in asks {
+        match request_at(sent, *number) {
+            None => return Ok(None),
+            Some(request) => list.push(request.duplicate(alloc)?)?,
+        }
+    }
+    Ok(Some(list))
+}
+
+/// The batch of the requests of messages.
+fn proposable(alloc: Global, sent: &[Sent], asks: &[u64]) -> Result<Option<Batch>, AllocError>
+    ensures { IfOk result (λ batch. batch ≡ proposable (requests_at sent.now asks.now)) }
+{
+    if !is_proposable(sent, asks) {
+        return Ok(None);
+    }
+    match requests_at(alloc, sent, asks)? {
+        None => Ok(None),
+        Some(list) => Ok(Some(Batch::from_list(list))),
+    }
+}
+
+/// A statement in the name of a signer.
+#[tactic(auto, unfolding(smart_keys::specs::Keys::tag_of))]
+fn sealed<S: Statement>(
+    alloc: Global,
+    ring: &Ring,
+    signer: u16,
+    statement: S,
+) -> Result<Signed<S>, AllocError>
+    ensures { IfOk result (λ s. s ≡ signed S.form ring.now signer statement) }
+{
+    let mut sealer = ring.sealer(party_of(S::kind(), signer));
+    match Signed::seal(alloc, &mut sealer, signer, statement) {
+        Ok(signed) => Ok(signed),
+        // A sealer's only want is memory.
+        Err(_) => Err(AllocError),
+    }
+}
+
+/// What names a batch in votes.
+#[tactic(auto, unfolding(replica_rules::specs::Seals::digest_of))]
+fn digest_of(alloc: Global, batch: &Batch) -> Result<Digest32, AllocError>
+    ensures { IfOk result (λ digest. digest ≡ digest_of batch.now) }
+{
+    let text = batch.text(alloc)?;
+    Ok(Sha::digest(text.as_slice()))
+}
+
+fn spelled(alloc: Global, message: AnyMessage) -> Result<Option<Bytes>, AllocError>
+    ensures { IfOk result (λ bytes. bytes ≡ Some (any_spelling message)) }
+{
+    Ok(Some(Bytes::from_vec(encode_any(alloc, &message)?)))
+}
+
+fn ask_bytes(
+    alloc: Global,
+    ring: &Ring,
+    client: ClientId,
+    seq: u64,
+    after: u64,
+    op: &Payload,
+) -> Result<Option<Bytes>, AllocError>
+    requires { ring.now ≡ group_secret }
+    ensures { IfOk result (λ bytes. bytes ≡ Some (any_spelling (messages.Plain (plains.Ask (signed requests group_secret client (record { client = client; seq = seq; after = after; op = op.now })))))) }
+{
+    let request = Request {
+        client,
+        seq,
+        after,
+        op: op.duplicate(alloc)?,
+    };
+    let signed = sealed(alloc, ring, client.get(), request)?;
+    spelled(alloc, AnyMessage::Plain(Message::Ask(signed)))
+}
+
+fn proposal_bytes(
+    alloc: Global,
+    ring: &Ring,
+    sent: &[Sent],
+    signer: MemberId,
+    slot: Slot,
+    asks: &[u64],
+) -> Result<Option<Bytes>, AllocError>
+    requires { ring.now ≡ group_secret }
+    ensures { IfOk result (λ bytes. bytes ≡ option_and_then (proposal_bytes signer slot) (requests_at sent.now asks.now)) }
+{
+    match proposable(alloc, sent, asks)? {
+        None => Ok(None),
+        Some(batch) => {
+            let digest = digest_of(alloc, &batch)?;
+            let head = sealed(alloc, ring, signer.get(), Proposal { slot, digest })?;
+            let message = Message::Propose(Proposed { head, batch });
+            spelled(alloc, AnyMessage::Plain(message))
+        }
+    }
+}
+
+fn vote_bytes(
+    alloc: Global,
+    ring: &Ring,
+    sent: &[Sent],
+    kind: VoteKind,
+    signer: MemberId,
+    slot: Slot,
+    proposal: u64,
+) -> Result<Option<Bytes>, AllocError>
+    requires { ring.now ≡ group_secret }
+    ensures { IfOk result (λ bytes. bytes ≡ option_and_then (vote_bytes kind signer slot) (option_and_then batch_in (content_at sent.now proposal))) }
+{
+    match batch_at(sent, proposal) {
+        None => Ok(None),
+        Some(batch) => {
+            let digest = digest_of(alloc, batch)?;
+            let ballot = Ballot { kind, slot, digest };
+            let signed = sealed(alloc, ring, signer.get(), ballot)?;
+            spelled(alloc, AnyMessage::Plain(Message::Vote(signed)))
+        }
+    }
+}
+
+/// Bytes that are not more than a message has.
+fn short_bytes(bytes: Bytes) -> Option<Bytes>
+    ensures { result ≡ short_bytes bytes }
+{
+    if bytes.len() <= MESSAGE_BYTES {
+        Some(bytes)
+    } else {
+        None
+    }
+}
+
+/// The bytes of a message, if they are not more than a message has.
+fn short_spelling(alloc: Global, message: AnyMessage) -> Result<Option<Bytes>, AllocError>
+    ensures { IfOk result (λ bytes. bytes ≡ short_bytes (any_spelling message)) }
+{
+    let bytes = encode_any(alloc, &message)?;
+    Ok(short_bytes(Bytes::from_vec(bytes)))
+}
+
+fn stop_bytes(
+    alloc: Global,
+    ring: &Ring,
+    signer: MemberId,
+    view: ViewNo,
+    regency: Regency,
+) -> Result<Option<Bytes>, AllocError>
+    requires { ring.now ≡ group_secret }
+    ensures { IfOk result (λ bytes. bytes ≡ Some (any_spelling (messages.Change (changes.Stop (signed stops group_secret signer (record { view = view; regency = regency })))))) }
+{
+    let signed = sealed(alloc, ring, signer.get(), Stop { view, regency })?;
+    spelled(alloc, AnyMessage::Change(RegencyMessage::Stop(signed)))
+}
+
+/// The lock of a report, and its batch: none, or those of the report of a number.
+fn locked_at(alloc: Global, sent: &[Sent], lock: Option<u64>) -> Result<Option<Locked>, AllocError>
+    ensures { IfOk result (λ locked. option_map locked_of locked ≡ locked_at sent.now lock) }
+{
+    match lock {
+        None => Ok(Some(Locked {
+            lock: None,
+            batch: None,
+        })),
+        Some(number) => match report_at(sent, number) {
+            None => Ok(None),
+            Some(reported) => Ok(Some(Locked {
+                lock: duplicate_optional(alloc, &reported.head.statement().lock)?,
+                batch: duplicate_optional(alloc, &reported.batch)?,
+            })),
+        },
+    }
+}
+
+/// The bytes of a report that takes this over.
+fn locked_bytes(
+    alloc: Global,
+    ring: &Ring,
+    signer: MemberId,
+    view: ViewNo,
+    regency: Regency,
+    locked: Locked,
+) -> Result<Option<Bytes>, AllocError>
+    requires { ring.now ≡ group_secret }
+    ensures { IfOk result (λ bytes. bytes ≡ report_bytes signer view regency (locked_of locked)) }
+{
+    let report = Report {
+        view,
+        regency,
+        last: Place::zero(),
+        evidence: Evidence::Nothing,
+        lock: locked.lock,
+    };
+    let batch = locked.batch;
+    let head = sealed(alloc, ring, signer.get(), report)?;
+    let message = RegencyMessage::StopData(Reported { head, batch });
+    short_spelling(alloc, AnyMessage::Change(message))
+}
+
+fn report_bytes(
+    alloc: Global,
+    ring: &Ring,
+    sent: &[Sent],
+    signer: MemberId,
+    view: ViewNo,
+    regency: Regency,
+    lock: Option<u64>,
+) -> Result<Option<Bytes>, AllocError>
+    requires { ring.now ≡ group_secret }
+    ensures { IfOk result (λ bytes. bytes ≡ option_and_then (report_bytes signer view regency) (locked_at sent.now lock)) }
+{
+    match locked_at(alloc, sent, lock)? {
+        None => Ok(None),
+        Some(locked) => locked_bytes(alloc, ring, signer, view, regency, locked),
+    }
+}
+
+/// The reports of messages.
+fn reports_at(
+    alloc: Global,
+    sent: &[Sent],
+    numbers: &[u64],
+) -> Result<Option<Sequence<Signed<Report>>>, AllocError>
+    ensures value { IfOk result (λ reports. reports ≡ reports_at sent.now numbers.now) }
+    ensures count { IfOk result (λ reports. IfSome reports (λ rs. length rs ≡ length numbers.now)) }
+{
+    let mut list = Sequence::new(alloc);
+    for number in numbers {
+        match report_at(sent, *number) {
+            None => return Ok(None),
+            Some(reported) => list.push(reported.head.duplicate(alloc)?)?,
+        }
+    }
+    Ok(Some(list))
+}
+
+/// The bytes of the beginning of a regency with reports.
+fn collected_bytes(
+    alloc: Global,
+    ring: &Ring,
+    signer: MemberId,
+    view: ViewNo,
+    regency: Regency,
+    reports: Sequence<Signed<Report>>,
+) -> Result<Option<Bytes>, AllocError>
+    requires secret { ring.now ≡ group_secret }
+    requires few { length reports < 2 ^ 16 }
+    ensures { IfOk result (λ bytes. bytes ≡ sync_bytes signer view regency reports) }
+{
+    let sync = Sync {
+        view,
+        regency,
+        collect: SignedList::from_list(reports),
+    };
+    let signed = sealed(alloc, ring, signer.get(), sync)?;
+    short_spelling(alloc, AnyMessage::Change(RegencyMessage::Sync(signed)))
+}
+
+fn sync_bytes(
+    alloc: Global,
+    ring: &Ring,
+    sent: &[Sent],
+    signer: MemberId,
+    view: ViewNo,
+    regency: Regency,
+    numbers: &[u64],
+) -> Result<Option<Bytes>, AllocError>
+    requires { ring.now ≡ group_secret }
+    ensures { IfOk result (λ bytes. bytes ≡ (if nat_lt (length numbers.now) (2 ^ 16) then option_and_then (sync_bytes signer view regency) (reports_at sent.now numbers.now) else None)) }
+{
+    if LIST_ITEMS < numbers.len() {
+        return Ok(None);
+    }
+    match reports_at(alloc, sent, numbers)? {
+        None => Ok(None),
+        Some(reports) => collected_bytes(alloc, ring, signer, view, regency, reports),
+    }
+}
+
+#[tactic(auto, unfolding(world_rules::specs::Injections::injected_bytes))]
+fn injected_bytes(
+    alloc: Global,
+    ring: &Ring,
+    sent: &[Sent],
+    form: &Injection,
+) -> Result<Option<Bytes>, AllocError>
+    requires { ring.now ≡ group_secret }
+    ensures { IfOk result (λ bytes. bytes ≡ injected_bytes sent.now form.now) }
+{
+    match form {
+        Injection::Ask {
+            client,
+            seq,
+            after,
+            op,
+        } => ask_bytes(alloc, ring, *client, *seq, *after, op),
+        Injection::Propose { signer, slot, asks } => {
+            proposal_bytes(alloc, ring, sent, *signer, *slot, asks.as_slice())
+        }
+        Injection::Vote {
+            kind,
+            signer,
+            slot,
+            proposal,
+        } => vote_bytes(alloc, ring, sent, *kind, *signer, *slot, *proposal),
+        Injection::Stop {
+            signer,
+            view,
+            regency,
+        } => stop_bytes(alloc, ring, *signer, *view, *regency),
+        Injection::StopData {
+            signer,
+            view,
+            regency,
+            evidence: None,
+            lock,
+        } => report_bytes(alloc, ring, sent, *signer, *view, *regency, *lock),
+        // So far no message is a decision.
+        Injection::StopData {
+            evidence: Some(_),
+            ..
+        } => Ok(None),
+        Injection::Sync {
+            signer,
+            view,
+            regency,
+            reports,
+        } => {
+            let numbers = reports.as_slice();
+            sync_bytes(alloc, ring, sent, *signer, *view, *regency, numbers)
+        }
+        Injection::Reply { signer, answer } => {
+            let signed = sealed(alloc, ring, signer.get(), answer.duplicate(alloc)?)?;
+            spelled(alloc, AnyMessage::Plain(Message::Reply(signed)))
+        }
+        Injection::Raw { bytes } => Ok(Some(bytes.duplicate(alloc)?)),
+    }
+}
+
+/// Shows what each slice of bytes is: numbers below 256.
+fn show_bytes(bytes: &[u8])
+    ensures { are_bytes bytes.now ≡ true }
+{}
+
+/// What a form injects, if all that it names is there and it passes no limit.
+pub fn injected(
+    alloc: Global,
+    ring: &Ring,
+    sent: &[Sent],
+    form: &Injection,
+) -> Result<Option<Content>, AllocError>
+    requires { ring.now ≡ group_secret }
+    ensures { IfOk result (λ content. content ≡ injected sent.now form.now) }
+{
+    match injected_bytes(alloc, ring, sent, form)? {
+        None => Ok(None),
+        Some(bytes) => {
+            show_bytes(bytes.as_slice());
+            Ok(Some(read_content(alloc, bytes)?))
+        }
+    }
+}

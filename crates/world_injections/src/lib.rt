@@ -1,0 +1,5 @@
+//! What a script injects.
+#![tactic(auto)]
+
+pub mod injection;
+mod size;

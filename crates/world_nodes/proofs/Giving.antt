@@ -1,0 +1,21 @@
+-- What is given to one member.
+use Rattle.std.proofs.Common.{◌≡◌, ℕ, List, Option, Some, None, refl}
+use Rattle.std.specs.Prelude.{slice_get}
+use Rattle.smart_statements.specs.declared.entry.NodeEvent.TheVariants.{Arrive}
+use Rattle.world_rules.specs.Worlds.{Course, Host, World, node_takes, settle, where_listed, at_listed, at_index, host_index, gives, give_one}
+
+listed : {S : Type 0} (course : Course S) (members bytes : List ℕ) (i : ℕ) (w : World S) (found : Option (Host S))
+    → where_listed members (λ j v. settle course j (node_takes course j (Arrive bytes) v)) i w found ≡ where_listed members (gives course bytes) i w found
+unfolding gives
+listed course members bytes i w None = refl
+listed course members bytes i w (Some h) = refl
+
+one : {S : Type 0} (course : Course S) (members bytes : List ℕ) (w : World S) (found : Option ℕ)
+    → at_index (at_listed members (λ j v. settle course j (node_takes course j (Arrive bytes) v))) w found ≡ at_index (at_listed members (gives course bytes)) w found
+one course members bytes w None = refl
+one course members bytes w (Some i) = listed course members bytes i w (slice_get w.hosts i)
+
+-- the node of a member takes bytes where it takes their arrival
+pub given_one : {S : Type 0} (course : Course S) (members bytes : List ℕ) (member : ℕ) (w : World S)
+    → at_index (at_listed members (λ j v. settle course j (node_takes course j (Arrive bytes) v))) w (host_index w.hosts member) ≡ give_one course members bytes member w
+given_one course members bytes member w = one course members bytes w (host_index w.hosts member)

@@ -1,0 +1,5 @@
+pub mod Turns
+pub mod Idling
+pub mod Giving
+pub mod Calling
+pub mod Stopping

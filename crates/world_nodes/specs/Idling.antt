@@ -1,0 +1,27 @@
+-- Nodes that take a step, and have nothing to do.
+use Rattle.std.specs.Prelude.{ℕ, Bool, true, false, List, [], ◌∷◌, Option, Some, None}
+use Rattle.smart_statements.specs.declared.entry.NodeEvent.{NodeEvent}
+use Rattle.world_rules.specs.Worlds.{Course, Host, World, stepped, telling_all, told_idle}
+use Rattle.world_hosts.specs.Hearing.{is_idle}
+use Rattle.world_rules.specs.declared.line.OutLine.{OutLine}
+use Rattle.world_rules.specs.declared.line.OutLine.TheVariants as outs
+
+-- the step of a node that runs
+abbrev pub steps : {S : Type 0} → Course S → ℕ → NodeEvent → World S → Option (Host S) → World S
+steps course i event w None = w
+steps course i event w (Some h) = stepped course w i h (course.step h.node event)
+
+-- the step of a node that runs, and that it is idle where no rule fires
+abbrev pub tries : {S : Type 0} → Course S → ℕ → NodeEvent → World S → Option (Host S) → World S
+tries course i event w None = w
+tries course i event w (Some h) = telling_all (stepped course w i h (course.step h.node event)) (told_idle h.node.id (course.step h.node event).fired)
+
+-- no rule fires at a host that takes an event
+abbrev pub is_idle_at : {S : Type 0} → Course S → NodeEvent → Option (Host S) → Bool
+is_idle_at course event None = false
+is_idle_at course event (Some h) = is_idle (course.step h.node event).fired
+
+-- what an idle node tells
+abbrev pub idle_lines : ℕ → Bool → List OutLine
+idle_lines id true = outs.Idle id ∷ []
+idle_lines id false = []

@@ -1,0 +1,3 @@
+pub mod Idling
+pub mod Calling
+pub mod Crashes

@@ -1,0 +1,298 @@
+//! Events of nodes: what is due at them, and what is given to those that a line lists.
+ghost use Rattle.std.specs.Prelude.{◌≡◌, ◌<◌, true, IfOk, OnOk, length, slice_get, false};
+ghost use Rattle.world_rules.specs.Worlds.{core_course, told_absent, settle_present, node_takes, calls_disk, settle_once, settle, settle_all, give_all, give_one, is_listed, at_listed, at_index, host_index, telling_all};
+ghost use Rattle.world_rules.specs.Repeats.{repeated};
+ghost use Rattle.world_nodes.specs.Calling.{steps_if, calls};
+ghost use Rattle.world_nodes.specs.Crashes.{runs};
+ghost use Rattle.world_nodes.specs.Idling.{steps, is_idle_at};
+
+use smart_base::name::MemberId;
+use smart_base::sequence::Bytes;
+use smart_service::service::Service;
+use smart_statements::entry::NodeEvent;
+use std::alloc::AllocError;
+use world_hosts::host::{call_disk, host_index, is_among, step_host};
+use world_rules::line::OutLine;
+use world_state::state::WorldState;
+
+/// Whether a list has a member: all where it is empty.
+fn is_listed(members: &[MemberId], member: MemberId) -> bool
+    ensures { result ≡ is_listed members.now member }
+{
+    members.is_empty() || is_among(members, member)
+}
+
+/// The step of the node at an index, which runs. Whether no rule fired is given.
+#[tactic(auto, unfolding(world_rules::specs::Worlds::stepped))]
+pub fn step_at<S: Service>(
+    world: &mut WorldState<S>,
+    i: usize,
+    event: &NodeEvent,
+) -> Result<bool, AllocError>
+    requires within { i < length world.old.hosts }
+    requires up { runs (slice_get world.old.hosts i) ≡ true }
+    ensures world { OnOk result (world.new ≡ steps (core_course S.meaning) i event.now world.old (slice_get world.old.hosts i)) }
+    ensures idle { IfOk result (λ idle. idle ≡ is_idle_at (core_course S.meaning) event.now (slice_get world.old.hosts i)) }
+{
+    let id = world.hosts[i].id();
+    let left = step_host(
+        world.alloc,
+        &mut world.hosts[i],
+        &mut world.chosen,
+        &mut world.told,
+        event,
+    )?;
+    world.send_all(id, left.messages)?;
+    Ok(left.idle)
+}
+
+/// The node at an index takes an event, if it runs.
+#[tactic(auto, unfolding(world_rules::specs::Worlds::node_takes))]
+pub fn node_takes<S: Service>(
+    world: &mut WorldState<S>,
+    i: usize,
+    event: &NodeEvent,
+) -> Result<(), AllocError>
+    ensures { OnOk result (world.new ≡ node_takes (core_course S.meaning) i event.now world.old) }
+{
+    if world.ending.is_some() || i >= world.hosts.len() {
+        return Ok(());
+    }
+    if world.is_up(&world.hosts[i]) {
+        let _ = step_at(world, i, event)?;
+    }
+    Ok(())
+}
+
+/// The node at an index, which runs, takes an event, if there is one.
+fn step_if<S: Service>(
+    world: &mut WorldState<S>,
+    i: usize,
+    event: &Option<NodeEvent>,
+) -> Result<(), AllocError>
+    requires within { i < length world.old.hosts }
+    requires up { runs (slice_get world.old.hosts i) ≡ true }
+    ensures { OnOk result (world.new ≡ steps_if (core_course S.meaning) i world.old (slice_get world.old.hosts i) event.now) }
+{
+    if let Some(event) = event {
+        let _ = step_at(world, i, event)?;
+    }
+    Ok(())
+}
+
+/// The store at an index makes its next device call, and its node, which runs, hears what is firm
+/// then.
+#[tactic(auto, using(crate::proofs::Calling::called_then))]
+fn call_at<S: Service>(world: &mut WorldState<S>, i: usize) -> Result<(), AllocError>
+    requires within { i < length world.old.hosts }
+    requires up { runs (slice_get world.old.hosts i) ≡ true }
+    ensures { OnOk result (world.new ≡ calls (core_course S.meaning) i world.old (slice_get world.old.hosts i)) }
+{
+    let event = call_disk(&mut world.hosts[i])?;
+    step_if(world, i, &event)?;
+    Ok(())
+}
+
+/// The store at an index makes its next device call, if there is one, and its node hears what is
+/// firm then. Nothing happens at a node that does not run.
+#[tactic(auto, unfolding(world_rules::specs::Worlds::calls_disk))]
+fn calls_disk<S: Service>(world: &mut WorldState<S>, i: usize) -> Result<(), AllocError>
+    ensures { OnOk result (world.new ≡ calls_disk (core_course S.meaning) i world.old) }
+{
+    if world.ending.is_some() || i >= world.hosts.len() {
+        return Ok(());
+    }
+    if world.is_up(&world.hosts[i]) && world.hosts[i].has_call() {
+        call_at(world, i)?;
+    }
+    Ok(())
+}
+
+/// The store at an index makes so many device calls, or fewer where no more are due.
+#[tactic(auto, using(crate::proofs::Turns::times_more, crate::proofs::Turns::times_done))]
+pub fn call_often<S: Service>(
+    world: &mut WorldState<S>,
+    i: usize,
+    count: u64,
+) -> Result<(), AllocError>
+    ensures { OnOk result (world.new ≡ repeated (calls_disk (core_course S.meaning) i) count world.old) }
+{
+    for turn in 0..count {
+        calls_disk(world, i)?;
+    }
+    Ok(())
+}
+
+/// What is due at an index happens, if anything is: a device call, or else a delivery. Nothing is
+/// at a node that does not run.
+#[tactic(auto, unfolding(world_rules::specs::Worlds::settle_once, world_rules::specs::Worlds::calls_disk, world_rules::specs::Worlds::node_takes))]
+fn settle_once<S: Service>(world: &mut WorldState<S>, i: usize) -> Result<bool, AllocError>
+    ensures world { OnOk result (world.new ≡ settle_once (core_course S.meaning) i world.old) }
+    ensures idle { IfOk result (λ more. more ≡ false → world.new ≡ world.old) }
+{
+    if world.ending.is_some() || i >= world.hosts.len() {
+        return Ok(false);
+    }
+    if !world.is_up(&world.hosts[i]) {
+        return Ok(false);
+    }
+    if world.hosts[i].has_call() {
+        calls_disk(world, i)?;
+        return Ok(true);
+    }
+    if world.hosts[i].waits() {
+        node_takes(world, i, &NodeEvent::Deliver)?;
+        return Ok(true);
+    }
+    Ok(false)
+}
+
+/// The node at an index takes what is due until nothing is.
+#[tactic(auto, using(crate::proofs::Turns::rest_begins, crate::proofs::Turns::rest_more, crate::proofs::Turns::rest_done, crate::proofs::Turns::rest_idle))]
+pub fn settle<S: Service>(world: &mut WorldState<S>, i: usize) -> Result<(), AllocError>
+    ensures { OnOk result (world.new ≡ settle (core_course S.meaning) i world.old) }
+{
+    for turn in 0..u64::MAX {
+        if !settle_once(world, i)? {
+            return Ok(());
+        }
+    }
+    Ok(())
+}
+
+/// Tells of a member whose node does not run, if a line lists members.
+fn tell_absent<S: Service>(
+    world: &mut WorldState<S>,
+    members: &[MemberId],
+    member: MemberId,
+) -> Result<(), AllocError>
+    ensures { OnOk result (world.new ≡ telling_all world.old (told_absent members.now member)) }
+{
+    if !members.is_empty() {
+        world.told.push(OutLine::Absent { member })?;
+    }
+    Ok(())
+}
+
+/// The node at an index settles, if it runs.
+fn settle_present<S: Service>(
+    world: &mut WorldState<S>,
+    members: &[MemberId],
+    i: usize,
+) -> Result<(), AllocError>
+    ensures { OnOk result (world.new ≡ settle_present (core_course S.meaning) members.now i world.old (slice_get world.old.hosts i)) }
+{
+    if i >= world.hosts.len() {
+        return Ok(());
+    }
+    if world.is_up(&world.hosts[i]) {
+        settle(world, i)?;
+    } else {
+        let member = world.hosts[i].id();
+        tell_absent(world, members, member)?;
+    }
+    Ok(())
+}
+
+/// The node at an index settles, if its member is listed.
+fn settle_listed<S: Service>(
+    world: &mut WorldState<S>,
+    members: &[MemberId],
+    i: usize,
+) -> Result<(), AllocError>
+    ensures { OnOk result (world.new ≡ at_listed members.now (λ i w. settle_present (core_course S.meaning) members.now i w (slice_get w.hosts i)) i world.old) }
+{
+    if i < world.hosts.len() && is_listed(members, world.hosts[i].id()) {
+        settle_present(world, members, i)?;
+    }
+    Ok(())
+}
+
+/// Each listed node settles, ascending.
+#[tactic(auto, using(crate::proofs::Turns::each_more, crate::proofs::Turns::each_done))]
+pub fn settle_all<S: Service>(
+    world: &mut WorldState<S>,
+    members: &[MemberId],
+) -> Result<(), AllocError>
+    ensures { OnOk result (world.new ≡ settle_all (core_course S.meaning) members.now world.old) }
+{
+    let count = world.hosts.len();
+    for i in 0..count {
+        settle_listed(world, members, i)?;
+    }
+    Ok(())
+}
+
+/// The node at an index takes an event, and settles.
+fn give<S: Service>(
+    world: &mut WorldState<S>,
+    i: usize,
+    event: &NodeEvent,
+) -> Result<(), AllocError>
+    ensures { OnOk result (world.new ≡ settle (core_course S.meaning) i (node_takes (core_course S.meaning) i event.now world.old)) }
+{
+    node_takes(world, i, event)?;
+    settle(world, i)?;
+    Ok(())
+}
+
+/// The node at an index takes an event and settles, if its member is listed.
+fn give_listed<S: Service>(
+    world: &mut WorldState<S>,
+    members: &[MemberId],
+    i: usize,
+    event: &NodeEvent,
+) -> Result<(), AllocError>
+    ensures { OnOk result (world.new ≡ at_listed members.now (λ i w. settle (core_course S.meaning) i (node_takes (core_course S.meaning) i event.now w)) i world.old) }
+{
+    if i < world.hosts.len() && is_listed(members, world.hosts[i].id()) {
+        give(world, i, event)?;
+    }
+    Ok(())
+}
+
+/// Each listed node takes the bytes of a message and settles, ascending.
+#[tactic(auto, using(crate::proofs::Turns::each_more, crate::proofs::Turns::each_done), unfolding(world_rules::specs::Worlds::gives))]
+pub fn give_all<S: Service>(
+    world: &mut WorldState<S>,
+    members: &[MemberId],
+    bytes: Bytes,
+) -> Result<(), AllocError>
+    ensures { OnOk result (world.new ≡ give_all (core_course S.meaning) members.now bytes world.old) }
+{
+    let count = world.hosts.len();
+    let arrival = NodeEvent::Arrive(bytes);
+    for i in 0..count {
+        give_listed(world, members, i, &arrival)?;
+    }
+    Ok(())
+}
+
+/// The node of a member takes an event and settles, if the member is listed.
+fn give_member<S: Service>(
+    world: &mut WorldState<S>,
+    members: &[MemberId],
+    member: MemberId,
+    event: &NodeEvent,
+) -> Result<(), AllocError>
+    ensures { OnOk result (world.new ≡ at_index (at_listed members.now (λ i w. settle (core_course S.meaning) i (node_takes (core_course S.meaning) i event.now w))) world.old (host_index world.old.hosts member)) }
+{
+    if let Some(i) = host_index(world.hosts.as_slice(), member) {
+        give_listed(world, members, i, event)?;
+    }
+    Ok(())
+}
+
+/// The node of a member takes the bytes of a message and settles, if the member is listed.
+#[tactic(auto, using(crate::proofs::Giving::given_one))]
+pub fn give_one<S: Service>(
+    world: &mut WorldState<S>,
+    members: &[MemberId],
+    bytes: Bytes,
+    member: MemberId,
+) -> Result<(), AllocError>
+    ensures { OnOk result (world.new ≡ give_one (core_course S.meaning) members.now bytes member world.old) }
+{
+    let arrival = NodeEvent::Arrive(bytes);
+    give_member(world, members, member, &arrival)
+}

@@ -1,0 +1,18 @@
+use Rattle.std.proofs.Common.{◌≡◌, ◌++◌, ◌+◌, ◌<◌, ◌∷◌, drop, append_assoc, ap, sym, ◌∙◌, length, suc, get_or, arith}
+use Rattle.std.proofs.Math.Seq.{drop-cons}
+use Rattle.world_rules.specs.Worlds.{hosts_from}
+use Rattle.world_state.proofs.state.first_hosts.Goals as goal
+
+pub loop-id-preserved : goal.loop-id-preserved
+loop-id-preserved g c =
+    let m = g.S.Service.meaning in
+    let view = c.args.view.now in
+    let items = c.members-id-items.result.now in
+    let i = c.loop-id.id-index in
+    let left : i < length items = omega (arith, c.loop-id-test.true) in
+    let one_more : suc i ≡ i + 1 = omega arith in
+    let e : drop i items ≡ c.id-item.result ∷ drop (i + 1) items =
+    drop-cons items i c.id-item.result left
+    ∙ (ap (λ next. get_or items i c.id-item.result ∷ drop next items) one_more ∙ ap (λ id. id ∷ drop (i + 1) items) (sym c.id-item.is)) in
+    rw (c.in_ok-push.ensures.items, c.in_ok-first_host.ensures)
+    (append_assoc c.loop-id.hosts.items _ _ ∙ (ap (λ ids. c.loop-id.hosts.items ++ hosts_from m view ids) (sym e) ∙ c.loop-id.invariant))

@@ -1,0 +1,307 @@
+//! A world: its hosts and clients, and the messages that leave them.
+ghost use Rattle.std.specs.Prelude.{◌≡◌, [], IfOk, OnOk, Some};
+ghost use Rattle.smart_base.specs.Lists.{or_else};
+ghost use Rattle.node_rules.specs.Steps.{opened};
+ghost use Rattle.world_rules.specs.Secrets.{group_secret};
+ghost use Rattle.world_rules.specs.Premises.{is_among};
+ghost use Rattle.world_rules.specs.Worlds.{telling, posts, is_gone, is_rogue, is_up, sends, sends_all, host_of_node, hosts_from, clients_from, begun};
+ghost use Rattle.world_rules.specs.Plays.{rested};
+
+use client_quorum::client::{Acceptance, Client};
+use node_rules::node::{Held, Target};
+use smart_base::duplicate::Duplicate;
+use smart_base::name::{ClientId, MemberId};
+use smart_base::sequence::Sequence;
+use smart_base::view::View;
+use smart_keys::ring::Ring;
+use smart_messages::any::AnyMessage;
+use smart_service::service::Service;
+use smart_statements::batch::Batch;
+use std::alloc::{AllocError, Global};
+use std::marker::Model;
+use std::mem;
+use world_hosts::host::{Host, is_among};
+use world_ledger::content::sent_line;
+use world_ledger::ledger::Ledger;
+use world_ledger::secret::GroupRing;
+use world_rules::line::OutLine;
+use world_rules::message::{Content, Ending, Origin, Premise, Sent};
+
+/// The greatest number of a message.
+const MESSAGES: usize = 1 << 24;
+
+/// How many clients there are, the view manager among them.
+const CLIENTS: u16 = 1025;
+
+/// All hosts and clients, each message that was ever sent, the list of chosen batches, who breaks
+/// the rules, and what the present script line tells.
+pub struct WorldState<S> {
+    pub alloc: Global,
+    pub view: View,
+    pub ring: GroupRing,
+    pub hosts: Vec<Host<S>>,
+    pub clients: Vec<Client>,
+    pub sent: Ledger,
+    pub mark: u64,
+    pub chosen: Vec<Batch>,
+    pub accepted: Vec<Acceptance>,
+    pub told: Vec<OutLine>,
+    pub faulty: Vec<MemberId>,
+    pub rogue: Vec<ClientId>,
+    pub ending: Option<Ending>,
+}
+
+impl<S: Drop> Drop for WorldState<S> {
+    fn drop(self) {
+        let WorldState {
+            alloc: _alloc,
+            view: _view,
+            ring: _ring,
+            hosts: _hosts,
+            clients: _clients,
+            sent: _sent,
+            mark: _mark,
+            chosen: _chosen,
+            accepted: _accepted,
+            told: _told,
+            faulty: _faulty,
+            rogue: _rogue,
+            ending: _ending,
+        } = self;
+    }
+}
+
+impl<S> Model for WorldState<S> {
+    ghost use Rattle.world_rules.specs.Worlds.{World};
+
+    ghost Value = { World S };
+
+    ghost view = { λ w. record {
+      view = w.view;
+      hosts = w.hosts.items;
+      clients = w.clients.items;
+      sent = w.sent;
+      mark = w.mark;
+      chosen = w.chosen.items;
+      accepted = w.accepted.items;
+      told = w.told.items;
+      faulty = w.faulty.items;
+      rogue = w.rogue.items;
+      ending = w.ending;
+    } };
+}
+
+/// Lets a value go.
+pub fn let_go<T: Drop>(_value: T) {}
+
+/// A limit is told only of a play that nothing has ended.
+fn or_limit(ending: Option<Ending>) -> Option<Ending>
+    ensures { result ≡ or_else ending (Some Ending.Limit) }
+{
+    match ending {
+        None => Some(Ending::Limit),
+        Some(ending) => Some(ending),
+    }
+}
+
+/// Whether a list has a client.
+fn has_client(clients: &[ClientId], client: ClientId) -> bool
+    ensures { result ≡ is_among clients.now client }
+{
+    clients.iter().any(|x| *x == client)
+}
+
+fn first_host<S: Service>(
+    alloc: Global,
+    view: &View,
+    ring: &Ring,
+    id: MemberId,
+) -> Result<Host<S>, AllocError>
+    requires { ring.now ≡ group_secret }
+    ensures { IfOk result (λ h. h ≡ host_of_node (opened S.meaning group_secret id view.now 1024)) }
+{
+    let view = view.duplicate(alloc)?;
+    let ring = ring.duplicate(alloc)?;
+    Host::begin(alloc, id, view, ring)
+}
+
+fn first_hosts<S: Service>(
+    alloc: Global,
+    view: &View,
+    ring: &Ring,
+) -> Result<Vec<Host<S>>, AllocError>
+    requires { ring.now ≡ group_secret }
+    ensures { IfOk result (λ hosts. hosts.items ≡ hosts_from S.meaning view.now view.now.members) }
+{
+    let mut hosts: Vec<Host<S>> = Vec::new(alloc);
+    for id in view.members() {
+        hosts.push(first_host(alloc, view, ring, *id)?)?;
+    }
+    Ok(hosts)
+}
+
+fn first_clients(alloc: Global, count: u16) -> Result<Vec<Client>, AllocError>
+    ensures { IfOk result (λ clients. clients.items ≡ clients_from count 0) }
+{
+    let mut clients: Vec<Client> = Vec::new(alloc);
+    for i in 0..count {
+        clients.push(Client::new(alloc, ClientId::new(i)))?;
+    }
+    Ok(clients)
+}
+
+impl<S: Service> WorldState<S> {
+    /// The world at the end of a header.
+    pub fn begin(alloc: Global, view: View) -> Result<Self, AllocError>
+        ensures { IfOk result (λ world. world ≡ begun S.meaning view) }
+    {
+        let ring = GroupRing::new(alloc)?;
+        Ok(WorldState {
+            alloc,
+            hosts: first_hosts(alloc, &view, ring.get())?,
+            clients: first_clients(alloc, CLIENTS)?,
+            view,
+            ring,
+            sent: Ledger::new(alloc)?,
+            mark: 0,
+            chosen: Vec::new(alloc),
+            accepted: Vec::new(alloc),
+            told: Vec::new(alloc),
+            faulty: Vec::new(alloc),
+            rogue: Vec::new(alloc),
+            ending: None,
+        })
+    }
+
+    /// Whether a member's node is gone.
+    pub fn is_gone(&self, member: MemberId) -> bool
+        ensures { result ≡ is_gone self.now member }
+    {
+        is_among(self.faulty.as_slice(), member)
+    }
+
+    /// Whether a host's node runs.
+    pub fn is_up(&self, host: &Host<S>) -> bool
+        ensures { result ≡ is_up self.now host.now }
+    {
+        host.is_up() && !self.is_gone(host.id())
+    }
+
+    pub fn is_rogue(&self, client: ClientId) -> bool
+        ensures { result ≡ is_rogue self.now client }
+    {
+        has_client(self.rogue.as_slice(), client)
+    }
+
+    // Messages that leave.
+
+    pub fn tell(&mut self, line: OutLine) -> Result<(), AllocError>
+        ensures { OnOk result (self.new ≡ telling self.old line) }
+    {
+        self.told.push(line)?;
+        Ok(())
+    }
+
+    /// What is sent takes the next number.
+    #[tactic(auto, unfolding(world_rules::specs::Worlds::posts))]
+    pub fn post(&mut self, sent: Sent) -> Result<(), AllocError>
+        ensures { OnOk result (self.new ≡ posts self.old sent) }
+    {
+        match self.sent.collides(self.alloc, &sent.content) {
+            Err(error) => {
+                let_go(sent);
+                return Err(error);
+            }
+            Ok(true) => {
+                let_go(sent);
+                self.ending = Some(Ending::Premise(Premise::Collision));
+                return Ok(());
+            }
+            Ok(false) => {}
+        }
+        let count = self.sent.as_slice().len();
+        if count >= MESSAGES {
+            let_go(sent);
+            self.ending = or_limit(self.ending);
+            return Ok(());
+        }
+        let line = sent_line(count as u64 + 1, &sent.origin, &sent.content);
+        if let Err(error) = self.tell(line) {
+            let_go(sent);
+            return Err(error);
+        }
+        self.sent.push(self.alloc, sent)
+    }
+
+    /// A message leaves.
+    pub fn send(
+        &mut self,
+        origin: Origin,
+        to: Target,
+        message: AnyMessage,
+    ) -> Result<(), AllocError>
+        ensures { OnOk result (self.new ≡ sends self.old origin to message) }
+    {
+        let sent = Sent {
+            origin,
+            to: Some(to),
+            content: Content::Message(message),
+        };
+        self.post(sent)
+    }
+
+    pub fn send_all(&mut self, id: MemberId, held: Sequence<Held>) -> Result<(), AllocError>
+        ensures { OnOk result (self.new ≡ sends_all id self.old held) }
+    {
+        for message in held.into_vec() {
+            self.send(Origin::Node(id), message.to, message.message)?;
+        }
+        Ok(())
+    }
+
+    // What a play shows.
+
+    /// What the lines since the last call have told.
+    pub fn take_told(&mut self) -> Sequence<OutLine>
+        ensures told { result ≡ self.old.told }
+        ensures world { self.new ≡ rested self.old }
+    {
+        let told = mem::replace(&mut self.told, Vec::new(self.alloc));
+        Sequence::from_vec(told)
+    }
+
+    /// What has ended the play.
+    pub fn ending(&self) -> Option<Ending>
+        ensures { result ≡ self.now.ending }
+    {
+        self.ending
+    }
+
+    /// The batch of each place that was decided.
+    pub fn chosen(&self) -> &[Batch]
+        ensures { result.now ≡ self.now.chosen }
+    {
+        self.chosen.as_slice()
+    }
+
+    /// All that was sent, injected messages too, in the order of their numbers.
+    pub fn sent(&self) -> &[Sent]
+        ensures { result.now ≡ self.now.sent }
+    {
+        self.sent.as_slice()
+    }
+
+    /// The replies that clients accepted, in order.
+    pub fn accepted(&self) -> &[Acceptance]
+        ensures { result.now ≡ self.now.accepted }
+    {
+        self.accepted.as_slice()
+    }
+
+    /// The members' hosts, ascending.
+    pub fn hosts(&self) -> &[Host<S>]
+        ensures { result.now ≡ self.now.hosts }
+    {
+        self.hosts.as_slice()
+    }
+}

@@ -1,0 +1,4 @@
+//! The lines of a transcript, written.
+#![tactic(auto)]
+
+pub mod text;
