@@ -4,7 +4,7 @@
 #[cfg(test)]
 mod books;
 #[cfg(test)]
-mod certificates;
+mod checks;
 #[cfg(test)]
 mod entries;
 #[cfg(test)]
