@@ -16,7 +16,7 @@ returns-in-Err-NotAnImage g c =
     let within : c.args.i < length c.world.inside.hosts.items = rw (ap (λ w. w.hosts) c.world.view_is) c.requires.within in
     let wrong : wrong_images h.store left ≡ Some c.in-Err-NotAnImage.wrong =
     subst (λ (e : CrashFault). Tells e (wrong_images h.store left)) c.in-Err-NotAnImage.field-0-is c.in-Err-NotAnImage.ensures.wrong in
-    refused_at (core_course g.S.Service.meaning) c.args.image c.args.patches.now c.args.i _ _ h c.crash.new.world _
+    refused_at (core_course g.S.Service.meaning) c.args.image c.args.patches.now c.args.i _ _ h c.crash.new.self _
     (slice_get-get_or c.world.inside.hosts.items c.args.i _ within ∙ ap (λ y. Some y) (sym c.index_mut.ensures.value))
     (wrong ∙ ap (λ y. Some y) (sym c.in-Err-NotAnImage.wrong-is))
     c.in-Err-NotAnImage.ensures.err
