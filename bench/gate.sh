@@ -36,7 +36,7 @@ def used(process):
         folder = os.readlink(f"/proc/{process}/cwd")
     except OSError:
         return None
-    if "--crate-name" not in words:
+    if "--crate-name" not in words or not (folder.startswith(os.getcwd()) or "/rt-edit-" in folder):
         return None
     crate = words[words.index("--crate-name") + 1]
     kind = "wrong bodies" if "/rt-edit-" in folder else "tests" if "--test" in words else "proof"
