@@ -8,3 +8,5 @@ pub mod collect;
 pub mod fault;
 pub mod laws;
 mod list;
+#[cfg(test)]
+mod tests;

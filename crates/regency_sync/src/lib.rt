@@ -10,3 +10,5 @@ pub mod laws;
 mod needed;
 pub mod rule;
 pub mod synchronizer;
+#[cfg(test)]
+mod tests;

@@ -7,3 +7,5 @@ pub mod laws;
 pub mod message;
 pub mod regency;
 pub mod regency_codec;
+#[cfg(test)]
+mod tests;

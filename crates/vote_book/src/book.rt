@@ -12,6 +12,8 @@ mod accepts;
 mod index;
 mod sets;
 mod starts;
+#[cfg(test)]
+mod tests;
 
 use crate::book::accepts::OpenAccept;
 use crate::book::index::BookIndex;

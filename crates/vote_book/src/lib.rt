@@ -5,4 +5,6 @@ pub mod book;
 pub mod codec;
 pub mod entry;
 pub mod laws;
+#[cfg(test)]
+mod tests;
 pub mod votes;

@@ -1,6 +1,0 @@
-pub mod Replies
-pub mod Idling
-pub mod Asking
-pub mod Standing
-pub mod Calling
-pub mod Crashes

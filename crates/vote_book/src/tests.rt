@@ -1,0 +1,2 @@
+//! Books and the bytes of their entries.
+mod codec;
