@@ -367,6 +367,7 @@ impl Ledger {
             drop(sent);
             return Err(error);
         }
-        self.sent.push(sent)
+        self.sent.push(sent)?;
+        Ok(())
     }
 }
