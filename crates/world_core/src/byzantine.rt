@@ -7,12 +7,11 @@ use smart_base::name::{ClientId, MemberId};
 use smart_base::view::View;
 use smart_service::service::Service;
 use std::alloc::AllocError;
-use std::mem::drop;
 use world_hosts::host::is_among;
 use world_injections::injection::injected;
 use world_rules::line::Injection;
 use world_rules::message::{Content, Ending, Origin, Premise, Sent};
-use world_state::state::WorldState;
+use world_state::state::{WorldState, let_go};
 
 /// How many of a view's members are faulty.
 fn count_faulty(view: &View, faulty: &[MemberId]) -> usize
@@ -72,11 +71,11 @@ fn inject_content<S: Service>(world: &mut WorldState<S>, content: Content) -> Re
     let (faulty, rogue) = (world.faulty.as_slice(), world.rogue.as_slice());
     match world.sent.is_forged(world.alloc, faulty, rogue, &content) {
         Err(error) => {
-            drop(content);
+            let_go(content);
             return Err(error);
         }
         Ok(true) => {
-            drop(content);
+            let_go(content);
             world.ending = Some(Ending::Premise(Premise::Forged));
             return Ok(());
         }

@@ -17,7 +17,6 @@ use smart_service::service::Service;
 use smart_statements::batch::Batch;
 use std::alloc::{AllocError, Global};
 use std::marker::Model;
-use std::mem::drop;
 use vote_book::entry::LogEntry;
 use world_hosts::host::Host;
 use world_rules::line::{Line, OutLine};
@@ -59,14 +58,11 @@ pub struct World<S: Service> {
 impl<S: Service> Drop for World<S> {
     fn drop(self) {
         let World {
-            group,
-            lines,
-            state,
+            group: _group,
+            lines: _lines,
+            state: _state,
             over: _over,
         } = self;
-        drop(group);
-        drop(lines);
-        drop(state);
     }
 }
 

@@ -30,7 +30,6 @@ use smart_statements::signed::{Signed, Statement};
 use std::alloc::{AllocError, Global};
 use std::collections::{HashMap, HashSet};
 use std::marker::Model;
-use std::mem::drop;
 use world_rules::message::{Content, Sent};
 
 /// The bytes of batches, by their digests.
@@ -49,15 +48,11 @@ pub struct Ledger {
 impl Drop for Ledger {
     fn drop(self) {
         let Ledger {
-            ring,
-            sent,
-            texts,
-            stated,
+            ring: _ring,
+            sent: _sent,
+            texts: _texts,
+            stated: _stated,
         } = self;
-        drop(ring);
-        drop(sent);
-        drop(texts);
-        drop(stated);
     }
 }
 
@@ -352,21 +347,14 @@ impl Ledger {
         ensures ok { OnOk result (self.new ≡ self.old ++ sent ∷ []) }
         ensures err { OnErr result (self.new ≡ self.old) }
     {
-        if let Err(error) = self.sent.reserve(1) {
-            drop(sent);
-            return Err(error);
-        }
-        let put = put_message(
+        self.sent.reserve(1)?;
+        put_message(
             alloc,
             self.ring.get(),
             &mut self.texts,
             &mut self.stated,
             &sent,
-        );
-        if let Err(error) = put {
-            drop(sent);
-            return Err(error);
-        }
+        )?;
         self.sent.push(sent)?;
         Ok(())
     }

@@ -19,7 +19,7 @@ use smart_service::service::Service;
 use smart_statements::batch::Batch;
 use std::alloc::{AllocError, Global};
 use std::marker::Model;
-use std::mem::{drop, replace};
+use std::mem;
 use world_hosts::host::{Host, is_among};
 use world_ledger::content::sent_line;
 use world_ledger::ledger::Ledger;
@@ -55,29 +55,19 @@ impl<S: Drop> Drop for WorldState<S> {
     fn drop(self) {
         let WorldState {
             alloc: _alloc,
-            view,
-            ring,
-            hosts,
-            clients,
-            sent,
+            view: _view,
+            ring: _ring,
+            hosts: _hosts,
+            clients: _clients,
+            sent: _sent,
             mark: _mark,
-            chosen,
-            accepted,
-            told,
-            faulty,
-            rogue,
+            chosen: _chosen,
+            accepted: _accepted,
+            told: _told,
+            faulty: _faulty,
+            rogue: _rogue,
             ending: _ending,
         } = self;
-        drop(view);
-        drop(ring);
-        drop(hosts);
-        drop(clients);
-        drop(sent);
-        drop(chosen);
-        drop(accepted);
-        drop(told);
-        drop(faulty);
-        drop(rogue);
     }
 }
 
@@ -100,6 +90,9 @@ impl<S> Model for WorldState<S> {
       ending = w.ending;
     } };
 }
+
+/// Lets a value go.
+pub fn let_go<T: Drop>(_value: T) {}
 
 /// A limit is told only of a play that nothing has ended.
 fn or_limit(ending: Option<Ending>) -> Option<Ending>
@@ -216,11 +209,11 @@ impl<S: Service> WorldState<S> {
     {
         match self.sent.collides(self.alloc, &sent.content) {
             Err(error) => {
-                drop(sent);
+                let_go(sent);
                 return Err(error);
             }
             Ok(true) => {
-                drop(sent);
+                let_go(sent);
                 self.ending = Some(Ending::Premise(Premise::Collision));
                 return Ok(());
             }
@@ -228,13 +221,13 @@ impl<S: Service> WorldState<S> {
         }
         let count = self.sent.as_slice().len();
         if count >= MESSAGES {
-            drop(sent);
+            let_go(sent);
             self.ending = or_limit(self.ending);
             return Ok(());
         }
         let line = sent_line(count as u64 + 1, &sent.origin, &sent.content);
         if let Err(error) = self.tell(line) {
-            drop(sent);
+            let_go(sent);
             return Err(error);
         }
         self.sent.push(self.alloc, sent)
@@ -273,7 +266,7 @@ impl<S: Service> WorldState<S> {
         ensures told { result ≡ self.old.told }
         ensures world { self.new ≡ rested self.old }
     {
-        let told = replace(&mut self.told, Vec::new(self.alloc));
+        let told = mem::replace(&mut self.told, Vec::new(self.alloc));
         Sequence::from_vec(told)
     }
 
