@@ -26,6 +26,7 @@ use smart_statements::batch::Batch;
 use smart_statements::entry::NodeEvent;
 use std::alloc::{AllocError, Global};
 use std::marker::Model;
+use std::mem::drop;
 use vote_book::entry::LogEntry;
 use world_rules::line::OutLine;
 
@@ -63,12 +64,16 @@ impl<S> Model for Host<S> {
 impl<S: Drop> Drop for Host<S> {
     fn drop(self) {
         let Host {
-            node: _node,
-            store: _store,
+            node,
+            store,
             resumed: _resumed,
-            delivered: _delivered,
-            earlier: _earlier,
+            delivered,
+            earlier,
         } = self;
+        drop(node);
+        drop(store);
+        drop(delivered);
+        drop(earlier);
     }
 }
 
@@ -184,8 +189,18 @@ impl<S: Service> Host<S> {
         ensures { IfOk result (λ h. h ≡ host_of_node (opened S.meaning ring id view 1024)) }
     {
         let node: NodeCore<S> = NodeCore::begin(alloc, id, view, PERIOD, ring)?;
-        let mut store = MemberStore::empty(alloc)?;
-        store.write_down(node.book())?;
+        let mut store = match MemberStore::empty(alloc) {
+            Ok(store) => store,
+            Err(error) => {
+                drop(node);
+                return Err(error);
+            }
+        };
+        if let Err(error) = store.write_down(node.book()) {
+            drop(store);
+            drop(node);
+            return Err(error);
+        }
         Ok(Host {
             node,
             store,

@@ -21,6 +21,7 @@ use smart_base::view::View;
 use smart_keys::ring::Ring;
 use smart_service::service::Service;
 use std::alloc::{AllocError, Global};
+use std::mem::{drop, replace};
 use world_rules::crash::{Image, Patch};
 use world_rules::line::OutLine;
 
@@ -101,7 +102,8 @@ impl<S: Service> Host<S> {
         ensures { self.new ≡ record self.old { node = node.node; resumed = node.node.replica.place } }
     {
         self.resumed = node.place();
-        self.node = node;
+        let before = replace(&mut self.node, node);
+        drop(before);
     }
 
     /// A node that goes on takes the place of the one before, over a store that runs again.
@@ -109,8 +111,14 @@ impl<S: Service> Host<S> {
         requires { self.old.up ≡ true }
         ensures { OnOk result (self.new ≡ host_resumed self.old node.node) }
     {
-        self.give_opening(&node)?;
-        self.end_life()?;
+        if let Err(error) = self.give_opening(&node) {
+            drop(node);
+            return Err(error);
+        }
+        if let Err(error) = self.end_life() {
+            drop(node);
+            return Err(error);
+        }
         self.take(node);
         Ok(())
     }
@@ -169,6 +177,10 @@ pub fn resume<S: Service>(
     let restored = host.start()?;
     let node: Option<NodeCore<S>> = reopened(alloc, member, view, ring, restored.as_slice())?;
     let line = told(member, restored.len() as u64, &node);
-    host.go_on_with(node)?;
+    drop(restored);
+    if let Err(error) = host.go_on_with(node) {
+        drop(line);
+        return Err(error);
+    }
     Ok(line)
 }

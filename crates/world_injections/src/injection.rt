@@ -37,6 +37,7 @@ use smart_statements::signed::{Signed, Statement};
 use smart_statements::signed_list::SignedList;
 use smart_statements::statement::{Ballot, Proposal, Request, Slot, VoteKind};
 use std::alloc::{AllocError, Global};
+use std::mem::drop;
 use world_ledger::content::{batch_in, read_content};
 use world_ledger::party::party_of;
 use world_rules::line::Injection;
@@ -303,7 +304,9 @@ fn digest_of(alloc: Global, batch: &Batch) -> Result<Digest32, AllocError>
 fn spelled(alloc: Global, message: AnyMessage) -> Result<Option<Bytes>, AllocError>
     ensures { IfOk result (λ bytes. bytes ≡ Some (any_spelling message)) }
 {
-    Ok(Some(Bytes::from_vec(encode_any(alloc, &message)?)))
+    let bytes = encode_any(alloc, &message);
+    drop(message);
+    Ok(Some(Bytes::from_vec(bytes?)))
 }
 
 fn ask_bytes(
@@ -387,8 +390,9 @@ fn short_bytes(bytes: Bytes) -> Option<Bytes>
 fn short_spelling(alloc: Global, message: AnyMessage) -> Result<Option<Bytes>, AllocError>
     ensures { IfOk result (λ bytes. bytes ≡ short_bytes (any_spelling message)) }
 {
-    let bytes = encode_any(alloc, &message)?;
-    Ok(short_bytes(Bytes::from_vec(bytes)))
+    let bytes = encode_any(alloc, &message);
+    drop(message);
+    Ok(short_bytes(Bytes::from_vec(bytes?)))
 }
 
 fn stop_bytes(
