@@ -26,7 +26,6 @@ pub struct Mark {
 }
 
 /// A quorum has accepted the batch of a digest, in a view and a regency.
-#[derive(Drop)]
 pub struct DecisionProof {
     pub view: ViewNo,
     pub regency: Regency,
@@ -34,21 +33,40 @@ pub struct DecisionProof {
     pub accepts: SignedList<Ballot>,
 }
 
+/// Let go by one call, so that no function that lets one go carries the whole of it.
+impl Drop for DecisionProof {
+    fn drop(self) {
+        let DecisionProof { view: _, regency: _, digest: _, accepts: _ } = self;
+    }
+}
+
 /// More members of a view than may be faulty have the same replica, by its digest.
-#[derive(Drop)]
 pub struct MarkCertificate {
     pub view: ViewNo,
     pub digest: Digest32,
     pub marks: SignedList<Mark>,
 }
 
+/// Let go by one call, so that no function that lets one go carries the whole of it.
+impl Drop for MarkCertificate {
+    fn drop(self) {
+        let MarkCertificate { view: _, digest: _, marks: _ } = self;
+    }
+}
+
 /// A quorum has written for the batch of a digest in a regency, so that a member has accepted it
 /// there: the member is locked on it (Mod-SMaRt, EDCC 2012).
-#[derive(Drop)]
 pub struct LockCertificate {
     pub regency: Regency,
     pub digest: Digest32,
     pub writes: SignedList<Ballot>,
+}
+
+/// Let go by one call, so that no function that lets one go carries the whole of it.
+impl Drop for LockCertificate {
+    fn drop(self) {
+        let LockCertificate { regency: _, digest: _, writes: _ } = self;
+    }
 }
 
 /// What shows that a place is decided.
@@ -65,13 +83,19 @@ pub enum Evidence {
 /// What a member reports as it promises a regency of a view: the last place that it has decided (0
 /// before the first), with evidence, and the batch that it has accepted behind it, in the greatest
 /// regency (Mod-SMaRt, EDCC 2012).
-#[derive(Drop)]
 pub struct Report {
     pub view: ViewNo,
     pub regency: Regency,
     pub last: Place,
     pub evidence: Evidence,
     pub lock: Option<LockCertificate>,
+}
+
+/// Let go by one call, so that no function that lets one go carries the whole of it.
+impl Drop for Report {
+    fn drop(self) {
+        let Report { view: _, regency: _, last: _, evidence: _, lock: _ } = self;
+    }
 }
 
 impl Statement for Mark {

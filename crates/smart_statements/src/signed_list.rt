@@ -18,9 +18,15 @@ use std::alloc::{AllocError, Global};
 use std::marker::Model;
 
 /// Signed statements of one kind: at most 65,535, so that their count has two bytes.
-#[derive(Drop)]
 pub struct SignedList<S: Statement> {
     items: Sequence<Signed<S>>,
+}
+
+/// Let go by one call, so that no function that lets one go carries the whole of it.
+impl<S: Statement> Drop for SignedList<S> {
+    fn drop(self) {
+        let SignedList { items: _ } = self;
+    }
 }
 
 impl<S: Statement> Model for SignedList<S> {

@@ -39,12 +39,18 @@ pub enum VoteKind {
 
 /// What a client asks for: its request number `seq`, counted from 1, an operation of the service,
 /// and the greatest place that the client knew when it asked.
-#[derive(Drop)]
 pub struct Request {
     pub client: ClientId,
     pub seq: u64,
     pub after: u64,
     pub op: Payload,
+}
+
+/// Let go by one call, so that no function that lets one go carries the whole of it.
+impl Drop for Request {
+    fn drop(self) {
+        let Request { client: _, seq: _, after: _, op: _ } = self;
+    }
 }
 
 /// A leader's batch for a slot, by its digest.
@@ -64,7 +70,6 @@ pub struct Ballot {
 
 /// A member's reply to an executed request: where the request stands in the list, the view in
 /// force there, and what the service answered.
-#[derive(Drop)]
 pub struct Answer {
     pub view: ViewNo,
     pub place: Place,
@@ -73,6 +78,13 @@ pub struct Answer {
     pub client: ClientId,
     pub seq: u64,
     pub reply: Payload,
+}
+
+/// Let go by one call, so that no function that lets one go carries the whole of it.
+impl Drop for Answer {
+    fn drop(self) {
+        let Answer { view: _, place: _, index: _, client: _, seq: _, reply: _ } = self;
+    }
 }
 
 #[tactic(auto, unfolding(crate::specs::Reading::slot_at))]
