@@ -12,7 +12,6 @@ use std::alloc::Global;
 
 /// A client: the number of its last request, the request that waits for its reply, the greatest
 /// place that it has seen, and the replies to the waiting request, one of each member.
-#[derive(Drop)]
 pub struct Client {
     pub id: ClientId,
     pub last: u64,
@@ -21,9 +20,15 @@ pub struct Client {
     pub replies: Sequence<Signed<Answer>>,
 }
 
+/// Let go by one call, so that no function that lets one go carries the whole of it.
+impl Drop for Client {
+    fn drop(self) {
+        let Client { id: _, last: _, waiting: _, seen: _, replies: _ } = self;
+    }
+}
+
 /// A reply that a client accepted for its request: where the request stands in the list, the view
 /// in force there, and what the service answered.
-#[derive(Drop)]
 pub struct Acceptance {
     pub request: Request,
     pub view: ViewNo,
@@ -31,6 +36,13 @@ pub struct Acceptance {
     /// The request's index in its batch, from 0.
     pub index: u16,
     pub reply: Payload,
+}
+
+/// Let go by one call, so that no function that lets one go carries the whole of it.
+impl Drop for Acceptance {
+    fn drop(self) {
+        let Acceptance { request: _, view: _, place: _, index: _, reply: _ } = self;
+    }
 }
 
 /// Why a client ignores a message: the first reason that applies.

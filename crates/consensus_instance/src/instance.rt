@@ -33,7 +33,6 @@ use vote_book::votes::OwnVotes;
 /// The instance of consensus in which a member takes part, that of its next place (Mod-SMaRt, EDCC
 /// 2012). The view in force is lent to each call that needs it. A batch goes by the digest that its
 /// proposal states: none is digested here. Regency 0 is synced from the first.
-#[derive(Drop)]
 pub struct Instance {
     id: MemberId,
     /// The last place that was delivered.
@@ -49,6 +48,13 @@ pub struct Instance {
     wrote: bool,
     /// Whether the member has accepted in the open slot.
     accepted: bool,
+}
+
+/// Let go by one call, so that no function that lets one go carries the whole of it.
+impl Drop for Instance {
+    fn drop(self) {
+        let Instance { id: _, place: _, decided: _, regency: _, start: _, arrivals: _, wrote: _, accepted: _ } = self;
+    }
 }
 
 impl Model for Instance {

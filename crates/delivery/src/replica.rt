@@ -16,10 +16,16 @@ use std::alloc::{AllocError, Global};
 /// A replica, and whether want of memory stopped a delivery half-way. Then the replica is spent:
 /// some requests of the batch may have been executed, so no batch is delivered to it again, and no
 /// call makes it whole.
-#[derive(Drop)]
 pub struct KeptReplica<S> {
     replica: Replica<S>,
     spent: bool,
+}
+
+/// Let go by one call, so that no function that lets one go carries the whole of it.
+impl<S: Drop> Drop for KeptReplica<S> {
+    fn drop(self) {
+        let KeptReplica { replica: _, spent: _ } = self;
+    }
 }
 
 impl<S> KeptReplica<S> {

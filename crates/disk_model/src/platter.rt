@@ -42,7 +42,6 @@ pub struct Undo {
 }
 
 /// What a read gives, and what is not yet sure.
-#[derive(Drop)]
 pub struct Platter {
     pub contents: Vec<u8>,
     pub undo: Vec<Undo>,
@@ -50,6 +49,13 @@ pub struct Platter {
     pub greatest: u64,
     pub touched: Vec<Range>,
     ghost sound: { IsSound (record { now = contents.items; sure = all_undone undo.items contents.items; shortest = shortest; greatest = greatest; touched = touched.items }) },
+}
+
+/// Let go by one call, so that no function that lets one go carries the whole of it.
+impl Drop for Platter {
+    fn drop(self) {
+        let Platter { contents: _, undo: _, shortest: _, greatest: _, touched: _ } = self;
+    }
 }
 
 impl Platter {

@@ -28,10 +28,16 @@ use vote_book::entry::{Accept, LogEntry};
 
 /// A member's node, and whether want of memory stopped a step half-way. Then the node is broken: no
 /// event happens to it again, and no call makes it whole.
-#[derive(Drop)]
 pub struct NodeCore<S> {
     node: NodeState<S>,
     broken: bool,
+}
+
+/// Let go by one call, so that no function that lets one go carries the whole of it.
+impl<S: Drop> Drop for NodeCore<S> {
+    fn drop(self) {
+        let NodeCore { node: _, broken: _ } = self;
+    }
 }
 
 /// What a step tells: the rules that fired, in order, and why an arrival was dropped.

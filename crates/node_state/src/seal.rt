@@ -64,11 +64,17 @@ fn no_memory(_why: SignRefused) -> AllocError
 }
 
 /// The keys of a member: what tells all tags, and what makes its own, which is made once.
-#[derive(Drop)]
 pub struct MemberKeys {
     member: MemberId,
     ring: Ring,
     sealer: Sealer,
+}
+
+/// Let go by one call, so that no function that lets one go carries the whole of it.
+impl Drop for MemberKeys {
+    fn drop(self) {
+        let MemberKeys { member: _, ring: _, sealer: _ } = self;
+    }
 }
 
 impl Model for MemberKeys {

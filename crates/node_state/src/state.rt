@@ -29,7 +29,6 @@ use vote_book::votes::OwnVotes;
 
 /// What a node is: its copy of what is replicated, what it has heard and written down, and the
 /// messages that it holds until its book is firm. The crates of its rules change its fields.
-#[derive(Drop)]
 pub struct NodeState<S> {
     pub alloc: Global,
     pub keys: MemberKeys,
@@ -48,6 +47,13 @@ pub struct NodeState<S> {
     pub proposed: Vec<Slot>,
     pub impatient: bool,
     pub behind: bool,
+}
+
+/// Let go by one call, so that no function that lets one go carries the whole of it.
+impl<S: Drop> Drop for NodeState<S> {
+    fn drop(self) {
+        let NodeState { alloc: _, keys: _, replica: _, waiting: _, pool: _, instance: _, synchronizer: _, book: _, restored: _, firm: _, held: _, proposed: _, impatient: _, behind: _ } = self;
+    }
 }
 
 impl<S> Model for NodeState<S> {

@@ -30,7 +30,6 @@ use std::marker::Model;
 /// beginnings of regencies bear their proofs. The view in force is lent to each call that needs it.
 /// What is of another view or of an earlier regency than the member's counts for nothing: `trim`
 /// drops it.
-#[derive(Drop)]
 pub struct Synchronizer {
     id: MemberId,
     /// The greatest regency that is promised in the view in force, 0 where none is.
@@ -45,6 +44,13 @@ pub struct Synchronizer {
     stops: Vec<Signed<Stop>>,
     reports: Vec<Reported>,
     syncs: Vec<Signed<Sync>>,
+}
+
+/// Let go by one call, so that no function that lets one go carries the whole of it.
+impl Drop for Synchronizer {
+    fn drop(self) {
+        let Synchronizer { id: _, regency: _, synced: _, stop_made: _, sync_made: _, stops: _, reports: _, syncs: _ } = self;
+    }
 }
 
 impl Model for Synchronizer {

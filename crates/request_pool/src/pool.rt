@@ -37,10 +37,16 @@ pub enum Offer {
 }
 
 /// The requests that wait, in the order in which their clients came. No two are of one client.
-#[derive(Drop)]
 pub struct RequestPool {
     /// The requests by the numbers of their clients.
     requests: IndexMap<u16, Signed<Request>>,
+}
+
+/// Let go by one call, so that no function that lets one go carries the whole of it.
+impl Drop for RequestPool {
+    fn drop(self) {
+        let RequestPool { requests: _ } = self;
+    }
 }
 
 impl Model for RequestPool {

@@ -17,25 +17,43 @@ use smart_statements::signed_list::SignedList;
 use std::alloc::{AllocError, Global};
 
 /// A member asks for a regency of a view, whose leader then takes over (Mod-SMaRt, EDCC 2012).
-#[derive(Drop)]
 pub struct Stop {
     pub view: ViewNo,
     pub regency: Regency,
 }
 
+/// Let go by one call, so that no function that lets one go carries the whole of it.
+impl Drop for Stop {
+    fn drop(self) {
+        let Stop { view: _, regency: _ } = self;
+    }
+}
+
 /// What the leader of a regency begins it with: the reports that it has collected, from which
 /// everyone draws the same choice (Mod-SMaRt, EDCC 2012).
-#[derive(Drop)]
 pub struct Sync {
     pub view: ViewNo,
     pub regency: Regency,
     pub collect: SignedList<Report>,
 }
 
+/// Let go by one call, so that no function that lets one go carries the whole of it.
+impl Drop for Sync {
+    fn drop(self) {
+        let Sync { view: _, regency: _, collect: _ } = self;
+    }
+}
+
 /// A member tells a client the view in force (BFT-SMaRt, DSN 2014).
-#[derive(Drop)]
 pub struct ViewInfo {
     pub view: View,
+}
+
+/// Let go by one call, so that no function that lets one go carries the whole of it.
+impl Drop for ViewInfo {
+    fn drop(self) {
+        let ViewInfo { view: _ } = self;
+    }
 }
 
 /// A member's report, and the batch on which it is locked.

@@ -12,10 +12,16 @@ use smart_base::sequence::Bytes;
 use std::alloc::{AllocError, Global};
 
 /// A snapshot, and the number of its generation.
-#[derive(Drop)]
 pub struct Checkpoint {
     pub generation: u64,
     pub snapshot: Bytes,
+}
+
+/// Let go by one call, so that no function that lets one go carries the whole of it.
+impl Drop for Checkpoint {
+    fn drop(self) {
+        let Checkpoint { generation: _, snapshot: _ } = self;
+    }
 }
 
 /// A checkpoint that stands behind its gate. An `Err` leaves the cursor anywhere.

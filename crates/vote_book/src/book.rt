@@ -28,13 +28,19 @@ use std::marker::Model;
 /// The entries of a member's present life, oldest first: those that its disks restored, then those
 /// that it made. It may have any entries; those of a member that keeps the rules are admitted, each
 /// by the ones before it.
-#[derive(Drop)]
 pub struct Book {
     opening: Place,
     /// How many entries were restored, once it is known.
     restored: Option<usize>,
     entries: Vec<LogEntry>,
     index: BookIndex,
+}
+
+/// Let go by one call, so that no function that lets one go carries the whole of it.
+impl Drop for Book {
+    fn drop(self) {
+        let Book { opening: _, restored: _, entries: _, index: _ } = self;
+    }
 }
 
 impl Model for Book {

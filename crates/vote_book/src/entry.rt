@@ -13,28 +13,46 @@ use smart_statements::statement::{Ballot, Slot};
 use std::alloc::{AllocError, Global};
 
 /// How a book begins: whose it is, every how many places its group marks one, and the first view.
-#[derive(Drop)]
 pub struct Opening {
     pub member: MemberId,
     pub period: u32,
     pub view: View,
 }
 
+/// Let go by one call, so that no function that lets one go carries the whole of it.
+impl Drop for Opening {
+    fn drop(self) {
+        let Opening { member: _, period: _, view: _ } = self;
+    }
+}
+
 /// A write: the member has voted for a batch in a slot, in the first phase (Mod-SMaRt, EDCC 2012).
-#[derive(Drop)]
 pub struct Write {
     pub slot: Slot,
     pub digest: Digest32,
 }
 
+/// Let go by one call, so that no function that lets one go carries the whole of it.
+impl Drop for Write {
+    fn drop(self) {
+        let Write { slot: _, digest: _ } = self;
+    }
+}
+
 /// An accept: the member has voted for a batch in a slot, in the second phase, since a quorum wrote
 /// for it (Mod-SMaRt, EDCC 2012).
-#[derive(Drop)]
 pub struct Accept {
     pub slot: Slot,
     pub digest: Digest32,
     pub writes: SignedList<Ballot>,
     pub batch: Batch,
+}
+
+/// Let go by one call, so that no function that lets one go carries the whole of it.
+impl Drop for Accept {
+    fn drop(self) {
+        let Accept { slot: _, digest: _, writes: _, batch: _ } = self;
+    }
 }
 
 /// A promise to vote in no earlier regency of the view.
@@ -46,7 +64,6 @@ pub struct Promise {
 
 /// A regency has begun: the member may vote in it from the place `base` on (1 to 2^63), and there for
 /// the batch `bound` alone, if there is one.
-#[derive(Drop)]
 pub struct Start {
     pub view: ViewNo,
     pub regency: Regency,
@@ -54,21 +71,40 @@ pub struct Start {
     pub bound: Option<Digest32>,
 }
 
+/// Let go by one call, so that no function that lets one go carries the whole of it.
+impl Drop for Start {
+    fn drop(self) {
+        let Start { view: _, regency: _, base: _, bound: _ } = self;
+    }
+}
+
 /// A batch is decided in a slot, since a quorum accepted it.
-#[derive(Drop)]
 pub struct Decision {
     pub slot: Slot,
     pub batch: Batch,
     pub accepts: SignedList<Ballot>,
 }
 
+/// Let go by one call, so that no function that lets one go carries the whole of it.
+impl Drop for Decision {
+    fn drop(self) {
+        let Decision { slot: _, batch: _, accepts: _ } = self;
+    }
+}
+
 /// The replica of a place was taken over from other members, who had marked it.
-#[derive(Drop)]
 pub struct Installation {
     pub place: Place,
     pub digest: Digest32,
     pub view: ViewNo,
     pub marks: SignedList<Mark>,
+}
+
+/// Let go by one call, so that no function that lets one go carries the whole of it.
+impl Drop for Installation {
+    fn drop(self) {
+        let Installation { place: _, digest: _, view: _, marks: _ } = self;
+    }
 }
 
 /// An entry of a member's book. Logging batches and replies is Dura-SMaRt's (USENIX ATC 2013); that

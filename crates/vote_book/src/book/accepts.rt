@@ -15,9 +15,15 @@ pub struct OpenAccept {
 }
 
 /// Accepts, in the order of their entries.
-#[derive(Drop)]
 pub struct OpenAccepts {
     list: Vec<OpenAccept>,
+}
+
+/// Let go by one call, so that no function that lets one go carries the whole of it.
+impl Drop for OpenAccepts {
+    fn drop(self) {
+        let OpenAccepts { list: _ } = self;
+    }
 }
 
 impl Model for OpenAccepts {

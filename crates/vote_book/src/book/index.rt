@@ -19,7 +19,6 @@ use smart_statements::statement::Slot;
 use std::alloc::{AllocError, Global};
 
 /// What earlier entries are to a later one.
-#[derive(Drop)]
 pub struct BookIndex {
     /// The slots that have a write.
     pub written: SlotSet,
@@ -41,6 +40,13 @@ pub struct BookIndex {
     pub maker: Option<usize>,
     /// The accepts of places past the greatest.
     pub pending: OpenAccepts,
+}
+
+/// Let go by one call, so that no function that lets one go carries the whole of it.
+impl Drop for BookIndex {
+    fn drop(self) {
+        let BookIndex { written: _, accepted: _, made: _, latest: _, last: _, promised: _, begun: _, starts: _, maker: _, pending: _ } = self;
+    }
 }
 
 /// Whether a slot is of an earlier view than a promise, or of its view and an earlier regency.

@@ -11,9 +11,15 @@ use std::alloc::{AllocError, Global};
 use std::marker::Model;
 
 /// A set of slots, each by its view, place and regency.
-#[derive(Drop)]
 pub struct SlotSet {
     slots: IndexSet<(u32, u64, u32)>,
+}
+
+/// Let go by one call, so that no function that lets one go carries the whole of it.
+impl Drop for SlotSet {
+    fn drop(self) {
+        let SlotSet { slots: _ } = self;
+    }
 }
 
 impl Model for SlotSet {
@@ -63,9 +69,15 @@ impl SlotSet {
 }
 
 /// A set of places.
-#[derive(Drop)]
 pub struct PlaceSet {
     places: IndexSet<u64>,
+}
+
+/// Let go by one call, so that no function that lets one go carries the whole of it.
+impl Drop for PlaceSet {
+    fn drop(self) {
+        let PlaceSet { places: _ } = self;
+    }
 }
 
 impl Model for PlaceSet {
