@@ -23,7 +23,13 @@ pub struct Client {
 /// Let go by one call, so that no function that lets one go carries the whole of it.
 impl Drop for Client {
     fn drop(self) {
-        let Client { id: _, last: _, waiting: _, seen: _, replies: _ } = self;
+        let Client {
+            id: _,
+            last: _,
+            waiting: _,
+            seen: _,
+            replies: _,
+        } = self;
     }
 }
 
@@ -41,7 +47,13 @@ pub struct Acceptance {
 /// Let go by one call, so that no function that lets one go carries the whole of it.
 impl Drop for Acceptance {
     fn drop(self) {
-        let Acceptance { request: _, view: _, place: _, index: _, reply: _ } = self;
+        let Acceptance {
+            request: _,
+            view: _,
+            place: _,
+            index: _,
+            reply: _,
+        } = self;
     }
 }
 

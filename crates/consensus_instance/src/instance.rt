@@ -53,7 +53,16 @@ pub struct Instance {
 /// Let go by one call, so that no function that lets one go carries the whole of it.
 impl Drop for Instance {
     fn drop(self) {
-        let Instance { id: _, place: _, decided: _, regency: _, start: _, arrivals: _, wrote: _, accepted: _ } = self;
+        let Instance {
+            id: _,
+            place: _,
+            decided: _,
+            regency: _,
+            start: _,
+            arrivals: _,
+            wrote: _,
+            accepted: _,
+        } = self;
     }
 }
 

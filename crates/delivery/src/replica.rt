@@ -24,7 +24,10 @@ pub struct KeptReplica<S> {
 /// Let go by one call, so that no function that lets one go carries the whole of it.
 impl<S: Drop> Drop for KeptReplica<S> {
     fn drop(self) {
-        let KeptReplica { replica: _, spent: _ } = self;
+        let KeptReplica {
+            replica: _,
+            spent: _,
+        } = self;
     }
 }
 

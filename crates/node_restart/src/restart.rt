@@ -38,7 +38,11 @@ pub struct Restart<S> {
 /// Let go by one call, so that no function that lets one go carries the whole of it.
 impl<S: Drop> Drop for Restart<S> {
     fn drop(self) {
-        let Restart { alloc: _, replica: _, book: _ } = self;
+        let Restart {
+            alloc: _,
+            replica: _,
+            book: _,
+        } = self;
     }
 }
 

@@ -73,7 +73,11 @@ pub struct MemberKeys {
 /// Let go by one call, so that no function that lets one go carries the whole of it.
 impl Drop for MemberKeys {
     fn drop(self) {
-        let MemberKeys { member: _, ring: _, sealer: _ } = self;
+        let MemberKeys {
+            member: _,
+            ring: _,
+            sealer: _,
+        } = self;
     }
 }
 

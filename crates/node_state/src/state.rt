@@ -52,7 +52,22 @@ pub struct NodeState<S> {
 /// Let go by one call, so that no function that lets one go carries the whole of it.
 impl<S: Drop> Drop for NodeState<S> {
     fn drop(self) {
-        let NodeState { alloc: _, keys: _, replica: _, waiting: _, pool: _, instance: _, synchronizer: _, book: _, restored: _, firm: _, held: _, proposed: _, impatient: _, behind: _ } = self;
+        let NodeState {
+            alloc: _,
+            keys: _,
+            replica: _,
+            waiting: _,
+            pool: _,
+            instance: _,
+            synchronizer: _,
+            book: _,
+            restored: _,
+            firm: _,
+            held: _,
+            proposed: _,
+            impatient: _,
+            behind: _,
+        } = self;
     }
 }
 

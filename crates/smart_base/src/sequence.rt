@@ -4,7 +4,6 @@ ghost use Rattle.std.specs.Prelude.{◌≡◌, ◌^◌, ◌<◌, ◌==◌, List,
 use crate::duplicate::Duplicate;
 use std::alloc::{AllocError, Global};
 use std::marker::Model;
-use std::{cmp, mem};
 
 /// A list that grows at its end. Two sequences with the same values are equal in a contract, which
 /// is not so of two `Vec`s.
@@ -70,29 +69,6 @@ impl<T> Sequence<T> {
         ensures { result ≡ (length self.now == 0) }
     {
         self.items.is_empty()
-    }
-
-    /// Takes the first value out.
-    pub fn take_first(&mut self) -> T
-        requires { 0 < length self.old }
-        ensures { self.old ≡ result ∷ self.new }
-    {
-        self.items.remove(0)
-    }
-
-    /// Takes the first values out, as many as `count`, or all where there are fewer. The values that
-    /// stay move once. Without memory for them nothing is taken.
-    #[tactic(auto, using(std::proofs::lemmas::List::take_min, std::proofs::lemmas::List::drop_min))]
-    pub fn take_front(&mut self, count: usize) -> Result<Sequence<T>, AllocError>
-        ensures front { IfOk result (λ front. front ≡ take count self.old) }
-        ensures rest { OnOk result (self.new ≡ drop count self.old) }
-        ensures err { OnErr result (self.new ≡ self.old) }
-    {
-        let at = cmp::min(count, self.items.len());
-        let rest = self.items.split_off(at)?;
-        Ok(Sequence {
-            items: mem::replace(&mut self.items, rest),
-        })
     }
 
     /// Keeps the first values alone.

@@ -20,7 +20,10 @@ pub struct Checkpoint {
 /// Let go by one call, so that no function that lets one go carries the whole of it.
 impl Drop for Checkpoint {
     fn drop(self) {
-        let Checkpoint { generation: _, snapshot: _ } = self;
+        let Checkpoint {
+            generation: _,
+            snapshot: _,
+        } = self;
     }
 }
 
