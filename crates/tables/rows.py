@@ -1,9 +1,8 @@
 #!/usr/bin/env python3
 """Makes the tables in data/. Run it in crates/tables: `./rows.py` writes them, and `./rows.py check` compares them.
 
-Nothing of the repository's code or definitions is used. Where a spelling is faulty is found by the reader below, which was
-written from docs alone. Tags and digests are those of Python's library. What votes, marks, reports and books come to was
-written by hand, row by row.
+Nothing of the repository's code or definitions is used. The reader below finds where a spelling is faulty. Tags and digests
+are those of Python's library. What votes, marks, reports and books come to is written by hand, row by row.
 """
 import hashlib, hmac, sys, textwrap
 
