@@ -8,5 +8,3 @@ pub mod collect;
 pub mod fault;
 pub mod laws;
 mod list;
-#[cfg(test)]
-mod tests;

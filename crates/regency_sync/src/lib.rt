@@ -10,5 +10,3 @@ pub mod laws;
 mod needed;
 pub mod rule;
 pub mod synchronizer;
-#[cfg(test)]
-mod tests;

@@ -7,5 +7,3 @@ pub mod laws;
 pub mod message;
 pub mod regency;
 pub mod regency_codec;
-#[cfg(test)]
-mod tests;

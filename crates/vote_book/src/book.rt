@@ -12,8 +12,6 @@ mod accepts;
 mod index;
 mod sets;
 mod starts;
-#[cfg(test)]
-mod tests;
 
 use crate::book::accepts::OpenAccept;
 use crate::book::index::BookIndex;

@@ -5,6 +5,4 @@ pub mod book;
 pub mod codec;
 pub mod entry;
 pub mod laws;
-#[cfg(test)]
-mod tests;
 pub mod votes;

@@ -1,2 +1,0 @@
-//! Books and the bytes of their entries.
-mod codec;
