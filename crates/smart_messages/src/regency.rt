@@ -25,7 +25,10 @@ pub struct Stop {
 /// Let go by one call, so that no function that lets one go carries the whole of it.
 impl Drop for Stop {
     fn drop(self) {
-        let Stop { view: _, regency: _ } = self;
+        let Stop {
+            view: _,
+            regency: _,
+        } = self;
     }
 }
 
@@ -40,7 +43,11 @@ pub struct Sync {
 /// Let go by one call, so that no function that lets one go carries the whole of it.
 impl Drop for Sync {
     fn drop(self) {
-        let Sync { view: _, regency: _, collect: _ } = self;
+        let Sync {
+            view: _,
+            regency: _,
+            collect: _,
+        } = self;
     }
 }
 
