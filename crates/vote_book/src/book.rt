@@ -39,7 +39,12 @@ pub struct Book {
 /// Let go by one call, so that no function that lets one go carries the whole of it.
 impl Drop for Book {
     fn drop(self) {
-        let Book { opening: _, restored: _, entries: _, index: _ } = self;
+        let Book {
+            opening: _,
+            restored: _,
+            entries: _,
+            index: _,
+        } = self;
     }
 }
 

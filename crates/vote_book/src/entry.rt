@@ -22,7 +22,11 @@ pub struct Opening {
 /// Let go by one call, so that no function that lets one go carries the whole of it.
 impl Drop for Opening {
     fn drop(self) {
-        let Opening { member: _, period: _, view: _ } = self;
+        let Opening {
+            member: _,
+            period: _,
+            view: _,
+        } = self;
     }
 }
 
@@ -51,7 +55,12 @@ pub struct Accept {
 /// Let go by one call, so that no function that lets one go carries the whole of it.
 impl Drop for Accept {
     fn drop(self) {
-        let Accept { slot: _, digest: _, writes: _, batch: _ } = self;
+        let Accept {
+            slot: _,
+            digest: _,
+            writes: _,
+            batch: _,
+        } = self;
     }
 }
 
@@ -74,7 +83,12 @@ pub struct Start {
 /// Let go by one call, so that no function that lets one go carries the whole of it.
 impl Drop for Start {
     fn drop(self) {
-        let Start { view: _, regency: _, base: _, bound: _ } = self;
+        let Start {
+            view: _,
+            regency: _,
+            base: _,
+            bound: _,
+        } = self;
     }
 }
 
@@ -88,7 +102,11 @@ pub struct Decision {
 /// Let go by one call, so that no function that lets one go carries the whole of it.
 impl Drop for Decision {
     fn drop(self) {
-        let Decision { slot: _, batch: _, accepts: _ } = self;
+        let Decision {
+            slot: _,
+            batch: _,
+            accepts: _,
+        } = self;
     }
 }
 
@@ -103,7 +121,12 @@ pub struct Installation {
 /// Let go by one call, so that no function that lets one go carries the whole of it.
 impl Drop for Installation {
     fn drop(self) {
-        let Installation { place: _, digest: _, view: _, marks: _ } = self;
+        let Installation {
+            place: _,
+            digest: _,
+            view: _,
+            marks: _,
+        } = self;
     }
 }
 

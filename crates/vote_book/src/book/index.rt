@@ -45,7 +45,18 @@ pub struct BookIndex {
 /// Let go by one call, so that no function that lets one go carries the whole of it.
 impl Drop for BookIndex {
     fn drop(self) {
-        let BookIndex { written: _, accepted: _, made: _, latest: _, last: _, promised: _, begun: _, starts: _, maker: _, pending: _ } = self;
+        let BookIndex {
+            written: _,
+            accepted: _,
+            made: _,
+            latest: _,
+            last: _,
+            promised: _,
+            begun: _,
+            starts: _,
+            maker: _,
+            pending: _,
+        } = self;
     }
 }
 
