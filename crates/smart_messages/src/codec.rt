@@ -1,7 +1,10 @@
 //! The one spelling of each message, and how messages are read.
 ghost use Rattle.std.specs.Prelude.{◌≡◌, ◌++◌, IfOk, OnOk, Ok};
 ghost use Rattle.smart_base.specs.Cuts.{Gives, GivesAll, Takes, limited};
-ghost use Rattle.smart_messages.specs.Messages.{Fits, spelling, ask_at, propose_at, vote_at, reply_at, body_at, is_kind, message_kind_at, message_at, decoded};
+ghost use Rattle.smart_statements.specs.Batches.{batch_text};
+ghost use Rattle.smart_statements.specs.Kinds.{proposals};
+ghost use Rattle.smart_statements.specs.Spelling.{signed};
+ghost use Rattle.smart_messages.specs.Messages.{Fits, kind, content, spelling, ask_at, propose_at, vote_at, reply_at, body_at, is_kind, message_kind_at, message_at, decoded};
 
 use crate::message::{Message, Proposed};
 use smart_base::cursor::Cursor;
@@ -123,30 +126,45 @@ pub fn decode(alloc: Global, bytes: &[u8]) -> Result<Message, ReadError>
     read_all(alloc, bytes)
 }
 
+/// The first byte of a message.
+fn kind(message: &Message) -> u8
+    ensures { result ≡ kind message.now }
+{
+    match message {
+        Message::Ask(_) => 1,
+        Message::Propose(_) => 2,
+        Message::Vote(_) => 3,
+        Message::Reply(_) => 8,
+    }
+}
+
+fn put_proposed(out: &mut Vec<u8>, proposed: &Proposed) -> Result<(), AllocError>
+    ensures { OnOk result (out.new.items ≡ out.old.items ++ (signed proposals proposed.now.head ++ batch_text proposed.now.batch)) }
+{
+    proposed.head.put(out)?;
+    proposed.batch.put(out)?;
+    Ok(())
+}
+
+/// Adds the bytes that stand behind the first one.
+fn put_content(out: &mut Vec<u8>, message: &Message) -> Result<(), AllocError>
+    ensures { OnOk result (out.new.items ≡ out.old.items ++ content message.now) }
+{
+    match message {
+        Message::Ask(ask) => ask.put(out),
+        Message::Propose(proposed) => put_proposed(out, proposed),
+        Message::Vote(vote) => vote.put(out),
+        Message::Reply(reply) => reply.put(out),
+    }
+}
+
 /// Adds the message's bytes.
 #[tactic(auto, unfolding(crate::specs::Messages::spelling))]
 pub fn put_message(out: &mut Vec<u8>, message: &Message) -> Result<(), AllocError>
     ensures { OnOk result (out.new.items ≡ out.old.items ++ spelling message.now) }
 {
-    match message {
-        Message::Ask(ask) => {
-            put_u8(out, 1)?;
-            ask.put(out)?;
-        }
-        Message::Propose(proposed) => {
-            put_u8(out, 2)?;
-            proposed.head.put(out)?;
-            proposed.batch.put(out)?;
-        }
-        Message::Vote(vote) => {
-            put_u8(out, 3)?;
-            vote.put(out)?;
-        }
-        Message::Reply(reply) => {
-            put_u8(out, 8)?;
-            reply.put(out)?;
-        }
-    }
+    put_u8(out, kind(message))?;
+    put_content(out, message)?;
     Ok(())
 }
 

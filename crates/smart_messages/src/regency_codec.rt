@@ -2,9 +2,11 @@
 ghost use Rattle.std.specs.Prelude.{◌≡◌, ◌++◌, OnOk};
 ghost use Rattle.smart_base.specs.Cuts.{Gives};
 ghost use Rattle.smart_statements.specs.Kinds.{requests};
+ghost use Rattle.smart_statements.specs.Reports.{reports};
+ghost use Rattle.smart_statements.specs.Spelling.{signed};
 ghost use Rattle.smart_statements.specs.Batches.{batch_text};
 ghost use Rattle.smart_statements.specs.Reading.{batch_at};
-ghost use Rattle.smart_messages.specs.RegencyMessages.{change_spelling, stop_message_at, stop_data_at, sync_message_at, change_body_at};
+ghost use Rattle.smart_messages.specs.RegencyMessages.{change_kind, change_content, change_spelling, stop_message_at, stop_data_at, sync_message_at, change_body_at};
 ghost use Rattle.smart_statements.specs.SignedLists.{optional, optional_at};
 
 use crate::regency::{RegencyMessage, Reported, Stop, Sync};
@@ -81,25 +83,42 @@ fn put_batch(out: &mut Vec<u8>, batch: &Option<Batch>) -> Result<(), AllocError>
     Ok(())
 }
 
+/// The first byte of a message.
+fn change_kind(message: &RegencyMessage) -> u8
+    ensures { result ≡ change_kind message.now }
+{
+    match message {
+        RegencyMessage::Stop(_) => 4,
+        RegencyMessage::StopData(_) => 5,
+        RegencyMessage::Sync(_) => 6,
+    }
+}
+
+fn put_reported(out: &mut Vec<u8>, reported: &Reported) -> Result<(), AllocError>
+    ensures { OnOk result (out.new.items ≡ out.old.items ++ (signed reports reported.now.head ++ optional batch_text reported.now.batch)) }
+{
+    reported.head.put(out)?;
+    put_batch(out, &reported.batch)?;
+    Ok(())
+}
+
+/// Adds the bytes that stand behind the first one.
+fn put_content(out: &mut Vec<u8>, message: &RegencyMessage) -> Result<(), AllocError>
+    ensures { OnOk result (out.new.items ≡ out.old.items ++ change_content message.now) }
+{
+    match message {
+        RegencyMessage::Stop(stop) => stop.put(out),
+        RegencyMessage::StopData(reported) => put_reported(out, reported),
+        RegencyMessage::Sync(sync) => sync.put(out),
+    }
+}
+
 /// Adds the message's bytes.
 #[tactic(auto, unfolding(crate::specs::RegencyMessages::change_spelling))]
 pub fn put_change(out: &mut Vec<u8>, message: &RegencyMessage) -> Result<(), AllocError>
     ensures { OnOk result (out.new.items ≡ out.old.items ++ change_spelling message.now) }
 {
-    match message {
-        RegencyMessage::Stop(stop) => {
-            put_u8(out, 4)?;
-            stop.put(out)?;
-        }
-        RegencyMessage::StopData(reported) => {
-            put_u8(out, 5)?;
-            reported.head.put(out)?;
-            put_batch(out, &reported.batch)?;
-        }
-        RegencyMessage::Sync(sync) => {
-            put_u8(out, 6)?;
-            sync.put(out)?;
-        }
-    }
+    put_u8(out, change_kind(message))?;
+    put_content(out, message)?;
     Ok(())
 }

@@ -6,7 +6,7 @@ ghost use Rattle.smart_base.specs.ViewBytes.{start_at};
 ghost use Rattle.smart_statements.specs.Reading.{slot_at};
 ghost use Rattle.smart_statements.specs.Spelling.{slot as slot_text};
 ghost use Rattle.smart_statements.specs.SignedLists.{optional, optional_at};
-ghost use Rattle.vote_book.specs.Entries.{opening, member_at, opening_at, write, write_at, accept, accept_at, promise, promise_at, start, regency_start_at, decision, decision_at, installation, installation_at, own_mark, own_mark_at, entry_text, FitsEntry, content_at, entry_kind_at, entry_at, entry_decoded};
+ghost use Rattle.vote_book.specs.Entries.{opening, member_at, opening_at, write, write_at, accept, accept_at, promise, promise_at, start, regency_start_at, decision, decision_at, installation, installation_at, own_mark, own_mark_at, entry_kind, entry_content, entry_text, FitsEntry, content_at, entry_kind_at, entry_at, entry_decoded};
 ghost use Rattle.vote_book.specs.declared.entry.LogEntry.{LogEntry};
 
 use crate::entry::{Accept, Decision, Installation, LogEntry, Opening, Promise, Start, Write};
@@ -357,46 +357,54 @@ pub fn decode_entry(alloc: Global, bytes: &[u8]) -> Result<LogEntry, ReadError>
     read_all(alloc, bytes)
 }
 
-/// The one spelling of the entry.
+/// The first byte of an entry.
+fn entry_kind(entry: &LogEntry) -> u8
+    ensures { result ≡ entry_kind entry.now }
+{
+    match entry {
+        LogEntry::Opened(_) => 1,
+        LogEntry::Wrote(_) => 2,
+        LogEntry::Accepted(_) => 3,
+        LogEntry::Promised(_) => 4,
+        LogEntry::Synced(_) => 5,
+        LogEntry::Decided(_) => 6,
+        LogEntry::Installed(_) => 7,
+        LogEntry::Marked(_) => 8,
+    }
+}
+
+/// Adds the bytes that stand behind the first one.
+fn put_content(out: &mut Vec<u8>, entry: &LogEntry) -> Result<(), AllocError>
+    ensures { OnOk result (out.new.items ≡ out.old.items ++ entry_content entry.now) }
+{
+    match entry {
+        LogEntry::Opened(opening) => opening.put(out),
+        LogEntry::Wrote(write) => write.put(out),
+        LogEntry::Accepted(accept) => accept.put(out),
+        LogEntry::Promised(promise) => promise.put(out),
+        LogEntry::Synced(start) => start.put(out),
+        LogEntry::Decided(decision) => decision.put(out),
+        LogEntry::Installed(installation) => installation.put(out),
+        LogEntry::Marked(mark) => put_own_mark(out, mark),
+    }
+}
+
+/// Adds the entry's bytes.
 #[tactic(auto, unfolding(crate::specs::Entries::entry_text))]
+fn put_entry(out: &mut Vec<u8>, entry: &LogEntry) -> Result<(), AllocError>
+    ensures { OnOk result (out.new.items ≡ out.old.items ++ entry_text entry.now) }
+{
+    put_u8(out, entry_kind(entry))?;
+    put_content(out, entry)?;
+    Ok(())
+}
+
+/// The one spelling of the entry.
 pub fn encode_entry(alloc: Global, entry: &LogEntry) -> Result<Vec<u8>, AllocError>
     ensures { IfOk result (λ v. v.items ≡ entry_text entry.now) }
 {
     let mut out = Vec::new(alloc);
-    match entry {
-        LogEntry::Opened(opening) => {
-            put_u8(&mut out, 1)?;
-            opening.put(&mut out)?;
-        }
-        LogEntry::Wrote(write) => {
-            put_u8(&mut out, 2)?;
-            write.put(&mut out)?;
-        }
-        LogEntry::Accepted(accept) => {
-            put_u8(&mut out, 3)?;
-            accept.put(&mut out)?;
-        }
-        LogEntry::Promised(promise) => {
-            put_u8(&mut out, 4)?;
-            promise.put(&mut out)?;
-        }
-        LogEntry::Synced(start) => {
-            put_u8(&mut out, 5)?;
-            start.put(&mut out)?;
-        }
-        LogEntry::Decided(decision) => {
-            put_u8(&mut out, 6)?;
-            decision.put(&mut out)?;
-        }
-        LogEntry::Installed(installation) => {
-            put_u8(&mut out, 7)?;
-            installation.put(&mut out)?;
-        }
-        LogEntry::Marked(mark) => {
-            put_u8(&mut out, 8)?;
-            put_own_mark(&mut out, mark)?;
-        }
-    }
+    put_entry(&mut out, entry)?;
     Ok(out)
 }
 
