@@ -74,33 +74,17 @@ fn make_call<D: Disk>(device: &mut D, end: u64, job: &Job) -> Result<(), Fault>
             device.len()?;
             Ok(())
         }
-        Job::Close(_) => {
-            device.write_at(end, &[0])?;
-            Ok(())
-        }
-        Job::SyncClose(_) => {
-            device.sync()?;
-            Ok(())
-        }
+        Job::Close(_) => device.write_at(end, &[0]),
+        Job::SyncClose(_) => device.sync(),
         Job::Body(bytes) => {
             if bytes.len() as u64 >= u64::MAX - end {
                 return Err(Fault::NoMemory);
             }
-            device.write_at(end + 1, bytes.as_slice())?;
-            Ok(())
+            device.write_at(end + 1, bytes.as_slice())
         }
-        Job::SyncBody(_) => {
-            device.sync()?;
-            Ok(())
-        }
-        Job::Gate(_) => {
-            device.write_at(end, &[1])?;
-            Ok(())
-        }
-        Job::SyncGate(_) => {
-            device.sync()?;
-            Ok(())
-        }
+        Job::SyncBody(_) => device.sync(),
+        Job::Gate(_) => device.write_at(end, &[1]),
+        Job::SyncGate(_) => device.sync(),
     }
 }
 

@@ -1,4 +1,4 @@
-use Rattle.std.proofs.Common.{◌≡◌, ◌∙◌, ap, rw, sym}
+use Rattle.std.proofs.Common.{◌∙◌, ap}
 use Rattle.batch_log.specs.Jobs.{code}
 use Rattle.batch_log.proofs.Synced.{called_goes, called_wired, called_code}
 use Rattle.batch_log.proofs.job.step.Goals as goal
