@@ -1,5 +1,5 @@
 -- What a call of a log that goes well makes of it, and how a log is found when it is opened.
-use Rattle.std.specs.Prelude.{ℕ, ◌+◌, ◌==◌, cond, get_or, List, [], ◌∷◌, length, Some, None}
+use Rattle.std.specs.Prelude.{ℕ, ◌+◌, ◌<◌, ◌^◌, ◌==◌, cond, get_or, List, [], ◌∷◌, length, Some, None}
 use Rattle.disk_model.specs.Cells.{Cells, settled, written}
 use Rattle.batch_log.specs.Log.{log_bytes, restored}
 use Rattle.batch_log.specs.declared.job.Job.{Job}
@@ -40,6 +40,17 @@ end_called (Body bytes) end = end
 end_called (SyncBody next) end = end
 end_called (Gate next) end = end
 end_called (SyncGate next) end = next
+
+-- the groups still end at a number of 64 bits
+abbrev pub HasRoom : Job → ℕ → Type 0
+HasRoom (Body bytes) end = end + length bytes < 2 ^ 64
+HasRoom Rest end = Unit {0}
+HasRoom Torn end = Unit {0}
+HasRoom (Close waiting) end = Unit {0}
+HasRoom (SyncClose waiting) end = Unit {0}
+HasRoom (SyncBody next) end = Unit {0}
+HasRoom (Gate next) end = Unit {0}
+HasRoom (SyncGate next) end = Unit {0}
 
 -- ---- a log that is opened over these bytes
 

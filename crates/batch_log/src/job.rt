@@ -1,5 +1,5 @@
 //! A job of a log, one device call at a time.
-ghost use Rattle.std.specs.Prelude.{◌≡◌, List, ℕ, IfOk};
+ghost use Rattle.std.specs.Prelude.{◌≡◌, List, ℕ, IfOk, OnOk};
 ghost use Rattle.faults.specs.Counts.{HasCause};
 ghost use Rattle.disk_model.specs.Cells.{IsImage, Within};
 ghost use Rattle.disk_model.specs.Calls.{Elapses};
@@ -7,7 +7,7 @@ ghost use Rattle.smart_base.specs.Lists.{Each};
 ghost use Rattle.store_form.specs.Spelling.{Group, IsEntry};
 ghost use Rattle.batch_log.specs.Wires.{Wired};
 ghost use Rattle.batch_log.specs.Jobs.{IsUnderWay, IsIdle, IsBody, Begins, idle, Stands, kept_after, other_after, called, code, code_after};
-ghost use Rattle.batch_log.specs.Exact.{log_called, job_called, end_called};
+ghost use Rattle.batch_log.specs.Exact.{log_called, job_called, end_called, HasRoom};
 
 use disk_model::disk::Disk;
 use faults::Fault;
@@ -50,46 +50,69 @@ pub fn step<D: Disk>(device: &mut D, end: u64, job: Job) -> Result<(u64, Job), F
     ensures time { Elapses (D.moment device.old) (D.moment device.new) (D.left_since device.old) (D.left_since device.new) (IsImage (D.cells device.new)) }
     ensures cause { HasCause (D.faults device.old) (D.faults device.new) result }
 {
+    make_call(device, end, &job)?;
+    let next_end = end_behind(end, &job);
+    let next = job_behind(end, job);
+    Ok((next_end, next))
+}
+
+/// Makes the next device call of a job. Where no job runs it asks for the length of the device.
+fn make_call<D: Disk>(device: &mut D, end: u64, job: &Job) -> Result<(), Fault>
+    requires { D.told → IsUnderWay (D.cells device.old) end job.now }
+    ensures room { OnOk result (HasRoom job.now end) }
+    ensures cells { OnOk result (D.told → D.cells device.new ≡ log_called job.now end (D.cells device.old)) }
+    ensures torn { D.told → Within (D.cells device.new) (called job.now end (D.cells device.old)) }
+    ensures time { Elapses (D.moment device.old) (D.moment device.new) (D.left_since device.old) (D.left_since device.new) (IsImage (D.cells device.new)) }
+    ensures cause { HasCause (D.faults device.old) (D.faults device.new) result }
+{
     match job {
         Job::Rest => {
             device.len()?;
-            Ok((end, Job::Rest))
+            Ok(())
         }
         Job::Torn => {
             device.len()?;
-            Ok((end, Job::Torn))
+            Ok(())
         }
-        Job::Close(waiting) => {
-            device.write_at(end, &[0])?;
-            Ok((end, Job::SyncClose(waiting)))
-        }
-        Job::SyncClose(waiting) => {
-            device.sync()?;
-            match waiting {
-                None => Ok((end, Job::Rest)),
-                Some(bytes) => Ok((end, Job::Body(bytes))),
-            }
-        }
+        Job::Close(_) => device.write_at(end, &[0]),
+        Job::SyncClose(_) => device.sync(),
         Job::Body(bytes) => {
-            let count = bytes.len() as u64;
-            if count >= u64::MAX - end {
+            if bytes.len() as u64 >= u64::MAX - end {
                 return Err(Fault::NoMemory);
             }
-            device.write_at(end + 1, bytes.as_slice())?;
-            Ok((end, Job::SyncBody(end + count)))
+            device.write_at(end + 1, bytes.as_slice())
         }
-        Job::SyncBody(next) => {
-            device.sync()?;
-            Ok((end, Job::Gate(next)))
-        }
-        Job::Gate(next) => {
-            device.write_at(end, &[1])?;
-            Ok((end, Job::SyncGate(next)))
-        }
-        Job::SyncGate(next) => {
-            device.sync()?;
-            Ok((next, Job::Rest))
-        }
+        Job::SyncBody(_) => device.sync(),
+        Job::Gate(_) => device.write_at(end, &[1]),
+        Job::SyncGate(_) => device.sync(),
+    }
+}
+
+/// Where the log ends behind the next device call of a job.
+fn end_behind(end: u64, job: &Job) -> u64
+    ensures { result ≡ end_called job.now end }
+{
+    match job {
+        Job::SyncGate(next) => *next,
+        _ => end,
+    }
+}
+
+/// The next call behind that of a job.
+fn job_behind(end: u64, job: Job) -> Job
+    requires { HasRoom job end }
+    ensures { result ≡ job_called job end }
+{
+    match job {
+        Job::Rest => Job::Rest,
+        Job::Torn => Job::Torn,
+        Job::Close(waiting) => Job::SyncClose(waiting),
+        Job::SyncClose(None) => Job::Rest,
+        Job::SyncClose(Some(bytes)) => Job::Body(bytes),
+        Job::Body(bytes) => Job::SyncBody(end + bytes.len() as u64),
+        Job::SyncBody(next) => Job::Gate(next),
+        Job::Gate(next) => Job::SyncGate(next),
+        Job::SyncGate(_) => Job::Rest,
     }
 }
 
