@@ -3,35 +3,34 @@ use app_count::Count;
 use app_kv::KeyValueStore;
 use smart_service::fault::RestoreError;
 use smart_service::service::Service;
-use std::alloc::{AllocError, Global};
+use std::alloc::Global;
 use std::process::Abort;
-use std::test::Fail;
 
 /// Whether the service gives these replies to these operations.
-fn replies<S: Service>(
-    rt: &impl Abort,
-    alloc: Global,
-    service: &mut S,
-    turns: &[(&str, &str)],
-) -> Result<(), AllocError> {
+fn replies<S: Service>(alloc: Global, service: &mut S, turns: &[(&str, &str)]) -> bool {
     for (op, reply) in turns {
-        let told = service.run(alloc, op.as_bytes())?;
-        assert_eq!(rt; told.as_slice(), reply.as_bytes(), "at {op}");
+        match service.run(alloc, op.as_bytes()) {
+            Ok(told) if told.as_slice() == reply.as_bytes() => {}
+            _ => return false,
+        }
     }
-    Ok(())
+    true
+}
+
+/// Whether the service has this snapshot.
+fn stands_as<S: Service>(alloc: Global, service: &S, want: &[u8]) -> bool {
+    match service.snapshot(alloc) {
+        Ok(snapshot) => snapshot.as_slice() == want,
+        Err(_) => false,
+    }
 }
 
 /// Whether the service has this snapshot, and the one that it makes has it too.
-fn comes_back<S: Service>(
-    rt: &impl Abort,
-    alloc: Global,
-    service: &S,
-    want: &[u8],
-) -> Result<(), Fail> {
-    assert_eq!(rt; service.snapshot(alloc)?.as_slice(), want);
-    let restored = S::restore(alloc, want).ok().ok_or("no service")?;
-    assert_eq!(rt; restored.snapshot(alloc)?.as_slice(), want);
-    Ok(())
+fn comes_back<S: Service>(alloc: Global, service: &S, want: &[u8]) -> bool {
+    match S::restore(alloc, want) {
+        Ok(restored) => stands_as(alloc, service, want) && stands_as(alloc, &restored, want),
+        Err(_) => false,
+    }
 }
 
 /// Whether bytes are refused because they are no snapshot.
@@ -48,14 +47,13 @@ const SUM: [u8; 8] = *b"\0\0\0\0\0\0\x01\x02";
 const MOST: [(&str, &str); 1] = [("18446744073709551615", "18446744073709551615")];
 
 #[test]
-fn a_count_replies_its_sum_and_comes_back(rt: HostRuntime) -> Result<(), Fail> {
+fn a_count_replies_its_sum_and_comes_back(rt: HostRuntime) {
     let alloc = rt.alloc();
-    let mut count = Count::first(alloc)?;
-    replies(&rt, alloc, &mut count, &SUMS)?;
-    comes_back(&rt, alloc, &count, &SUM)?;
-    replies(&rt, alloc, &mut count, &MOST)?;
+    let mut count = Count::first(alloc).expect(&rt, "there is memory");
+    assert!(rt; replies(alloc, &mut count, &SUMS));
+    assert!(rt; comes_back(alloc, &count, &SUM));
+    assert!(rt; replies(alloc, &mut count, &MOST));
     assert!(rt; is_refused::<Count>(alloc, b"0000007"));
-    Ok(())
 }
 
 /// Operations on a key-value store and its replies, and the snapshot behind them.
@@ -77,37 +75,41 @@ const TURNS: [(&str, &str); 12] = [
 const PAIRS: [u8; 23] = *b"\0\x02\0\0\0\x01a\0\0\0\x02 1\0\0\0\x01b\0\0\0\x015";
 
 #[test]
-fn keys_are_put_told_and_taken_out(rt: HostRuntime) -> Result<(), Fail> {
-    let mut store = KeyValueStore::first(rt.alloc())?;
-    replies(&rt, rt.alloc(), &mut store, &TURNS)?;
-    comes_back(&rt, rt.alloc(), &store, &PAIRS)
+fn keys_are_put_told_and_taken_out(rt: HostRuntime) {
+    let mut store = KeyValueStore::first(rt.alloc()).expect(&rt, "there is memory");
+    assert!(rt; replies(rt.alloc(), &mut store, &TURNS));
+    assert!(rt; comes_back(rt.alloc(), &store, &PAIRS));
 }
 
 #[test]
 fn what_is_no_snapshot_of_a_store_is_refused(rt: HostRuntime) {
-    for (name, bytes) in [
-        ("no entry", "\0\x01"),
-        ("an entry left over", "\0\0\0\0\0\x01a\0\0\0\x011"),
-        ("no value", "\0\x01\0\0\0\x01a\0\0\0\0"),
-        (
-            "keys that descend",
-            "\0\x02\0\0\0\x01b\0\0\0\x011\0\0\0\x01a\0\0\0\x012",
-        ),
-    ] {
-        let refused = is_refused::<KeyValueStore>(rt.alloc(), bytes.as_bytes());
-        assert!(rt; refused, "at {name}");
+    // No entry, an entry left over, no value, and keys that descend.
+    let none = b"\0\x01";
+    let over = b"\0\0\0\0\0\x01a\0\0\0\x011";
+    let empty = b"\0\x01\0\0\0\x01a\0\0\0\0";
+    let descend = b"\0\x02\0\0\0\x01b\0\0\0\x011\0\0\0\x01a\0\0\0\x012";
+    assert!(rt; is_refused::<KeyValueStore>(rt.alloc(), none));
+    assert!(rt; is_refused::<KeyValueStore>(rt.alloc(), over));
+    assert!(rt; is_refused::<KeyValueStore>(rt.alloc(), empty));
+    assert!(rt; is_refused::<KeyValueStore>(rt.alloc(), descend));
+}
+
+/// Puts a value at each of the first 4,096 numbers.
+fn fill(rt: &impl Abort, alloc: Global, store: &mut KeyValueStore) {
+    for i in 0..4096u32 {
+        let op = format!(in alloc; "put {i} 1").expect(rt, "there is memory");
+        let _told = store
+            .run(alloc, op.as_bytes())
+            .expect(rt, "there is memory");
     }
 }
 
+/// Operations on a store of 4,096 keys and its replies.
+const FULL: [(&str, &str); 3] = [("put x 1", "full"), ("put 17 2", "old"), ("get 17", "=2")];
+
 #[test]
-fn no_key_is_new_where_4096_stand(rt: HostRuntime) -> Result<(), Fail> {
-    let alloc = rt.alloc();
-    let mut store = KeyValueStore::first(alloc)?;
-    for i in 0..4096u32 {
-        let op = format!(in alloc; "put {i} 1")?;
-        let _told = store.run(alloc, op.as_bytes())?;
-    }
-    let turns = [("put x 1", "full"), ("put 17 2", "old"), ("get 17", "=2")];
-    replies(&rt, alloc, &mut store, turns.as_slice())?;
-    Ok(())
+fn no_key_is_new_where_4096_stand(rt: HostRuntime) {
+    let mut store = KeyValueStore::first(rt.alloc()).expect(&rt, "there is memory");
+    fill(&rt, rt.alloc(), &mut store);
+    assert!(rt; replies(rt.alloc(), &mut store, &FULL));
 }

@@ -3,8 +3,9 @@ use faults::Fault;
 use smart_io::memory::{MemSink, MemSource};
 use smart_io::standard::{StdSink, StdSource};
 use smart_io::stream::{Sink, Source, write_all};
+use std::alloc::Global;
 use std::io::{self, Read, Write};
-use std::test::Fail;
+use std::process::Abort;
 
 /// A reader and a writer that fail at every call.
 #[derive(Drop)]
@@ -26,50 +27,66 @@ impl Write for Broken {
     }
 }
 
-#[test]
-fn a_source_in_memory_fails_where_it_is_told_to(rt: HostRuntime) -> Result<(), Fail> {
-    let alloc = rt.alloc();
-    let mut piece = [0; 2];
-    let mut source = MemSource::new(b"abc".to_vec(alloc)?, [2].to_vec(alloc)?);
-    assert_eq!(rt; source.read(&mut piece), Ok(2));
-    assert_eq!(rt; piece, *b"ab");
-    assert_eq!(rt; source.read(&mut piece), Err(Fault::Failed));
-    assert_eq!(rt; source.read(&mut piece), Ok(1));
-    assert_eq!(rt; piece, *b"cb");
-    assert_eq!(rt; source.read(&mut piece), Ok(0));
-    assert_eq!(rt; source.faults, 1);
-    Ok(())
+fn copied<T: Copy>(rt: &impl Abort, alloc: Global, items: &[T]) -> Vec<T> {
+    Vec::from_slice(alloc, items).expect(rt, "there is memory")
+}
+
+const FAILED: Fault = Fault::Failed;
+
+/// Whether a read into two dashes answers so and makes these bytes of them.
+fn reads<S: Source>(source: &mut S, answer: Result<usize, Fault>, bytes: &[u8; 2]) -> bool {
+    let mut piece = *b"--";
+    let told = source.read(&mut piece);
+    told == answer && piece == *bytes
+}
+
+/// Whether a write of all bytes answers so.
+fn writes<O: Sink>(sink: &mut O, bytes: &[u8], answer: Result<(), Fault>) -> bool {
+    write_all(sink, bytes) == answer
+}
+
+/// Whether a flush answers so.
+fn flushes<O: Sink>(sink: &mut O, answer: Result<(), Fault>) -> bool {
+    sink.flush() == answer
 }
 
 #[test]
-fn a_sink_in_memory_fails_where_it_is_told_to(rt: HostRuntime) -> Result<(), Fail> {
-    let alloc = rt.alloc();
-    let mut sink = MemSink::new(b"a".to_vec(alloc)?, [2, 4].to_vec(alloc)?);
-    assert_eq!(rt; write_all(&mut sink, b"bc"), Ok(()));
-    assert_eq!(rt; write_all(&mut sink, b"de"), Err(Fault::Failed));
-    assert_eq!(rt; sink.flush(), Ok(()));
-    assert_eq!(rt; sink.flush(), Err(Fault::Failed));
-    assert_eq!(rt; sink.bytes.as_slice(), b"abc".as_slice());
-    assert_eq!(rt; (sink.faults, sink.wants), (2, 0));
-    Ok(())
+fn a_source_in_memory_fails_where_it_is_told_to(rt: HostRuntime) {
+    let bytes = copied(&rt, rt.alloc(), b"abc");
+    let mut source = MemSource::new(bytes, copied(&rt, rt.alloc(), &[2]));
+    assert!(rt; reads(&mut source, Ok(2), b"ab"));
+    assert!(rt; reads(&mut source, Err(FAILED), b"--"));
+    assert!(rt; reads(&mut source, Ok(1), b"c-"));
+    assert!(rt; reads(&mut source, Ok(0), b"--"));
+    assert!(rt; source.faults == 1);
+}
+
+#[test]
+fn a_sink_in_memory_fails_where_it_is_told_to(rt: HostRuntime) {
+    let bytes = copied(&rt, rt.alloc(), b"a");
+    let mut sink = MemSink::new(bytes, copied(&rt, rt.alloc(), &[2, 4]));
+    assert!(rt; writes(&mut sink, b"bc", Ok(())));
+    assert!(rt; writes(&mut sink, b"de", Err(FAILED)));
+    assert!(rt; flushes(&mut sink, Ok(())));
+    assert!(rt; flushes(&mut sink, Err(FAILED)));
+    assert!(rt; sink.bytes.as_slice() == b"abc".as_slice());
+    assert!(rt; sink.faults == 2 && sink.wants == 0);
 }
 
 #[test]
 fn a_source_fails_where_its_reader_does(rt: HostRuntime) {
-    let mut piece = [0; 2];
     let mut source = StdSource {
         inner: b"abc".as_slice(),
         faults: 0,
     };
-    assert_eq!(rt; source.read(&mut piece), Ok(2));
-    assert_eq!(rt; piece, *b"ab");
-    assert_eq!(rt; source.faults, 0);
+    assert!(rt; reads(&mut source, Ok(2), b"ab"));
+    assert!(rt; source.faults == 0);
     let mut source = StdSource {
         inner: Broken,
         faults: 3,
     };
-    assert_eq!(rt; source.read(&mut piece), Err(Fault::Failed));
-    assert_eq!(rt; source.faults, 4);
+    assert!(rt; reads(&mut source, Err(FAILED), b"--"));
+    assert!(rt; source.faults == 4);
 }
 
 #[test]
@@ -78,12 +95,12 @@ fn a_sink_fails_where_its_writer_is_full(rt: HostRuntime) {
         inner: io::Cursor::new([0; 3]),
         faults: 0,
     };
-    assert_eq!(rt; write_all(&mut sink, b"ab"), Ok(()));
-    assert_eq!(rt; sink.flush(), Ok(()));
-    assert_eq!(rt; sink.faults, 0);
-    assert_eq!(rt; write_all(&mut sink, b"cd"), Err(Fault::Failed));
-    assert_eq!(rt; sink.faults, 1);
-    assert_eq!(rt; sink.inner.into_inner(), *b"abc");
+    assert!(rt; writes(&mut sink, b"ab", Ok(())));
+    assert!(rt; flushes(&mut sink, Ok(())));
+    assert!(rt; sink.faults == 0);
+    assert!(rt; writes(&mut sink, b"cd", Err(FAILED)));
+    assert!(rt; sink.faults == 1);
+    assert!(rt; sink.inner.into_inner() == *b"abc");
 }
 
 #[test]
@@ -92,7 +109,7 @@ fn a_sink_fails_where_its_writer_does(rt: HostRuntime) {
         inner: Broken,
         faults: 0,
     };
-    assert_eq!(rt; write_all(&mut sink, b"ab"), Err(Fault::Failed));
-    assert_eq!(rt; sink.flush(), Err(Fault::Failed));
-    assert_eq!(rt; sink.faults, 2);
+    assert!(rt; writes(&mut sink, b"ab", Err(FAILED)));
+    assert!(rt; flushes(&mut sink, Err(FAILED)));
+    assert!(rt; sink.faults == 2);
 }

@@ -5,9 +5,9 @@ ghost use Rattle.log_lane.specs.Lane.{in_lane, out_lane};
 use log_lane::ends::{LaneEnd, lane, rejoin};
 use log_lane::inward::LaneIn;
 use log_lane::outward::LaneOut;
-use std::alloc::{AllocError, Global};
+use std::alloc::Global;
+use std::process::Abort;
 use std::sync::Wait;
-use std::test::Fail;
 use std::thread;
 use std::thread::Threads;
 
@@ -32,78 +32,70 @@ fn put_all<R: Wait>(rt: &R, inward: LaneIn<u32>, count: u32) -> LaneIn<u32>
     inward
 }
 
-/// Takes so many entries, and stores each.
-fn store_all<R: Wait>(
-    rt: &R,
-    alloc: Global,
-    outward: LaneOut<u32>,
-    count: usize,
-) -> (LaneOut<u32>, Vec<u32>)
+/// Takes so many entries, and stores each. The second result is how many came in their turn.
+fn store_all<R: Wait>(rt: &R, outward: LaneOut<u32>, count: u64) -> (LaneOut<u32>, u32)
     ensures { out_lane result.0 ≡ out_lane outward }
 {
     let mut outward = outward;
-    let mut got = Vec::new(alloc);
+    let mut next: u32 = 0;
     for _ in rt.forever() {
-        if got.len() >= count || got.reserve(1).is_err() {
+        let taken = outward.taken();
+        outward.raise(taken);
+        if taken >= count {
             break;
         }
         match outward.take(rt) {
-            Some(entry) => {
-                got.push_reserved(entry);
-                let taken = outward.taken();
-                outward.raise(taken);
-            }
+            Some(entry) if entry == next => next = next.wrapping_add(1),
+            Some(_) => {}
             None => thread::yield_now(),
         }
     }
-    (outward, got)
+    (outward, next)
 }
 
-/// What of the numbers below `count` went through a lane from one thread to another.
-fn carried<R: Threads + Wait + Sync>(
-    rt: &R,
-    alloc: Global,
-    count: u32,
-) -> Result<(Vec<u32>, LaneEnd), AllocError> {
-    let (inward, outward) = lane(alloc, 3)?;
-    let (inward, (outward, got)) = thread::join(
+/// How many of the numbers below `count` went in their turn from one thread to another.
+fn carried<R: Threads + Wait + Abort + Sync>(rt: &R, alloc: Global, count: u32) -> (u32, LaneEnd) {
+    let (inward, outward) = lane(alloc, 3).expect(rt, "there is memory");
+    let (inward, (outward, in_turn)) = thread::join(
         rt,
         move || -> LaneIn<u32>
             ensures { in_lane result ≡ in_lane inward }
         { put_all(rt, inward, count) },
-        move || -> (LaneOut<u32>, Vec<u32>)
+        move || -> (LaneOut<u32>, u32)
             ensures { out_lane result.0 ≡ out_lane outward }
-        { store_all(rt, alloc, outward, count as usize) },
+        { store_all(rt, outward, u64::from(count)) },
     );
-    Ok((got, rejoin(inward, outward)))
+    (in_turn, rejoin(inward, outward))
 }
 
 #[test]
-fn entries_arrive_in_order_and_are_stored(rt: HostRuntime) -> Result<(), Fail> {
-    let (got, end) = carried(&rt, rt.alloc(), 5000)?;
+fn entries_arrive_in_order_and_are_stored(rt: HostRuntime) {
+    let (in_turn, end) = carried(&rt, rt.alloc(), 5000);
+    assert_eq!(rt; in_turn, 5000);
     assert_eq!(rt; (end.put, end.taken, end.firm), (5000, 5000, 5000));
-    assert!(rt; got.as_slice().iter().copied().eq(0..5000));
-    Ok(())
 }
 
 #[test]
-fn room_comes_back_when_entries_are_stored(rt: HostRuntime) -> Result<(), Fail> {
-    let (mut inward, mut outward) = lane::<u32>(rt.alloc(), 2)?;
+fn room_comes_back_when_entries_are_stored(rt: HostRuntime) {
+    let (mut inward, mut outward) = lane::<u32>(rt.alloc(), 2).expect(&rt, "there is memory");
     inward.put(&rt, 5);
     inward.put(&rt, 6);
-    assert_eq!(rt; inward.room(), 0);
-    assert_eq!(rt; outward.take(&rt), Some(5));
-    assert_eq!(rt; outward.take(&rt), Some(6));
-    assert_eq!(rt; outward.take(&rt), None);
-    assert_eq!(rt; (inward.firm(), inward.room()), (0, 0));
+    let entry = outward.take(&rt);
+    assert_eq!(rt; entry, Some(5));
+    let before = (inward.firm(), inward.room());
     outward.raise(1);
-    let told = outward.tell();
-    inward.hear(told);
-    assert_eq!(rt; (inward.firm(), inward.room()), (1, 1));
+    let behind = (inward.firm(), inward.room());
+    let end = rejoin(inward, outward);
+    assert_eq!(rt; (before, behind, end.firm), ((0, 0), (1, 1), 1));
+}
+
+#[test]
+fn each_end_of_a_lane_hears_the_other(rt: HostRuntime) {
+    let (mut inward, mut outward) = lane::<u32>(rt.alloc(), 2).expect(&rt, "there is memory");
     let told = inward.tell();
     outward.hear(told);
     outward.compare();
-    let end = rejoin(inward, outward);
-    assert_eq!(rt; (end.put, end.taken, end.firm), (2, 2, 1));
-    Ok(())
+    let told = outward.tell();
+    inward.hear(told);
+    assert_eq!(rt; rejoin(inward, outward).put, 0);
 }

@@ -1,10 +1,8 @@
-//! Tests of what goes from one thread to another: queues with two ends, the lane to a log, and the
-//! links of a group.
+//! Tests of what goes from one thread to another: the lane to a log and the links of a group, and
+//! by them the queues with two ends.
 #![tactic(auto)]
 
 #[cfg(test)]
 mod lanes;
 #[cfg(test)]
 mod links;
-#[cfg(test)]
-mod queues;

@@ -5,9 +5,9 @@ ghost use Rattle.group_links.specs.Link.{in_link, out_link};
 use group_links::ends::{LinkEnd, link, rejoin};
 use group_links::inward::{LinkIn, Sending};
 use group_links::outward::LinkOut;
-use std::alloc::{AllocError, Global};
+use std::alloc::Global;
+use std::process::Abort;
 use std::sync::Wait;
-use std::test::Fail;
 use std::thread;
 use std::thread::Threads;
 
@@ -29,70 +29,79 @@ fn send_all<R: Wait>(rt: &R, inward: LinkIn<u32>, count: u32) -> LinkIn<u32>
     inward
 }
 
-/// Polls until so many messages came.
-fn poll_all<R: Wait>(
-    rt: &R,
-    alloc: Global,
-    outward: LinkOut<u32>,
-    count: usize,
-) -> (LinkOut<u32>, Vec<u32>)
+/// Polls until so many messages came. The second result is how many came in their turn.
+fn poll_all<R: Wait>(rt: &R, outward: LinkOut<u32>, count: u32) -> (LinkOut<u32>, u32)
     ensures { out_link result.0 ≡ out_link outward }
 {
     let mut outward = outward;
-    let mut got = Vec::new(alloc);
+    let mut came: u32 = 0;
+    let mut next: u32 = 0;
     for _ in rt.forever() {
-        if got.len() >= count || got.reserve(1).is_err() {
+        if came >= count {
             break;
         }
         match outward.poll(rt) {
-            Some(message) => got.push_reserved(message),
+            Some(message) => {
+                came = came.wrapping_add(1);
+                next = next.wrapping_add(u32::from(message == next));
+            }
             None => thread::yield_now(),
         }
     }
-    (outward, got)
+    (outward, next)
 }
 
-/// What of the numbers below `count` came through a link from one thread to another.
-fn carried<R: Threads + Wait + Sync>(
-    rt: &R,
-    alloc: Global,
-    count: u32,
-) -> Result<(Vec<u32>, LinkEnd), AllocError> {
-    let (inward, outward) = link(alloc, 3)?;
-    let (inward, (outward, got)) = thread::join(
+/// How many of the numbers below `count` came in their turn from one thread to another.
+fn carried<R: Threads + Wait + Abort + Sync>(rt: &R, alloc: Global, count: u32) -> (u32, LinkEnd) {
+    let (inward, outward) = link(alloc, 3).expect(rt, "there is memory");
+    let (inward, (outward, in_turn)) = thread::join(
         rt,
         move || -> LinkIn<u32>
             ensures { in_link result ≡ in_link inward }
         { send_all(rt, inward, count) },
-        move || -> (LinkOut<u32>, Vec<u32>)
+        move || -> (LinkOut<u32>, u32)
             ensures { out_link result.0 ≡ out_link outward }
-        { poll_all(rt, alloc, outward, count as usize) },
+        { poll_all(rt, outward, count) },
     );
-    Ok((got, rejoin(inward, outward)))
+    (in_turn, rejoin(inward, outward))
 }
 
 #[test]
-fn messages_arrive_in_order(rt: HostRuntime) -> Result<(), Fail> {
-    let (got, end) = carried(&rt, rt.alloc(), 2000)?;
+fn messages_arrive_in_order(rt: HostRuntime) {
+    let (in_turn, end) = carried(&rt, rt.alloc(), 2000);
+    assert_eq!(rt; in_turn, 2000);
     assert_eq!(rt; (end.put, end.taken), (2000, 2000));
-    assert!(rt; got.as_slice().iter().copied().eq(0..2000));
-    Ok(())
+}
+
+/// Whether a message is sent.
+fn sends<R: Wait>(rt: &R, inward: &mut LinkIn<u32>, message: u32) -> bool
+    ensures { in_link inward.new ≡ in_link inward.old }
+{
+    match inward.send(rt, message) {
+        Sending::Sent => true,
+        Sending::Dropped { message: _ } => false,
+    }
 }
 
 #[test]
-fn a_full_link_drops(rt: HostRuntime) -> Result<(), Fail> {
-    let (mut inward, mut outward) = link::<u32>(rt.alloc(), 1)?;
-    assert!(rt; matches!(inward.send(&rt, 3), Sending::Sent));
-    assert!(rt; matches!(inward.send(&rt, 4), Sending::Dropped { message: 4 }));
+fn a_full_link_drops(rt: HostRuntime) {
+    let (mut inward, mut outward) = link::<u32>(rt.alloc(), 1).expect(&rt, "there is memory");
+    let sent = [sends(&rt, &mut inward, 3), sends(&rt, &mut inward, 4)];
+    let came = [outward.poll(&rt), outward.poll(&rt)];
+    let is_sent = sends(&rt, &mut inward, 5);
+    let end = rejoin(inward, outward);
+    assert_eq!(rt; sent, [true, false]);
+    assert_eq!(rt; came, [Some(3), None]);
+    assert_eq!(rt; (is_sent, end.put, end.taken), (true, 2, 1));
+}
+
+#[test]
+fn each_end_of_a_link_hears_the_other(rt: HostRuntime) {
+    let (mut inward, mut outward) = link::<u32>(rt.alloc(), 1).expect(&rt, "there is memory");
     let told = inward.tell();
     outward.hear(told);
-    assert_eq!(rt; outward.poll(&rt), Some(3));
-    assert_eq!(rt; outward.poll(&rt), None);
     outward.compare();
     let told = outward.tell();
     inward.hear(told);
-    assert!(rt; matches!(inward.send(&rt, 5), Sending::Sent));
-    let end = rejoin(inward, outward);
-    assert_eq!(rt; (end.put, end.taken), (2, 1));
-    Ok(())
+    assert_eq!(rt; rejoin(inward, outward).put, 0);
 }
