@@ -1,12 +1,11 @@
 -- An index of batches says of a further batch whether it clashes, and stays one where it does not.
-use Rattle.std.proofs.Common.{◌≡◌, ℕ, inl, inr, Bool, true, false, List, [], ◌∷◌, ◌++◌, Option, Some, None, refl, ap, sym, ◌∙◌, ⊎_elim}
+use Rattle.std.proofs.Common.{◌≡◌, ℕ, inl, inr, Bool, true, false, List, [], ◌∷◌, ◌++◌, map, Option, Some, None, refl, ap, sym, ◌∙◌, ⊎_elim}
 use Rattle.std.specs.Prelude.{◌&&◌, ◌||◌, not, cond, nat_eq, option_to_list}
 use Rattle.std.specs.Cmp.Lexicographic.{pointwise, bytes_decides}
-use Rattle.std.specs.List.{list_any, flat_map}
+use Rattle.std.specs.List.{list_any}
 use Rattle.std.proofs.lemmas.Bool.{eqb-true, eq-eqb}
 use Rattle.std.proofs.lemmas.List.{append-nil}
 use Rattle.std.proofs.lemmas.List.Concat.{flat_map-append}
-use Rattle.std.proofs.lemmas.List.Folds.{list_any-append}
 use Rattle.smart_base.specs.Lists.{Each, same_bytes}
 use Rattle.smart_base.proofs.SameLists.{same_list-equal}
 use Rattle.smart_statements.specs.Batches.{Batch, batch_text}
@@ -16,11 +15,13 @@ use Rattle.smart_messages.specs.declared.regency.RegencyMessage.TheVariants as c
 use Rattle.smart_messages.specs.declared.message.Message.TheVariants.{Ask, Propose, Vote, Reply}
 use Rattle.smart_keys.specs.Keys.{digest}
 use Rattle.replica_rules.specs.Seals.{digest_of}
-use Rattle.world_rules.specs.Premises.{batches_in, batches, met, clash, collides}
+use Rattle.world_rules.specs.Premises.{Claim, batches_in, batches, met, clash, collides}
 use Rattle.world_rules.specs.declared.message.Content.{Content}
 use Rattle.world_rules.specs.declared.message.Content.TheVariants as contents
 use Rattle.world_rules.specs.declared.message.Sent.{Sent}
 use Rattle.world_ledger.specs.Ledgers.{IsIndex, IsTextOf, indexed}
+use Rattle.world_ledger.specs.Statements.{claim_of}
+use Rattle.world_ledger.specs.declared.stated.Stated.{Stated}
 
 same_bytes-refl : (a : List ℕ) → same_bytes a a ≡ true
 same_bytes-refl [] = refl
@@ -216,16 +217,6 @@ digest_of_is b text key same is = sym (is ∙ ap (λ x. digest x) same)
 
 -- ---- one of several is forged
 
--- where the next one is, one of all is
-pub any-here : {A C : Type 0} (f : C → Bool) (g : A → List C) (x : A) (rest all : List A) (total : Bool) → all ≡ x ∷ rest → list_any f (flat_map g all) ≡ total
-    → list_any f (g x) ≡ true → true ≡ total
-any-here f g x rest all total is so_far here =
-    let e : list_any f (g x ++ flat_map g rest) ≡ total = rw is at so_far in
-    sym (first_holds (list_any f (g x)) (list_any f (flat_map g rest)) here) ∙ (sym (list_any-append f (g x) (flat_map g rest)) ∙ e)
-
--- where it is not, one of those left is
-pub any-later : {A C : Type 0} (f : C → Bool) (g : A → List C) (x : A) (rest all : List A) (total : Bool) → all ≡ x ∷ rest → list_any f (flat_map g all) ≡ total
-    → list_any f (g x) ≡ false → list_any f (flat_map g rest) ≡ total
-any-later f g x rest all total is so_far differ =
-    let e : list_any f (g x ++ flat_map g rest) ≡ total = rw is at so_far in
-    sym (ap (λ b. b || list_any f (flat_map g rest)) differ) ∙ (sym (list_any-append f (g x) (flat_map g rest)) ∙ e)
+pub any_claimed : (f : Claim → Bool) (xs : List Stated) → list_any (λ s. f (claim_of s)) xs ≡ list_any f (map claim_of xs)
+any_claimed f [] = refl
+any_claimed f (x ∷ xs) = ap (λ b. f (claim_of x) || b) (any_claimed f xs)

@@ -15,8 +15,6 @@ use Rattle.world_rules.specs.declared.message.Origin.{Origin}
 use Rattle.world_rules.specs.declared.message.Sent.{Sent}
 use Rattle.world_ledger.specs.declared.stated.Stated.{Stated}
 use Rattle.world_ledger.specs.Statements.{claim_of, same_stated, is_own, IsStatedIndex}
-use Rattle.std.proofs.lemmas.List.Elements.{filter-append}
-use Rattle.std.proofs.lemmas.List.{append-nil}
 
 -- what a call that succeeds ensures
 pub on_ok : {A E : Type 0} (r : Result A E) (P : Type 0) → IsOk r → OnOk r P → P
@@ -126,12 +124,30 @@ stated-more f g sent s own index is more =
 -- ---- statements are kept
 
 -- those kept of one more, and of the rest
-pub kept-more : {A C : Type 0} (f : C → Bool) (g : A → List C) (x : A) (rest all : List A) (old new : List C) (total : List C)
-    → new ≡ old ++ filter f (g x) → all ≡ x ∷ rest → old ++ filter f (flat_map g all) ≡ total → new ++ filter f (flat_map g rest) ≡ total
-kept-more f g x rest all old new total more is so_far =
-    let split = filter-append f (g x) (flat_map g rest) in
-    let e : old ++ filter f (flat_map g (x ∷ rest)) ≡ total = rw is at so_far in
-    rw more (append_assoc old (filter f (g x)) (filter f (flat_map g rest)) ∙ (ap (λ c. old ++ c) (sym split) ∙ e))
+pub kept-more : {A C : Type 0} (g : A → List C) (x : A) (rest all : List A) (old new : List C) (total : List C) → new ≡ old ++ g x → all ≡ x ∷ rest
+    → old ++ flat_map g all ≡ total → new ++ flat_map g rest ≡ total
+kept-more g x rest all old new total more is so_far =
+    let e : old ++ flat_map g (x ∷ rest) ≡ total = rw is at so_far in
+    rw more (append_assoc old (g x) (flat_map g rest) ∙ e)
+
+-- of what is kept in parts, one behind the other
+pub kept_two : {C : Type 0} (old mid new xs ys : List C) → mid ≡ old ++ xs → new ≡ mid ++ ys → new ≡ old ++ (xs ++ ys)
+kept_two old mid new xs ys one two = two ∙ rw one (append_assoc old xs ys)
+
+pub kept_parts : {C : Type 0} (old one two new xs ys zs : List C) → one ≡ old ++ xs → two ≡ one ++ ys → new ≡ two ++ zs → new ≡ old ++ (xs ++ (ys ++ zs))
+kept_parts old one two new xs ys zs a b c = kept_two old one new xs (ys ++ zs) a (kept_two one two new ys zs b c)
+
+-- those that are their sender's own, of one more and of the rest
+pub own-more : (o : Origin) (x : Stated) (rest all : List Stated) (old new : List Claim) (total : List Claim) (own : Bool) → is_own o (claim_of x) ≡ own
+    → new ≡ cond own (old ++ claim_of x ∷ []) old → all ≡ x ∷ rest → old ++ filter (is_own o) (map claim_of all) ≡ total → new ++ filter (is_own o) (map claim_of rest) ≡ total
+own-more o x rest all old new total true is more front so_far =
+    let e : old ++ filter (is_own o) (claim_of x ∷ map claim_of rest) ≡ total = rw front at so_far in
+    let f : old ++ claim_of x ∷ filter (is_own o) (map claim_of rest) ≡ total = rw is at e in
+    rw more (append_assoc old (claim_of x ∷ []) (filter (is_own o) (map claim_of rest)) ∙ f)
+own-more o x rest all old new total false is more front so_far =
+    let e : old ++ filter (is_own o) (claim_of x ∷ map claim_of rest) ≡ total = rw front at so_far in
+    let f : old ++ filter (is_own o) (map claim_of rest) ≡ total = rw is at e in
+    rw more f
 
 -- ---- statements are put
 
@@ -147,14 +163,3 @@ pub put-more : {A : Type 0} (same : A → A → Bool) (f g : A → Bool) (x : A)
 put-more same f g x rest all q total is more so_far =
     let e : (list_any (λ o. same o q) (x ∷ rest) || f q) ≡ total = rw is at so_far in
     rw more (swap (same x q) (list_any (λ o. same o q) rest) (f q) ∙ e)
-
--- of what is kept in parts, one behind the other
-pub kept_two : {C : Type 0} (f : C → Bool) (old mid new xs ys : List C) → mid ≡ old ++ filter f xs → new ≡ mid ++ filter f ys → new ≡ old ++ filter f (xs ++ ys)
-kept_two f old mid new xs ys one two = two ∙ (rw one (append_assoc old (filter f xs) (filter f ys)) ∙ ap (λ zs. old ++ zs) (sym (filter-append f xs ys)))
-
-pub kept_parts : {C : Type 0} (f : C → Bool) (old one two new xs ys zs : List C) → one ≡ old ++ filter f xs → two ≡ one ++ filter f ys → new ≡ two ++ filter f zs
-    → new ≡ old ++ filter f (xs ++ (ys ++ zs))
-kept_parts f old one two new xs ys zs a b c = kept_two f old one new xs (ys ++ zs) a (kept_two f one two new ys zs b c)
-
-pub kept_last : {C : Type 0} (f : C → Bool) (old new xs : List C) → new ≡ old ++ filter f xs → new ≡ old ++ filter f (xs ++ [])
-kept_last f old new xs is = is ∙ ap (λ zs. old ++ filter f zs) (sym (append-nil xs))

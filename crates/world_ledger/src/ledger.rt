@@ -3,16 +3,15 @@ ghost use Rattle.std.specs.Prelude.{◌≡◌, ◌++◌, [], ◌∷◌, ℕ, Lis
 ghost use Rattle.std.specs.Cmp.Lexicographic.{pointwise};
 ghost use Rattle.std.specs.HashMap.{get};
 ghost use Rattle.std.specs.HashSet.{contains};
-ghost use Rattle.std.specs.List.{list_any, flat_map};
+ghost use Rattle.std.specs.List.{list_any};
 ghost use Rattle.world_rules.specs.Secrets.{group_secret};
 ghost use Rattle.world_rules.specs.Premises.{batches, met, clash, is_forgery, is_forged, collides};
-ghost use Rattle.world_ledger.specs.Claims.{claims_of, claims_of_each, in_evidence, in_lock, in_report, in_plain, in_change, in_message};
 ghost use Rattle.world_rules.specs.declared.message.Sent.{Sent};
-ghost use Rattle.world_ledger.specs.Statements.{same_stated};
+ghost use Rattle.world_ledger.specs.Statements.{claim_of, same_stated};
 ghost use Rattle.world_ledger.specs.Ledgers.{indexed, IsIndexed};
 
+use crate::claims::claims;
 use crate::content::batch_met;
-use crate::party::signer_of;
 use crate::secret::GroupRing;
 use crate::stated::{Stated, StatedIndex, is_excused, own_statements, put_all};
 use smart_base::equality::same_bytes;
@@ -21,12 +20,7 @@ use smart_base::name::{ClientId, MemberId};
 use smart_base::sequence::Bytes;
 use smart_keys::hash::Sha;
 use smart_keys::ring::Ring;
-use smart_messages::any::AnyMessage;
-use smart_messages::message::Message;
-use smart_messages::regency::RegencyMessage;
 use smart_statements::batch::Batch;
-use smart_statements::report::{Evidence, LockCertificate, Report};
-use smart_statements::signed::{Signed, Statement};
 use std::alloc::{AllocError, Global};
 use std::collections::{HashMap, HashSet};
 use std::marker::Model;
@@ -148,184 +142,24 @@ impl Ledger {
         }
     }
 
-    /// Whether the tag verifies of a statement that its signer, who is not excused, has not sent.
-    fn is_forgery<S: Statement>(
-        &self,
-        alloc: Global,
-        faulty: &[MemberId],
-        rogue: &[ClientId],
-        signed: &Signed<S>,
-    ) -> Result<bool, AllocError>
-        ensures { IfOk result (λ forgery. forgery ≡ list_any (is_forgery faulty.now rogue.now self.now) (claims_of S.form signed.now)) }
+    /// Whether the signer of a statement, who is not excused, has not sent it.
+    fn is_forgery(&self, faulty: &[MemberId], rogue: &[ClientId], stated: &Stated) -> bool
+        ensures { result ≡ is_forgery faulty.now rogue.now self.now (claim_of stated.now) }
     {
-        if !signed.verifies(self.ring.get()) || is_excused(faulty, rogue, signer_of(signed)) {
-            return Ok(false);
-        }
-        let stated = Stated::from_signed(alloc, signed)?;
-        Ok(!self.stated.contains(&stated))
+        !is_excused(faulty, rogue, stated.signer()) && !self.stated.contains(stated)
     }
 
     /// Whether one of several statements is forged.
-    fn has_forgery<S: Statement>(
-        &self,
-        alloc: Global,
-        faulty: &[MemberId],
-        rogue: &[ClientId],
-        items: &[Signed<S>],
-    ) -> Result<bool, AllocError>
-        ensures { IfOk result (λ forged. forged ≡ list_any (is_forgery faulty.now rogue.now self.now) (claims_of_each S.form items.now)) }
+    fn has_forgery(&self, faulty: &[MemberId], rogue: &[ClientId], found: &[Stated]) -> bool
+        ensures { result ≡ list_any (λ s. is_forgery faulty.now rogue.now self.now (claim_of s)) found.now }
     {
-        for item in items {
-            if self.is_forgery(alloc, faulty, rogue, item)? {
-                return Ok(true);
-            }
-        }
-        Ok(false)
-    }
-
-    fn is_evidence_forged(
-        &self,
-        alloc: Global,
-        faulty: &[MemberId],
-        rogue: &[ClientId],
-        evidence: &Evidence,
-    ) -> Result<bool, AllocError>
-        ensures { IfOk result (λ forged. forged ≡ list_any (is_forgery faulty.now rogue.now self.now) (in_evidence evidence.now)) }
-    {
-        match evidence {
-            Evidence::Nothing => Ok(false),
-            Evidence::Decided(proof) => {
-                Ok(self.has_forgery(alloc, faulty, rogue, proof.accepts.as_slice())?)
-            }
-            Evidence::Marked(certificate) => {
-                Ok(self.has_forgery(alloc, faulty, rogue, certificate.marks.as_slice())?)
-            }
-        }
-    }
-
-    fn is_lock_forged(
-        &self,
-        alloc: Global,
-        faulty: &[MemberId],
-        rogue: &[ClientId],
-        lock: &Option<LockCertificate>,
-    ) -> Result<bool, AllocError>
-        ensures { IfOk result (λ forged. forged ≡ list_any (is_forgery faulty.now rogue.now self.now) (in_lock lock.now)) }
-    {
-        match lock {
-            None => Ok(false),
-            Some(lock) => Ok(self.has_forgery(alloc, faulty, rogue, lock.writes.as_slice())?),
-        }
-    }
-
-    /// Whether a report is forged, or something that stands in it.
-    fn is_report_forged(
-        &self,
-        alloc: Global,
-        faulty: &[MemberId],
-        rogue: &[ClientId],
-        report: &Signed<Report>,
-    ) -> Result<bool, AllocError>
-        ensures { IfOk result (λ forged. forged ≡ list_any (is_forgery faulty.now rogue.now self.now) (in_report report.now)) }
-    {
-        let statement = report.statement();
-        if self.is_forgery(alloc, faulty, rogue, report)?
-            || self.is_evidence_forged(alloc, faulty, rogue, &statement.evidence)?
-        {
-            return Ok(true);
-        }
-        Ok(self.is_lock_forged(alloc, faulty, rogue, &statement.lock)?)
-    }
-
-    fn has_forged_report(
-        &self,
-        alloc: Global,
-        faulty: &[MemberId],
-        rogue: &[ClientId],
-        reports: &[Signed<Report>],
-    ) -> Result<bool, AllocError>
-        ensures { IfOk result (λ forged. forged ≡ list_any (is_forgery faulty.now rogue.now self.now) (flat_map in_report reports.now)) }
-    {
-        for report in reports {
-            if self.is_report_forged(alloc, faulty, rogue, report)? {
-                return Ok(true);
-            }
-        }
-        Ok(false)
-    }
-
-    fn is_plain_forged(
-        &self,
-        alloc: Global,
-        faulty: &[MemberId],
-        rogue: &[ClientId],
-        message: &Message,
-    ) -> Result<bool, AllocError>
-        ensures { IfOk result (λ forged. forged ≡ list_any (is_forgery faulty.now rogue.now self.now) (in_plain message.now)) }
-    {
-        match message {
-            Message::Ask(request) => Ok(self.is_forgery(alloc, faulty, rogue, request)?),
-            Message::Propose(proposed) => {
-                if self.is_forgery(alloc, faulty, rogue, &proposed.head)? {
-                    return Ok(true);
-                }
-                Ok(self.has_forgery(alloc, faulty, rogue, proposed.batch.as_slice())?)
-            }
-            Message::Vote(ballot) => Ok(self.is_forgery(alloc, faulty, rogue, ballot)?),
-            Message::Reply(answer) => Ok(self.is_forgery(alloc, faulty, rogue, answer)?),
-        }
-    }
-
-    fn is_change_forged(
-        &self,
-        alloc: Global,
-        faulty: &[MemberId],
-        rogue: &[ClientId],
-        message: &RegencyMessage,
-    ) -> Result<bool, AllocError>
-        ensures { IfOk result (λ forged. forged ≡ list_any (is_forgery faulty.now rogue.now self.now) (in_change message.now)) }
-    {
-        match message {
-            RegencyMessage::Stop(stop) => Ok(self.is_forgery(alloc, faulty, rogue, stop)?),
-            RegencyMessage::StopData(reported) => {
-                if self.is_report_forged(alloc, faulty, rogue, &reported.head)? {
-                    return Ok(true);
-                }
-                match &reported.batch {
-                    None => Ok(false),
-                    Some(batch) => Ok(self.has_forgery(alloc, faulty, rogue, batch.as_slice())?),
-                }
-            }
-            RegencyMessage::Sync(sync) => {
-                if self.is_forgery(alloc, faulty, rogue, sync)? {
-                    return Ok(true);
-                }
-                let reports = sync.statement().collect.as_slice();
-                Ok(self.has_forged_report(alloc, faulty, rogue, reports)?)
-            }
-        }
-    }
-
-    fn is_message_forged(
-        &self,
-        alloc: Global,
-        faulty: &[MemberId],
-        rogue: &[ClientId],
-        message: &AnyMessage,
-    ) -> Result<bool, AllocError>
-        ensures { IfOk result (λ forged. forged ≡ list_any (is_forgery faulty.now rogue.now self.now) (in_message message.now)) }
-    {
-        match message {
-            AnyMessage::Plain(message) => Ok(self.is_plain_forged(alloc, faulty, rogue, message)?),
-            AnyMessage::Change(message) => {
-                Ok(self.is_change_forged(alloc, faulty, rogue, message)?)
-            }
-        }
+        found
+            .iter()
+            .any(|stated| self.is_forgery(faulty, rogue, stated))
     }
 
     /// Whether a content has a statement that its signer, who is neither declared faulty nor rogue,
     /// has not sent.
-    #[tactic(auto, unfolding(world_rules::specs::Premises::is_forged), using(crate::proofs::ClaimLaws::in_message_is))]
     pub fn is_forged(
         &self,
         alloc: Global,
@@ -335,10 +169,8 @@ impl Ledger {
     ) -> Result<bool, AllocError>
         ensures { IfOk result (λ forged. forged ≡ is_forged faulty.now rogue.now self.now content.now) }
     {
-        match content {
-            Content::Message(message) => Ok(self.is_message_forged(alloc, faulty, rogue, message)?),
-            Content::Raw(_) => Ok(false),
-        }
+        let found = claims(alloc, self.ring.get(), content)?;
+        Ok(self.has_forgery(faulty, rogue, found.as_slice()))
     }
 
     /// Adds a message that does not collide. Without memory the ledger is unchanged.
