@@ -20,7 +20,11 @@ pub struct Patch {
 /// Let go by one call, so that no function that lets one go carries the whole of it.
 impl Drop for Patch {
     fn drop(self) {
-        let Patch { device: _, at: _, bytes: _ } = self;
+        let Patch {
+            device: _,
+            at: _,
+            bytes: _,
+        } = self;
     }
 }
 

@@ -33,7 +33,11 @@ pub struct Sent {
 /// Let go by one call, so that no function that lets one go carries the whole of it.
 impl Drop for Sent {
     fn drop(self) {
-        let Sent { origin: _, to: _, content: _ } = self;
+        let Sent {
+            origin: _,
+            to: _,
+            content: _,
+        } = self;
     }
 }
 
