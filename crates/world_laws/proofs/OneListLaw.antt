@@ -16,7 +16,7 @@ use Rattle.world_laws.proofs.Unforged.{member_states}
 use Rattle.world_laws.proofs.Replied.{RightBorne, right-borne-kept, reply_there, Replied, keeps-replied, replied-begun}
 use Rattle.world_laws.proofs.Borne.{borne-begun}
 use Rattle.world_laws.proofs.Chosen.{ChosenRight, right-witnessed}
-use Rattle.world_laws.proofs.ChosenKept.{right-reads, chosen-begun, chosen-aligned, chosen-prefix}
+use Rattle.world_laws.proofs.ChosenKept.{right-reads, chosen-begun, chosen-aligned, chosen-prefix, witnessed-after}
 use Rattle.world_laws.proofs.Grows.{list-grows}
 use Rattle.world_laws.proofs.Replies.{RepliesRight, reply_stated, keeps-replies, replies-begun}
 use Rattle.world_laws.proofs.Asked.{asked-after}
@@ -82,4 +82,10 @@ told-at m brief view is ls k = lines-answered m view (take k ls) (accepted-at m 
 
 -- one list holds throughout a script and only grows, and the lines of accepted replies tell its answers
 pub one_list-throughout : {S : Type 0} (m : Meaning S) → IsBrief m → (view : View) → is_view view ≡ true → (ls : List Line) → OneListThroughout m view ls
-one_list-throughout m brief view is ls = record { one_list = one_list-at m brief view is ls; grows = list-grows m view ls; told = told-at m brief view is ls; past_known = past-known m view ls }
+one_list-throughout m brief view is ls = record {
+  one_list = one_list-at m brief view is ls;
+  grows = list-grows m view ls;
+  told = told-at m brief view is ls;
+  past_known = past-known m view ls;
+  witnessed = λ k. witnessed-after m brief view (take k ls) is;
+}

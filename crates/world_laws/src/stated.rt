@@ -4,7 +4,8 @@ ghost use Rattle.smart_base.specs.Views.{View, is_view};
 ghost use Rattle.world_rules.specs.Worlds.{course_of, begun};
 ghost use Rattle.world_rules.specs.Plays.{world_after};
 ghost use Rattle.world_rules.specs.declared.line.Line.{Line};
-ghost use Rattle.world_laws.specs.Stated.{IsWitnessed, StatedAsked};
+ghost use Rattle.world_rules.specs.Stated.{IsWitnessed};
+ghost use Rattle.world_laws.specs.Stated.{StatedAsked};
 
 use smart_service::service::Service;
 

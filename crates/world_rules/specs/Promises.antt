@@ -16,16 +16,18 @@ use Rattle.node_rules.specs.Reopening.{reopened, damaged, entries_in}
 use Rattle.smart_service.specs.declared.replica.Replica.{Replica}
 use Rattle.vote_book.specs.Entries.{entry_text}
 use Rattle.durable_store.specs.Restored.{Images, restores}
-use Rattle.world_rules.specs.Crashes.{bytes_held}
+use Rattle.world_rules.specs.Crashes.{bytes_held, images_left, wrong_images}
+use Rattle.world_rules.specs.declared.crash.Image.{Image}
 use Rattle.durable_store.specs.Standing.{MayLeave}
 use Rattle.node_rules.specs.declared.node.Target.TheVariants as targets
 use Rattle.node_rules.specs.declared.node.Delivery.{Delivery}
 use Rattle.world_rules.specs.Secrets.{group_secret}
 use Rattle.world_rules.specs.Premises.{is_among}
 use Rattle.world_rules.specs.declared.message.Content.TheVariants as contents
-use Rattle.world_rules.specs.Worlds.{Host, World, course_of, is_gone, begun}
+use Rattle.world_rules.specs.Worlds.{Host, World, course_of, is_gone, life_crashed, begun}
 use Rattle.world_rules.specs.Plays.{world_after, lines_told}
 use Rattle.world_rules.specs.Knowing.{known_by}
+use Rattle.world_rules.specs.Stated.{IsWitnessed}
 use Rattle.client_quorum.specs.declared.client.Acceptance.{Acceptance}
 use Rattle.world_rules.specs.declared.line.Line.{Line}
 use Rattle.world_rules.specs.declared.line.OutLine.{OutLine}
@@ -73,10 +75,14 @@ MayBeLeft w left = Each (λ h. is_gone w h.node.id ≡ false → MayLeave h.stor
 pub record IsKept {S : Type 0} (m : Meaning S) (w : World S) (place : ℕ) : Type 0 where
   pub enough : (left : ℕ → Images) → MayBeLeft w left → w.view.f < length (filter (has_place m w left place) w.hosts)
 
--- Whatever a crash now leaves of a member's devices, they restore its diary and, behind it, at most what was not firm yet. No entry that they restore is
--- damaged, and the replica that they restore is the state of a front of the list. What a member that has crashed goes on from is not damaged either.
+-- A crash may leave each device as it was at its last sync, and each as it reads: a crash of a script without patches never ends a play. Whatever a crash now
+-- leaves of a member's devices, they restore the diary that this crash makes of the present one, no more and no less: it begins with the present diary, and
+-- behind that stands at most what was not firm yet. No entry that they restore is damaged, and the replica that they restore is the state of a front of the
+-- list. What a member that has crashed goes on from is not damaged either.
 pub record Recovers {S : Type 0} (m : Meaning S) (w : World S) (h : Host S) : Type 0 where
-  pub diary : (left : Images) → MayLeave h.store left → take (length h.life.diary) (restores left).entries ≡ map entry_text h.life.diary
+  pub possible : (image : Image) → wrong_images h.store (images_left image [] h.store) ≡ None
+  pub leaves : (image : Image) → MayLeave h.store (images_left image [] h.store)
+  pub diary : (left : Images) → MayLeave h.store left → (restores left).entries ≡ map entry_text (life_crashed h left).diary
   pub undamaged : (left : Images) → MayLeave h.store left → damaged group_secret w.view (restores left).entries ≡ None
   pub restarts : h.up ≡ false → damaged group_secret w.view (restores (bytes_held h.store)).entries ≡ None
   pub within : (left : Images) → MayLeave h.store left → (restored_replica m w.view h left).place ≤ length w.chosen
@@ -155,9 +161,11 @@ world_at m view ls k = world_after (course_of m) (begun m view) (take k ls)
 -- one list holds after each line, the list only grows, and each transcript line that tells of an accepted reply tells its answer there.
 -- Each request whose reply is accepted, be it when it may, states what its client knew: of each line after which it had not been sent
 -- yet, a place no less than each one that the transcript had told the client by then, of a reply that it accepted or of one that it was
--- told. The reply stands past them all, as its place is above the one that the request states (`above` of `IsRight`)
+-- told. The reply stands past them all, as its place is above the one that the request states (`above` of `IsRight`). After each line the
+-- diary of each member that is not faulty is lawful, and shows each statement of that member that stands in what was sent
 pub record OneListThroughout {S : Type 0} (m : Meaning S) (view : View) (ls : List Line) : Type 0 where
   pub one_list : (k : ℕ) → OneList m (world_at m view ls k)
   pub grows : (j k : ℕ) → j ≤ k → take (length (world_at m view ls j).chosen) (world_at m view ls k).chosen ≡ (world_at m view ls j).chosen
   pub told : (k : ℕ) → Each (IsAnswered m view (world_at m view ls k).rogue (world_at m view ls k).chosen) (lines_told (course_of m) (begun m view) (take k ls))
   pub past_known : (j k : ℕ) → Each (λ a. IsPast (world_at m view ls j).sent (lines_told (course_of m) (begun m view) (take j ls)) a.request) (world_at m view ls k).accepted
+  pub witnessed : (k : ℕ) → IsWitnessed (world_at m view ls k)
