@@ -15,11 +15,9 @@ use Rattle.smart_messages.specs.declared.message.Message.TheVariants.{Ask, Propo
 use Rattle.smart_messages.specs.declared.any.AnyMessage.TheVariants.{Plain, Change}
 use Rattle.smart_service.specs.Services.{Meaning}
 use Rattle.smart_service.specs.declared.replica.Replica.{Replica}
-use Rattle.vote_book.specs.Books.{Among, last_made, number_or, place_made}
+use Rattle.vote_book.specs.Books.{last_made}
 use Rattle.vote_book.specs.Entries.{FitsEntry}
-use Rattle.vote_book.specs.declared.entry.Decision.{Decision}
 use Rattle.vote_book.specs.declared.entry.LogEntry.{LogEntry}
-use Rattle.vote_book.specs.declared.entry.LogEntry.TheVariants.{Decided}
 use Rattle.replica_rules.specs.Replicas.{state}
 use Rattle.replica_rules.specs.Seals.{is_verified}
 use Rattle.durable_store.specs.Restored.{Images, restores}
@@ -32,7 +30,7 @@ use Rattle.member_store.proofs.Told.{may_leave}
 use Rattle.member_store.proofs.Whole.{none_left_wrong}
 use Rattle.agreement_laws.specs.Fronts.{IsFront}
 use Rattle.agreement_laws.specs.Statements.{Replied}
-use Rattle.agreement_laws.specs.Diaries.{HasAnswered}
+use Rattle.agreement_laws.specs.Diaries.{HasReached}
 use Rattle.node_rules.specs.Nodes.{Node}
 use Rattle.node_rules.specs.Reopening.{decided_of, damaged, entries_in, reopened}
 use Rattle.node_laws.proofs.Restored.{front_decided}
@@ -176,30 +174,22 @@ all_recover {S = S} m w r = each_at (Recovers m w) w.hosts (λ i h at. recovers 
 
 -- ---- places that are kept
 
--- the place of a decision is no later than the last
-place_within : (es : List LogEntry) (d : Decision) → Among (Decided d) es → d.slot.place ≤ last_made es
-place_within [] d there = absurd there
-place_within (e ∷ es) d (inl here) = let same : number_or (place_made e) 0 ≡ d.slot.place = ap (λ (x : LogEntry). number_or (place_made x) 0) (sym here) in omega (arith, same)
-place_within (e ∷ es) d (inr later) = let rest = place_within es d later in omega (arith, rest)
-
--- a member that has answered from its diary restores the place
-answered_kept : {S : Type 0} (m : Meaning S) (w : World S) (i : ℕ) (h : Host S) (left : Images) (a : Answer) → slice_get w.hosts i ≡ Some h → MayLeave h.store left → ChosenRight m w → HasAnswered h.life.diary a
-    → a.place ≤ (restored_replica m w.view h left).place
-answered_kept {S = S} m w i h left a at may r has =
+-- a member whose diary has reached a place restores it or a later one
+reached_kept : {S : Type 0} (m : Meaning S) (w : World S) (i : ℕ) (h : Host S) (left : Images) (place : ℕ) → slice_get w.hosts i ≡ Some h → MayLeave h.store left → ChosenRight m w → HasReached h.life.diary place
+    → place ≤ (restored_replica m w.view h left).place
+reached_kept {S = S} m w i h left place at may r reached =
     let b : LeftBook w h left = left_book m w i h left at may r in
     let right : HostRight w.sent m w.view w.chosen h = host-right m w i h at r in
     let d : List LogEntry = h.life.diary in
     let made : last_made d ≡ length (decided_of d) = count_is m group_secret (stated w.sent) w.view d right.diary.sound in
-    let within = place_within d has.decision has.there in
     let fits = (spelled-life h.life (host-fit m w i h at r).life).diary in
     let front : d ≡ take (length d) b.book =
     sym (read_again d fits) ∙ (ap entries_in (b.diary ∙ sym (texts-take (length d) b.book)) ∙ read_again (take (length d) b.book) (each_take FitsEntry (length d) b.book b.fits)) in
     let f : IsFront (decided_of (take (length d) b.book)) (decided_of b.book) = front_decided b.book (length d) in
     let long : length (decided_of b.book) ≡ length (decided_of (take (length d) b.book)) + length f.rest = ap (λ (bs : List Batch). length bs) f.is ∙ length-append (decided_of (take (length d) b.book)) f.rest in
     let own : length (decided_of d) ≡ length (decided_of (take (length d) b.book)) = ap (λ (es : List LogEntry). length (decided_of es)) front in
-    let place = left_place m w h left b in
-    let at_place = has.place_is in
-    omega (arith, within, made, own, long, place, at_place)
+    let at_place = left_place m w h left b in
+    omega (arith, reached, made, own, long, at_place)
 
 -- a member has given the reply that was accepted
 record Given (sent : List Sent) (a : Acceptance) (member : ℕ) : Type 0 where
@@ -249,9 +239,9 @@ honest_kept {S = S} m w a left i h at may r is =
     let g : Given w.sent a h.node.id = given_by w.faulty w.sent a h.node.id both.0 in
     let shows : ShowsOwn w.faulty (Replied g.reply) h =
     each_get (ShowsOwn w.faulty (Replied g.reply)) w.hosts i h (r.1.shown (Replied g.reply) (reply_there w.sent g.reply g.there g.tagged)) at in
-    let has : HasAnswered h.life.diary g.reply.statement = shows (ap (λ (k : ℕ). Member k) g.signer) correct in
+    let reached : HasReached h.life.diary g.reply.statement.place = shows (ap (λ (k : ℕ). Member k) g.signer) correct in
     let here : MayLeave h.store (left h.node.id) = each_get (λ (x : Host S). is_gone w x.node.id ≡ false → MayLeave x.store (left x.node.id)) w.hosts i h may at correct in
-    let least = answered_kept m w i h (left h.node.id) g.reply.statement at here r has in
+    let least = reached_kept m w i h (left h.node.id) g.reply.statement.place at here r reached in
     let place = g.place in
     rw (both.1, le-leb a.place (restored_replica m w.view h (left h.node.id)).place (omega (arith, least, place))) refl
   where

@@ -17,7 +17,10 @@ use smart_service::service::Service;
 /// that became firm there, and behind it what the crash brings back. None of the entries that they
 /// restore is damaged, and the replica that goes on from them is the state of a front of the list; nor
 /// is what a member that has crashed goes on from. A crash may always leave each device as it was at its
-/// last sync, and each as it reads: a crash without patches never ends a play. Each reply that a client
+/// last sync, and each as it reads: a crash without patches never ends a play. Each reply that a
+/// node holds, and each one with the tag of a member that is not faulty that was sent, by whomever, is
+/// the service's answer at the place and index that it names, to the request of its client and number
+/// there, which is executed nowhere else; and it states the view in force there. Each reply that a client
 /// accepted is the service's answer at the one place where its request stands in the list, the request
 /// there is the one that the client asked, the reply states the view in force there, and that place is
 /// past the one that the request states; of a client that was declared rogue none of this is said. The

@@ -16,7 +16,7 @@ use smart_service::service::Service;
 /// on from the whole diary. At most f members are declared faulty. Of each other member the diary is
 /// lawful, rests on votes of quorums and on reports that have been stated, and shows each of its
 /// statements, in whosever message it stands: a vote by its own entry, a report by its promise and by what stands before it, a
-/// reply by the decision of its request. So what the law of one decision asks holds in every play,
+/// reply by having reached its place. So what the law of one decision asks holds in every play,
 /// whatever the regencies. And each chosen batch has a decision for its place, in some regency, among
 /// what has been stated.
 pub fn what_is_stated_is_shown<S: Service>()

@@ -4,9 +4,12 @@ use Rattle.smart_base.specs.Lists.{Each}
 use Rattle.smart_base.specs.Views.{View}
 use Rattle.smart_statements.specs.Kinds.{requests}
 use Rattle.smart_statements.specs.Batches.{Batch}
+use Rattle.smart_statements.specs.Forms.{SignedBy}
 use Rattle.smart_statements.specs.declared.statement.Request.{Request}
-use Rattle.smart_messages.specs.declared.message.Message.TheVariants.{Ask}
-use Rattle.smart_messages.specs.declared.any.AnyMessage.TheVariants.{Plain}
+use Rattle.smart_statements.specs.declared.statement.Answer.{Answer}
+use Rattle.smart_messages.specs.declared.message.Message.TheVariants.{Ask, Propose, Vote, Reply}
+use Rattle.smart_messages.specs.declared.any.AnyMessage.{AnyMessage}
+use Rattle.smart_messages.specs.declared.any.AnyMessage.TheVariants.{Plain, Change}
 use Rattle.smart_service.specs.Services.{Meaning}
 use Rattle.replica_rules.specs.Replicas.{state, answer, place_of, batch_at, request_at, view_at}
 use Rattle.replica_rules.specs.Seals.{signed}
@@ -14,7 +17,9 @@ use Rattle.node_rules.specs.Nodes.{next_place}
 use Rattle.node_rules.specs.Deliveries.{AtPlaces}
 use Rattle.node_rules.specs.Reopening.{reopened, damaged, entries_in}
 use Rattle.smart_service.specs.declared.replica.Replica.{Replica}
+use Rattle.vote_book.specs.Books.{Among}
 use Rattle.vote_book.specs.Entries.{entry_text}
+use Rattle.agreement_laws.specs.Statements.{Replied}
 use Rattle.durable_store.specs.Restored.{Images, restores}
 use Rattle.world_rules.specs.Crashes.{bytes_held, images_left, wrong_images}
 use Rattle.world_rules.specs.declared.crash.Image.{Image}
@@ -27,7 +32,7 @@ use Rattle.world_rules.specs.declared.message.Content.TheVariants as contents
 use Rattle.world_rules.specs.Worlds.{Host, World, course_of, is_gone, life_crashed, begun}
 use Rattle.world_rules.specs.Plays.{world_after, lines_told}
 use Rattle.world_rules.specs.Knowing.{known_by}
-use Rattle.world_rules.specs.Stated.{IsWitnessed}
+use Rattle.world_rules.specs.Stated.{IsWitnessed, stated}
 use Rattle.client_quorum.specs.declared.client.Acceptance.{Acceptance}
 use Rattle.world_rules.specs.declared.line.Line.{Line}
 use Rattle.world_rules.specs.declared.line.OutLine.{OutLine}
@@ -88,6 +93,32 @@ pub record Recovers {S : Type 0} (m : Meaning S) (w : World S) (h : Host S) : Ty
   pub within : (left : Images) → MayLeave h.store left → (restored_replica m w.view h left).place ≤ length w.chosen
   pub right : (left : Images) → MayLeave h.store left → restored_replica m w.view h left ≡ state m w.view (take (restored_replica m w.view h left).place w.chosen)
 
+-- ---- replies
+
+-- A reply is right: a request of its client and number stands at the place and index that it names, that is the one place where the request is executed, the
+-- reply is the service's answer there, and it states the view in force there.
+pub record IsRightReply {S : Type 0} (m : Meaning S) (view : View) (chosen : List Batch) (a : Answer) : Type 0 where
+  pub request : Request
+  pub request_is : request_at chosen a.place a.index ≡ Some request
+  pub client_is : request.client ≡ a.client
+  pub seq_is : request.seq ≡ a.seq
+  pub place_is : place_of m view chosen a.client a.seq ≡ Some (a.place, a.index)
+  pub reply_is : answer m view chosen a.place a.index ≡ Some a.reply
+  pub view_is : a.view ≡ (view_at m view chosen a.place).number
+
+-- a message is a right reply, or none
+abbrev pub IsRightIfReply : {S : Type 0} → Meaning S → View → List Batch → AnyMessage → Type 0
+IsRightIfReply m view chosen (Plain (Ask q)) = Unit {0}
+IsRightIfReply m view chosen (Plain (Propose p)) = Unit {0}
+IsRightIfReply m view chosen (Plain (Vote b)) = Unit {0}
+IsRightIfReply m view chosen (Plain (Reply a)) = IsRightReply m view chosen a.statement
+IsRightIfReply m view chosen (Change x) = Unit {0}
+
+-- Each reply that a node holds is right. So is each reply with the tag of a member that is not faulty that stands in what was sent, by whomever.
+pub record AreRepliesRight {S : Type 0} (m : Meaning S) (w : World S) : Type 0 where
+  pub held : Each (λ h. Each (λ x. IsRightIfReply m w.view w.chosen x.message) h.node.held) w.hosts
+  pub sent : (r : SignedBy Answer) → Among (Replied r) (stated w.sent) → is_among w.faulty r.signer ≡ false → IsRightReply m w.view w.chosen r.statement
+
 -- the client that a request names has signed and sent it
 abbrev pub HasAsked : List Sent → Request → Type 0
 HasAsked [] q = ⊥
@@ -115,11 +146,12 @@ abbrev pub IsRogue : List ℕ → ℕ → Type 0
 IsRogue rogue client = is_among rogue client ≡ true
 
 -- All nodes, those that are gone or have stopped too, have delivered fronts of one list, and go on from such fronts whatever crashes leave of their devices.
--- Each reply that was accepted by a client that is not rogue is the service's answer at its request's one place there, past the place that its request
+-- Each reply that a member which is not faulty has signed and that was sent is right. Each reply that was accepted by a client that is not rogue is the service's answer at its request's one place there, past the place that its request
 -- states. The place of each accepted reply is kept.
 pub record OneList {S : Type 0} (m : Meaning S) (w : World S) : Type 0 where
   pub hosts : Each (IsPrefix m w.view w.chosen) w.hosts
   pub recovers : Each (Recovers m w) w.hosts
+  pub replied : AreRepliesRight m w
   pub accepted : Each (λ a. IsRogue w.rogue a.request.client ⊎ IsRight m w.view w.sent w.chosen a) w.accepted
   pub kept : Each (λ a. IsKept m w a.place) w.accepted
   pub rising : Rises w.accepted
