@@ -1,5 +1,5 @@
 -- Which requests have been stated in a world.
-use Rattle.std.specs.Prelude.{◌≡◌, ◌⊎◌}
+use Rattle.std.specs.Prelude.{◌⊎◌}
 use Rattle.smart_statements.specs.Forms.{SignedBy}
 use Rattle.smart_statements.specs.declared.statement.Request.{Request}
 use Rattle.vote_book.specs.Books.{Among}
