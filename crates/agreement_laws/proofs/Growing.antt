@@ -16,7 +16,7 @@ use Rattle.vote_book.specs.Books.{Among, last_made, Lawful}
 use Rattle.regency_sync.proofs.Lists.{each_as}
 use Rattle.agreement_laws.specs.Fronts.{IsFront}
 use Rattle.agreement_laws.specs.Statements.{Statement, Asked, Proposed, Voted, Stopped, Reported, Synced, Marked, Replied, Informed, signer_of, within, verifies}
-use Rattle.agreement_laws.specs.Diaries.{HasVoted, IsShown}
+use Rattle.agreement_laws.specs.Diaries.{HasReached, HasVoted, IsShown}
 use Rattle.agreement_laws.specs.Certificates.{IsDrawn, IsChosen, IsBacked}
 use Rattle.agreement_laws.specs.Law.{IsCorrect, FewFaulty, Witnessed}
 use Rattle.agreement_laws.proofs.Lists.{among_left, among_either}
@@ -37,6 +37,9 @@ take-longer (suc n) (suc k) (x ∷ xs) more le =
 last-more : (book more : List LogEntry) → last_made book ≤ last_made (book ++ more)
 last-more [] more = omega arith
 last-more (e ∷ es) more = let rest = last-more es more in omega (arith, rest)
+
+pub HasReached-more : (book more : List LogEntry) (place : ℕ) → HasReached book place → HasReached (book ++ more) place
+HasReached-more book more place reached = let longer = last-more book more in omega (arith, reached, longer)
 
 pub HasVoted-more : (book more : List LogEntry) (kind : VoteKind) (slot : Slot) (digest : List ℕ) → HasVoted book kind slot digest → HasVoted (book ++ more) kind slot digest
 HasVoted-more book more Write slot digest voted = among_left (entries.Wrote (record { slot = slot; digest = digest })) book more voted
@@ -62,15 +65,7 @@ IsShown-more digest_of book more (Reported r) shown = record {
 }
 IsShown-more digest_of book more (Synced s) shown = tt
 IsShown-more digest_of book more (Marked m) shown = among_left (entries.Marked m.statement) book more shown
-IsShown-more digest_of book more (Replied a) shown = record {
-  decision = shown.decision;
-  there = among_left (entries.Decided shown.decision) book more shown.there;
-  place_is = shown.place_is;
-  request = shown.request;
-  request_is = shown.request_is;
-  client_is = shown.client_is;
-  seq_is = shown.seq_is;
-}
+IsShown-more digest_of book more (Replied a) shown = HasReached-more book more a.statement.place shown
 IsShown-more digest_of book more (Informed i) shown = let longer = last-more book more in omega (arith, shown, longer)
 
 pub IsShown-front : (digest_of : Batch → List ℕ) (front whole : List LogEntry) (statement : Statement) → IsFront front whole → IsShown digest_of front statement

@@ -1,15 +1,11 @@
 -- What a member's diary shows of what the member has stated.
-use Rattle.std.specs.Prelude.{◌≡◌, ℕ, ◌+◌, ◌≤◌, List, ◌∷◌, ◌++◌, Some, slice_get}
-use Rattle.smart_statements.specs.Forms.{SignedBy}
+use Rattle.std.specs.Prelude.{◌≡◌, ℕ, ◌+◌, ◌≤◌, List, ◌∷◌, ◌++◌}
 use Rattle.smart_statements.specs.Batches.{Batch}
-use Rattle.smart_statements.specs.declared.statement.Request.{Request}
 use Rattle.smart_statements.specs.declared.statement.Slot.{Slot}
 use Rattle.smart_statements.specs.declared.statement.VoteKind.{VoteKind}
 use Rattle.smart_statements.specs.declared.statement.VoteKind.TheVariants.{Write, Accept}
-use Rattle.smart_statements.specs.declared.statement.Answer.{Answer}
 use Rattle.smart_statements.specs.declared.report.Report.{Report}
 use Rattle.vote_book.specs.declared.entry.Accept as accept
-use Rattle.vote_book.specs.declared.entry.Decision.{Decision}
 use Rattle.vote_book.specs.declared.entry.LogEntry.{LogEntry}
 use Rattle.vote_book.specs.declared.entry.LogEntry.TheVariants as entries
 use Rattle.vote_book.specs.Books.{last_made, Among}
@@ -35,19 +31,12 @@ pub record HasReported (digest_of : Batch → List ℕ) (diary : List LogEntry) 
   pub split : diary ≡ before ++ entries.Promised (record { view = report.view; regency = report.regency }) ∷ after
   pub reports : Reports digest_of report before
 
--- the member has decided the request that the reply answers, at the reply's place and index
-pub record HasAnswered (diary : List LogEntry) (a : Answer) : Type 0 where
-  pub decision : Decision
-  pub there : Among (entries.Decided decision) diary
-  pub place_is : decision.slot.place ≡ a.place
-  pub request : SignedBy Request
-  pub request_is : slice_get decision.batch a.index ≡ Some request
-  pub client_is : request.statement.client ≡ a.client
-  pub seq_is : request.statement.seq ≡ a.seq
+-- the member has made a place or a later one: its own decisions led there, or it took the state over
+abbrev pub HasReached : List LogEntry → ℕ → Type 0
+HasReached diary place = place ≤ last_made diary
 
--- A diary shows a statement of its member: a vote, a mark and a reply by an entry, a report by a promise and what stands before it, a view by having
--- reached the place before the view's first. A request, a proposal, a stop and a sync need no entry.
--- A reply of a place that was taken over from other members, and not decided here, is shown by none: no member sends one so far.
+-- A diary shows a statement of its member: a vote and a mark by an entry, a report by a promise and what stands before it, a reply by having reached its
+-- place, a view by having reached the place before the view's first. A request, a proposal, a stop and a sync need no entry.
 abbrev pub IsShown : (Batch → List ℕ) → List LogEntry → Statement → Type 0
 IsShown digest_of diary (Asked q) = Unit {0}
 IsShown digest_of diary (Proposed p) = Unit {0}
@@ -56,5 +45,5 @@ IsShown digest_of diary (Stopped s) = Unit {0}
 IsShown digest_of diary (Reported r) = HasReported digest_of diary r.statement
 IsShown digest_of diary (Synced s) = Unit {0}
 IsShown digest_of diary (Marked m) = Among (entries.Marked m.statement) diary
-IsShown digest_of diary (Replied a) = HasAnswered diary a.statement
+IsShown digest_of diary (Replied a) = HasReached diary a.statement.place
 IsShown digest_of diary (Informed i) = i.statement.view.start ≤ last_made diary + 1

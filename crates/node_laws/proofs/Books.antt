@@ -5,7 +5,7 @@ use Rattle.std.proofs.lemmas.Bool.{eq-eqb, eqb-true, ltb-false, ltb-true}
 use Rattle.std.proofs.lemmas.List.{take-append-le}
 use Rattle.std.specs.Prelude.{IfSome, is_some}
 use Rattle.replica_rules.specs.Seals.{digest_of}
-use Rattle.agreement_laws.specs.Diaries.{HasAnswered, IsShown}
+use Rattle.agreement_laws.specs.Diaries.{HasReached, IsShown}
 use Rattle.agreement_laws.specs.Statements.{Statement, signer_of, statements}
 use Rattle.node_rules.specs.Nodes.{greatest_regency, regency_in, start_by, start_in}
 use Rattle.node_rules.specs.declared.node.Held.{Held}
@@ -13,7 +13,6 @@ use Rattle.smart_base.specs.Lists.{Each}
 use Rattle.smart_base.specs.Views.{View}
 use Rattle.smart_base.specs.declared.party.Party.TheVariants.{Member}
 use Rattle.smart_statements.specs.Batches.{Batch}
-use Rattle.smart_statements.specs.declared.statement.Answer.{Answer}
 use Rattle.vote_book.proofs.Growth.{last_or_earlier}
 use Rattle.vote_book.specs.Books.{Among, last_made}
 use Rattle.vote_book.specs.Tidy.{promise_of}
@@ -23,6 +22,7 @@ use Rattle.vote_book.specs.declared.entry.Promise.{Promise}
 use Rattle.vote_book.specs.declared.entry.Start.{Start}
 use Rattle.node_laws.proofs.Lists.{guard}
 use Rattle.node_laws.specs.Sound.{AreRanged, HasDecided, IsBegun, IsHeld, IsWithin}
+use Rattle.agreement_laws.proofs.Growing.{HasReached-more}
 use Rattle.agreement_laws.proofs.Lists.{among_left, each_end, some_equal}
 use Rattle.smart_base.proofs.SameLists.{and_true}
 use Rattle.smart_base.proofs.ViewFacts.{each-weaken}
@@ -187,16 +187,8 @@ pub decided_push : (es : List LogEntry) (e : LogEntry) (place : ℕ) (waiting : 
 decided_push es e place None has = tt
 decided_push es e place (Some batch) has = record { decision = has.decision; there = among_left (Decided has.decision) es (e ∷ []) has.there; place_is = has.place_is; batch_is = has.batch_is }
 
-pub answered_push : (es : List LogEntry) (e : LogEntry) (a : Answer) → HasAnswered es a → HasAnswered (es ++ e ∷ []) a
-answered_push es e a has = record {
-  decision = has.decision;
-  there = among_left (Decided has.decision) es (e ∷ []) has.there;
-  place_is = has.place_is;
-  request = has.request;
-  request_is = has.request_is;
-  client_is = has.client_is;
-  seq_is = has.seq_is;
-}
+pub reached_push : (es : List LogEntry) (e : LogEntry) (place : ℕ) → HasReached es place → HasReached (es ++ e ∷ []) place
+reached_push es e place has = HasReached-more es (e ∷ []) place has
 
 -- what a held message needs stays what it is
 pub held_push : (secret : List ℕ) (id : ℕ) (stated : List Statement) (es : List LogEntry) (e : LogEntry) (h : Held) → IsHeld secret id stated es h → IsHeld secret id stated (es ++ e ∷ []) h

@@ -1,12 +1,12 @@
 -- A node that delivers a batch and answers stays sound.
 use Rattle.std.proofs.Common.{Bool, List, None, Option, Some, ap, arith, cond, false, inr, nat_lt, refl, subst, suc, sym, true, ℕ, ◌≡◌, [], ◌∷◌, ◌+◌, ◌∙◌, ◌==◌}
 use Rattle.std.specs.Option.{option_to_list}
-use Rattle.std.specs.Prelude.{IfSome, is_some, slice_get}
+use Rattle.std.specs.Prelude.{IfSome, is_some}
 use Rattle.replica_rules.specs.Pools.{settled}
 use Rattle.replica_rules.specs.Replicas.{at_next, delivered, execute, execute_all, executed_lines, is_next, line_made, line_of, lines_of}
 use Rattle.node_rules.specs.Rules.{reply_of, answer_line, answering, answers_again, deliver_batch, delivers, lines_to_answer, replying}
 use Rattle.replica_rules.specs.Seals.{is_verified, signed}
-use Rattle.agreement_laws.specs.Diaries.{HasAnswered}
+use Rattle.agreement_laws.specs.Diaries.{HasReached}
 use Rattle.agreement_laws.specs.Statements.{Statement}
 use Rattle.node_rules.specs.Arrivals.{is_collect, is_proven}
 use Rattle.node_rules.specs.Nodes.{Node, decided_place, holding, next_place, regency_of, view_of}
@@ -24,65 +24,22 @@ use Rattle.smart_service.specs.Services.{Meaning}
 use Rattle.smart_service.specs.Tables.{last_seq, line_for, with_line}
 use Rattle.smart_service.specs.declared.replica.Replica.{Replica}
 use Rattle.smart_service.specs.declared.table.TableLine.{TableLine}
-use Rattle.vote_book.specs.Books.{Among}
-use Rattle.vote_book.specs.declared.entry.Decision.{Decision}
+use Rattle.vote_book.specs.Books.{last_made}
 use Rattle.vote_book.specs.declared.entry.LogEntry.{LogEntry}
-use Rattle.vote_book.specs.declared.entry.LogEntry.TheVariants.{Decided}
 use Rattle.node_laws.proofs.Books.{all_within_more}
 use Rattle.node_laws.proofs.Nodes.{Shows, holds}
-use Rattle.node_laws.specs.Sound.{AreAsked, HasDecided, IsSound, IsStated, answer_by, place_if}
+use Rattle.node_laws.specs.Sound.{AreAsked, IsSound, IsStated, answer_by, place_if}
 use Rattle.node_rules.specs.declared.node.Target.TheVariants as targets
 use Rattle.agreement_laws.specs.Statements as says
 use Rattle.agreement_laws.proofs.Lists.{each_append, either}
 use Rattle.regency_sync.proofs.Lists.{each_filter}
 use Rattle.replica_rules.proofs.Places.{place_execute, place_all, views_all}
 
--- ---- requests that were decided
+-- ---- lines of places that are reached
 
--- a request stands at a place and an index of what was decided
-pub record HasRequest (es : List LogEntry) (place index : ℕ) (q : SignedBy Request) : Type 0 where
-  pub decision : Decision
-  pub there : Among (Decided decision) es
-  pub place_is : decision.slot.place ≡ place
-  pub request_is : slice_get decision.batch index ≡ Some q
-
--- requests do, from an index on
-abbrev pub AllRequests : List LogEntry → ℕ → ℕ → List (SignedBy Request) → Type 0
-AllRequests es place index [] = Unit {0}
-AllRequests es place index (q ∷ qs) = HasRequest es place index q × AllRequests es place (index + 1) qs
-
-all_requests : (es : List LogEntry) (place : ℕ) (d : Decision) (index : ℕ) (qs : List (SignedBy Request)) → Among (Decided d) es → d.slot.place ≡ place
-    → ((step : ℕ) → slice_get qs step ≡ slice_get d.batch (index + step)) → AllRequests es place index qs
-all_requests es place d index [] there at same = tt
-all_requests es place d index (q ∷ qs) there at same =
-    let here : index + 0 ≡ index = omega arith in
-    let own : Some q ≡ slice_get d.batch index = same 0 ∙ ap (slice_get d.batch) here in (
-      record { decision = d; there = there; place_is = at; request_is = sym own },
-      all_requests es place d (index + 1) qs there at
-          (λ step. let next : index + suc step ≡ index + 1 + step = omega arith in same (suc step) ∙ ap (slice_get d.batch) next),
-    )
-
-pub decided_requests : (es : List LogEntry) (place : ℕ) (batch : Batch) → HasDecided es place batch → AllRequests es place 0 batch
-decided_requests es place batch has =
-    subst (λ (qs : Batch). AllRequests es place 0 qs) has.batch_is
-    (all_requests es place has.decision 0 has.decision.batch has.there has.place_is (λ step. let same : step ≡ 0 + step = omega arith in ap (slice_get has.decision.batch) same))
-
--- ---- lines of requests that were decided
-
-abbrev pub Answered : List LogEntry → TableLine → Type 0
-Answered es line = HasAnswered es (answer_by line)
-
-line_answered : {S : Type 0} (m : Meaning S) (r : Replica S) (es : List LogEntry) (place index : ℕ) (q : SignedBy Request) → r.place ≡ place → HasRequest es place index q
-    → Answered es (line_of m r index q.statement)
-line_answered m r es place index q at has = record {
-  decision = has.decision;
-  there = has.there;
-  place_is = has.place_is ∙ sym at;
-  request = q;
-  request_is = has.request_is;
-  client_is = refl;
-  seq_is = refl;
-}
+-- the entries have reached the place of a line
+abbrev pub IsReached : List LogEntry → TableLine → Type 0
+IsReached es line = HasReached es line.place
 
 pub each_with_line : (P : TableLine → Type 0) (table : List TableLine) (line : TableLine) → Each P table → P line → Each P (with_line table line)
 each_with_line P [] line each is = (is, tt)
@@ -95,23 +52,23 @@ unfolding execute
 table_execute {S = S} m r i q P each is =
     either (λ (x : Replica S). Each P x.table) (is_next r.table q) _ r (each_with_line P r.table (line_of m r i q) each is) each
 
-table_all : {S : Type 0} (m : Meaning S) (r : Replica S) (es : List LogEntry) (place i : ℕ) (qs : Batch) → r.place ≡ place → AllRequests es place i qs → Each (Answered es) r.table
-    → Each (Answered es) (execute_all m r i qs).table
-table_all m r es place i [] at all each = each
-table_all m r es place i (q ∷ qs) at all each =
-    table_all m (execute m r i q.statement) es place (i + 1) qs (place_execute m r i q.statement ∙ at) all.1
-    (table_execute m r i q.statement (Answered es) each (line_answered m r es place i q at all.0))
+table_all : {S : Type 0} (m : Meaning S) (r : Replica S) (es : List LogEntry) (place i : ℕ) (qs : Batch) → r.place ≡ place → HasReached es place → Each (IsReached es) r.table
+    → Each (IsReached es) (execute_all m r i qs).table
+table_all m r es place i [] at reached each = each
+table_all m r es place i (q ∷ qs) at reached each =
+    table_all m (execute m r i q.statement) es place (i + 1) qs (place_execute m r i q.statement ∙ at) reached
+    (table_execute m r i q.statement (IsReached es) each (omega (arith, at, reached)))
 
 line_if : (P : TableLine → Type 0) (b : Bool) (line : TableLine) → P line → Each P (option_to_list (cond b (Some line) None))
 line_if P true line is = (is, tt)
 line_if P false line is = tt
 
-lines_all : {S : Type 0} (m : Meaning S) (r : Replica S) (es : List LogEntry) (place i : ℕ) (qs : Batch) → r.place ≡ place → AllRequests es place i qs → Each (Answered es) (lines_of m r i qs)
-lines_all m r es place i [] at all = tt
-lines_all m r es place i (q ∷ qs) at all =
-    each_append (Answered es) (option_to_list (line_made m r i q.statement)) (lines_of m (execute m r i q.statement) (i + 1) qs)
-    (line_if (Answered es) (is_next r.table q.statement) (line_of m r i q.statement) (line_answered m r es place i q at all.0))
-    (lines_all m (execute m r i q.statement) es place (i + 1) qs (place_execute m r i q.statement ∙ at) all.1)
+lines_all : {S : Type 0} (m : Meaning S) (r : Replica S) (es : List LogEntry) (place i : ℕ) (qs : Batch) → r.place ≡ place → HasReached es place → Each (IsReached es) (lines_of m r i qs)
+lines_all m r es place i [] at reached = tt
+lines_all m r es place i (q ∷ qs) at reached =
+    each_append (IsReached es) (option_to_list (line_made m r i q.statement)) (lines_of m (execute m r i q.statement) (i + 1) qs)
+    (line_if (IsReached es) (is_next r.table q.statement) (line_of m r i q.statement) (omega (arith, at, reached)))
+    (lines_all m (execute m r i q.statement) es place (i + 1) qs (place_execute m r i q.statement ∙ at) reached)
 
 -- ---- the replica at the next place
 
@@ -125,18 +82,23 @@ pub delivered_is : {S : Type 0} (m : Meaning S) (r : Replica S) (batch : Batch)
 unfolding delivered
 delivered_is m r batch = replica_is (execute_all m (at_next r) 0 batch) r.views (r.place + 1) (views_all m (at_next r) 0 batch) (place_all m (at_next r) 0 batch)
 
-pub delivered_table : {S : Type 0} (m : Meaning S) (r : Replica S) (es : List LogEntry) (batch : Batch) → AllRequests es (r.place + 1) 0 batch → Each (Answered es) r.table
-    → Each (Answered es) (delivered m r batch).table
+pub delivered_table : {S : Type 0} (m : Meaning S) (r : Replica S) (es : List LogEntry) (batch : Batch) → HasReached es (r.place + 1) → Each (IsReached es) r.table
+    → Each (IsReached es) (delivered m r batch).table
 unfolding delivered
-delivered_table m r es batch all each = table_all m (at_next r) es (r.place + 1) 0 batch refl all each
+delivered_table m r es batch reached each = table_all m (at_next r) es (r.place + 1) 0 batch refl reached each
 
-delivered_lines : {S : Type 0} (m : Meaning S) (r : Replica S) (es : List LogEntry) (batch : Batch) → AllRequests es (r.place + 1) 0 batch → Each (Answered es) (executed_lines m r batch)
+delivered_lines : {S : Type 0} (m : Meaning S) (r : Replica S) (es : List LogEntry) (batch : Batch) → HasReached es (r.place + 1) → Each (IsReached es) (executed_lines m r batch)
 unfolding executed_lines
-delivered_lines m r es batch all = lines_all m (at_next r) es (r.place + 1) 0 batch refl all
+delivered_lines m r es batch reached = lines_all m (at_next r) es (r.place + 1) 0 batch refl reached
 
 decided_where : {A : Type 0} (waiting : Option A) (x : A) (place : ℕ) → waiting ≡ Some x → cond (is_some waiting) (place + 1) place ≡ place + 1
 decided_where None x place is = absurd (cc)
 decided_where (Some y) x place is = refl
+
+-- where a batch waits, the entries have reached its place
+pub reached_next : {S : Type 0} (stated : List Statement) (view : View) (n : Node S) (batch : Batch) → IsSound stated view n → n.waiting ≡ Some batch → HasReached n.entries (next_place n)
+reached_next stated view n batch is waits =
+    let last : last_made n.entries ≡ n.replica.place + 1 = is.last ∙ decided_where n.waiting batch n.replica.place waits in omega (arith, last)
 
 -- the node at the next place, with what its replica remembers there
 unfoldable pub onward : {S : Type 0} → Node S → S → List TableLine → List (SignedBy Request) → Node S
@@ -144,7 +106,7 @@ onward n service table pool =
     record n { replica = record { service = service; table = table; views = n.replica.views; place = n.replica.place + 1 }; waiting = None; pool = pool; impatient = false }
 
 pub sound_onward : {S : Type 0} (stated : List Statement) (view : View) (n : Node S) (batch : Batch) (service : S) (table : List TableLine) (pool : List (SignedBy Request)) → IsSound stated view n
-    → n.waiting ≡ Some batch → Each (Answered n.entries) table → AreAsked n.secret stated pool → IsSound stated view (onward n service table pool)
+    → n.waiting ≡ Some batch → Each (IsReached n.entries) table → AreAsked n.secret stated pool → IsSound stated view (onward n service table pool)
 unfolding onward regency_of is_proven is_collect
 sound_onward stated view n batch service table pool is waits answered asked =
     let same : decided_place n ≡ n.replica.place + 1 = decided_where n.waiting batch n.replica.place waits in
@@ -171,14 +133,14 @@ sound_onward stated view n batch service table pool is waits answered asked =
 
 -- ---- answer
 
-pub sound_reply : {S : Type 0} (stated : List Statement) (view : View) (n : Node S) (line : TableLine) → IsSound stated view n → Answered n.entries line
+pub sound_reply : {S : Type 0} (stated : List Statement) (view : View) (n : Node S) (line : TableLine) → IsSound stated view n → IsReached n.entries line
     → IsSound stated view (holding n (targets.Client line.client) (Plain (reply_of n.secret n.id line)))
 sound_reply stated view n line is has =
     let says_it = says.Replied (signed answers n.secret n.id (answer_by line)) in
     holds stated view n (targets.Client line.client) (Plain (reply_of n.secret n.id line)) is
     (each_filter (Shows stated n) (says.verifies n.secret) (says_it ∷ []) (inr (refl, has), tt))
 
-sound_replying : {S : Type 0} (stated : List Statement) (view : View) (n : Node S) (lines : List TableLine) → IsSound stated view n → Each (Answered n.entries) lines
+sound_replying : {S : Type 0} (stated : List Statement) (view : View) (n : Node S) (lines : List TableLine) → IsSound stated view n → Each (IsReached n.entries) lines
     → IsSound stated view (replying n lines)
 sound_replying stated view n [] is all = is
 sound_replying stated view n (line ∷ lines) is all =
@@ -187,30 +149,31 @@ sound_replying stated view n (line ∷ lines) is all =
 -- ---- deliver
 
 delivers_waiting : {S : Type 0} (m : Meaning S) (stated : List Statement) (view : View) (n : Node S) (batch : Batch) → IsSound stated view n → n.waiting ≡ Some batch
-    → AllRequests n.entries (next_place n) 0 batch → IsSound stated view (deliver_batch m n (Some batch))
+    → IsSound stated view (deliver_batch m n (Some batch))
 unfolding deliver_batch onward
-delivers_waiting {S = S} m stated view n batch is waits all =
+delivers_waiting {S = S} m stated view n batch is waits =
+    let reached : HasReached n.entries (next_place n) = reached_next stated view n batch is waits in
     let r : Replica S = delivered m n.replica batch in
     let pool : List (SignedBy Request) = settled r.table n.pool in
     let IsAsked : SignedBy Request → Type 0 = λ q. (is_verified requests n.secret q ≡ true) × IsStated n.secret stated (Plain (Ask q)) in
     let there : IsSound stated view (onward n r.service r.table pool) =
-    sound_onward stated view n batch r.service r.table pool is waits (delivered_table m n.replica n.entries batch all is.table)
+    sound_onward stated view n batch r.service r.table pool is waits (delivered_table m n.replica n.entries batch reached is.table)
     (each_filter IsAsked (λ q. is_next r.table q.statement) n.pool is.pool) in
     let next : IsSound stated view (record n { replica = r; waiting = None; pool = pool; impatient = false }) =
     subst (λ (x : Replica S). IsSound stated view (record n { replica = x; waiting = None; pool = pool; impatient = false })) (delivered_is m n.replica batch) there in
     sound_replying stated view (record n { replica = r; waiting = None; pool = pool; impatient = false }) (lines_to_answer m n batch) next
-    (either (λ (lines : List TableLine). Each (Answered n.entries) lines) (is_member (view_of n) n.id) (executed_lines m n.replica batch) []
-    (delivered_lines m n.replica n.entries batch all) tt)
+    (either (λ (lines : List TableLine). Each (IsReached n.entries) lines) (is_member (view_of n) n.id) (executed_lines m n.replica batch) []
+    (delivered_lines m n.replica n.entries batch reached) tt)
 
 delivers_with : {S : Type 0} (m : Meaning S) (stated : List Statement) (view : View) (n : Node S) (o : Option Batch) → IsSound stated view n → n.waiting ≡ o
-    → IfSome o (HasDecided n.entries (next_place n)) → IsSound stated view (deliver_batch m n o)
+    → IsSound stated view (deliver_batch m n o)
 unfolding deliver_batch
-delivers_with m stated view n None is at has = is
-delivers_with m stated view n (Some batch) is at has = delivers_waiting m stated view n batch is at (decided_requests n.entries (next_place n) batch has)
+delivers_with m stated view n None is at = is
+delivers_with m stated view n (Some batch) is at = delivers_waiting m stated view n batch is at
 
 pub sound_delivers : {S : Type 0} (m : Meaning S) (stated : List Statement) (view : View) (n : Node S) → IsSound stated view n → IsSound stated view (delivers m n)
 unfolding delivers
-sound_delivers m stated view n is = delivers_with m stated view n n.waiting is refl is.waiting
+sound_delivers m stated view n is = delivers_with m stated view n n.waiting is refl
 
 -- ---- answer again
 
@@ -229,7 +192,7 @@ answering_each P n (Plain (Vote b)) each = tt
 answering_each P n (Plain (Reply a)) each = tt
 answering_each P n (Change m) each = tt
 
-answers_line : {S : Type 0} (stated : List Statement) (view : View) (n : Node S) (o : Option TableLine) → IsSound stated view n → IfSome o (Answered n.entries)
+answers_line : {S : Type 0} (stated : List Statement) (view : View) (n : Node S) (o : Option TableLine) → IsSound stated view n → IfSome o (IsReached n.entries)
     → IsSound stated view (answer_line n o)
 unfolding answer_line
 answers_line stated view n None is has = is
@@ -237,4 +200,4 @@ answers_line stated view n (Some line) is has = sound_reply stated view n line i
 
 pub sound_answers_again : {S : Type 0} (stated : List Statement) (view : View) (n : Node S) (message : AnyMessage) → IsSound stated view n → IsSound stated view (answers_again n message)
 unfolding answers_again
-sound_answers_again stated view n message is = answers_line stated view n (answering n message) is (answering_each (Answered n.entries) n message is.table)
+sound_answers_again stated view n message is = answers_line stated view n (answering n message) is (answering_each (IsReached n.entries) n message is.table)

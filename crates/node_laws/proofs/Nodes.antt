@@ -4,7 +4,7 @@ use Rattle.std.proofs.lemmas.List.{take_all}
 use Rattle.std.specs.Prelude.{IfSome}
 use Rattle.replica_rules.specs.Seals.{digest_of, is_verified}
 use Rattle.agreement_laws.specs.Certificates.{IsBacked}
-use Rattle.agreement_laws.specs.Diaries.{HasAnswered, IsShown}
+use Rattle.agreement_laws.specs.Diaries.{HasReached, IsShown}
 use Rattle.agreement_laws.specs.Statements.{Statement, signer_of, statements}
 use Rattle.node_rules.specs.Arrivals.{is_collect, is_proven}
 use Rattle.node_rules.specs.Nodes.{Node, decided_place, holding, next_place, recording, regency_in, regency_of, view_of}
@@ -31,8 +31,8 @@ use Rattle.vote_book.proofs.Tidy.{grows_tidy}
 use Rattle.vote_book.specs.Books.{Admits, Among, last_made, latest_made, number_or, place_made}
 use Rattle.vote_book.specs.Tidy.{IsTidyAfter}
 use Rattle.vote_book.specs.declared.entry.LogEntry.{LogEntry}
-use Rattle.node_laws.proofs.Books.{answered_push, begun_push, decided_push, held_push, least_decided, ranged_push, within_at, within_push}
-use Rattle.node_laws.specs.Sound.{AreAsked, HasBatch, HasDecided, IsHeld, IsKept, IsMembers, IsSound, IsStated, IsWithin, answer_by, place_if}
+use Rattle.node_laws.proofs.Books.{begun_push, decided_push, held_push, least_decided, ranged_push, reached_push, within_at, within_push}
+use Rattle.node_laws.specs.Sound.{AreAsked, HasBatch, HasDecided, IsHeld, IsKept, IsMembers, IsSound, IsStated, IsWithin, place_if}
 use Rattle.smart_messages.specs.declared.regency.RegencyMessage.TheVariants as changes
 use Rattle.agreement_laws.proofs.Lists.{each_end}
 use Rattle.smart_base.proofs.ViewFacts.{each-weaken}
@@ -161,8 +161,8 @@ pushes stated view n e waiting is may made = record {
   backed = each_end (IsBacked n.secret digest_of view stated) n.entries e is.backed may.backed;
   batches = each_end (HasBatch n.secret stated) n.entries e is.batches may.batch;
   waiting = made.waiting;
-  table = each-weaken (λ line. HasAnswered n.entries (answer_by line)) (λ line. HasAnswered (n.entries ++ e ∷ []) (answer_by line))
-      (λ line has. answered_push n.entries e (answer_by line) has) n.replica.table is.table;
+  table = each-weaken (λ line. HasReached n.entries line.place) (λ line. HasReached (n.entries ++ e ∷ []) line.place)
+      (λ line has. reached_push n.entries e line.place has) n.replica.table is.table;
   arrivals = is.arrivals;
   stops = is.stops;
   reports = is.reports;

@@ -22,7 +22,7 @@ use Rattle.vote_book.specs.declared.entry.LogEntry.{LogEntry}
 use Rattle.vote_book.specs.declared.entry.LogEntry.TheVariants.{Accepted, Decided, Installed, Marked, Opened, Promised, Synced, Wrote}
 use Rattle.node_laws.proofs.Books.{greatest_push, within_more}
 use Rattle.node_laws.proofs.Deciding.{decides_makes}
-use Rattle.node_laws.proofs.Delivering.{Answered, decided_requests, delivered_is, delivered_table, onward, sound_onward}
+use Rattle.node_laws.proofs.Delivering.{IsReached, delivered_is, delivered_table, onward, reached_next, sound_onward}
 use Rattle.node_laws.proofs.Nodes.{MayPush, aside, pushes, records}
 use Rattle.node_laws.proofs.Passes.{sound_begun}
 use Rattle.node_laws.proofs.Promised.{number_in_force}
@@ -100,7 +100,7 @@ decision_back {S = S} m stated view n d is none may =
     let made = decides_makes stated view n d is free at in
     let waits : IsSound stated view w = pushes stated view n (Decided d) (Some d.batch) is may made in
     let r : Replica S = delivered m n.replica d.batch in
-    let table : Each (Answered es) r.table = delivered_table m n.replica es d.batch (decided_requests es (next_place n) d.batch made.waiting) waits.table in
+    let table : Each (IsReached es) r.table = delivered_table m n.replica es d.batch (reached_next stated view w d.batch waits refl) waits.table in
     let there : IsSound stated view (onward w r.service r.table n.pool) = sound_onward stated view w d.batch r.service r.table n.pool waits refl table is.pool in
     let next : IsSound stated view (record w { replica = r; waiting = None; impatient = false }) =
     subst (λ (x : Replica S). IsSound stated view (record w { replica = x; waiting = None; impatient = false })) (delivered_is m n.replica d.batch) there in

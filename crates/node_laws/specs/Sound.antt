@@ -30,7 +30,7 @@ use Rattle.vote_book.specs.declared.entry.LogEntry.{LogEntry}
 use Rattle.vote_book.specs.declared.entry.LogEntry.TheVariants.{Opened, Wrote, Accepted, Promised, Synced, Decided, Installed, Marked}
 use Rattle.replica_rules.specs.Seals.{is_verified, digest_of}
 use Rattle.agreement_laws.specs.Statements.{Statement, statements, signer_of}
-use Rattle.agreement_laws.specs.Diaries.{IsShown, HasAnswered}
+use Rattle.agreement_laws.specs.Diaries.{IsShown, HasReached}
 use Rattle.agreement_laws.specs.Certificates.{IsBacked}
 use Rattle.node_rules.specs.Nodes.{Node, greatest_regency, regency_of, next_place, decided_place}
 use Rattle.node_rules.specs.Arrivals.{is_batch_for, is_proven, is_collect}
@@ -164,9 +164,9 @@ pub record IsSound {S : Type 0} (stated : List Statement) (view : View) (n : Nod
   -- it rests on what has been stated
   pub backed : Each (IsBacked n.secret digest_of view stated) n.entries
   pub batches : Each (HasBatch n.secret stated) n.entries
-  -- what waits is decided, and what the replica remembers of a client was
+  -- what waits is decided, and what the replica remembers of a client is of a place that the entries have reached
   pub waiting : IfSome n.waiting (HasDecided n.entries (next_place n))
-  pub table : Each (λ line. HasAnswered n.entries (answer_by line)) n.replica.table
+  pub table : Each (λ line. HasReached n.entries line.place) n.replica.table
   -- what is kept passed the node's checks and has been stated
   pub arrivals : Each (λ m. IsKept n.secret view m × IsStated n.secret stated (Plain m)) n.arrivals
   pub stops : Each (λ (s : SignedBy Stop). IsMembers view (is_verified stops n.secret s) s.signer s.statement.view × IsStated n.secret stated (Change (changes.Stop s))) n.stops

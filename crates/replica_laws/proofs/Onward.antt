@@ -1,7 +1,7 @@
 -- Each message that a node holds is its own and rests on entries that it waits for; and a node's book only grows.
 use Rattle.std.proofs.Common.{◌≡◌, ℕ, zero, suc, ◌+◌, ◌^◌, ◌≤◌, ◌++◌, nat_lt, true, false, List, [], ◌∷◌, length, refl, ap, ◌∙◌, sym, arith, Option, Some, None, subst, append-nil, append_assoc, length-append, take}
 use Rattle.std.proofs.lemmas.List.{take_all}
-use Rattle.std.specs.Prelude.{IfSome, slice_get}
+use Rattle.std.specs.Prelude.{IfSome}
 use Rattle.smart_base.specs.Lists.{Each, or_else}
 use Rattle.smart_base.specs.Views.{View, is_member, leader}
 use Rattle.smart_statements.specs.Forms.{SignedBy}
@@ -11,7 +11,6 @@ use Rattle.smart_statements.specs.Kinds.{proposals}
 use Rattle.smart_messages.specs.Regencies.{syncs}
 use Rattle.smart_statements.specs.declared.statement.Request.{Request}
 use Rattle.smart_statements.specs.declared.statement.Slot.{Slot}
-use Rattle.smart_statements.specs.declared.statement.Answer.{Answer}
 use Rattle.smart_statements.specs.declared.statement.VoteKind.TheVariants.{Write, Accept}
 use Rattle.smart_statements.specs.declared.report.Report.{Report}
 use Rattle.smart_messages.specs.declared.regency.Sync.{Sync}
@@ -26,10 +25,11 @@ use Rattle.smart_statements.specs.declared.entry.NodeEvent.TheVariants.{Arrive, 
 use Rattle.smart_service.specs.Services.{Meaning}
 use Rattle.smart_service.specs.declared.table.TableLine.{TableLine}
 use Rattle.vote_book.specs.Books.{Among}
+use Rattle.vote_book.proofs.Tested.{made_within}
 use Rattle.vote_book.specs.declared.entry.Decision.{Decision}
 use Rattle.vote_book.specs.declared.entry.LogEntry.{LogEntry}
 use Rattle.vote_book.specs.declared.entry.LogEntry.TheVariants as entries
-use Rattle.agreement_laws.specs.Diaries.{HasReported, HasAnswered}
+use Rattle.agreement_laws.specs.Diaries.{HasReached, HasReported}
 use Rattle.replica_rules.specs.Replicas.{is_next, delivered, executed_lines, at_next}
 use Rattle.replica_rules.specs.Seals.{signed, digest_of}
 use Rattle.replica_rules.specs.Pools.{offered, settled}
@@ -49,7 +49,7 @@ use Rattle.replica_laws.proofs.Again.{ForLine, answering-each, each-delivered}
 use Rattle.node_rules.proofs.Rulewise.{KeptByRules, KeptInSteps, free-read, keeps_passes, keeps_reading}
 use Rattle.agreement_laws.proofs.Lists.{among_left, either, each_end}
 use Rattle.node_laws.proofs.Lists.{among_last}
-use Rattle.agreement_laws.proofs.Growing.{HasVoted-more}
+use Rattle.agreement_laws.proofs.Growing.{HasReached-more, HasVoted-more}
 use Rattle.smart_base.proofs.ViewFacts.{each-weaken}
 use Rattle.node_laws.proofs.Passes.{each_staying}
 
@@ -75,17 +75,6 @@ longer-front (suc k) zero xs le = absurd (omega (arith, le))
 longer-front (suc k) (suc j) [] le = record { more = []; split = refl }
 longer-front (suc k) (suc j) (x ∷ xs) le = let rest = longer-front k j xs (omega (arith, le)) in record { more = rest.more; split = ap (λ zs. x ∷ zs) rest.split }
 
-pub answered-append : (es more : List LogEntry) (a : Answer) → HasAnswered es a → HasAnswered (es ++ more) a
-answered-append es more a has = record {
-  decision = has.decision;
-  there = among_left (entries.Decided has.decision) es more has.there;
-  place_is = has.place_is;
-  request = has.request;
-  request_is = has.request_is;
-  client_is = has.client_is;
-  seq_is = has.seq_is;
-}
-
 reported-append : (es more : List LogEntry) (r : Report) → HasReported digest_of es r → HasReported digest_of (es ++ more) r
 reported-append es more r has = record {
   before = has.before;
@@ -98,7 +87,7 @@ rests-append : (es more : List LogEntry) (message : AnyMessage) → RestsOn es m
 rests-append es more (Plain (Ask q)) rests = tt
 rests-append es more (Plain (Propose p)) rests = tt
 rests-append es more (Plain (Vote b)) rests = HasVoted-more es more b.statement.kind b.statement.slot b.statement.digest rests
-rests-append es more (Plain (Reply a)) rests = answered-append es more a.statement rests
+rests-append es more (Plain (Reply a)) rests = HasReached-more es more a.statement.place rests
 rests-append es more (Change (changes.Stop s)) rests = tt
 rests-append es more (Change (changes.StopData r)) rests = reported-append es more r.head.statement rests
 rests-append es more (Change (changes.Sync s)) rests = tt
@@ -126,15 +115,11 @@ pub record HasDecided (es : List LogEntry) (place : ℕ) (batch : Batch) : Type 
 abbrev pub IsDecided : ℕ → List LogEntry → Option Batch → Type 0
 IsDecided place es waiting = IfSome waiting (HasDecided es place)
 
--- what a reply that is made of a table line states
-abbrev pub answer_by : TableLine → Answer
-answer_by line = record { view = line.view; place = line.place; index = line.index; client = line.client; seq = line.seq; reply = line.reply }
-
 -- a reply made of a table line rests on a book
 abbrev pub LineRests : List LogEntry → TableLine → Type 0
-LineRests es line = HasAnswered es (answer_by line)
+LineRests es line = HasReached es line.place
 
--- all held messages are right, the batch that waits is decided, and so is the request of each line of the table
+-- all held messages are right, the batch that waits is decided, and the book has reached the place of each line of the table
 pub record NodeRests {S : Type 0} (n : Node S) : Type 0 where
   pub held : Each (HoldsRight n.id n.entries) n.held
   pub waits : IsDecided (next_place n) n.entries n.waiting
@@ -193,7 +178,7 @@ rests-holding n to message own rests is =
 
 -- lines of a table, of a longer book
 lines-more : (es more : List LogEntry) (lines : List TableLine) → Each (LineRests es) lines → Each (LineRests (es ++ more)) lines
-lines-more es more lines each = each-weaken (LineRests es) (LineRests (es ++ more)) (λ l rests. answered-append es more (answer_by l) rests) lines each
+lines-more es more lines each = each-weaken (LineRests es) (LineRests (es ++ more)) (λ l rests. HasReached-more es more l.place rests) lines each
 
 -- an entry is recorded
 pub rests-recording : {S : Type 0} (n : Node S) (e : LogEntry) → NodeRests n → NodeRests (recording n e)
@@ -204,18 +189,12 @@ rests-recording n e is =
       lines = lines-more n.entries (e ∷ []) n.replica.table is.lines;
     }
 
--- a reply rests on the decision of its place
-rests-reply : (es : List LogEntry) (place : ℕ) (batch : Batch) (l : TableLine) → HasDecided es place batch → l.place ≡ place → (q : SignedBy Request) → slice_get batch l.index ≡ Some q
-    → q.statement.client ≡ l.client → q.statement.seq ≡ l.seq → LineRests es l
-rests-reply es place batch l decided at q there client seq = record {
-  decision = decided.decision;
-  there = decided.there;
-  place_is = decided.place_is ∙ sym at;
-  request = q;
-  request_is = ap (λ (b : Batch). slice_get b l.index) decided.batch_is ∙ there;
-  client_is = client;
-  seq_is = seq;
-}
+-- a reply rests where its place is decided
+rests-reply : (es : List LogEntry) (place : ℕ) (batch : Batch) (l : TableLine) → HasDecided es place batch → l.place ≡ place → LineRests es l
+rests-reply es place batch l decided at =
+    let made = made_within (entries.Decided decided.decision) es decided.decision.slot.place decided.there refl in
+    let same = decided.place_is in
+    omega (arith, made, same, at)
 
 -- replies are held
 onward-replying : {S : Type 0} (n : Node S) (lines : List TableLine) → Each (LineRests n.entries) lines → NodeRests n → Onward n (replying n lines)
@@ -228,9 +207,7 @@ onward-replying n (l ∷ ls) each is =
 -- the replies to a batch that is decided rest on its decision
 lines_rest : {S : Type 0} (m : Meaning S) (n : Node S) (batch : Batch) → HasDecided n.entries (next_place n) batch → Each (LineRests n.entries) (executed_lines m n.replica batch)
 lines_rest m n batch decided =
-    each-weaken (OfRequest (at_next n.replica) 0 batch) (LineRests n.entries)
-    (λ l of. rests-reply n.entries (next_place n) batch l decided of.at_place of.request
-    (subst (λ (i : ℕ). slice_get batch i ≡ Some of.request) (sym (of.at_index ∙ omega arith)) of.there) of.own_client of.own_seq)
+    each-weaken (OfRequest (at_next n.replica) 0 batch) (LineRests n.entries) (λ l of. rests-reply n.entries (next_place n) batch l decided of.at_place)
     (executed_lines m n.replica batch) (of_delivered m n.replica batch)
 
 replies_rest : {S : Type 0} (m : Meaning S) (n : Node S) (batch : Batch) → HasDecided n.entries (next_place n) batch → Each (LineRests n.entries) (lines_to_answer m n batch)

@@ -18,7 +18,7 @@ use Rattle.smart_messages.specs.declared.any.AnyMessage.{AnyMessage}
 use Rattle.smart_messages.specs.declared.any.AnyMessage.TheVariants.{Plain, Change}
 use Rattle.vote_book.specs.declared.entry.LogEntry.{LogEntry}
 use Rattle.replica_rules.specs.Seals.{is_verified, digest_of}
-use Rattle.agreement_laws.specs.Diaries.{HasVoted, HasReported, HasAnswered}
+use Rattle.agreement_laws.specs.Diaries.{HasVoted, HasReached, HasReported}
 use Rattle.node_rules.specs.Nodes.{Node}
 use Rattle.node_rules.specs.Steps.{leaving}
 use Rattle.node_rules.specs.declared.node.Target.{Target}
@@ -41,13 +41,13 @@ IsOwn id to (Change (changes.Stop s)) = s.signer ≡ id
 IsOwn id to (Change (changes.StopData r)) = (r.head.signer ≡ id) × IsToNode to
 IsOwn id to (Change (changes.Sync s)) = s.signer ≡ id
 
--- entries have what a message rests on: a vote its own entry, a reply the decision of its request, and a report its promise, behind what it
--- says of the book. The others rest on none
+-- entries have what a message rests on: a vote its own entry, a reply its place or a later one, and a report its promise, behind what it says of the book.
+-- The others rest on none
 abbrev pub RestsOn : List LogEntry → AnyMessage → Type 0
 RestsOn entries (Plain (Ask q)) = Unit {0}
 RestsOn entries (Plain (Propose p)) = Unit {0}
 RestsOn entries (Plain (Vote b)) = HasVoted entries b.statement.kind b.statement.slot b.statement.digest
-RestsOn entries (Plain (Reply a)) = HasAnswered entries a.statement
+RestsOn entries (Plain (Reply a)) = HasReached entries a.statement.place
 RestsOn entries (Change (changes.Stop s)) = Unit {0}
 RestsOn entries (Change (changes.StopData r)) = HasReported digest_of entries r.head.statement
 RestsOn entries (Change (changes.Sync s)) = Unit {0}

@@ -36,7 +36,7 @@ pub fn executes_once<S: Service>()
     ensures ordered { (view : View) (list : List Batch) → InOrder (executions S.meaning view list) }
 {}
 
-/// A vote leaves only when its entry is firm, a reply only when the decision of its request is, and a
+/// A vote leaves only when its entry is firm, a reply only when firm entries make its place, and a
 /// report only when its promise is, behind entries that are what the report says. Of the other
 /// messages nothing is said. Whatever comes to a node that has let nothing go yet, each vote, report
 /// and reply that would leave it now rests on firm entries.

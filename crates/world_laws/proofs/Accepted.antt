@@ -14,7 +14,7 @@ use Rattle.node_rules.specs.Nodes.{next_place}
 use Rattle.node_rules.specs.Steps.{Outcome, step_of, leaving}
 use Rattle.client_quorum.specs.Clients.{acceptance, same_answer, has_answer, have, is_waited_for}
 use Rattle.world_rules.specs.Clients.{heard}
-use Rattle.world_rules.specs.Promises.{HasAsked, IsRight, IsRogue}
+use Rattle.world_rules.specs.Promises.{HasAsked, IsRight, IsRightReply, IsRogue}
 use Rattle.world_rules.specs.Worlds.{Course, course_of, Host, World, posts, chosen_with, stepped, acceptance_in, hearing, begun}
 use Rattle.client_quorum.specs.declared.client.Client.{Client}
 use Rattle.client_quorum.specs.declared.client.Acceptance.{Acceptance}
@@ -192,22 +192,40 @@ told-begun m view = record { all = tt }
 
 -- what follows
 
+-- a reply that tells an execution is right
+pub executed-right : {S : Type 0} (m : Meaning S) (v : View) (chosen : List Batch) (a : Answer) → IsExecuted m v chosen a → IsRightReply m v chosen a
+executed-right m v chosen a executed =
+    let q : IsOfRequest chosen (line_told a) = request-line m v chosen (line_told a) executed in
+    record {
+      request = q.request;
+      request_is = q.there;
+      client_is = q.client;
+      seq_is = q.seq;
+      place_is = place_of-line m v chosen (line_told a) executed;
+      reply_is = answer-line m v chosen (line_told a) executed;
+      view_is = view-line m v chosen (line_told a) executed;
+    }
+
+-- what a reply states that was accepted
+abbrev answer_accepted : Acceptance → Answer
+answer_accepted a = record { view = a.view; place = a.place; index = a.index; client = a.request.client; seq = a.request.seq; reply = a.reply }
+
 -- an accepted reply that tells an execution is right, unless its client is rogue: the request that stands there is the one that the client asked, for a client asks one request of a number
 is_right : {S : Type 0} (m : Meaning S) (w : World S) (a : Acceptance) → RequestsAsked w → ClientsRight w → IsTold m w.view w.chosen a → HasAsked w.sent a.request
     → RightUnlessRogue m w.view w.rogue w.sent w.chosen a
 is_right {S = S} m w a requests clients told asked =
-    let q : IsOfRequest w.chosen (line_accepted a) = request-line m w.view w.chosen (line_accepted a) told in
-    let stands : StandsRight w.rogue w.sent a.place q.request = stands_right w a.place a.index q.request requests q.there in
+    let right : IsRightReply m w.view w.chosen (answer_accepted a) = executed-right m w.view w.chosen (answer_accepted a) told in
+    let stands : StandsRight w.rogue w.sent a.place right.request = stands_right w a.place a.index right.request requests right.request_is in
     elim stands.asked [
-      | inl breaks ↦ inl (subst (IsRogue w.rogue) q.client breaks)
+      | inl breaks ↦ inl (subst (IsRogue w.rogue) right.client_is breaks)
       | inr sent ↦
-          let same : q.request ≡ a.request = clients.all.one q.request a.request sent asked q.client q.seq in
+          let same : right.request ≡ a.request = clients.all.one right.request a.request sent asked right.client_is right.seq_is in
           inr (record {
             asked = asked;
-            place_is = place_of-line m w.view w.chosen (line_accepted a) told;
-            request_is = q.there ∙ ap (λ (r : Request). Some r) same;
-            reply_is = answer-line m w.view w.chosen (line_accepted a) told;
-            view_is = view-line m w.view w.chosen (line_accepted a) told;
+            place_is = right.place_is;
+            request_is = right.request_is ∙ ap (λ (r : Request). Some r) same;
+            reply_is = right.reply_is;
+            view_is = right.view_is;
             above = subst (λ (r : Request). r.after < a.place) same stands.below;
           })
     ]

@@ -43,7 +43,8 @@ use Rattle.world_rules.specs.declared.message.Origin.TheVariants as origins
 use Rattle.world_rules.specs.declared.message.Content.{Content}
 use Rattle.world_rules.specs.declared.message.Content.TheVariants as contents
 use Rattle.world_rules.specs.declared.message.Sent.{Sent}
-use Rattle.world_laws.specs.Stated.{stated_in, stated, StatedAsked}
+use Rattle.world_rules.specs.Stated.{stated_in, stated}
+use Rattle.world_laws.specs.Stated.{StatedAsked}
 use Rattle.world_laws.proofs.Lists.{each_get}
 use Rattle.world_laws.proofs.Numbered.{EachAt, each_at_end, each_at_get, each_at_weaker}
 use Rattle.world_laws.proofs.Keeps.{IsRead, asked_by, by-posts, MayRead, may_read, KeepsAll, keeps-world_after, signed_by, from_node, from_client, from_script}

@@ -3,7 +3,7 @@ use Rattle.durable_store.specs.Restored.{Images, restores}
 use Rattle.agreement_laws.specs.Fronts.{IsFront}
 use Rattle.node_rules.specs.Reopening.{entries_in, reopened}
 use Rattle.replica_laws.proofs.FitNodes.{IsBrief}
-use Rattle.world_laws.specs.Stated.{stated}
+use Rattle.world_rules.specs.Stated.{stated}
 use Rattle.world_laws.specs.Sending.{AllGenuine}
 use Rattle.world_laws.proofs.Fitting.{all_genuine}
 use Rattle.world_laws.proofs.Lives.{book_left, lasts-stepped}

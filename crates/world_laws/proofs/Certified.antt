@@ -13,7 +13,7 @@ use Rattle.agreement_laws.proofs.Growing.{IsDrawn-more}
 use Rattle.world_rules.specs.Secrets.{group_secret}
 use Rattle.smart_statements.specs.Forms.{SignedBy}
 use Rattle.smart_statements.specs.declared.statement.Ballot.{Ballot}
-use Rattle.world_laws.specs.Stated.{Certified, AllCertified}
+use Rattle.world_rules.specs.Stated.{Certified, AllCertified}
 use Rattle.agreement_laws.proofs.Lists.{some_equal}
 
 -- two decisions of one place have one digest, whatever their regencies

@@ -30,7 +30,7 @@ use Rattle.world_rules.specs.declared.message.Sent.{Sent}
 use Rattle.node_rules.specs.Reopening.{decided_of}
 use Rattle.replica_laws.specs.Books.{DeliversInOrder}
 use Rattle.replica_laws.proofs.Follows.{DecidesNext, WasDue}
-use Rattle.world_laws.specs.Stated.{stated_in, stated, diary, Certified, AllCertified}
+use Rattle.world_rules.specs.Stated.{stated_in, stated, diary, Certified, AllCertified}
 use Rattle.world_laws.proofs.Stores.{Fits}
 use Rattle.world_laws.proofs.Lives.{Lasts}
 use Rattle.world_laws.proofs.Few.{FewHost, few-sent}

@@ -59,7 +59,7 @@ use Rattle.replica_laws.specs.Books.{DeliversInOrder}
 use Rattle.replica_laws.proofs.InOrder.{in_order-step, in_order-released, in_order-opened}
 use Rattle.replica_laws.proofs.Follows.{next-step, WasDue, due-step}
 use Rattle.replica_laws.proofs.Counted.{places-append, advances-step}
-use Rattle.world_laws.specs.Stated.{HasDiary, stated_in, stated, AllCertified, IsWitnessed}
+use Rattle.world_rules.specs.Stated.{HasDiary, stated_in, stated, AllCertified, IsWitnessed}
 use Rattle.world_laws.proofs.Lists.{each_set, each_get}
 use Rattle.world_laws.proofs.Keeps.{after_call, IsRead, called, ask_of, asked_by, by-posts, Keeps, keeps-world_after, ReadsSent, MayRead, may_read, signed_by, from_node, from_client, from_script, IsDown, KeepsAll, with_host, entries_left, node_resumed}
 use Rattle.replica_laws.proofs.FitNodes.{IsBrief}

@@ -24,7 +24,7 @@ use Rattle.node_laws.proofs.Undamaged.{read_again}
 use Rattle.world_rules.specs.Secrets.{group_secret}
 use Rattle.world_rules.specs.Worlds.{course_of, Host, host_crashed, host_resumed}
 use Rattle.world_rules.specs.declared.message.Sent.{Sent}
-use Rattle.world_laws.specs.Stated.{stated, AllCertified}
+use Rattle.world_rules.specs.Stated.{stated, AllCertified}
 use Rattle.world_laws.proofs.Keeps.{entries_left, after_call}
 use Rattle.world_laws.proofs.Stores.{fits-called}
 use Rattle.world_laws.proofs.Lives.{texts, book_left, Lasts, Crashed, crashed, left-restored, held_book, lasts-called, lasts-crashed, Resumed, resumed, lasts-resumed, fits-resumed}

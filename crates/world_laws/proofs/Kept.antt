@@ -1,5 +1,5 @@
 -- Whatever a crash leaves of a member's devices, it goes on from a front of the list, and the places of accepted replies are kept.
-use Rattle.std.proofs.Common.{◌≡◌, inl, inr, ℕ, ◌+◌, ◌-◌, ◌^◌, ◌≤◌, ◌==◌, ◌&&◌, ◌||◌, ◌∙◌, Bool, true, false, not, cond, List, [], ◌∷◌, length, take, filter, refl, ap, sym, arith, eqb-true, add-one, length-append, Some}
+use Rattle.std.proofs.Common.{◌≡◌, inl, inr, ℕ, ◌+◌, ◌-◌, ◌^◌, ◌≤◌, ◌==◌, ◌&&◌, ◌||◌, ◌∙◌, Bool, true, false, not, cond, List, [], ◌∷◌, length, take, filter, refl, ap, sym, arith, eqb-true, add-one, length-append, None, Some}
 use Rattle.std.proofs.lemmas.Bool.{le-leb}
 use Rattle.std.proofs.lemmas.List.{length-take-le}
 use Rattle.std.specs.Prelude.{map, slice_get}
@@ -15,21 +15,22 @@ use Rattle.smart_messages.specs.declared.message.Message.TheVariants.{Ask, Propo
 use Rattle.smart_messages.specs.declared.any.AnyMessage.TheVariants.{Plain, Change}
 use Rattle.smart_service.specs.Services.{Meaning}
 use Rattle.smart_service.specs.declared.replica.Replica.{Replica}
-use Rattle.vote_book.specs.Books.{Among, last_made, number_or, place_made}
+use Rattle.vote_book.specs.Books.{last_made}
 use Rattle.vote_book.specs.Entries.{FitsEntry}
-use Rattle.vote_book.specs.declared.entry.Decision.{Decision}
 use Rattle.vote_book.specs.declared.entry.LogEntry.{LogEntry}
-use Rattle.vote_book.specs.declared.entry.LogEntry.TheVariants.{Decided}
 use Rattle.replica_rules.specs.Replicas.{state}
 use Rattle.replica_rules.specs.Seals.{is_verified}
 use Rattle.durable_store.specs.Restored.{Images, restores}
 use Rattle.durable_store.specs.Standing.{MayLeave}
 use Rattle.member_store.specs.Books.{Leaves}
-use Rattle.world_rules.specs.Crashes.{is_unclosed, written_book}
+use Rattle.world_rules.specs.Crashes.{images_left, is_unclosed, written_book, wrong_images}
+use Rattle.world_rules.specs.declared.crash.Image.{Image}
 use Rattle.member_store.proofs.Crashed.{crash_leaves}
+use Rattle.member_store.proofs.Told.{may_leave}
+use Rattle.member_store.proofs.Whole.{none_left_wrong}
 use Rattle.agreement_laws.specs.Fronts.{IsFront}
 use Rattle.agreement_laws.specs.Statements.{Replied}
-use Rattle.agreement_laws.specs.Diaries.{HasAnswered}
+use Rattle.agreement_laws.specs.Diaries.{HasReached}
 use Rattle.node_rules.specs.Nodes.{Node}
 use Rattle.node_rules.specs.Reopening.{decided_of, damaged, entries_in, reopened}
 use Rattle.node_laws.proofs.Restored.{front_decided}
@@ -37,18 +38,18 @@ use Rattle.node_laws.proofs.Reopened.{reopened_is, count_is}
 use Rattle.node_laws.proofs.Undamaged.{undamaged, read_again}
 use Rattle.world_rules.specs.Secrets.{group_secret}
 use Rattle.world_rules.specs.Premises.{is_among}
-use Rattle.world_rules.specs.Worlds.{Host, World, is_gone}
+use Rattle.world_rules.specs.Worlds.{Host, World, is_gone, life_crashed}
 use Rattle.world_rules.specs.Promises.{restored_replica, has_place, MayBeLeft, IsKept, Recovers}
 use Rattle.world_rules.specs.declared.message.Content.{Content}
 use Rattle.world_rules.specs.declared.message.Content.TheVariants as contents
 use Rattle.world_rules.specs.declared.message.Sent.{Sent}
 use Rattle.client_quorum.specs.declared.client.Acceptance.{Acceptance}
-use Rattle.world_laws.specs.Stated.{stated}
+use Rattle.world_rules.specs.Stated.{stated}
 use Rattle.world_laws.specs.Sending.{has_replied, is_reply_of, is_of, is_for, is_reply, QuorumReplied}
 use Rattle.world_laws.proofs.Lists.{each_get}
 use Rattle.world_laws.proofs.Keeps.{HasMessage}
 use Rattle.world_laws.proofs.NoClash.{IsMet}
-use Rattle.world_laws.proofs.Lives.{left-restored, texts, texts-take, book_now, Lasts, stopped_firm, written_texts}
+use Rattle.world_laws.proofs.Lives.{left-restored, left_diary, texts, texts-take, book_now, Lasts, stopped_firm, written_texts}
 use Rattle.world_laws.proofs.Certified.{certified-front}
 use Rattle.world_laws.proofs.Fitting.{FitHost, spelled-life}
 use Rattle.world_laws.proofs.Grounded.{EntryMet, HostMet, grounded-exact}
@@ -62,7 +63,8 @@ use Rattle.replica_rules.proofs.Places.{state_place}
 
 -- ---- what a crash leaves
 
--- the entries that bytes which a crash leaves restore: they are a book from which the member may go on, and begin with its diary
+-- the entries that bytes which a crash leaves restore: they are a book from which the member may go on, begin with its diary, and are the diary that the crash
+-- makes
 record LeftBook {S : Type 0} (w : World S) (h : Host S) (left : Images) : Type 0 where
   book : List LogEntry
   restored : (restores left).entries ≡ texts book
@@ -70,6 +72,7 @@ record LeftBook {S : Type 0} (w : World S) (h : Host S) (left : Images) : Type 0
   met : Each (EntryMet (IsMet w.sent)) book
   fits : Each FitsEntry book
   diary : texts h.life.diary ≡ take (length h.life.diary) (texts book)
+  made : (restores left).entries ≡ texts (life_crashed h left).diary
 
 -- what holds of the books of a host, holds of the one of which a crash leaves the first entries
 of_written : {S : Type 0} (P : List LogEntry → Type 0) (h : Host S) → P h.node.entries → P h.life.diary → P h.life.aside → P (written_book h.store (book_now h) h.life.aside)
@@ -104,6 +107,7 @@ left_book {S = S} m w i h left at may r =
     leaves.begins ∙ (ap (λ (es : List (List ℕ)). take (length restored) es) (sym (written_texts h.store (book_now h) h.life.aside)) ∙ sym (texts-take (length restored) all)) in
     let firm = diary_firm h (omega (arith, few)) right.lasts in
     let n : ℕ = length h.life.diary in
+    let begins : texts h.life.diary ≡ take n restored = ap texts firm.1 ∙ (texts-take n (book_now h) ∙ sym (leaves.same n firm.0)) in
     record {
       book = take (length restored) all;
       restored = front;
@@ -112,7 +116,8 @@ left_book {S = S} m w i h left at may r =
       met = each_take (EntryMet (IsMet w.sent)) (length restored) all (of_written (λ (es : List LogEntry). Each (EntryMet (IsMet w.sent)) es) h met.node.entries met.life.diary met.life.aside);
       fits = each_take FitsEntry (length restored) all
           (of_written (λ (es : List LogEntry). Each FitsEntry es) h fit.node.book (spelled-life h.life fit.life).diary (spelled-life h.life fit.life).aside);
-      diary = ap texts firm.1 ∙ (texts-take n (book_now h) ∙ (sym (leaves.same n firm.0) ∙ ap (λ (es : List (List ℕ)). take n es) front));
+      diary = begins ∙ ap (λ (es : List (List ℕ)). take n es) front;
+      made = sym (left_diary h left leaves.begins begins);
     }
 
 -- ---- the replica that goes on
@@ -142,8 +147,12 @@ left_front {S = S} m w h left r b =
 recovers : {S : Type 0} (m : Meaning S) (w : World S) (i : ℕ) (h : Host S) → slice_get w.hosts i ≡ Some h → ChosenRight m w → Recovers m w h
 recovers {S = S} m w i h at r =
     let b : (left : Images) → MayLeave h.store left → LeftBook w h left = λ left may. left_book m w i h left at may r in
+    let none_wrong : (image : Image) → wrong_images h.store (images_left image [] h.store) ≡ None =
+    λ image. none_left_wrong h.store (texts (book_now h)) (texts h.life.aside) (host-right m w i h at r).lasts.holds image in
     record {
-      diary = λ left may. ap (λ (es : List (List ℕ)). take (length h.life.diary) es) (b left may).restored ∙ sym (b left may).diary;
+      possible = none_wrong;
+      leaves = λ image. may_leave h.store (images_left image [] h.store) (none_wrong image);
+      diary = λ left may. (b left may).made;
       undamaged = λ left may. ap (λ (es : List (List ℕ)). damaged group_secret w.view es) (b left may).restored
           ∙ undamaged group_secret (stated w.sent) w.view (b left may).book (b left may).right.sound (b left may).fits;
       restarts = λ down. ap (λ (es : List (List ℕ)). damaged group_secret w.view es) (left-restored h ((host-right m w i h at r).lasts.down down))
@@ -165,30 +174,22 @@ all_recover {S = S} m w r = each_at (Recovers m w) w.hosts (λ i h at. recovers 
 
 -- ---- places that are kept
 
--- the place of a decision is no later than the last
-place_within : (es : List LogEntry) (d : Decision) → Among (Decided d) es → d.slot.place ≤ last_made es
-place_within [] d there = absurd there
-place_within (e ∷ es) d (inl here) = let same : number_or (place_made e) 0 ≡ d.slot.place = ap (λ (x : LogEntry). number_or (place_made x) 0) (sym here) in omega (arith, same)
-place_within (e ∷ es) d (inr later) = let rest = place_within es d later in omega (arith, rest)
-
--- a member that has answered from its diary restores the place
-answered_kept : {S : Type 0} (m : Meaning S) (w : World S) (i : ℕ) (h : Host S) (left : Images) (a : Answer) → slice_get w.hosts i ≡ Some h → MayLeave h.store left → ChosenRight m w → HasAnswered h.life.diary a
-    → a.place ≤ (restored_replica m w.view h left).place
-answered_kept {S = S} m w i h left a at may r has =
+-- a member whose diary has reached a place restores it or a later one
+reached_kept : {S : Type 0} (m : Meaning S) (w : World S) (i : ℕ) (h : Host S) (left : Images) (place : ℕ) → slice_get w.hosts i ≡ Some h → MayLeave h.store left → ChosenRight m w → HasReached h.life.diary place
+    → place ≤ (restored_replica m w.view h left).place
+reached_kept {S = S} m w i h left place at may r reached =
     let b : LeftBook w h left = left_book m w i h left at may r in
     let right : HostRight w.sent m w.view w.chosen h = host-right m w i h at r in
     let d : List LogEntry = h.life.diary in
     let made : last_made d ≡ length (decided_of d) = count_is m group_secret (stated w.sent) w.view d right.diary.sound in
-    let within = place_within d has.decision has.there in
     let fits = (spelled-life h.life (host-fit m w i h at r).life).diary in
     let front : d ≡ take (length d) b.book =
     sym (read_again d fits) ∙ (ap entries_in (b.diary ∙ sym (texts-take (length d) b.book)) ∙ read_again (take (length d) b.book) (each_take FitsEntry (length d) b.book b.fits)) in
     let f : IsFront (decided_of (take (length d) b.book)) (decided_of b.book) = front_decided b.book (length d) in
     let long : length (decided_of b.book) ≡ length (decided_of (take (length d) b.book)) + length f.rest = ap (λ (bs : List Batch). length bs) f.is ∙ length-append (decided_of (take (length d) b.book)) f.rest in
     let own : length (decided_of d) ≡ length (decided_of (take (length d) b.book)) = ap (λ (es : List LogEntry). length (decided_of es)) front in
-    let place = left_place m w h left b in
-    let at_place = has.place_is in
-    omega (arith, within, made, own, long, place, at_place)
+    let at_place = left_place m w h left b in
+    omega (arith, reached, made, own, long, at_place)
 
 -- a member has given the reply that was accepted
 record Given (sent : List Sent) (a : Acceptance) (member : ℕ) : Type 0 where
@@ -238,9 +239,9 @@ honest_kept {S = S} m w a left i h at may r is =
     let g : Given w.sent a h.node.id = given_by w.faulty w.sent a h.node.id both.0 in
     let shows : ShowsOwn w.faulty (Replied g.reply) h =
     each_get (ShowsOwn w.faulty (Replied g.reply)) w.hosts i h (r.1.shown (Replied g.reply) (reply_there w.sent g.reply g.there g.tagged)) at in
-    let has : HasAnswered h.life.diary g.reply.statement = shows (ap (λ (k : ℕ). Member k) g.signer) correct in
+    let reached : HasReached h.life.diary g.reply.statement.place = shows (ap (λ (k : ℕ). Member k) g.signer) correct in
     let here : MayLeave h.store (left h.node.id) = each_get (λ (x : Host S). is_gone w x.node.id ≡ false → MayLeave x.store (left x.node.id)) w.hosts i h may at correct in
-    let least = answered_kept m w i h (left h.node.id) g.reply.statement at here r has in
+    let least = reached_kept m w i h (left h.node.id) g.reply.statement.place at here r reached in
     let place = g.place in
     rw (both.1, le-leb a.place (restored_replica m w.view h (left h.node.id)).place (omega (arith, least, place))) refl
   where

@@ -15,7 +15,7 @@ use Rattle.durable_store.specs.Exact.{store_called, started, store_opened}
 use Rattle.durable_store.specs.Lives.{no_bytes}
 use Rattle.store_form.specs.Spelling.{IsGroup}
 use Rattle.world_rules.specs.Crashes.{bytes_held, is_unclosed, written_book, still_aside}
-use Rattle.member_store.specs.Books.{Holds, Leaves}
+use Rattle.member_store.specs.Books.{Begins, Holds, Leaves}
 use Rattle.member_store.proofs.Opened.{empty_holds, held_opened}
 use Rattle.member_store.proofs.Goes.{given_holds, called_holds, called_firm}
 use Rattle.member_store.proofs.Crashed.{crash_leaves}
@@ -135,6 +135,50 @@ restored_front diary book restored own other begins front =
     let old : List LogEntry = take (length restored) book in
     let same : texts new ≡ texts old = restored_texts diary book restored begins front ∙ (begins ∙ sym (texts-take (length restored) book)) in
     sym (read_again new (each-with_front FitsEntry diary book (length restored) own other)) ∙ (ap entries_in same ∙ read_again old (each_take FitsEntry (length restored) book other))
+
+-- Whatever a crash leaves of a host restores the diary that this crash makes, where it restores the first entries of the book that was written and begins
+-- with the diary.
+pub left_diary : {S : Type 0} (h : Host S) (left : Images) → Begins (restores left).entries (written_book h.store (texts (book_now h)) (texts h.life.aside))
+    → texts h.life.diary ≡ take (length h.life.diary) (restores left).entries → texts (life_crashed h left).diary ≡ (restores left).entries
+left_diary {S = S} h left begins front = by h.up (is_unclosed h.store.log.job) begins
+  where
+    r : List (List ℕ)
+    r = (restores left).entries
+
+    d : List LogEntry
+    d = h.life.diary
+
+    by : (up unclosed : Bool) → r ≡ take (length r) (cond unclosed (texts h.life.aside) (texts (cond up h.node.entries d)))
+        → texts (with_front d (length r) (cond unclosed h.life.aside h.node.entries)) ≡ r
+    by up true begins = restored_texts d h.life.aside r begins front
+    by true false begins = restored_texts d h.node.entries r begins front
+    by false false begins =
+        let few : length r ≤ length d = shorter (length r) (texts d) begins (texts-length d) in
+        let same : r ≡ texts d = sym (front ∙ whole (length d) r few) in
+        let long : length r ≡ length d = ap (λ (es : List (List ℕ)). length es) same ∙ texts-length d in
+        ap (λ (k : ℕ). texts (with_front d k h.node.entries)) long ∙ (ap texts (nothing_more (length d) h.node.entries) ∙ sym same)
+      where
+        shorter : (k : ℕ) (es : List (List ℕ)) → r ≡ take k es → length es ≡ length d → length r ≤ length d
+        shorter k es is long = omega (arith, ap (λ (xs : List (List ℕ)). length xs) is, most k es, long)
+          where
+            most : (n : ℕ) (xs : List (List ℕ)) → length (take n xs) ≤ length xs
+            most zero xs = omega arith
+            most (suc n) [] = omega arith
+            most (suc n) (x ∷ xs) = let rest = most n xs in omega (arith, rest)
+
+        whole : (n : ℕ) (xs : List (List ℕ)) → length xs ≤ n → take n xs ≡ xs
+        whole zero [] le = refl
+        whole zero (x ∷ xs) le = absurd (omega (arith, le))
+        whole (suc n) [] le = refl
+        whole (suc n) (x ∷ xs) le = ap (λ (ys : List (List ℕ)). x ∷ ys) (whole n xs (omega (arith, le)))
+
+        nothing_more : (n : ℕ) (es : List LogEntry) → d ++ drop n (take n es) ≡ d
+        nothing_more n es = ap (λ (xs : List LogEntry). d ++ xs) (gone n es) ∙ append-nil d
+          where
+            gone : (n : ℕ) (es : List LogEntry) → drop n (take n es) ≡ []
+            gone zero es = refl
+            gone (suc n) [] = refl
+            gone (suc n) (e ∷ es) = gone n es
 
 pub stopped_firm : {S : Type 0} (h : Host S) → (s : Stopped h) → length h.life.diary ≤ 2 ^ 64 - 1 → h.store.firm ≡ length h.life.diary
 stopped_firm h s few =

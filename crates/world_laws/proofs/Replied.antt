@@ -39,7 +39,7 @@ use Rattle.world_laws.proofs.Given.{IsKept, ClientKeeps, filter_more, keeps_hear
 use Rattle.smart_messages.specs.declared.any.AnyMessage.TheVariants.{Plain}
 use Rattle.vote_book.specs.Books.{Among}
 use Rattle.vote_book.proofs.Tested.{among_any}
-use Rattle.world_laws.specs.Stated.{stated}
+use Rattle.world_rules.specs.Stated.{stated}
 use Rattle.world_laws.proofs.Stating.{says_message}
 use Rattle.world_laws.proofs.Witnessing.{content_stated}
 use Rattle.world_laws.proofs.Borne.{Borne, right-borne, borne-begun}

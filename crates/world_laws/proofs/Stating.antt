@@ -40,7 +40,7 @@ use Rattle.world_rules.specs.Secrets.{group_secret}
 use Rattle.world_rules.specs.Premises.{claim_of, bytes_stated, claims, same_party, same_claim}
 use Rattle.world_rules.specs.declared.message.Content.{Content}
 use Rattle.world_rules.specs.declared.message.Content.TheVariants as contents
-use Rattle.world_laws.specs.Stated.{stated_in}
+use Rattle.world_rules.specs.Stated.{stated_in}
 use Rattle.world_laws.proofs.Keeps.{FitsParts}
 use Rattle.smart_base.proofs.SameLists.{and_true}
 use Rattle.vote_book.proofs.Tested.{same_bytes_is}

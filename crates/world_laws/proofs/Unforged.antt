@@ -33,7 +33,7 @@ use Rattle.world_rules.specs.declared.message.Origin.{Origin}
 use Rattle.world_rules.specs.declared.message.Origin.TheVariants as origins
 use Rattle.world_rules.specs.declared.message.Sent.{Sent}
 use Rattle.world_laws.specs.Sending.{IsNodes, IsClients, IsOwnSent}
-use Rattle.world_laws.specs.Stated.{stated_in, stated}
+use Rattle.world_rules.specs.Stated.{stated_in, stated}
 use Rattle.world_laws.proofs.Keeps.{IsRead, ask_of, asked_by, by-posts, KeepsAll, keeps-sends_all, signed_by, from_node, from_client, from_script}
 use Rattle.world_laws.proofs.Stating.{Proper, claims_stated, same_claim-one, message_proper, IsSaid, message_says}
 use Rattle.smart_base.proofs.SameLists.{and_true}

@@ -30,7 +30,7 @@ use Rattle.world_rules.specs.Worlds.{Host, World, host_of}
 use Rattle.world_rules.specs.declared.message.Content.{Content}
 use Rattle.world_rules.specs.declared.message.Content.TheVariants as contents
 use Rattle.world_rules.specs.declared.message.Sent.{Sent}
-use Rattle.world_laws.specs.Stated.{stated_in, stated, diary_of, diary}
+use Rattle.world_rules.specs.Stated.{stated_in, stated, diary_of, diary}
 use Rattle.world_laws.proofs.Lists.{each_set}
 use Rattle.world_laws.proofs.Keeps.{HasContent, MayRead}
 use Rattle.smart_base.proofs.SameLists.{and_true}

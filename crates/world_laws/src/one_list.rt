@@ -13,9 +13,14 @@ use smart_service::service::Service;
 /// table and its views are those after that front. Since it last went on it has delivered one batch at
 /// each further place of that front, in order: the list's there, as is each batch that it delivered in
 /// earlier lives. A batch that it has decided and not delivered is the list's at the next place.
-/// Whatever a crash now leaves of a member's devices, they restore all that became firm there, none of
-/// the entries that they restore is damaged, and the replica that goes on from them is the state of a
-/// front of the list; nor is what a member that has crashed goes on from. Each reply that a client
+/// Whatever a crash now leaves of a member's devices, they restore the diary that this crash makes: all
+/// that became firm there, and behind it what the crash brings back. None of the entries that they
+/// restore is damaged, and the replica that goes on from them is the state of a front of the list; nor
+/// is what a member that has crashed goes on from. A crash may always leave each device as it was at its
+/// last sync, and each as it reads: a crash without patches never ends a play. Each reply that a
+/// node holds, and each one with the tag of a member that is not faulty that was sent, by whomever, is
+/// the service's answer at the place and index that it names, to the request of its client and number
+/// there, which is executed nowhere else; and it states the view in force there. Each reply that a client
 /// accepted is the service's answer at the one place where its request stands in the list, the request
 /// there is the one that the client asked, the reply states the view in force there, and that place is
 /// past the one that the request states; of a client that was declared rogue none of this is said. The
@@ -25,7 +30,8 @@ use smart_service::service::Service;
 /// the transcript told it a greater place, be it of a reply that it accepted or one that it was told.
 /// The list only grows: what it holds after one line, it begins with after every later one. Each line
 /// of the transcript that tells of a reply that a client accepted, unless it is rogue, names the one
-/// place of its request in the list, and tells the service's answer there.
+/// place of its request in the list, and tells the service's answer there. After each line the diary of
+/// each member that is not faulty is lawful, and shows what this member has stated.
 pub fn one_list_throughout<S: Service>()
     ensures { (view : View) (ls : List Line) → is_view view ≡ true → OneListThroughout S.meaning view ls }
 {}

@@ -34,9 +34,9 @@ pub fn a_quorum_replied<S: Service>()
     ensures world { (view : View) (ls : List Line) → is_view view ≡ true → QuorumsReplied (world_after (course_of S.meaning) (begun S.meaning view) ls) }
 {}
 
-/// A vote leaves only when its entry is firm, a reply only when the decision of its request is, and a
-/// report only when its promise is, behind the entries that it tells of. Of the other messages nothing
-/// is said. Whatever comes to a node that has let nothing go yet, each vote, reply and report that would
+/// A vote leaves only when its entry is firm, a reply only when firm entries make its place or a later
+/// one, and a report only when its promise is firm, behind the entries that it tells of. Of the other
+/// messages nothing is said. Whatever comes to a node that has let nothing go yet, each vote, reply and report that would
 /// leave it now rests on firm entries. And in each world of a play, as a flow begins and in each turn of
 /// it, while a node settles and while one takes bytes, what a node or a client has sent is a message
 /// that names it as its signer, unless it is a client's request that a node has passed on to one

@@ -4,7 +4,8 @@ ghost use Rattle.smart_base.specs.Views.{View, is_view};
 ghost use Rattle.world_rules.specs.Worlds.{course_of, begun};
 ghost use Rattle.world_rules.specs.Plays.{world_after};
 ghost use Rattle.world_rules.specs.declared.line.Line.{Line};
-ghost use Rattle.world_laws.specs.Stated.{IsWitnessed, StatedAsked};
+ghost use Rattle.world_rules.specs.Stated.{IsWitnessed};
+ghost use Rattle.world_laws.specs.Stated.{StatedAsked};
 
 use smart_service::service::Service;
 
@@ -15,7 +16,7 @@ use smart_service::service::Service;
 /// on from the whole diary. At most f members are declared faulty. Of each other member the diary is
 /// lawful, rests on votes of quorums and on reports that have been stated, and shows each of its
 /// statements, in whosever message it stands: a vote by its own entry, a report by its promise and by what stands before it, a
-/// reply by the decision of its request. So what the law of one decision asks holds in every play,
+/// reply by having reached its place. So what the law of one decision asks holds in every play,
 /// whatever the regencies. And each chosen batch has a decision for its place, in some regency, among
 /// what has been stated.
 pub fn what_is_stated_is_shown<S: Service>()

@@ -8,6 +8,7 @@ pub mod Crashes
 pub mod Worlds
 pub mod Plays
 pub mod Knowing
+pub mod Stated
 pub mod Promises
 pub mod Texts
 pub mod Scripts

@@ -4,9 +4,12 @@ use Rattle.smart_base.specs.Lists.{Each}
 use Rattle.smart_base.specs.Views.{View}
 use Rattle.smart_statements.specs.Kinds.{requests}
 use Rattle.smart_statements.specs.Batches.{Batch}
+use Rattle.smart_statements.specs.Forms.{SignedBy}
 use Rattle.smart_statements.specs.declared.statement.Request.{Request}
-use Rattle.smart_messages.specs.declared.message.Message.TheVariants.{Ask}
-use Rattle.smart_messages.specs.declared.any.AnyMessage.TheVariants.{Plain}
+use Rattle.smart_statements.specs.declared.statement.Answer.{Answer}
+use Rattle.smart_messages.specs.declared.message.Message.TheVariants.{Ask, Propose, Vote, Reply}
+use Rattle.smart_messages.specs.declared.any.AnyMessage.{AnyMessage}
+use Rattle.smart_messages.specs.declared.any.AnyMessage.TheVariants.{Plain, Change}
 use Rattle.smart_service.specs.Services.{Meaning}
 use Rattle.replica_rules.specs.Replicas.{state, answer, place_of, batch_at, request_at, view_at}
 use Rattle.replica_rules.specs.Seals.{signed}
@@ -14,18 +17,22 @@ use Rattle.node_rules.specs.Nodes.{next_place}
 use Rattle.node_rules.specs.Deliveries.{AtPlaces}
 use Rattle.node_rules.specs.Reopening.{reopened, damaged, entries_in}
 use Rattle.smart_service.specs.declared.replica.Replica.{Replica}
+use Rattle.vote_book.specs.Books.{Among}
 use Rattle.vote_book.specs.Entries.{entry_text}
+use Rattle.agreement_laws.specs.Statements.{Replied}
 use Rattle.durable_store.specs.Restored.{Images, restores}
-use Rattle.world_rules.specs.Crashes.{bytes_held}
+use Rattle.world_rules.specs.Crashes.{bytes_held, images_left, wrong_images}
+use Rattle.world_rules.specs.declared.crash.Image.{Image}
 use Rattle.durable_store.specs.Standing.{MayLeave}
 use Rattle.node_rules.specs.declared.node.Target.TheVariants as targets
 use Rattle.node_rules.specs.declared.node.Delivery.{Delivery}
 use Rattle.world_rules.specs.Secrets.{group_secret}
 use Rattle.world_rules.specs.Premises.{is_among}
 use Rattle.world_rules.specs.declared.message.Content.TheVariants as contents
-use Rattle.world_rules.specs.Worlds.{Host, World, course_of, is_gone, begun}
+use Rattle.world_rules.specs.Worlds.{Host, World, course_of, is_gone, life_crashed, begun}
 use Rattle.world_rules.specs.Plays.{world_after, lines_told}
 use Rattle.world_rules.specs.Knowing.{known_by}
+use Rattle.world_rules.specs.Stated.{IsWitnessed, stated}
 use Rattle.client_quorum.specs.declared.client.Acceptance.{Acceptance}
 use Rattle.world_rules.specs.declared.line.Line.{Line}
 use Rattle.world_rules.specs.declared.line.OutLine.{OutLine}
@@ -73,14 +80,44 @@ MayBeLeft w left = Each (λ h. is_gone w h.node.id ≡ false → MayLeave h.stor
 pub record IsKept {S : Type 0} (m : Meaning S) (w : World S) (place : ℕ) : Type 0 where
   pub enough : (left : ℕ → Images) → MayBeLeft w left → w.view.f < length (filter (has_place m w left place) w.hosts)
 
--- Whatever a crash now leaves of a member's devices, they restore its diary and, behind it, at most what was not firm yet. No entry that they restore is
--- damaged, and the replica that they restore is the state of a front of the list. What a member that has crashed goes on from is not damaged either.
+-- A crash may leave each device as it was at its last sync, and each as it reads: a crash of a script without patches never ends a play. Whatever a crash now
+-- leaves of a member's devices, they restore the diary that this crash makes of the present one, no more and no less: it begins with the present diary, and
+-- behind that stands at most what was not firm yet. No entry that they restore is damaged, and the replica that they restore is the state of a front of the
+-- list. What a member that has crashed goes on from is not damaged either.
 pub record Recovers {S : Type 0} (m : Meaning S) (w : World S) (h : Host S) : Type 0 where
-  pub diary : (left : Images) → MayLeave h.store left → take (length h.life.diary) (restores left).entries ≡ map entry_text h.life.diary
+  pub possible : (image : Image) → wrong_images h.store (images_left image [] h.store) ≡ None
+  pub leaves : (image : Image) → MayLeave h.store (images_left image [] h.store)
+  pub diary : (left : Images) → MayLeave h.store left → (restores left).entries ≡ map entry_text (life_crashed h left).diary
   pub undamaged : (left : Images) → MayLeave h.store left → damaged group_secret w.view (restores left).entries ≡ None
   pub restarts : h.up ≡ false → damaged group_secret w.view (restores (bytes_held h.store)).entries ≡ None
   pub within : (left : Images) → MayLeave h.store left → (restored_replica m w.view h left).place ≤ length w.chosen
   pub right : (left : Images) → MayLeave h.store left → restored_replica m w.view h left ≡ state m w.view (take (restored_replica m w.view h left).place w.chosen)
+
+-- ---- replies
+
+-- A reply is right: a request of its client and number stands at the place and index that it names, that is the one place where the request is executed, the
+-- reply is the service's answer there, and it states the view in force there.
+pub record IsRightReply {S : Type 0} (m : Meaning S) (view : View) (chosen : List Batch) (a : Answer) : Type 0 where
+  pub request : Request
+  pub request_is : request_at chosen a.place a.index ≡ Some request
+  pub client_is : request.client ≡ a.client
+  pub seq_is : request.seq ≡ a.seq
+  pub place_is : place_of m view chosen a.client a.seq ≡ Some (a.place, a.index)
+  pub reply_is : answer m view chosen a.place a.index ≡ Some a.reply
+  pub view_is : a.view ≡ (view_at m view chosen a.place).number
+
+-- a message is a right reply, or none
+abbrev pub IsRightIfReply : {S : Type 0} → Meaning S → View → List Batch → AnyMessage → Type 0
+IsRightIfReply m view chosen (Plain (Ask q)) = Unit {0}
+IsRightIfReply m view chosen (Plain (Propose p)) = Unit {0}
+IsRightIfReply m view chosen (Plain (Vote b)) = Unit {0}
+IsRightIfReply m view chosen (Plain (Reply a)) = IsRightReply m view chosen a.statement
+IsRightIfReply m view chosen (Change x) = Unit {0}
+
+-- Each reply that a node holds is right. So is each reply with the tag of a member that is not faulty that stands in what was sent, by whomever.
+pub record AreRepliesRight {S : Type 0} (m : Meaning S) (w : World S) : Type 0 where
+  pub held : Each (λ h. Each (λ x. IsRightIfReply m w.view w.chosen x.message) h.node.held) w.hosts
+  pub sent : (r : SignedBy Answer) → Among (Replied r) (stated w.sent) → is_among w.faulty r.signer ≡ false → IsRightReply m w.view w.chosen r.statement
 
 -- the client that a request names has signed and sent it
 abbrev pub HasAsked : List Sent → Request → Type 0
@@ -109,11 +146,12 @@ abbrev pub IsRogue : List ℕ → ℕ → Type 0
 IsRogue rogue client = is_among rogue client ≡ true
 
 -- All nodes, those that are gone or have stopped too, have delivered fronts of one list, and go on from such fronts whatever crashes leave of their devices.
--- Each reply that was accepted by a client that is not rogue is the service's answer at its request's one place there, past the place that its request
+-- Each reply that a member which is not faulty has signed and that was sent is right. Each reply that was accepted by a client that is not rogue is the service's answer at its request's one place there, past the place that its request
 -- states. The place of each accepted reply is kept.
 pub record OneList {S : Type 0} (m : Meaning S) (w : World S) : Type 0 where
   pub hosts : Each (IsPrefix m w.view w.chosen) w.hosts
   pub recovers : Each (Recovers m w) w.hosts
+  pub replied : AreRepliesRight m w
   pub accepted : Each (λ a. IsRogue w.rogue a.request.client ⊎ IsRight m w.view w.sent w.chosen a) w.accepted
   pub kept : Each (λ a. IsKept m w a.place) w.accepted
   pub rising : Rises w.accepted
@@ -155,9 +193,11 @@ world_at m view ls k = world_after (course_of m) (begun m view) (take k ls)
 -- one list holds after each line, the list only grows, and each transcript line that tells of an accepted reply tells its answer there.
 -- Each request whose reply is accepted, be it when it may, states what its client knew: of each line after which it had not been sent
 -- yet, a place no less than each one that the transcript had told the client by then, of a reply that it accepted or of one that it was
--- told. The reply stands past them all, as its place is above the one that the request states (`above` of `IsRight`)
+-- told. The reply stands past them all, as its place is above the one that the request states (`above` of `IsRight`). After each line the
+-- diary of each member that is not faulty is lawful, and shows each statement of that member that stands in what was sent
 pub record OneListThroughout {S : Type 0} (m : Meaning S) (view : View) (ls : List Line) : Type 0 where
   pub one_list : (k : ℕ) → OneList m (world_at m view ls k)
   pub grows : (j k : ℕ) → j ≤ k → take (length (world_at m view ls j).chosen) (world_at m view ls k).chosen ≡ (world_at m view ls j).chosen
   pub told : (k : ℕ) → Each (IsAnswered m view (world_at m view ls k).rogue (world_at m view ls k).chosen) (lines_told (course_of m) (begun m view) (take k ls))
   pub past_known : (j k : ℕ) → Each (λ a. IsPast (world_at m view ls j).sent (lines_told (course_of m) (begun m view) (take j ls)) a.request) (world_at m view ls k).accepted
+  pub witnessed : (k : ℕ) → IsWitnessed (world_at m view ls k)

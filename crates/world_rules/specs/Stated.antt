@@ -1,0 +1,62 @@
+-- What has been stated in a world, what became firm at its members, and the decisions among what has been stated.
+use Rattle.std.specs.Prelude.{ℕ, suc, ◌≡◌, true, false, List, [], ◌∷◌, take, map, Option, Some, None}
+use Rattle.smart_base.specs.Lists.{Each}
+use Rattle.vote_book.specs.Entries.{entry_text}
+use Rattle.durable_store.specs.Restored.{restores}
+use Rattle.world_rules.specs.Crashes.{bytes_held}
+use Rattle.smart_statements.specs.declared.statement.Ballot.{Ballot}
+use Rattle.std.specs.List.{flat_map}
+use Rattle.smart_base.specs.Views.{View}
+use Rattle.smart_statements.specs.Forms.{SignedBy}
+use Rattle.smart_statements.specs.Batches.{Batch}
+use Rattle.vote_book.specs.declared.entry.LogEntry.{LogEntry}
+use Rattle.replica_rules.specs.Seals.{digest_of}
+use Rattle.agreement_laws.specs.Statements.{Statement, statements}
+use Rattle.agreement_laws.specs.Certificates.{IsDecision}
+use Rattle.agreement_laws.specs.Law.{Witnessed}
+use Rattle.world_rules.specs.Secrets.{group_secret}
+use Rattle.world_rules.specs.Premises.{is_among}
+use Rattle.world_rules.specs.Worlds.{Host, World, host_of}
+use Rattle.world_rules.specs.declared.message.Content.{Content}
+use Rattle.world_rules.specs.declared.message.Content.TheVariants as contents
+use Rattle.world_rules.specs.declared.message.Sent.{Sent}
+
+-- the statements in a content whose tags verify
+abbrev pub stated_in : Content → List Statement
+stated_in (contents.Message message) = statements group_secret message
+stated_in (contents.Raw bytes) = []
+
+-- all that has been stated in what was sent, by whomever
+abbrev pub stated : List Sent → List Statement
+stated sent = flat_map (λ s. stated_in s.content) sent
+
+-- what became firm at a host, through all lives of its member
+abbrev pub diary_of : {S : Type 0} → Option (Host S) → List LogEntry
+diary_of None = []
+diary_of (Some h) = h.life.diary
+
+-- a member's diary
+abbrev pub diary : {S : Type 0} → World S → ℕ → List LogEntry
+diary w member = diary_of (host_of w.hosts member)
+
+-- a quorum of a view has accepted a batch of this digest at a place, in some regency
+pub record Certified (stated : List Statement) (view : View) (place : ℕ) (digest : List ℕ) : Type 0 where
+  pub regency : ℕ
+  pub accepts : List (SignedBy Ballot)
+  pub decision : IsDecision group_secret view stated place regency digest accepts
+
+-- each batch of a list that stands from a place on is certified there
+abbrev pub AllCertified : List Statement → View → ℕ → List Batch → Type 0
+AllCertified stated view place [] = Unit {0}
+AllCertified stated view place (batch ∷ batches) = Certified stated view place (digest_of batch) × AllCertified stated view (suc place) batches
+
+-- While a node runs, its member's diary is what is firm of its book. What the devices of a member that has crashed restore is its diary, no more and no less.
+pub record HasDiary {S : Type 0} (h : Host S) : Type 0 where
+  pub up : h.up ≡ true → h.life.diary ≡ take h.node.firm h.node.entries
+  pub down : h.up ≡ false → (restores (bytes_held h.store)).entries ≡ map entry_text h.life.diary
+
+-- what members have stated is witnessed by what became firm at them, and each chosen batch has a decision among what has been stated
+pub record IsWitnessed {S : Type 0} (w : World S) : Type 0 where
+  pub diaries : Each HasDiary w.hosts
+  pub witnessed : Witnessed group_secret digest_of w.view (is_among w.faulty) (diary w) (stated w.sent)
+  pub chosen : AllCertified (stated w.sent) w.view 1 w.chosen
