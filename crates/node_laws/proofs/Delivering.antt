@@ -1,5 +1,5 @@
 -- A node that delivers a batch and answers stays sound.
-use Rattle.std.proofs.Common.{Bool, List, None, Option, Some, ap, arith, cond, false, inr, nat_lt, refl, subst, suc, sym, true, ℕ, ◌≡◌, [], ◌∷◌, ◌+◌, ◌∙◌, ◌==◌}
+use Rattle.std.proofs.Common.{Bool, List, None, Option, Some, ap, arith, cond, false, inr, nat_lt, refl, subst, sym, true, ℕ, ◌≡◌, [], ◌∷◌, ◌+◌, ◌∙◌, ◌==◌}
 use Rattle.std.specs.Option.{option_to_list}
 use Rattle.std.specs.Prelude.{IfSome, is_some}
 use Rattle.replica_rules.specs.Pools.{settled}
