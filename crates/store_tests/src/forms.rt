@@ -2,38 +2,54 @@
 use smart_base::cursor::Cursor;
 use smart_base::fault::ReadError;
 use smart_base::sequence::Bytes;
-use std::test::Fail;
+use std::alloc::Global;
 use store_form::checkpoint::{put_checkpoint, take_checkpoint};
 use store_form::group::{put_group, take_group};
 
-#[test]
-fn a_group_is_its_length_its_count_and_its_entries(rt: HostRuntime) -> Result<(), Fail> {
-    let alloc = rt.alloc();
-    let want = b"\0\0\0\0\0\0\0\x0e\0\0\0\0\0\0\0\x01\0\0\0\x02ab";
-    let entry = Bytes::from_slice(alloc, b"ab")?;
-    let mut out = Vec::new(alloc);
-    put_group(alloc, &mut out, &[entry])?;
-    assert_eq!(rt; out.as_slice(), want.as_slice());
-    let read = take_group(alloc, &mut Cursor::new(want)).ok();
-    assert_eq!(rt; read.ok_or("no group")?.len(), 1);
-    // A byte of the payload is left over behind its last entry.
-    let wrong = b"\0\0\0\0\0\0\0\x0f\0\0\0\0\0\0\0\x01\0\0\0\x02ab\0";
-    let read = take_group(alloc, &mut Cursor::new(wrong));
-    assert!(rt; matches!(read, Err(ReadError::Unread { at: 22 })));
-    Ok(())
+/// A group of one entry of two bytes: its length, its count and its entry.
+const GROUP: [u8; 22] = *b"\0\0\0\0\0\0\0\x0e\0\0\0\0\0\0\0\x01\0\0\0\x02ab";
+
+/// The same, with a byte of the payload left over behind its last entry.
+const LONG_GROUP: [u8; 23] = *b"\0\0\0\0\0\0\0\x0f\0\0\0\0\0\0\0\x01\0\0\0\x02ab\0";
+
+/// How many entries the group has that these bytes are, or where they are none.
+fn group_read(alloc: Global, bytes: &[u8]) -> Result<usize, usize> {
+    match take_group(alloc, &mut Cursor::new(bytes)) {
+        Ok(group) => Ok(group.len()),
+        Err(ReadError::Unread { at }) => Err(at),
+        Err(_) => Err(99),
+    }
 }
 
 #[test]
-fn a_checkpoint_is_its_generation_and_its_snapshot(rt: HostRuntime) -> Result<(), Fail> {
+fn a_group_is_its_length_its_count_and_its_entries(rt: HostRuntime) {
     let alloc = rt.alloc();
-    let want = b"\0\0\0\0\0\0\x01\x02\0\0\0\x02ab";
+    let entry = Bytes::from_slice(alloc, b"ab").expect(&rt, "there is memory");
     let mut out = Vec::new(alloc);
-    put_checkpoint(&mut out, 258, b"ab")?;
-    assert_eq!(rt; out.as_slice(), want.as_slice());
-    let read = take_checkpoint(alloc, &mut Cursor::new(want)).ok();
-    let read = read.ok_or("no checkpoint")?;
-    assert_eq!(rt; (read.generation, read.snapshot.len()), (258, 2));
-    let read = take_checkpoint(alloc, &mut Cursor::new(&want[..13]));
-    assert!(rt; matches!(read, Err(ReadError::Unread { at: 8 })));
-    Ok(())
+    put_group(alloc, &mut out, &[entry]).expect(&rt, "there is memory");
+    assert!(rt; out.as_slice() == GROUP.as_slice());
+    assert!(rt; group_read(alloc, &GROUP) == Ok(1));
+    assert!(rt; group_read(alloc, &LONG_GROUP) == Err(22));
+}
+
+/// A checkpoint: its generation and its snapshot.
+const CHECKPOINT: [u8; 14] = *b"\0\0\0\0\0\0\x01\x02\0\0\0\x02ab";
+
+/// The generation of the checkpoint that these bytes are, or where they are none.
+fn checkpoint_read(alloc: Global, bytes: &[u8]) -> Result<u64, usize> {
+    match take_checkpoint(alloc, &mut Cursor::new(bytes)) {
+        Ok(checkpoint) => Ok(checkpoint.generation),
+        Err(ReadError::Unread { at }) => Err(at),
+        Err(_) => Err(99),
+    }
+}
+
+#[test]
+fn a_checkpoint_is_its_generation_and_its_snapshot(rt: HostRuntime) {
+    let alloc = rt.alloc();
+    let mut out = Vec::new(alloc);
+    put_checkpoint(&mut out, 258, b"ab").expect(&rt, "there is memory");
+    assert!(rt; out.as_slice() == CHECKPOINT.as_slice());
+    assert!(rt; checkpoint_read(alloc, &CHECKPOINT) == Ok(258));
+    assert!(rt; checkpoint_read(alloc, &CHECKPOINT[..13]) == Err(8));
 }

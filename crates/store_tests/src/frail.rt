@@ -6,12 +6,12 @@ use disk_model::disk::Disk;
 use disk_model::plain::PlainDisk;
 use faults::Fault;
 use smart_base::sequence::Bytes;
-use std::alloc::{AllocError, Global};
+use std::alloc::Global;
+use std::process::Abort;
 
 /// A disk in memory that fails at one of its calls `write_at`, `cut` and `sync`: a write has then put
 /// the first half of its bytes, the others have done nothing. No clause tells what it holds, as of a
 /// disk over a file, so what a test sees of it is what it was given.
-#[derive(Drop)]
 pub struct FrailDisk {
     inner: PlainDisk,
     /// The number of the call that fails, counted from 1.
@@ -20,23 +20,30 @@ pub struct FrailDisk {
     faults: u64,
 }
 
+/// Let go by one call, so that no function that lets one go carries the whole of it.
+impl Drop for FrailDisk {
+    fn drop(self) {
+        let FrailDisk {
+            inner: _,
+            failing: _,
+            made: _,
+            faults: _,
+        } = self;
+    }
+}
+
 impl FrailDisk {
     ghost use Rattle.faults.specs.Counts.{Rose};
 
     /// A disk with these bytes, all of them sure, that fails at this call.
-    pub fn new(alloc: Global, bytes: &[u8], failing: u64) -> Result<Self, AllocError> {
-        let bytes = Bytes::from_slice(alloc, bytes)?;
-        Ok(FrailDisk {
+    pub fn new(rt: &impl Abort, alloc: Global, bytes: &[u8], failing: u64) -> Self {
+        let bytes = Bytes::from_slice(alloc, bytes).expect(rt, "there is memory");
+        FrailDisk {
             inner: PlainDisk::new(alloc, bytes),
             failing,
             made: 0,
             faults: 0,
-        })
-    }
-
-    /// How often it has failed.
-    pub fn faults(&self) -> u64 {
-        self.faults
+        }
     }
 
     /// What a read gives.
@@ -45,12 +52,12 @@ impl FrailDisk {
     }
 
     /// The disk that a crash leaves: as it reads, or as at its last sync. It does not fail.
-    pub fn crashed(&self, alloc: Global, as_read: bool) -> Result<Self, AllocError> {
+    pub fn crashed(&self, rt: &impl Abort, alloc: Global, as_read: bool) -> Self {
         if as_read {
-            return FrailDisk::new(alloc, self.inner.as_read(), 0);
+            return FrailDisk::new(rt, alloc, self.inner.as_read(), 0);
         }
-        let synced = self.inner.as_synced(alloc)?;
-        FrailDisk::new(alloc, synced.as_slice(), 0)
+        let synced = self.inner.as_synced(alloc).expect(rt, "there is memory");
+        FrailDisk::new(rt, alloc, synced.as_slice(), 0)
     }
 
     /// Counts a call that changes the disk, and tells whether it is to fail.

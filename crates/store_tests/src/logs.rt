@@ -1,5 +1,4 @@
 //! Logs over disks that fail and crash.
-ghost use Rattle.std.specs.Prelude.{IfOk};
 ghost use Rattle.smart_base.specs.Lists.{Each};
 ghost use Rattle.store_form.specs.Spelling.{IsEntry};
 
@@ -7,7 +6,8 @@ use crate::frail::FrailDisk;
 use batch_log::reading::Groups;
 use batch_log::reopening::reopen;
 use smart_base::sequence::Bytes;
-use std::alloc::{AllocError, Global};
+use std::alloc::Global;
+use std::process::Abort;
 use store_form::ends::LogFault;
 
 /// Groups of one entry each, of byte 1 and of byte 2, and the closed gate behind them.
@@ -17,21 +17,25 @@ const TWO_GROUPS: [u8; 45] =
 /// A group of an entry of byte 5 behind a gate that a crash has torn.
 const TORN_GROUP: [u8; 23] = *b"\x07\0\0\0\0\0\0\0\x0d\0\0\0\0\0\0\0\x01\0\0\0\x01\x05\0";
 
-/// What a call answers.
-type Answer = Result<(), LogFault>;
-
-/// What the first call answers that fails, and each behind it.
-const FAILED: Answer = Err(LogFault::Disk { closed: false });
-
-const CLOSED: Answer = Err(LogFault::Disk { closed: true });
+/// What a call answers: `o` that it is done, `f` that the disk fails, `c` that an earlier fault closed
+/// the log, and `m` that memory is wanted.
+fn letter(answer: Result<(), LogFault>) -> u8 {
+    match answer {
+        Ok(()) => b'o',
+        Err(LogFault::Disk { closed: false }) => b'f',
+        Err(LogFault::Disk { closed: true }) => b'c',
+        Err(LogFault::NoMemory) => b'm',
+    }
+}
 
 /// A group of one entry of one byte.
-fn group(alloc: Global, byte: u8) -> Result<Vec<Bytes>, AllocError>
-    ensures { IfOk result (λ group. Each IsEntry group.items) }
+fn group(rt: &impl Abort, alloc: Global, byte: u8) -> Vec<Bytes>
+    ensures { Each IsEntry result.items }
 {
     let mut group = Vec::new(alloc);
-    group.push(Bytes::from_slice(alloc, &[byte])?)?;
-    Ok(group)
+    let entry = Bytes::from_slice(alloc, &[byte]).expect(rt, "there is memory");
+    group.push(entry).expect(rt, "there is memory");
+    group
 }
 
 /// The first byte of the first entry of each group, as the digits of a number.
@@ -47,73 +51,61 @@ fn shown(groups: &Groups) -> u64 {
 }
 
 /// What a log restores after a crash that leaves the disk as it reads, or as at its last sync.
-fn restored(alloc: Global, left: &FrailDisk, as_read: bool) -> Result<u64, AllocError> {
-    match reopen(alloc, left.crashed(alloc, as_read)?) {
-        Ok((_, groups)) => Ok(shown(&groups)),
-        Err(_) => Err(AllocError),
-    }
+fn restored(rt: &impl Abort, alloc: Global, left: &FrailDisk, as_read: bool) -> u64 {
+    let opened = reopen(alloc, left.crashed(rt, alloc, as_read));
+    let (_, groups) = opened.ok().expect(rt, "a log");
+    shown(&groups)
 }
 
 /// What a log answers that is given the groups of byte 1 and of byte 2, and the disk that it leaves.
-fn left_by_two(alloc: Global, disk: FrailDisk) -> Result<(Answer, Answer, FrailDisk), AllocError> {
-    let one = group(alloc, 1)?;
-    let other = group(alloc, 2)?;
-    match reopen(alloc, disk) {
-        Ok((mut log, _)) => {
-            let first = log.append_group(alloc, one.as_slice());
-            let second = log.append_group(alloc, other.as_slice());
-            Ok((first, second, log.into_device()))
-        }
-        Err(_) => Err(AllocError),
-    }
+fn left_by_two(rt: &impl Abort, alloc: Global, disk: FrailDisk) -> ([u8; 2], FrailDisk) {
+    let one = group(rt, alloc, 1);
+    let other = group(rt, alloc, 2);
+    let (mut log, _) = reopen(alloc, disk).ok().expect(rt, "a log");
+    let first = letter(log.append_group(alloc, one.as_slice()));
+    let second = letter(log.append_group(alloc, other.as_slice()));
+    ([first, second], log.into_device())
 }
 
-/// What a log over these bytes answers to two groups where a call fails, and what it restores after a
+/// Whether a log over these bytes answers so to two groups where a call fails, and restores so after a
 /// crash that leaves the disk as at its last sync, and as it reads.
-fn two_added(
+fn goes(
+    rt: &impl Abort,
     alloc: Global,
     bytes: &[u8],
     failing: u64,
-) -> Result<(Answer, Answer, u64, u64), AllocError> {
-    let disk = FrailDisk::new(alloc, bytes, failing)?;
-    let (first, second, left) = left_by_two(alloc, disk)?;
-    let synced = restored(alloc, &left, false)?;
-    let read = restored(alloc, &left, true)?;
-    Ok((first, second, synced, read))
-}
-
-/// Whether what a log of two groups writes over nothing are these bytes.
-fn writes(alloc: Global, bytes: &[u8]) -> Result<bool, AllocError> {
-    let disk = FrailDisk::new(alloc, b"", 0)?;
-    let (_, _, left) = left_by_two(alloc, disk)?;
-    Ok(left.as_read() == bytes)
+    answers: &[u8; 2],
+    restores: [u64; 2],
+) -> bool {
+    let disk = FrailDisk::new(rt, alloc, bytes, failing);
+    let (told, left) = left_by_two(rt, alloc, disk);
+    let synced = restored(rt, alloc, &left, false);
+    let read = restored(rt, alloc, &left, true);
+    drop(left);
+    told == *answers && [synced, read] == restores
 }
 
 #[test]
-fn groups_are_spelled_and_restored_in_their_order(rt: HostRuntime) -> Result<(), AllocError> {
-    assert!(rt; writes(rt.alloc(), &TWO_GROUPS)?);
-    let told = two_added(rt.alloc(), &TWO_GROUPS, 0)?;
-    assert_eq!(rt; told, (Ok(()), Ok(()), 1212, 1212));
-    Ok(())
+fn groups_are_spelled_and_restored_in_their_order(rt: HostRuntime) {
+    let alloc = rt.alloc();
+    let (_, left) = left_by_two(&rt, alloc, FrailDisk::new(&rt, alloc, b"", 0));
+    assert!(rt; left.as_read() == TWO_GROUPS.as_slice());
+    assert!(rt; goes(&rt, alloc, &TWO_GROUPS, 0, b"oo", [1212, 1212]));
 }
 
 #[test]
-fn what_stands_behind_a_torn_gate_is_never_restored(rt: HostRuntime) -> Result<(), AllocError> {
-    let told = two_added(rt.alloc(), &TORN_GROUP, 0)?;
-    assert_eq!(rt; told, (Ok(()), Ok(()), 12, 12));
+fn what_stands_behind_a_torn_gate_is_never_restored(rt: HostRuntime) {
+    let alloc = rt.alloc();
+    assert!(rt; goes(&rt, alloc, &TORN_GROUP, 0, b"oo", [12, 12]));
     // The third call writes the first group; half of it comes over the one that stands there.
-    let told = two_added(rt.alloc(), &TORN_GROUP, 3)?;
-    assert_eq!(rt; told, (FAILED, CLOSED, 0, 0));
-    Ok(())
+    assert!(rt; goes(&rt, alloc, &TORN_GROUP, 3, b"fc", [0, 0]));
 }
 
 #[test]
-fn a_fault_at_each_call_closes_the_log(rt: HostRuntime) -> Result<(), AllocError> {
-    for call in 1..7 {
-        let told = two_added(rt.alloc(), b"", call)?;
-        // Only the last call, the sync of the open gate, leaves a group that may be there.
-        let read = u64::from(call == 6);
-        assert_eq!(rt; told, (FAILED, CLOSED, 0, read), "{call}");
+fn a_fault_at_each_call_closes_the_log(rt: HostRuntime) {
+    for call in 1..6 {
+        assert!(rt; goes(&rt, rt.alloc(), b"", call, b"fc", [0, 0]));
     }
-    Ok(())
+    // Only the last call, the sync of the open gate, leaves a group that may be there.
+    assert!(rt; goes(&rt, rt.alloc(), b"", 6, b"fc", [0, 1]));
 }

@@ -1,5 +1,4 @@
 //! Stores over disks that fail and crash.
-ghost use Rattle.std.specs.Prelude.{IfOk};
 ghost use Rattle.durable_store.specs.Fit.{AreEntries};
 
 use crate::frail::FrailDisk;
@@ -8,7 +7,8 @@ use durable_store::kept::Kept;
 use durable_store::reopening::reopen;
 use durable_store::store::{Job, Store, StoreFault, Tail};
 use smart_base::sequence::{Bytes, Sequence};
-use std::alloc::{AllocError, Global};
+use std::alloc::Global;
+use std::process::Abort;
 use store_form::ends::LogFault;
 
 /// A log of one entry, of byte 5, and one of byte 6.
@@ -21,13 +21,16 @@ const THIRD: [u8; 13] = *b"\x01\0\0\0\0\0\0\0\x03\0\0\0\0";
 
 const TORN: [u8; 13] = *b"\x07\0\0\0\0\0\0\0\x02\0\0\0\0";
 
-/// What a call answers.
-type Answer = Result<(), StoreFault>;
-
-/// What the first call answers that fails, and each behind it.
-const FAILED: Answer = Err(LogFault::Disk { closed: false });
-
-const CLOSED: Answer = Err(LogFault::Disk { closed: true });
+/// What a call answers: `o` that it is done, `f` that a disk fails, `c` that an earlier fault closed
+/// the store, and `m` that memory is wanted.
+fn letter(answer: Result<(), StoreFault>) -> u8 {
+    match answer {
+        Ok(()) => b'o',
+        Err(LogFault::Disk { closed: false }) => b'f',
+        Err(LogFault::Disk { closed: true }) => b'c',
+        Err(LogFault::NoMemory) => b'm',
+    }
+}
 
 /// The first byte of each entry, as the digits of a number.
 fn shown(kept: &Kept) -> u64 {
@@ -40,137 +43,131 @@ fn shown(kept: &Kept) -> u64 {
 }
 
 /// One entry of one byte.
-fn entry(alloc: Global, byte: u8) -> Result<Sequence<Bytes>, AllocError>
-    ensures { IfOk result (λ entries. AreEntries entries) }
+fn entry(rt: &impl Abort, alloc: Global, byte: u8) -> Sequence<Bytes>
+    ensures { AreEntries result }
 {
     let mut entries = Vec::new(alloc);
-    entries.push(Bytes::from_slice(alloc, &[byte])?)?;
-    Ok(Sequence::from_vec(entries))
+    let entry = Bytes::from_slice(alloc, &[byte]).expect(rt, "there is memory");
+    entries.push(entry).expect(rt, "there is memory");
+    Sequence::from_vec(entries)
 }
 
 /// Disks that hold nothing.
-fn empty_disks(alloc: Global) -> Result<Disks<FrailDisk>, AllocError> {
-    Ok(Disks {
-        even_log: FrailDisk::new(alloc, b"", 0)?,
-        odd_log: FrailDisk::new(alloc, b"", 0)?,
-        even_slot: FrailDisk::new(alloc, b"", 0)?,
-        odd_slot: FrailDisk::new(alloc, b"", 0)?,
-    })
+fn empty_disks(rt: &impl Abort, alloc: Global) -> Disks<FrailDisk> {
+    Disks {
+        even_log: FrailDisk::new(rt, alloc, b"", 0),
+        odd_log: FrailDisk::new(rt, alloc, b"", 0),
+        even_slot: FrailDisk::new(rt, alloc, b"", 0),
+        odd_slot: FrailDisk::new(rt, alloc, b"", 0),
+    }
 }
 
 /// An entry in each log, generation 3, and a torn gate before generation 2. The present log and the
 /// slot of generation 2 fail at these calls.
-fn torn_disks(alloc: Global, log: u64, slot: u64) -> Result<Disks<FrailDisk>, AllocError> {
-    Ok(Disks {
-        even_log: FrailDisk::new(alloc, &FIFTH, 0)?,
-        odd_log: FrailDisk::new(alloc, &SIXTH, log)?,
-        even_slot: FrailDisk::new(alloc, &TORN, slot)?,
-        odd_slot: FrailDisk::new(alloc, &THIRD, 0)?,
-    })
+fn torn_disks(rt: &impl Abort, alloc: Global, log: u64, slot: u64) -> Disks<FrailDisk> {
+    Disks {
+        even_log: FrailDisk::new(rt, alloc, &FIFTH, 0),
+        odd_log: FrailDisk::new(rt, alloc, &SIXTH, log),
+        even_slot: FrailDisk::new(rt, alloc, &TORN, slot),
+        odd_slot: FrailDisk::new(rt, alloc, &THIRD, 0),
+    }
 }
 
 /// What a crash leaves of the disks: as they read, or as at their last sync.
 fn crashed(
+    rt: &impl Abort,
     alloc: Global,
     disks: &Disks<FrailDisk>,
     as_read: bool,
-) -> Result<Disks<FrailDisk>, AllocError> {
-    Ok(Disks {
-        even_log: disks.even_log.crashed(alloc, as_read)?,
-        odd_log: disks.odd_log.crashed(alloc, as_read)?,
-        even_slot: disks.even_slot.crashed(alloc, as_read)?,
-        odd_slot: disks.odd_slot.crashed(alloc, as_read)?,
-    })
-}
-
-/// What a store restores after such a crash.
-fn restored(alloc: Global, disks: &Disks<FrailDisk>, as_read: bool) -> Result<u64, AllocError> {
-    match reopen(alloc, crashed(alloc, disks, as_read)?) {
-        Ok((_, kept)) => Ok(shown(&kept)),
-        Err(_) => Err(AllocError),
+) -> Disks<FrailDisk> {
+    Disks {
+        even_log: disks.even_log.crashed(rt, alloc, as_read),
+        odd_log: disks.odd_log.crashed(rt, alloc, as_read),
+        even_slot: disks.even_slot.crashed(rt, alloc, as_read),
+        odd_slot: disks.odd_slot.crashed(rt, alloc, as_read),
     }
 }
 
-/// Gives an entry, and makes so many calls.
-fn run(
-    alloc: Global,
-    store: &mut Store<FrailDisk>,
-    entry: Sequence<Bytes>,
-    calls: u64,
-) -> Result<(), StoreFault>
-    requires { AreEntries entry }
-{
-    store.start(alloc, Job::Append(entry))?;
+/// What a store restores after such a crash.
+fn restored(rt: &impl Abort, alloc: Global, disks: &Disks<FrailDisk>, as_read: bool) -> u64 {
+    let opened = reopen(alloc, crashed(rt, alloc, disks, as_read));
+    let (_, kept) = opened.ok().expect(rt, "a store");
+    shown(&kept)
+}
+
+/// Gives an entry of byte 1, and makes so many calls.
+fn run(rt: &impl Abort, alloc: Global, store: &mut Store<FrailDisk>, calls: u64) {
+    let job = Job::Append(entry(rt, alloc, 1));
+    store.start(alloc, job).ok().expect(rt, "it begins");
     let tail = Tail {
         made: 0,
         entries: Sequence::new(alloc),
     };
     for _ in 0..calls {
-        store.next_call(alloc, &tail)?;
+        store.next_call(alloc, &tail).ok().expect(rt, "it goes on");
     }
-    Ok(())
 }
 
 /// How many entries are firm after so many calls of a store over nothing that is given one, and what
 /// is restored after a crash that leaves the disks as at their last sync, and as they read.
-fn life(alloc: Global, calls: u64) -> Result<(u64, u64, u64), AllocError> {
-    let one = entry(alloc, 1)?;
-    match reopen(alloc, empty_disks(alloc)?) {
-        Ok((mut store, _)) => {
-            let _answer = run(alloc, &mut store, one, calls);
-            let firm = store.firm();
-            let left = store.into_disks();
-            let synced = restored(alloc, &left, false)?;
-            let read = restored(alloc, &left, true)?;
-            Ok((firm, synced, read))
-        }
-        Err(_) => Err(AllocError),
-    }
+fn life(rt: &impl Abort, alloc: Global, calls: u64) -> [u64; 3] {
+    let opened = reopen(alloc, empty_disks(rt, alloc));
+    let (mut store, _) = opened.ok().expect(rt, "a store");
+    run(rt, alloc, &mut store, calls);
+    let firm = store.firm();
+    let left = store.into_disks();
+    let synced = restored(rt, alloc, &left, false);
+    let read = restored(rt, alloc, &left, true);
+    drop(left);
+    [firm, synced, read]
 }
 
 #[test]
-fn an_entry_is_restored_once_its_gate_is_open(rt: HostRuntime) -> Result<(), AllocError> {
-    for calls in 0..8 {
-        let told = life(rt.alloc(), calls)?;
-        let firm = u64::from(calls >= 6);
-        assert_eq!(rt; told, (firm, firm, u64::from(calls >= 5)), "{calls}");
+fn an_entry_is_restored_once_its_gate_is_open(rt: HostRuntime) {
+    for calls in 0..5 {
+        assert!(rt; life(&rt, rt.alloc(), calls) == [0, 0, 0]);
     }
-    Ok(())
+    assert!(rt; life(&rt, rt.alloc(), 5) == [0, 0, 1]);
+    assert!(rt; life(&rt, rt.alloc(), 6) == [1, 1, 1]);
+    assert!(rt; life(&rt, rt.alloc(), 7) == [1, 1, 1]);
 }
 
-/// What a store over torn disks answers that adds entries of byte 1 and of byte 2, how many are firm
-/// then, and what is restored after a crash that leaves the disks as at their last sync.
-fn two_added(
+/// What a store over torn disks answers that adds entries of byte 1 and of byte 2.
+fn add_two(rt: &impl Abort, alloc: Global, store: &mut Store<FrailDisk>) -> [u8; 2] {
+    let first = letter(store.append(alloc, entry(rt, alloc, 1)));
+    let second = letter(store.append(alloc, entry(rt, alloc, 2)));
+    [first, second]
+}
+
+/// Whether a store over torn disks that fail at these calls answers so, has so many firm then, and
+/// restores so after a crash that leaves the disks as at their last sync.
+fn goes(
+    rt: &impl Abort,
     alloc: Global,
-    disks: Disks<FrailDisk>,
-) -> Result<(Answer, Answer, u64, u64), AllocError> {
-    let one = entry(alloc, 1)?;
-    let other = entry(alloc, 2)?;
-    match reopen(alloc, disks) {
-        Ok((mut store, _)) => {
-            let first = store.append(alloc, one);
-            let second = store.append(alloc, other);
-            let firm = store.firm();
-            let left = store.into_disks();
-            let synced = restored(alloc, &left, false)?;
-            Ok((first, second, firm, synced))
-        }
-        Err(_) => Err(AllocError),
-    }
+    (log, slot): (u64, u64),
+    answers: &[u8; 2],
+    want: [u64; 2],
+) -> bool {
+    let opened = reopen(alloc, torn_disks(rt, alloc, log, slot));
+    let (mut store, _) = opened.ok().expect(rt, "a store");
+    let told = add_two(rt, alloc, &mut store);
+    let firm = store.firm();
+    let left = store.into_disks();
+    let synced = restored(rt, alloc, &left, false);
+    drop(left);
+    told == *answers && [firm, synced] == want
 }
 
 #[test]
-fn entries_stand_behind_those_of_the_newest_checkpoint(rt: HostRuntime) -> Result<(), AllocError> {
-    let told = two_added(rt.alloc(), torn_disks(rt.alloc(), 0, 0)?)?;
-    assert_eq!(rt; told, (Ok(()), Ok(()), 3, 612));
-    Ok(())
+fn entries_stand_behind_those_of_the_newest_checkpoint(rt: HostRuntime) {
+    assert!(rt; goes(&rt, rt.alloc(), (0, 0), b"oo", [3, 612]));
 }
 
 #[test]
-fn a_fault_of_a_log_or_of_a_slot_closes_the_store(rt: HostRuntime) -> Result<(), AllocError> {
-    for (log, slot) in [(1, 0), (2, 0), (3, 0), (4, 0), (0, 1), (0, 2)] {
-        let told = two_added(rt.alloc(), torn_disks(rt.alloc(), log, slot)?)?;
-        assert_eq!(rt; told, (FAILED, CLOSED, 1, 6), "{log} {slot}");
+fn a_fault_of_a_log_or_of_a_slot_closes_the_store(rt: HostRuntime) {
+    for log in 1..5 {
+        assert!(rt; goes(&rt, rt.alloc(), (log, 0), b"fc", [1, 6]));
     }
-    Ok(())
+    assert!(rt; goes(&rt, rt.alloc(), (0, 1), b"fc", [1, 6]));
+    assert!(rt; goes(&rt, rt.alloc(), (0, 2), b"fc", [1, 6]));
 }
