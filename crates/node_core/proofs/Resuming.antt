@@ -1,5 +1,5 @@
 -- What a node keeps beside a book from which it goes on.
-use Rattle.std.proofs.Common.{◌≡◌, ℕ, ◌+◌, ◌==◌, ◌++◌, Bool, false, cond, List, [], ◌∷◌, length, refl, ap, sym, ◌∙◌, Option, Some, None, is_some, option_map, Result, Ok, Err}
+use Rattle.std.proofs.Common.{◌≡◌, ℕ, ◌+◌, ◌==◌, ◌++◌, Bool, false, List, [], ◌∷◌, length, refl, ap, sym, ◌∙◌, Option, None, is_some, option_map, Result, Ok, Err}
 use Rattle.std.specs.List.{cons_option}
 use Rattle.smart_base.specs.Views.{View}
 use Rattle.smart_service.specs.Services.{Meaning}
@@ -10,14 +10,13 @@ use Rattle.vote_book.specs.declared.votes.OwnVotes.{OwnVotes}
 use Rattle.vote_book.specs.declared.entry.LogEntry.{LogEntry}
 use Rattle.regency_sync.specs.Synchronizers.{Synchronizer, resumed}
 use Rattle.replica_rules.specs.Replicas.{empty}
-use Rattle.node_rules.specs.Nodes.{Node, greatest_regency, start_in, start_at}
-use Rattle.node_rules.specs.Nodes as nodes
+use Rattle.node_rules.specs.Nodes.{Node, greatest_regency, start_at}
 use Rattle.node_rules.specs.Reopening.{damage_at, damaged_from, damaged, entry_of, entries_in, takes_all_back, stopped, reopened}
 use Rattle.node_restart.specs.Restarts.{Restart}
 use Rattle.consensus_instance.specs.declared.start.Start.{Start as Beginnings}
 use Rattle.consensus_instance.specs.Instances.{Instance, resuming}
 use Rattle.consensus_instance.specs.Nodes.{slot_behind, start_by}
-use Rattle.consensus_instance.proofs.Entries.{first_same, resumed_instance}
+use Rattle.consensus_instance.proofs.Entries.{resumed_instance}
 use Rattle.node_state.specs.Following.{Follows}
 use Rattle.node_core.specs.Resuming.{going_on}
 use Rattle.node_state.proofs.Following.{begun_by}

@@ -1,6 +1,7 @@
 //! What a node delivers, and the replies to what it executed.
-ghost use Rattle.std.specs.Prelude.{◌≡◌, ◌++◌, IfOk, OnOk, OnErr};
+ghost use Rattle.std.specs.Prelude.{◌≡◌, ◌++◌, ◌∷◌, [], if◌then◌else◌, IfOk, OnOk, OnErr};
 ghost use Rattle.node_rules.specs.Rules.{reply_of, replying, delivers, delivery, answer_line, fired_if};
+ghost use Rattle.node_core.specs.Delivering.{executed, execution};
 ghost use Rattle.smart_messages.specs.declared.any.AnyMessage.TheVariants as messages;
 ghost use Rattle.node_rules.specs.declared.node.Fired.TheVariants as fires;
 
@@ -46,34 +47,72 @@ fn replying<S: Service>(
     Ok(())
 }
 
-/// Delivers the batch that waits, and tells of it.
-#[tactic(auto, unfolding(node_rules::specs::Rules::delivers, node_rules::specs::Rules::deliver_batch, node_rules::specs::Rules::delivery))]
-pub fn delivers<S: Service>(node: &mut NodeState<S>) -> Result<Sequence<Fired>, AllocError>
-    ensures node { OnOk result (node.new ≡ delivers S.meaning node.old) }
-    ensures fired { IfOk result (λ fired. fired ≡ delivery S.meaning node.old node.old.waiting) }
+/// What a delivery gives: what is told of it, and the lines of the requests that were executed.
+#[derive(Drop)]
+struct Executed {
+    delivery: Delivery,
+    lines: Sequence<TableLine>,
+}
+
+/// Executes the batch that waits, if one does, and keeps the requests that are still to be proposed.
+#[tactic(auto, unfolding(crate::specs::Delivering::executed))]
+fn execute_waiting<S: Service>(node: &mut NodeState<S>) -> Result<Option<Executed>, AllocError>
+    ensures node { OnOk result (node.new ≡ executed S.meaning node.old node.old.waiting) }
+    ensures told { IfOk result (λ told. told ≡ execution S.meaning node.old node.old.waiting) }
     ensures err { OnErr result (node.new.entries ≡ node.old.entries) }
 {
     if node.replica.spent() {
         return Err(AllocError);
     }
-    let mut fired = Sequence::new(node.alloc);
-    let answers = node.view().is_member(node.id());
     let votes = node.votes_at(node.place().get() + 2, node.regency());
     match node.waiting.take() {
-        None => Ok(fired),
+        None => Ok(None),
         Some(batch) => {
             node.instance.delivered(votes);
             let lines = deliver(node.alloc, &mut node.replica, &batch)?;
             node.pool.settle(&node.replica.replica().table);
             node.impatient = false;
-            fired.push(Fired::Delivered(Delivery {
-                place: node.place(),
+            let delivery = Delivery {
+                place: node.replica.replica().place,
                 batch,
                 executed: lines.len() as u64,
-            }))?;
-            if answers {
-                replying(node, lines)?;
-            }
+            };
+            Ok(Some(Executed { delivery, lines }))
+        }
+    }
+}
+
+/// Tells of a delivery, and holds the replies where the node answers.
+fn tell<S: Service>(
+    node: &mut NodeState<S>,
+    answers: bool,
+    executed: Executed,
+) -> Result<Sequence<Fired>, AllocError>
+    ensures node { OnOk result (node.new ≡ (if answers then replying node.old executed.lines else node.old)) }
+    ensures fired { IfOk result (λ fired. fired ≡ fires.Delivered executed.delivery ∷ []) }
+    ensures err { OnErr result (node.new.entries ≡ node.old.entries) }
+{
+    let Executed { delivery, lines } = executed;
+    let mut fired = Sequence::new(node.alloc);
+    fired.push(Fired::Delivered(delivery))?;
+    if answers {
+        replying(node, lines)?;
+    }
+    Ok(fired)
+}
+
+/// Delivers the batch that waits, and tells of it.
+pub fn delivers<S: Service>(node: &mut NodeState<S>) -> Result<Sequence<Fired>, AllocError>
+    ensures node { OnOk result (node.new ≡ delivers S.meaning node.old) }
+    ensures fired { IfOk result (λ fired. fired ≡ delivery S.meaning node.old node.old.waiting) }
+    ensures err { OnErr result (node.new.entries ≡ node.old.entries) }
+{
+    let answers = node.view().is_member(node.id());
+    let told = execute_waiting(node)?;
+    match told {
+        None => Ok(Sequence::new(node.alloc)),
+        Some(executed) => {
+            let fired = tell(node, answers, executed)?;
             Ok(fired)
         }
     }

@@ -1,22 +1,25 @@
-use Rattle.std.proofs.Common.{refl, ap, ◌∙◌, List}
-use Rattle.smart_base.specs.Views.{View, present}
-use Rattle.node_state.proofs.Following.{delivered_after, votes_next}
+use Rattle.std.proofs.Common.{ap, sym, ◌∙◌, ℕ}
+use Rattle.smart_base.specs.Views.{View, is_member}
+use Rattle.node_rules.specs.Nodes.{Node, view_of}
+use Rattle.node_state.proofs.Broken.{on_err}
+use Rattle.node_core.proofs.Delivering.{entries_executed, delivers_none, tells_none, delivers_some, tells_some}
 use Rattle.node_core.proofs.delivers.delivers.Goals as goal
 
-pub invariant_of-node-in-Break-1 : goal.invariant_of-node-in-Break-1
-invariant_of-node-in-Break-1 g c =
-    delivered_after _ _ _ c.node.inside.replica.replica.place _ c.node.inside.waiting _ _ c.node.inside.instance c.delivered.new.self c.node.inside.synchronizer c.in-Some.batch c.votes_at-votes.result c.node.invariant
-    (votes_next c.args.node.now _ c.node.inside.instance c.votes_at-votes.result c.get.result _ c.regency.result c.node.view_is c.node.invariant.instance (c.get.ensures.value ∙ c.place.ensures) refl c.regency.ensures c.votes_at-votes.ensures)
-    c.in-Some.ensures.value c.take.ensures.after c.deliver.ensures.place (ap (λ (vs : List View). present vs) c.deliver.ensures.views) c.delivered.ensures
+pub returns-in-None-clause-node : goal.returns-in-None-clause-node
+returns-in-None-clause-node g c = delivers_none g.S.Service.meaning c.args.node.now c.execute_waiting.new.node c.in_ok-told.ensures.node (sym c.in-None.is ∙ c.in_ok-told.ensures.told)
 
-pub invariant_of-node-in-Some : goal.invariant_of-node-in-Some
-invariant_of-node-in-Some g c =
-    delivered_after _ _ _ c.node.inside.replica.replica.place _ c.node.inside.waiting _ _ c.node.inside.instance c.delivered.new.self c.node.inside.synchronizer c.in-Some.batch c.votes_at-votes.result c.node.invariant
-    (votes_next c.args.node.now _ c.node.inside.instance c.votes_at-votes.result c.get.result _ c.regency.result c.node.view_is c.node.invariant.instance (c.get.ensures.value ∙ c.place.ensures) refl c.regency.ensures c.votes_at-votes.ensures)
-    c.in-Some.ensures.value c.take.ensures.after c.deliver.ensures.place (ap (λ (vs : List View). present vs) c.deliver.ensures.views) c.delivered.ensures
+pub returns-in-None-clause-fired : goal.returns-in-None-clause-fired
+returns-in-None-clause-fired g c = c.new.ensures ∙ tells_none g.S.Service.meaning c.args.node.now c.args.node.now.waiting (sym c.in-None.is ∙ c.in_ok-told.ensures.told)
 
-pub invariant_of-node-in-Some-2 : goal.invariant_of-node-in-Some-2
-invariant_of-node-in-Some-2 g c =
-    delivered_after _ _ _ c.node.inside.replica.replica.place _ c.node.inside.waiting _ _ c.node.inside.instance c.delivered.new.self c.node.inside.synchronizer c.in-Some.batch c.votes_at-votes.result c.node.invariant
-    (votes_next c.args.node.now _ c.node.inside.instance c.votes_at-votes.result c.get.result _ c.regency.result c.node.view_is c.node.invariant.instance (c.get.ensures.value ∙ c.place.ensures) refl c.regency.ensures c.votes_at-votes.ensures)
-    c.in-Some.ensures.value c.take.ensures.after c.deliver.ensures.place (ap (λ (vs : List View). present vs) c.deliver.ensures.views) c.delivered.ensures
+pub returns-in_ok-fired-in-Some-clause-node : goal.returns-in_ok-fired-in-Some-clause-node
+returns-in_ok-fired-in-Some-clause-node g c =
+    delivers_some g.S.Service.meaning c.args.node.now c.execute_waiting.new.node c.tell.new.node c.in-Some.executed c.is_member-answers.result c.in_ok-told.ensures.node (sym c.in-Some.is ∙ c.in_ok-told.ensures.told)
+    (c.is_member-answers.ensures ∙ (ap (λ (v : View). is_member v c.id.result) c.view.ensures ∙ ap (λ (i : ℕ). is_member (view_of c.args.node.now) i) c.id.ensures)) c.in_ok-fired-in-Some.ensures.node
+
+pub returns-in_ok-fired-in-Some-clause-fired : goal.returns-in_ok-fired-in-Some-clause-fired
+returns-in_ok-fired-in-Some-clause-fired g c =
+    c.in_ok-fired-in-Some.ensures.fired ∙ tells_some g.S.Service.meaning c.args.node.now c.args.node.now.waiting c.in-Some.executed (sym c.in-Some.is ∙ c.in_ok-told.ensures.told)
+
+pub returns-in_err-fired-in-Some-clause-err : goal.returns-in_err-fired-in-Some-clause-err
+returns-in_err-fired-in-Some-clause-err g c =
+    on_err _ (c.in_err-fired-in-Some.ensures.err ∙ (ap (λ (n : Node g.row.S.Denot). n.entries) c.in_ok-told.ensures.node ∙ entries_executed g.S.Service.meaning c.args.node.now c.args.node.now.waiting))
