@@ -1,7 +1,8 @@
 //! The lines of a transcript, as text.
-ghost use Rattle.std.specs.Prelude.{◌≡◌, ◌++◌, ◌<◌, IfOk, OnOk, string_bytes};
+ghost use Rattle.std.specs.Prelude.{◌≡◌, ◌++◌, ◌∷◌, ◌<◌, IfOk, OnOk, string_bytes};
+ghost use Rattle.std.specs.Fmt.{decimal};
 ghost use Rattle.std.specs.List.{flat_map};
-ghost use Rattle.world_rules.specs.Texts.{why_text, ignored_text, app_text, origin_text, lock_text, bound_text, summary_text, hex_digit, shown, words_of, line_text, text_of};
+ghost use Rattle.world_rules.specs.Texts.{why_text, ignored_text, app_text, origin_text, lock_text, bound_text, summary_text, after_space, hex_digit, shown, words_of, line_text, text_of};
 
 use client_quorum::client::Ignored;
 use node_rules::node::Why;
@@ -201,26 +202,113 @@ fn push_reply(out: &mut String, reply: &[u8]) -> Result<(), AllocError>
     Ok(())
 }
 
-fn push_decided(out: &mut String, id: u16, place: u64) -> Result<(), AllocError>
-    ensures { OnOk result (string_bytes out.new ≡ string_bytes out.old ++ words_of (OutLine.Decided id place)) }
+/// A word and a number.
+fn push_id(out: &mut String, word: &str, id: u16) -> Result<(), AllocError>
+    ensures { OnOk result (string_bytes out.new ≡ string_bytes out.old ++ (word.now ++ decimal id)) }
 {
-    write!(out, "decided n{id} {place}")
-}
-
-fn push_delivered(out: &mut String, id: u16, place: u64, count: u64) -> Result<(), AllocError>
-    ensures { OnOk result (string_bytes out.new ≡ string_bytes out.old ++ words_of (OutLine.Delivered id place count)) }
-{
-    out.push_str("delivered n")?;
-    write!(out, "{id} {place} {count}")?;
+    out.push_str(word)?;
+    write!(out, "{id}")?;
     Ok(())
 }
 
-fn push_restarted(out: &mut String, id: u16, place: u64, entries: u64) -> Result<(), AllocError>
-    ensures { OnOk result (string_bytes out.new ≡ string_bytes out.old ++ words_of (OutLine.Restarted id place entries)) }
+/// A word, a number and a name.
+fn push_name(out: &mut String, word: &str, id: u16, name: &str) -> Result<(), AllocError>
+    ensures { OnOk result (string_bytes out.new ≡ string_bytes out.old ++ (word.now ++ (decimal id ++ (32 ∷ name.now)))) }
 {
-    out.push_str("restarted n")?;
-    write!(out, "{id} {place} {entries}")?;
+    out.push_str(word)?;
+    write!(out, "{id} {name}")?;
     Ok(())
+}
+
+/// A word and two numbers.
+fn push_one(out: &mut String, word: &str, id: u16, number: u64) -> Result<(), AllocError>
+    ensures { OnOk result (string_bytes out.new ≡ string_bytes out.old ++ (word.now ++ (decimal id ++ after_space number))) }
+{
+    out.push_str(word)?;
+    write!(out, "{id} {number}")?;
+    Ok(())
+}
+
+/// A word and three numbers.
+fn push_two(
+    out: &mut String,
+    word: &str,
+    id: u16,
+    number: u64,
+    other: u64,
+) -> Result<(), AllocError>
+    ensures { OnOk result (string_bytes out.new ≡ string_bytes out.old ++ (word.now ++ (decimal id ++ (after_space number ++ after_space other)))) }
+{
+    out.push_str(word)?;
+    write!(out, "{id} {number} {other}")?;
+    Ok(())
+}
+
+fn push_group(out: &mut String, members: u64, faulty: u8, app: App) -> Result<(), AllocError>
+    ensures { OnOk result (string_bytes out.new ≡ string_bytes out.old ++ words_of (OutLine.Group members faulty app)) }
+{
+    let app = app_text(app);
+    write!(out, "group {members} {faulty} {app} 1024")
+}
+
+fn push_sent(
+    out: &mut String,
+    number: u64,
+    origin: Origin,
+    summary: Summary,
+) -> Result<(), AllocError>
+    ensures { OnOk result (string_bytes out.new ≡ string_bytes out.old ++ words_of (OutLine.Sent number origin summary)) }
+{
+    write!(out, "sent {number} ")?;
+    push_origin(out, origin)?;
+    write!(out, " ")?;
+    push_summary(out, summary)
+}
+
+fn push_synced(
+    out: &mut String,
+    id: u16,
+    view: u32,
+    regency: u32,
+    base: u64,
+    bound: bool,
+) -> Result<(), AllocError>
+    ensures { OnOk result (string_bytes out.new ≡ string_bytes out.old ++ words_of (OutLine.Synced id view regency base bound)) }
+{
+    write!(out, "synced n{id} {view} {regency} {base}")?;
+    out.push_str(bound_text(bound))
+}
+
+fn push_accepted(
+    out: &mut String,
+    id: u16,
+    seq: u64,
+    place: u64,
+    index: u16,
+    reply: &[u8],
+) -> Result<(), AllocError>
+    ensures { OnOk result (string_bytes out.new ≡ string_bytes out.old ++ words_of (OutLine.Accepted id seq place index reply.now)) }
+{
+    write!(out, "accepted c{id} {seq} {place} {index} ")?;
+    push_reply(out, reply)
+}
+
+fn push_place(
+    out: &mut String,
+    id: u16,
+    place: u64,
+    view: u32,
+    regency: u32,
+) -> Result<(), AllocError>
+    ensures { OnOk result (string_bytes out.new ≡ string_bytes out.old ++ words_of (OutLine.Stands id place view regency)) }
+{
+    write!(out, "place n{id} {place} {view} {regency}")
+}
+
+fn push_end(out: &mut String, lines: u64, messages: u64) -> Result<(), AllocError>
+    ensures { OnOk result (string_bytes out.new ≡ string_bytes out.old ++ words_of (OutLine.End lines messages)) }
+{
+    write!(out, "end {lines} {messages}")
 }
 
 fn push_words(out: &mut String, line: &OutLine) -> Result<(), AllocError>
@@ -231,118 +319,89 @@ fn push_words(out: &mut String, line: &OutLine) -> Result<(), AllocError>
             members,
             faulty,
             app,
-        } => {
-            let app = app_text(*app);
-            write!(out, "group {members} {faulty} {app} 1024")
-        }
+        } => push_group(out, *members, *faulty, *app),
         OutLine::Sent {
             number,
             origin,
             summary,
-        } => {
-            write!(out, "sent {number} ")?;
-            push_origin(out, *origin)?;
-            write!(out, " ")?;
-            push_summary(out, *summary)
-        }
-        OutLine::Decided { member, place } => push_decided(out, member.get(), place.get()),
+        } => push_sent(out, *number, *origin, *summary),
+        OutLine::Decided { member, place } => push_one(out, "decided n", member.get(), place.get()),
         OutLine::Delivered {
             member,
             place,
             executed,
-        } => { push_delivered(out, member.get(), place.get(), *executed) }
+        } => push_two(out, "delivered n", member.get(), place.get(), *executed),
         OutLine::Promised {
             member,
             view,
             regency,
-        } => {
-            let (id, view, regency) = (member.get(), view.get(), regency.get());
-            write!(out, "promised n{id} {view} {regency}")
-        }
+        } => push_two(
+            out,
+            "promised n",
+            member.get(),
+            view.get() as u64,
+            regency.get() as u64,
+        ),
         OutLine::Synced {
             member,
             view,
             regency,
             base,
             bound,
-        } => {
-            let (id, view, regency) = (member.get(), view.get(), regency.get());
-            write!(out, "synced n{id} {view} {regency} {base}")?;
-            out.push_str(bound_text(*bound))
-        }
-        OutLine::Dropped { member, why } => {
-            let id = member.get();
-            let why = why_text(*why);
-            write!(out, "dropped n{id} {why}")
-        }
-        OutLine::Counted { client, have, need } => {
-            let id = client.get();
-            write!(out, "counted c{id} {have} {need}")
-        }
+        } => push_synced(out, member.get(), view.get(), regency.get(), *base, *bound),
+        OutLine::Dropped { member, why } => push_name(
+            out,
+            "dropped n",
+            member.get(),
+            why_text(*why),
+        ),
+        OutLine::Counted { client, have, need } => push_two(
+            out,
+            "counted c",
+            client.get(),
+            *have,
+            *need,
+        ),
         OutLine::Accepted {
             client,
             seq,
             place,
             index,
             reply,
-        } => {
-            let (id, place) = (client.get(), place.get());
-            write!(out, "accepted c{id} {seq} {place} {index} ")?;
-            push_reply(out, reply.as_slice())
-        }
-        OutLine::Ignored { client, why } => {
-            let id = client.get();
-            let why = ignored_text(*why);
-            write!(out, "ignored c{id} {why}")
-        }
-        OutLine::Busy { client, seq } => {
-            let id = client.get();
-            write!(out, "busy c{id} {seq}")
-        }
-        OutLine::Absent { member } => {
-            let id = member.get();
-            write!(out, "absent n{id}")
-        }
-        OutLine::Crashed { member } => {
-            let id = member.get();
-            write!(out, "crashed n{id}")
-        }
+        } => push_accepted(
+            out,
+            client.get(),
+            *seq,
+            place.get(),
+            *index,
+            reply.as_slice(),
+        ),
+        OutLine::Ignored { client, why } => push_name(
+            out,
+            "ignored c",
+            client.get(),
+            ignored_text(*why),
+        ),
+        OutLine::Busy { client, seq } => push_one(out, "busy c", client.get(), *seq),
+        OutLine::Absent { member } => push_id(out, "absent n", member.get()),
+        OutLine::Crashed { member } => push_id(out, "crashed n", member.get()),
         OutLine::Restarted {
             member,
             place,
             entries,
-        } => { push_restarted(out, member.get(), place.get(), *entries) }
-        OutLine::Down { member } => {
-            let id = member.get();
-            write!(out, "down n{id}")
-        }
-        OutLine::Idle { member } => {
-            let id = member.get();
-            write!(out, "idle n{id}")
-        }
-        OutLine::IdleClient { client } => {
-            let id = client.get();
-            write!(out, "idle c{id}")
-        }
-        OutLine::Learned { client, place } => {
-            let (id, place) = (client.get(), place.get());
-            write!(out, "told c{id} {place}")
-        }
+        } => push_two(out, "restarted n", member.get(), place.get(), *entries),
+        OutLine::Down { member } => push_id(out, "down n", member.get()),
+        OutLine::Idle { member } => push_id(out, "idle n", member.get()),
+        OutLine::IdleClient { client } => push_id(out, "idle c", client.get()),
+        OutLine::Learned { client, place } => push_one(out, "told c", client.get(), place.get()),
         OutLine::Stands {
             member,
             place,
             view,
             regency,
-        } => {
-            let (id, place) = (member.get(), place.get());
-            let (view, regency) = (view.get(), regency.get());
-            write!(out, "place n{id} {place} {view} {regency}")
-        }
-        OutLine::Seen { client, place } => {
-            let (id, place) = (client.get(), place.get());
-            write!(out, "seen c{id} {place}")
-        }
-        OutLine::End { lines, messages } => write!(out, "end {lines} {messages}"),
+        } => push_place(out, member.get(), place.get(), view.get(), regency.get()),
+        OutLine::Seen { client, place } => push_one(out, "seen c", client.get(), place.get()),
+        OutLine::End { lines, messages } => push_end(out, *lines, *messages),
     }
 }
 
