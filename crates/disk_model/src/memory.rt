@@ -25,7 +25,14 @@ pub struct MemDisk {
 /// Let go by one call, so that no function that lets one go carries the whole of it.
 impl Drop for MemDisk {
     fn drop(self) {
-        let MemDisk { first: _, changes: _, platter: _, failing: _, made: _, faults: _ } = self;
+        let MemDisk {
+            first: _,
+            changes: _,
+            platter: _,
+            failing: _,
+            made: _,
+            faults: _,
+        } = self;
     }
 }
 

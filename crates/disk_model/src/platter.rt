@@ -54,7 +54,13 @@ pub struct Platter {
 /// Let go by one call, so that no function that lets one go carries the whole of it.
 impl Drop for Platter {
     fn drop(self) {
-        let Platter { contents: _, undo: _, shortest: _, greatest: _, touched: _ } = self;
+        let Platter {
+            contents: _,
+            undo: _,
+            shortest: _,
+            greatest: _,
+            touched: _,
+        } = self;
     }
 }
 

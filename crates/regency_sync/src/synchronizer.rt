@@ -49,7 +49,16 @@ pub struct Synchronizer {
 /// Let go by one call, so that no function that lets one go carries the whole of it.
 impl Drop for Synchronizer {
     fn drop(self) {
-        let Synchronizer { id: _, regency: _, synced: _, stop_made: _, sync_made: _, stops: _, reports: _, syncs: _ } = self;
+        let Synchronizer {
+            id: _,
+            regency: _,
+            synced: _,
+            stop_made: _,
+            sync_made: _,
+            stops: _,
+            reports: _,
+            syncs: _,
+        } = self;
     }
 }
 

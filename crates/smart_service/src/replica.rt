@@ -14,6 +14,11 @@ pub struct Replica<S> {
 /// Let go by one call, so that no function that lets one go carries the whole of it.
 impl<S: Drop> Drop for Replica<S> {
     fn drop(self) {
-        let Replica { service: _, table: _, views: _, place: _ } = self;
+        let Replica {
+            service: _,
+            table: _,
+            views: _,
+            place: _,
+        } = self;
     }
 }
