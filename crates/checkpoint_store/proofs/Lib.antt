@@ -5,3 +5,4 @@ pub mod Newest
 pub mod Resting
 pub mod Whole
 pub mod Opened
+pub mod Called

@@ -1,5 +1,5 @@
 //! A job on a slot, one device call at a time.
-ghost use Rattle.std.specs.Prelude.{◌≡◌, ℕ, Bool, Option, IfOk};
+ghost use Rattle.std.specs.Prelude.{◌≡◌, ℕ, Bool, Option, IfOk, OnOk};
 ghost use Rattle.faults.specs.Counts.{HasCause};
 ghost use Rattle.disk_model.specs.Cells.{IsImage, Within};
 ghost use Rattle.disk_model.specs.Calls.{Elapses};
@@ -48,35 +48,45 @@ pub fn slot_step<D: Disk>(device: &mut D, job: SlotJob) -> Result<SlotJob, Fault
     ensures time { Elapses (D.moment device.old) (D.moment device.new) (D.left_since device.old) (D.left_since device.new) (IsImage (D.cells device.new)) }
     ensures cause { HasCause (D.faults device.old) (D.faults device.new) result }
 {
+    make_call(device, &job)?;
+    let next = job_behind(job);
+    Ok(next)
+}
+
+/// Makes the next device call of a job. Where no job runs it asks for the length of the device.
+fn make_call<D: Disk>(device: &mut D, job: &SlotJob) -> Result<(), Fault>
+    requires { D.told → (odd : Bool) × IsSlotUnderWay odd (D.cells device.old) job.now }
+    ensures cells { OnOk result (D.told → D.cells device.new ≡ cells_called job.now (D.cells device.old)) }
+    ensures torn { D.told → Within (D.cells device.new) (slot_called job.now (D.cells device.old)) }
+    ensures time { Elapses (D.moment device.old) (D.moment device.new) (D.left_since device.old) (D.left_since device.new) (IsImage (D.cells device.new)) }
+    ensures cause { HasCause (D.faults device.old) (D.faults device.new) result }
+{
     match job {
-        SlotJob::Close => {
-            device.write_at(0, &[0])?;
-            Ok(SlotJob::SyncClose)
-        }
-        SlotJob::SyncClose => {
-            device.sync()?;
-            Ok(SlotJob::Shut)
-        }
-        SlotJob::Fill(bytes) => {
-            device.write_at(1, bytes.as_slice())?;
-            Ok(SlotJob::SyncFill)
-        }
-        SlotJob::SyncFill => {
-            device.sync()?;
-            Ok(SlotJob::Full)
-        }
-        SlotJob::Gate => {
-            device.write_at(0, &[1])?;
-            Ok(SlotJob::SyncGate)
-        }
-        SlotJob::SyncGate => {
-            device.sync()?;
-            Ok(SlotJob::Counts)
-        }
-        resting => {
+        SlotJob::Close => device.write_at(0, &[0]),
+        SlotJob::SyncClose => device.sync(),
+        SlotJob::Fill(bytes) => device.write_at(1, bytes.as_slice()),
+        SlotJob::SyncFill => device.sync(),
+        SlotJob::Gate => device.write_at(0, &[1]),
+        SlotJob::SyncGate => device.sync(),
+        _ => {
             device.len()?;
-            Ok(resting)
+            Ok(())
         }
+    }
+}
+
+/// The next call behind that of a job.
+fn job_behind(job: SlotJob) -> SlotJob
+    ensures { result ≡ job_after job }
+{
+    match job {
+        SlotJob::Close => SlotJob::SyncClose,
+        SlotJob::SyncClose => SlotJob::Shut,
+        SlotJob::Fill(_) => SlotJob::SyncFill,
+        SlotJob::SyncFill => SlotJob::Full,
+        SlotJob::Gate => SlotJob::SyncGate,
+        SlotJob::SyncGate => SlotJob::Counts,
+        resting => resting,
     }
 }
 
