@@ -32,7 +32,12 @@ pub struct View {
 /// Let go by one call, so that no function that lets one go carries the whole of it.
 impl Drop for View {
     fn drop(self) {
-        let View { number: _, start: _, f: _, members: _ } = self;
+        let View {
+            number: _,
+            start: _,
+            f: _,
+            members: _,
+        } = self;
     }
 }
 

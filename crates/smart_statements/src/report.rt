@@ -36,7 +36,12 @@ pub struct DecisionProof {
 /// Let go by one call, so that no function that lets one go carries the whole of it.
 impl Drop for DecisionProof {
     fn drop(self) {
-        let DecisionProof { view: _, regency: _, digest: _, accepts: _ } = self;
+        let DecisionProof {
+            view: _,
+            regency: _,
+            digest: _,
+            accepts: _,
+        } = self;
     }
 }
 
@@ -50,7 +55,11 @@ pub struct MarkCertificate {
 /// Let go by one call, so that no function that lets one go carries the whole of it.
 impl Drop for MarkCertificate {
     fn drop(self) {
-        let MarkCertificate { view: _, digest: _, marks: _ } = self;
+        let MarkCertificate {
+            view: _,
+            digest: _,
+            marks: _,
+        } = self;
     }
 }
 
@@ -65,7 +74,11 @@ pub struct LockCertificate {
 /// Let go by one call, so that no function that lets one go carries the whole of it.
 impl Drop for LockCertificate {
     fn drop(self) {
-        let LockCertificate { regency: _, digest: _, writes: _ } = self;
+        let LockCertificate {
+            regency: _,
+            digest: _,
+            writes: _,
+        } = self;
     }
 }
 
@@ -94,7 +107,13 @@ pub struct Report {
 /// Let go by one call, so that no function that lets one go carries the whole of it.
 impl Drop for Report {
     fn drop(self) {
-        let Report { view: _, regency: _, last: _, evidence: _, lock: _ } = self;
+        let Report {
+            view: _,
+            regency: _,
+            last: _,
+            evidence: _,
+            lock: _,
+        } = self;
     }
 }
 

@@ -112,7 +112,12 @@ pub struct Signed<S: Statement> {
 /// Let go by one call, so that no function that lets one go carries the whole of it.
 impl<S: Statement> Drop for Signed<S> {
     fn drop(self) {
-        let Signed { signer: _, statement: _, kept: _, tag: _ } = self;
+        let Signed {
+            signer: _,
+            statement: _,
+            kept: _,
+            tag: _,
+        } = self;
     }
 }
 

@@ -49,7 +49,12 @@ pub struct Request {
 /// Let go by one call, so that no function that lets one go carries the whole of it.
 impl Drop for Request {
     fn drop(self) {
-        let Request { client: _, seq: _, after: _, op: _ } = self;
+        let Request {
+            client: _,
+            seq: _,
+            after: _,
+            op: _,
+        } = self;
     }
 }
 
@@ -83,7 +88,14 @@ pub struct Answer {
 /// Let go by one call, so that no function that lets one go carries the whole of it.
 impl Drop for Answer {
     fn drop(self) {
-        let Answer { view: _, place: _, index: _, client: _, seq: _, reply: _ } = self;
+        let Answer {
+            view: _,
+            place: _,
+            index: _,
+            client: _,
+            seq: _,
+            reply: _,
+        } = self;
     }
 }
 
