@@ -13,25 +13,26 @@ use smart_service::service::Service;
 /// table and its views are those after that front. Since it last went on it has delivered one batch at
 /// each further place of that front, in order: the list's there, as is each batch that it delivered in
 /// earlier lives. A batch that it has decided and not delivered is the list's at the next place.
-/// Whatever a crash now leaves of a member's devices, they restore the diary that this crash makes: all
-/// that became firm there, and behind it what the crash brings back. None of the entries that they
-/// restore is damaged, and the replica that goes on from them is the state of a front of the list; nor
-/// is what a member that has crashed goes on from. A crash may always leave each device as it was at its
-/// last sync, and each as it reads: a crash without patches never ends a play. Each reply that a
-/// node holds, and each one with the tag of a member that is not faulty that was sent, by whomever, is
-/// the service's answer at the place and index that it names, to the request of its client and number
-/// there, which is executed nowhere else; and it states the view in force there. Each reply that a client
-/// accepted is the service's answer at the one place where its request stands in the list, the request
-/// there is the one that the client asked, the reply states the view in force there, and that place is
-/// past the one that the request states; of a client that was declared rogue none of this is said. The
-/// place of each accepted reply is kept: whatever crashes leave of the devices of all members that are
-/// not faulty, more than f of them go on from it or a later one. The place that a request states is no
-/// less than any that the client knew before it asked: after no line before its request was sent had
-/// the transcript told it a greater place, be it of a reply that it accepted or one that it was told.
-/// The list only grows: what it holds after one line, it begins with after every later one. Each line
-/// of the transcript that tells of a reply that a client accepted, unless it is rogue, names the one
-/// place of its request in the list, and tells the service's answer there. After each line the diary of
-/// each member that is not faulty is lawful, and shows what this member has stated.
+/// Whatever a crash now leaves of a member's devices, they restore exactly the diary that this crash
+/// makes. It has all that became firm there, and behind it what the crash brings back. None of the
+/// entries that they restore is damaged, and the replica that goes on from them is the state of a front
+/// of the list; nor is what a member that has crashed goes on from. A crash may always leave each
+/// device as it was at its last sync, and each as it reads. A crash without patches never ends a play.
+/// A reply is right where it is the service's answer at its place and index, to the request of its
+/// client and number there. The request is executed at no other place, and the reply states the view in
+/// force there. Each reply that a node holds is right. Each reply with the tag of a member that is not
+/// faulty is right, in whosever message it was sent. Each reply that a client accepted is the service's
+/// answer at the one place where its request stands in the list, the request there is the one that the
+/// client asked, the reply states the view in force there, and that place is past the one that the
+/// request states; of a client that was declared rogue none of this is said. The place of each accepted
+/// reply is kept: whatever crashes leave of the devices of all members that are not faulty, more than f
+/// of them go on from it or a later one. The place that a request states is no less than any that the
+/// client knew before it asked: after no line before its request was sent had the transcript told it a
+/// greater place, be it of a reply that it accepted or one that it was told. The list only grows: what
+/// it holds after one line, it begins with after every later one. Each line of the transcript that
+/// tells of a reply that a client accepted, unless it is rogue, names the one place of its request in
+/// the list, and tells the service's answer there. After each line the diary of each member that is not
+/// faulty is lawful. It shows what the member has stated.
 pub fn one_list_throughout<S: Service>()
     ensures { (view : View) (ls : List Line) → is_view view ≡ true → OneListThroughout S.meaning view ls }
 {}

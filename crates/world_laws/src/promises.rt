@@ -36,12 +36,12 @@ pub fn a_quorum_replied<S: Service>()
 
 /// A vote leaves only when its entry is firm, a reply only when firm entries make its place or a later
 /// one, and a report only when its promise is firm, behind the entries that it tells of. Of the other
-/// messages nothing is said. Whatever comes to a node that has let nothing go yet, each vote, reply and report that would
-/// leave it now rests on firm entries. And in each world of a play, as a flow begins and in each turn of
-/// it, while a node settles and while one takes bytes, what a node or a client has sent is a message
-/// that names it as its signer, unless it is a client's request that a node has passed on to one
-/// member, and a vote, a reply or a report that a node has sent rests on what became firm there, in
-/// whichever life.
+/// messages nothing is said. Whatever comes to a node that has let nothing go yet, each vote, reply and
+/// report that would leave it now rests on firm entries. And in each world of a play, as a flow begins
+/// and in each turn of it, while a node settles and while one takes bytes, what a node or a client has
+/// sent is a message that names it as its signer, unless it is a client's request that a node has
+/// passed on to one member, and a vote, a reply or a report that a node has sent rests on what became
+/// firm there, in whichever life.
 /// What a script injects is for nobody.
 pub fn votes_leave_when_firm<S: Service>()
     ensures node { (secret : List ℕ) (id : ℕ) (view : View) (period : ℕ) (events : List NodeEvent) → LeavesFirm (node_after S.meaning (opened S.meaning secret id view period) events) }

@@ -80,10 +80,10 @@ MayBeLeft w left = Each (λ h. is_gone w h.node.id ≡ false → MayLeave h.stor
 pub record IsKept {S : Type 0} (m : Meaning S) (w : World S) (place : ℕ) : Type 0 where
   pub enough : (left : ℕ → Images) → MayBeLeft w left → w.view.f < length (filter (has_place m w left place) w.hosts)
 
--- A crash may leave each device as it was at its last sync, and each as it reads: a crash of a script without patches never ends a play. Whatever a crash now
--- leaves of a member's devices, they restore the diary that this crash makes of the present one, no more and no less: it begins with the present diary, and
--- behind that stands at most what was not firm yet. No entry that they restore is damaged, and the replica that they restore is the state of a front of the
--- list. What a member that has crashed goes on from is not damaged either.
+-- A crash may leave each device as it was at its last sync, and each as it reads. A script's crash without patches never ends a play. Whatever a crash now
+-- leaves of a member's devices, they restore exactly the diary that this crash makes. It begins with the present diary, and behind it stands at most what was
+-- not firm yet. No entry that they restore is damaged, and the replica that they restore is the state of a front of the list. What a member that has crashed
+-- goes on from is not damaged either.
 pub record Recovers {S : Type 0} (m : Meaning S) (w : World S) (h : Host S) : Type 0 where
   pub possible : (image : Image) → wrong_images h.store (images_left image [] h.store) ≡ None
   pub leaves : (image : Image) → MayLeave h.store (images_left image [] h.store)
@@ -95,8 +95,8 @@ pub record Recovers {S : Type 0} (m : Meaning S) (w : World S) (h : Host S) : Ty
 
 -- ---- replies
 
--- A reply is right: a request of its client and number stands at the place and index that it names, that is the one place where the request is executed, the
--- reply is the service's answer there, and it states the view in force there.
+-- A reply is right where it is the service's answer at its place and index, to the request of its client and number there. The request is executed at no
+-- other place, and the reply states the view in force there.
 pub record IsRightReply {S : Type 0} (m : Meaning S) (view : View) (chosen : List Batch) (a : Answer) : Type 0 where
   pub request : Request
   pub request_is : request_at chosen a.place a.index ≡ Some request
@@ -114,7 +114,7 @@ IsRightIfReply m view chosen (Plain (Vote b)) = Unit {0}
 IsRightIfReply m view chosen (Plain (Reply a)) = IsRightReply m view chosen a.statement
 IsRightIfReply m view chosen (Change x) = Unit {0}
 
--- Each reply that a node holds is right. So is each reply with the tag of a member that is not faulty that stands in what was sent, by whomever.
+-- Each reply that a node holds is right. Each reply with the tag of a member that is not faulty is right, in whosever message it was sent.
 pub record AreRepliesRight {S : Type 0} (m : Meaning S) (w : World S) : Type 0 where
   pub held : Each (λ h. Each (λ x. IsRightIfReply m w.view w.chosen x.message) h.node.held) w.hosts
   pub sent : (r : SignedBy Answer) → Among (Replied r) (stated w.sent) → is_among w.faulty r.signer ≡ false → IsRightReply m w.view w.chosen r.statement
@@ -146,8 +146,8 @@ abbrev pub IsRogue : List ℕ → ℕ → Type 0
 IsRogue rogue client = is_among rogue client ≡ true
 
 -- All nodes, those that are gone or have stopped too, have delivered fronts of one list, and go on from such fronts whatever crashes leave of their devices.
--- Each reply that a member which is not faulty has signed and that was sent is right. Each reply that was accepted by a client that is not rogue is the service's answer at its request's one place there, past the place that its request
--- states. The place of each accepted reply is kept.
+-- Each reply that a node holds or a correct member has sent is right. Each reply that was accepted by a client that is not rogue is the service's answer at
+-- its request's one place there, past the place that its request states. The place of each accepted reply is kept.
 pub record OneList {S : Type 0} (m : Meaning S) (w : World S) : Type 0 where
   pub hosts : Each (IsPrefix m w.view w.chosen) w.hosts
   pub recovers : Each (Recovers m w) w.hosts
@@ -194,7 +194,7 @@ world_at m view ls k = world_after (course_of m) (begun m view) (take k ls)
 -- Each request whose reply is accepted, be it when it may, states what its client knew: of each line after which it had not been sent
 -- yet, a place no less than each one that the transcript had told the client by then, of a reply that it accepted or of one that it was
 -- told. The reply stands past them all, as its place is above the one that the request states (`above` of `IsRight`). After each line the
--- diary of each member that is not faulty is lawful, and shows each statement of that member that stands in what was sent
+-- diary of each member that is not faulty is lawful. It shows each statement of the member that stands in what was sent
 pub record OneListThroughout {S : Type 0} (m : Meaning S) (view : View) (ls : List Line) : Type 0 where
   pub one_list : (k : ℕ) → OneList m (world_at m view ls k)
   pub grows : (j k : ℕ) → j ≤ k → take (length (world_at m view ls j).chosen) (world_at m view ls k).chosen ≡ (world_at m view ls j).chosen
