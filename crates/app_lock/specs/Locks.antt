@@ -26,12 +26,13 @@ taken holder name = if is_name holder then holder else name
 abbrev pub freed : List ℕ → List ℕ → List ℕ
 freed holder name = if bytes_eq holder name then [] else holder
 
--- the holder after an operation, which takes for a name, or frees for a name, or does neither
+-- the holder after an operation that takes the lock for a name, or frees it for a name, or does neither
 abbrev pub changed : List ℕ → Option (List ℕ) → Option (List ℕ) → List ℕ
 changed holder (Some name) frees = taken holder name
 changed holder None (Some name) = freed holder name
 changed holder None None = holder
 
+-- the holder after an operation that is a text
 abbrev pub holder_after : List ℕ → List ℕ → List ℕ
 holder_after holder op = changed holder (name_after (codes "take ") op) (name_after (codes "free ") op)
 
@@ -43,7 +44,7 @@ told holder = if is_name holder then holder else codes "-"
 abbrev pub is_holder : List ℕ → Bool
 is_holder bytes = length bytes == 0 || is_name bytes
 
--- the states that the service comes to
+-- the states that the service comes to: nobody holds the lock, or a name does
 abbrev pub IsLock : Lock → Type 0
 IsLock s = is_holder s.holder ≡ true
 
@@ -51,6 +52,7 @@ IsLock s = is_holder s.holder ≡ true
 abbrev pub restored : List ℕ → Option Lock
 restored bytes = if is_holder bytes then Some (record { holder = bytes }) else None
 
+-- what the service means
 abbrev pub locking : Meaning Lock
 locking =
     record {
