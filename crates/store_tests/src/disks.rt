@@ -8,11 +8,10 @@ use disk_model::room::{DiskRoom, MemRoom};
 use faults::Fault;
 use smart_base::name::MemberId;
 use smart_base::sequence::Bytes;
-use std::alloc::Global;
+use std::alloc::{AllocError, Global};
 use std::fs::OpenOptions;
-use std::path::PathBuf;
 use std::process::Abort;
-use std::{env, fs, io, process};
+use std::{fs, io, process};
 
 /// Writes where there is something, or at the end.
 fn put<D: Disk>(disk: &mut D, at: u64, bytes: &[u8]) -> Result<(), Fault> {
@@ -95,14 +94,14 @@ fn is_given(alloc: Global, room: &mut MemRoom, device: u8) -> bool {
 }
 
 /// Writes to a disk that the room gives, and gives it back.
-fn write(rt: &impl Abort, alloc: Global, room: &mut MemRoom, bytes: &[u8]) {
+fn write(alloc: Global, room: &mut MemRoom, bytes: &[u8]) -> bool {
     match room.get(alloc, b"d", MemberId::new(2), 1) {
-        Ok(disk) => {
-            let mut disk = disk;
-            assert!(rt; put(&mut disk, 0, bytes).is_ok());
+        Ok(mut disk) => {
+            let is_written = put(&mut disk, 0, bytes).is_ok();
             room.keep(b"d", MemberId::new(2), 1, disk);
+            is_written
         }
-        Err(_) => panic!(rt; "a disk"),
+        Err(_) => false,
     }
 }
 
@@ -110,7 +109,7 @@ fn write(rt: &impl Abort, alloc: Global, room: &mut MemRoom, bytes: &[u8]) {
 fn a_room_gives_a_disk_once_and_gives_back_what_it_keeps(rt: HostRuntime) {
     let alloc = rt.alloc();
     let mut room = MemRoom::new(alloc);
-    write(&rt, alloc, &mut room, b"abc");
+    assert!(rt; write(alloc, &mut room, b"abc"));
     let back = room.get(alloc, b"d", MemberId::new(2), 1).ok();
     let mut back = back.expect(&rt, "the disk");
     assert!(rt; back.len() == Ok(3));
@@ -120,15 +119,13 @@ fn a_room_gives_a_disk_once_and_gives_back_what_it_keeps(rt: HostRuntime) {
 }
 
 /// The path of a file of this test's own.
-fn own_path(rt: &HostRuntime) -> Option<PathBuf> {
+fn own_path(rt: &HostRuntime) -> Result<String, AllocError> {
     let id = process::id(rt.process());
-    let name = format!(in rt.alloc(); "smart-file-disk-{id}").ok()?;
-    let folder = env::temp_dir(rt).ok()?;
-    folder.join(rt.alloc(), name.as_str()).ok()
+    format!(in rt.alloc(); "/tmp/smart-file-disk-{id}")
 }
 
 /// A disk over a file that is made anew.
-fn over_file(rt: &HostRuntime, path: &PathBuf) -> io::Result<FileDisk> {
+fn over_file(rt: &HostRuntime, path: &str) -> io::Result<FileDisk> {
     let file = OpenOptions::new()
         .read(true)
         .write(true)
@@ -148,8 +145,8 @@ fn reads(alloc: Global, disk: &mut FileDisk, at: u64, count: u64, want: &[u8]) -
 
 #[test]
 fn a_file_is_read_written_and_cut_in_place(rt: HostRuntime) {
-    let path = own_path(&rt).expect(&rt, "a path");
-    let mut disk = over_file(&rt, &path).ok().expect(&rt, "a file");
+    let path = own_path(&rt).expect(&rt, "there is memory");
+    let mut disk = over_file(&rt, path.as_str()).ok().expect(&rt, "a file");
     assert!(rt; disk.write_at(0, b"abcdef").is_ok());
     assert!(rt; disk.write_at(4, b"EFGH").is_ok());
     // A cut past the end changes nothing, and no file has bytes past 2^63.
@@ -159,5 +156,5 @@ fn a_file_is_read_written_and_cut_in_place(rt: HostRuntime) {
     assert!(rt; reads(rt.alloc(), &mut disk, 0, 3, b"abc"));
     assert!(rt; reads(rt.alloc(), &mut disk, 3, 100, b"dEFG"));
     assert!(rt; reads(rt.alloc(), &mut disk, 9, 1, b""));
-    assert!(rt; fs::remove_file(&rt, &path).is_ok());
+    assert!(rt; fs::remove_file(&rt, path.as_str()).is_ok());
 }

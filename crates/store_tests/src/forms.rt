@@ -12,12 +12,11 @@ const GROUP: [u8; 22] = *b"\0\0\0\0\0\0\0\x0e\0\0\0\0\0\0\0\x01\0\0\0\x02ab";
 /// The same, with a byte of the payload left over behind its last entry.
 const LONG_GROUP: [u8; 23] = *b"\0\0\0\0\0\0\0\x0f\0\0\0\0\0\0\0\x01\0\0\0\x02ab\0";
 
-/// How many entries the group has that these bytes are, or where they are none.
-fn group_read(alloc: Global, bytes: &[u8]) -> Result<usize, usize> {
-    match take_group(alloc, &mut Cursor::new(bytes)) {
-        Ok(group) => Ok(group.len()),
-        Err(ReadError::Unread { at }) => Err(at),
-        Err(_) => Err(99),
+/// Where bytes are not what is read, 99 where they are.
+fn at(fault: Option<ReadError>) -> usize {
+    match fault {
+        Some(ReadError::Unread { at }) => at,
+        _ => 99,
     }
 }
 
@@ -28,21 +27,14 @@ fn a_group_is_its_length_its_count_and_its_entries(rt: HostRuntime) {
     let mut out = Vec::new(alloc);
     put_group(alloc, &mut out, &[entry]).expect(&rt, "there is memory");
     assert!(rt; out.as_slice() == GROUP.as_slice());
-    assert!(rt; group_read(alloc, &GROUP) == Ok(1));
-    assert!(rt; group_read(alloc, &LONG_GROUP) == Err(22));
+    let read = take_group(alloc, &mut Cursor::new(&GROUP)).ok();
+    assert!(rt; read.expect(&rt, "a group").len() == 1);
+    let read = take_group(alloc, &mut Cursor::new(&LONG_GROUP));
+    assert!(rt; at(read.err()) == 22);
 }
 
 /// A checkpoint: its generation and its snapshot.
 const CHECKPOINT: [u8; 14] = *b"\0\0\0\0\0\0\x01\x02\0\0\0\x02ab";
-
-/// The generation of the checkpoint that these bytes are, or where they are none.
-fn checkpoint_read(alloc: Global, bytes: &[u8]) -> Result<u64, usize> {
-    match take_checkpoint(alloc, &mut Cursor::new(bytes)) {
-        Ok(checkpoint) => Ok(checkpoint.generation),
-        Err(ReadError::Unread { at }) => Err(at),
-        Err(_) => Err(99),
-    }
-}
 
 #[test]
 fn a_checkpoint_is_its_generation_and_its_snapshot(rt: HostRuntime) {
@@ -50,6 +42,9 @@ fn a_checkpoint_is_its_generation_and_its_snapshot(rt: HostRuntime) {
     let mut out = Vec::new(alloc);
     put_checkpoint(&mut out, 258, b"ab").expect(&rt, "there is memory");
     assert!(rt; out.as_slice() == CHECKPOINT.as_slice());
-    assert!(rt; checkpoint_read(alloc, &CHECKPOINT) == Ok(258));
-    assert!(rt; checkpoint_read(alloc, &CHECKPOINT[..13]) == Err(8));
+    let read = take_checkpoint(alloc, &mut Cursor::new(&CHECKPOINT)).ok();
+    let read = read.expect(&rt, "a checkpoint");
+    assert!(rt; read.generation == 258 && read.snapshot.len() == 2);
+    let read = take_checkpoint(alloc, &mut Cursor::new(&CHECKPOINT[..13]));
+    assert!(rt; at(read.err()) == 8);
 }

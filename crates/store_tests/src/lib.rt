@@ -9,8 +9,6 @@ mod forms;
 #[cfg(test)]
 mod frail;
 #[cfg(test)]
-mod logs;
-#[cfg(test)]
 mod slots;
 #[cfg(test)]
 mod stores;
