@@ -1,39 +1,53 @@
 //! A group of four members that replicates the lock.
 use app_lock::Lock;
+use client_quorum::client::Acceptance;
 use smart_base::name::MemberId;
 use smart_base::view::View;
 use std::alloc::Global;
-use std::test::Fail;
+use std::process::Abort;
 use world_core::world::World;
 use world_script::reading::line_of;
 
 /// Members 1 to 4, of which one may be faulty.
-fn group(alloc: Global) -> Result<View, Fail> {
-    let members = Vec::from_array(alloc, [1, 2, 3, 4].map(MemberId::new))?;
-    Ok(View::checked(0, 1, 1, members).ok_or("no view")?)
+fn group(alloc: Global) -> Option<View> {
+    let members = [
+        MemberId::new(1),
+        MemberId::new(2),
+        MemberId::new(3),
+        MemberId::new(4),
+    ];
+    View::checked(0, 1, 1, Vec::from_array(alloc, members).ok()?)
 }
 
-/// Plays a line of a script.
-fn play(alloc: Global, world: &mut World<Lock>, text: &str) -> Result<(), Fail> {
-    let line = line_of(alloc, text.as_bytes())?.ok().ok_or("no line")?;
-    if world.is_over() {
-        return Err("the play is over".into());
+/// Plays a line of a script, and says whether it was played.
+fn is_played(alloc: Global, world: &mut World<Lock>, text: &str) -> bool {
+    match line_of(alloc, text.as_bytes()) {
+        Ok(Ok(line)) => !world.is_over() && world.play(line).is_ok(),
+        _ => false,
     }
-    let _told = world.play(line).ok().ok_or("not played")?;
-    Ok(())
+}
+
+/// Plays lines of a script, and says whether each was played.
+fn are_played(alloc: Global, world: &mut World<Lock>, lines: &[&str]) -> bool {
+    for text in lines {
+        if !is_played(alloc, world, text) {
+            return false;
+        }
+    }
+    true
+}
+
+/// Whether two clients were told that this name holds the lock.
+fn both_are_told(accepted: &[Acceptance], name: &[u8]) -> bool {
+    accepted.len() == 2 && accepted.iter().all(|told| told.reply.as_slice() == name)
 }
 
 #[test]
-fn four_members_replicate_a_lock(rt: HostRuntime) -> Result<(), Fail> {
+fn four_members_replicate_a_lock(rt: HostRuntime) {
     let alloc = rt.alloc();
-    let mut world = World::begin(alloc, group(alloc)?)?;
-    for line in ["ask 1 take ann", "flow", "ask 2 take bob", "flow"] {
-        play(alloc, &mut world, line)?;
-    }
-    let replies = world.accepted();
-    assert_eq!(rt; replies.len(), 2);
-    for accepted in replies {
-        assert_eq!(rt; accepted.reply.as_slice(), b"ann".as_slice());
-    }
-    Ok(())
+    let view = group(alloc).expect(&rt, "a view");
+    let mut world = World::begin(alloc, view).expect(&rt, "there is memory");
+    let lines = ["ask 1 take ann", "flow", "ask 2 take bob", "flow"];
+    assert!(rt; are_played(alloc, &mut world, &lines));
+    assert!(rt; both_are_told(world.accepted(), b"ann"));
 }
