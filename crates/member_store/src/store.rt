@@ -78,7 +78,10 @@ pub struct MemberStore {
 /// Let go by one call, so that no function that lets one go carries the whole of it.
 impl Drop for MemberStore {
     fn drop(self) {
-        let MemberStore { alloc: _, devices: _ } = self;
+        let MemberStore {
+            alloc: _,
+            devices: _,
+        } = self;
     }
 }
 
