@@ -1,5 +1,5 @@
 -- Of a store that holds a book a crash may leave each device as it was at its last sync, and each as it reads.
-use Rattle.std.proofs.Common.{◌≡◌, ℕ, ◌+◌, ◌≤◌, Bool, true, false, cond, List, [], ◌∷◌, ◌++◌, length, Option, None, length-append, arith}
+use Rattle.std.proofs.Common.{◌≡◌, ℕ, ◌+◌, ◌≤◌, Bool, true, false, cond, List, [], ◌∷◌, ◌++◌, length, Option, Some, None, length-append, arith}
 use Rattle.disk_model.specs.Cells.{Cells, IsImage, IsSound, settled, written}
 use Rattle.disk_model.proofs.Sound.{same_sound, sound_settled, sound_written}
 use Rattle.store_form.specs.Spelling.{Group, group_text}
