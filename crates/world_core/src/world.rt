@@ -77,6 +77,22 @@ impl<S: Service> Model for World<S> {
     ghost invariant = { λ w. IsPlay (core_course S.meaning) S.meaning (record { group = w.group; lines = w.lines; world = w.state; over = w.over }) };
 }
 
+/// Plays a line that names what is there. Says why the play is over, where it is.
+fn play_line<S: Service>(state: &mut WorldState<S>, line: &Line) -> Result<(), WorldEnd>
+    ensures world { OnOk result (state.new ≡ line_played (core_course S.meaning) state.old line.now) }
+    ensures going { OnOk result (state.new.ending ≡ None) }
+    ensures refer { IsErrOf result WorldEnd.Refer → ⊥ }
+    ensures limit { IsErrOf result WorldEnd.Limit → (line_played (core_course S.meaning) state.old line.now).ending ≡ Some endings.Limit }
+    ensures premise { (which : Premise) → IsErrOf result (WorldEnd.Premise which) → (line_played (core_course S.meaning) state.old line.now).ending ≡ Some (endings.Premise which) }
+{
+    lines::play(state, line)?;
+    match state.ending() {
+        None => Ok(()),
+        Some(Ending::Limit) => Err(WorldEnd::Limit),
+        Some(Ending::Premise(which)) => Err(WorldEnd::Premise(which)),
+    }
+}
+
 impl<S: Service> World<S> {
     /// The play at the end of a header.
     pub fn begin(alloc: Global, view: View) -> Result<Self, AllocError>
@@ -111,11 +127,8 @@ impl<S: Service> World<S> {
             return Err(WorldEnd::Refer);
         }
         self.over = true;
-        lines::play(&mut self.state, &line)?;
-        match self.state.ending() {
-            Some(Ending::Limit) => return Err(WorldEnd::Limit),
-            Some(Ending::Premise(which)) => return Err(WorldEnd::Premise(which)),
-            None => {}
+        if let Err(end) = play_line(&mut self.state, &line) {
+            return Err(end);
         }
         self.lines.push(line)?;
         let told = self.state.take_told();

@@ -1,5 +1,6 @@
 use Rattle.std.proofs.Common.{◌≡◌, ◌++◌, ◌+◌, ◌<◌, ◌∷◌, drop, append_assoc, ap, sym, ◌∙◌, length, suc, get_or, arith}
 use Rattle.std.proofs.Math.Seq.{drop-cons}
+use Rattle.std.proofs.lemmas.List.{append-nil, at_drop_all}
 use Rattle.world_rules.specs.Worlds.{hosts_from}
 use Rattle.world_state.proofs.state.first_hosts.Goals as goal
 
@@ -16,3 +17,8 @@ loop-id-preserved g c =
     ∙ (ap (λ next. get_or items i c.id-item.result ∷ drop next items) one_more ∙ ap (λ id. id ∷ drop (i + 1) items) (sym c.id-item.is)) in
     rw (c.in_ok-push.ensures.items, c.in_ok-first_host.ensures)
     (append_assoc c.loop-id.hosts.items _ _ ∙ (ap (λ ids. c.loop-id.hosts.items ++ hosts_from m view ids) (sym e) ∙ c.loop-id.invariant))
+
+pub returns : goal.returns
+returns g c =
+    let none = at_drop_all (hosts_from g.S.Service.meaning c.args.view.now) c.members-id-items.result.now c.loop-id.id-index c.loop-id-test.false in
+    sym (append-nil c.loop-id.hosts.items) ∙ (ap (λ rest. c.loop-id.hosts.items ++ rest) (sym none) ∙ c.loop-id.invariant)
