@@ -1,7 +1,7 @@
 -- What a clause sees of the two ends of a link.
 use Rattle.std.specs.Prelude.{◌≡◌, ◌⊎◌, ℕ, List, [], ◌∷◌, ◌++◌, ◌≤◌, ◌+◌, ◌^◌, length}
 use Rattle.atomic_table.specs.Seated.{TableId}
-use Rattle.queue_ends.specs.Ends.{put_list, put_capacity, heard_taken, taken_list, heard_put, put_queue, take_queue}
+use Rattle.queue_ends.specs.Ends.{put_list, heard_taken, taken_list, heard_put, put_queue, take_queue}
 use Rattle.group_links.specs.declared.inward.LinkIn.{LinkIn}
 use Rattle.group_links.specs.declared.outward.LinkOut.{LinkOut}
 use Rattle.group_links.specs.declared.inward.Sending.{Sending}
@@ -16,7 +16,7 @@ module _ {T : Type 0} where
   link_heard_taken l = heard_taken l.items
 
   abbrev pub link_capacity : LinkIn T → ℕ
-  link_capacity l = put_capacity l.items
+  link_capacity l = l.capacity
 
   -- the messages taken from the link, and those that the polling end has heard were put
   abbrev pub link_taken : LinkOut T → List T

@@ -14,15 +14,19 @@ pub struct LinkEnd {
     pub taken: u64,
 }
 
-/// The two ends of a new link. No later call takes memory.
+/// The two ends of a new link. No later call takes memory. A link of capacity 0 drops every message.
 pub fn link<T: Drop>(alloc: Global, capacity: usize) -> Result<(LinkIn<T>, LinkOut<T>), AllocError>
-    requires { 0 < capacity }
     ensures link { IfOk result (λ r. in_link r.0 ≡ out_link r.1) }
     ensures inward { IfOk result (λ r. (link_put r.0 ≡ []) × (link_heard_taken r.0 ≡ []) × (link_capacity r.0 ≡ capacity)) }
     ensures outward { IfOk result (λ r. (link_taken r.1 ≡ []) × (link_heard_put r.1 ≡ [])) }
 {
-    let (puts, takes) = pair(alloc, capacity)?;
-    Ok((LinkIn { items: puts }, LinkOut { items: takes }))
+    // The queue under it holds one message at least.
+    let (puts, takes) = pair(alloc, capacity.max(1))?;
+    let inward = LinkIn {
+        items: puts,
+        capacity: capacity as u64,
+    };
+    Ok((inward, LinkOut { items: takes }))
 }
 
 /// Both ends of one link are done. What was taken is a front of what was put.
@@ -33,7 +37,10 @@ pub fn rejoin<T: Drop>(inward: LinkIn<T>, outward: LinkOut<T>) -> LinkEnd
     ensures order { (rest : List T) × (link_put inward ≡ link_taken outward ++ rest) }
     ensures counts { result.taken ≤ result.put }
 {
-    let LinkIn { items: puts } = inward;
+    let LinkIn {
+        items: puts,
+        capacity: _,
+    } = inward;
     let LinkOut { items: takes } = outward;
     let counts = queue_ends::ends::rejoin(puts, takes);
     LinkEnd {

@@ -1,4 +1,6 @@
 //! The end that sends.
+ghost use Rattle.std.specs.Prelude.{◌≤◌, length};
+ghost use Rattle.queue_ends.specs.Ends.{put_list, put_capacity, heard_taken};
 
 use queue_ends::put_end::PutEnd;
 use queue_ends::told::Told;
@@ -19,6 +21,9 @@ pub enum Sending<T> {
 #[derive(Drop)]
 pub struct LinkIn<T> {
     pub(crate) items: PutEnd<T>,
+    pub(crate) capacity: u64,
+    pub ghost holds: { capacity ≤ put_capacity items },
+    pub ghost has_heard: { length (heard_taken items) ≤ length (put_list items) },
 }
 
 impl<T: Drop> LinkIn<T> {
@@ -34,7 +39,7 @@ impl<T: Drop> LinkIn<T> {
         ensures put { IsSent self.old message result self.new }
         ensures heard { link_heard_taken self.new ≡ link_heard_taken self.old }
     {
-        if self.items.count() >= MOST {
+        if self.capacity == 0 || self.items.count() >= MOST {
             return Sending::Dropped { message };
         }
         match self.items.put(rt, message) {

@@ -1,7 +1,7 @@
 -- What a clause sees of the two ends of a lane, and of what the far end tells.
 use Rattle.std.specs.Prelude.{ℕ, List, length, ◌-◌, ◌^◌, min}
 use Rattle.atomic_table.specs.Seated.{TableId}
-use Rattle.queue_ends.specs.Ends.{put_list, put_capacity, taken_list, heard_put, put_queue, take_queue, told_queue}
+use Rattle.queue_ends.specs.Ends.{put_list, taken_list, heard_put, put_queue, take_queue, told_queue}
 use Rattle.log_lane.specs.declared.inward.LaneIn.{LaneIn}
 use Rattle.log_lane.specs.declared.outward.LaneOut.{LaneOut}
 use Rattle.log_lane.specs.declared.stored.Stored.{Stored}
@@ -18,9 +18,9 @@ module _ {T : Type 0} where
   abbrev pub lane_heard : LaneIn T → ℕ
   lane_heard l = l.seat.me.0.heard
 
-  -- how many entries its queue holds
+  -- how many entries may be put and not answered as stored
   abbrev pub lane_capacity : LaneIn T → ℕ
-  lane_capacity l = put_capacity l.items
+  lane_capacity l = l.capacity
 
   -- the entries taken, oldest first, and those that this end has heard were put
   abbrev pub lane_taken : LaneOut T → List T

@@ -17,14 +17,14 @@ pub struct LaneEnd {
     pub firm: u64,
 }
 
-/// The two ends of a new lane. No later call takes memory.
+/// The two ends of a new lane. No later call takes memory. A lane of capacity 0 never has room.
 pub fn lane<T: Drop>(alloc: Global, capacity: usize) -> Result<(LaneIn<T>, LaneOut<T>), AllocError>
-    requires { 0 < capacity }
     ensures lane { IfOk result (λ r. in_lane r.0 ≡ out_lane r.1) }
     ensures inward { IfOk result (λ r. (lane_put r.0 ≡ []) × (lane_read r.0 ≡ 0) × (lane_heard r.0 ≡ 0) × (lane_capacity r.0 ≡ capacity)) }
     ensures outward { IfOk result (λ r. (lane_taken r.1 ≡ []) × (lane_raised r.1 ≡ 0) × (lane_heard_put r.1 ≡ [])) }
 {
-    let (puts, takes) = pair(alloc, capacity)?;
+    // The queue under it holds one entry at least.
+    let (puts, takes) = pair(alloc, capacity.max(1))?;
     let (word, mut seat) = Word::of_words(alloc, &[0], &())?;
     let other = word.shared.split_seat::<Roles>(&mut seat);
     let word = Arc::new(alloc, word)?;

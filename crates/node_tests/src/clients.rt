@@ -1,9 +1,11 @@
 //! What a client makes of replies.
-use crate::kit::{member, ring, sealed, view};
+use crate::kit::{member, request, ring, sealed, view};
 use client_quorum::client::{Client, Heard, Ignored};
 use smart_base::bytes::Payload;
 use smart_base::name::ClientId;
 use smart_base::number::{Place, ViewNo};
+use smart_messages::codec::encode;
+use smart_messages::message::Message;
 use smart_statements::signed::Signed;
 use smart_statements::statement::Answer;
 use std::alloc::Global;
@@ -81,4 +83,32 @@ fn the_third_equal_reply_is_accepted_and_the_first_reason_told(rt: HostRuntime) 
     }
     assert!(rt; client.waiting().is_none());
     assert_eq!(rt; client.seen().get(), 7);
+}
+
+/// How many gave the reply that a message's bytes spell, as `told` says.
+fn hears(
+    rt: &impl Abort,
+    alloc: Global,
+    client: &mut Client,
+    message: &Message,
+) -> Result<u64, Ignored> {
+    let bytes = encode(alloc, message).expect(rt, "there is memory");
+    let (ring, view) = (ring(rt, alloc), view(rt, alloc));
+    let heard = client.hear(alloc, &view, &ring, bytes.as_slice());
+    told(&heard.expect(rt, "there is memory"))
+}
+
+#[test]
+fn bytes_are_heard_as_the_reply_that_they_spell(rt: HostRuntime) {
+    let alloc = rt.alloc();
+    let mut client = asking(&rt, alloc);
+    let other = Message::Ask(request(&rt, alloc, 5, 1, b'+'));
+    let heard = hears(&rt, alloc, &mut client, &other);
+    assert!(rt; heard == Err(Ignored::Unread));
+    for (number, want) in [(1, 1), (2, 2), (3, 99)] {
+        let message = Message::Reply(reply(&rt, alloc, number, ""));
+        let heard = hears(&rt, alloc, &mut client, &message);
+        assert!(rt; heard == Ok(want));
+    }
+    assert!(rt; client.seen().get() == 7);
 }
