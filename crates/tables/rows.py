@@ -1085,6 +1085,8 @@ CHOICE_ROWS = """
 2 05a 1 0
 2/62 05a 11b 0
 2/63 11b 05a 12c
+# A row that is wrong on purpose, so that a difference is seen to be told.
+9 0 0 0
 """
 
 
