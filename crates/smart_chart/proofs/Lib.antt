@@ -1,0 +1,5 @@
+mod PlainTexts
+mod Ranges
+mod Pieces
+mod Drawn
+mod Consumed

@@ -1,0 +1,4 @@
+pub mod Pictures
+pub mod Transcripts
+pub mod Plain
+pub mod Runs

@@ -1,0 +1,210 @@
+//! What a line of a transcript tells, as far as it is drawn.
+
+use crate::party::{Party, party_of};
+use crate::picture::Figure;
+
+/// A kind of message.
+#[derive(Clone, Copy, PartialEq, Eq)]
+pub enum Kind {
+    Ask,
+    Propose,
+    Write,
+    Accept,
+    Reply,
+    Stop,
+    StopData,
+    Sync,
+    Raw,
+}
+
+/// A message that is sent, with the words of its fields.
+#[derive(Clone, Copy)]
+pub struct Message<'a> {
+    pub number: &'a str,
+    pub sender: Party,
+    pub kind: Kind,
+    pub fields: &'a str,
+}
+
+/// Something that happens at a party, with the words that follow.
+#[derive(Clone, Copy)]
+pub struct Happening<'a> {
+    pub word: &'a str,
+    pub figure: Figure,
+    pub party: Party,
+    pub rest: &'a str,
+}
+
+/// What a line tells.
+#[derive(Clone, Copy)]
+pub enum Scene<'a> {
+    Sent(Message<'a>),
+    Happens(Happening<'a>),
+    /// It draws nothing.
+    Nothing,
+}
+
+impl Kind {
+    fn of(word: &str) -> Option<Kind> {
+        if word == "ask" {
+            Some(Kind::Ask)
+        } else if word == "propose" {
+            Some(Kind::Propose)
+        } else if word == "write" {
+            Some(Kind::Write)
+        } else if word == "accept" {
+            Some(Kind::Accept)
+        } else if word == "reply" {
+            Some(Kind::Reply)
+        } else if word == "stop" {
+            Some(Kind::Stop)
+        } else if word == "stopdata" {
+            Some(Kind::StopData)
+        } else if word == "sync" {
+            Some(Kind::Sync)
+        } else if word == "raw" {
+            Some(Kind::Raw)
+        } else {
+            None
+        }
+    }
+
+    pub fn name(self) -> &'static str {
+        match self {
+            Kind::Ask => "ASK",
+            Kind::Propose => "PROPOSE",
+            Kind::Write => "WRITE",
+            Kind::Accept => "ACCEPT",
+            Kind::Reply => "REPLY",
+            Kind::Stop => "STOP",
+            Kind::StopData => "STOPDATA",
+            Kind::Sync => "SYNC",
+            Kind::Raw => "RAW",
+        }
+    }
+
+    /// The names of a message's fields. A field `-` is left out, and of `=` the value stands alone.
+    pub fn field_names(self) -> &'static str {
+        match self {
+            Kind::Ask => "client request after",
+            Kind::Propose => "- place regency requests",
+            Kind::Write => "- place regency",
+            Kind::Accept => "- place regency",
+            Kind::Reply => "client request place index",
+            Kind::Stop => "- regency",
+            Kind::StopData => "- regency last lock",
+            Kind::Sync => "- regency base =",
+            Kind::Raw => "",
+        }
+    }
+}
+
+/// The first word of a text, and what follows.
+pub fn split_word(text: &str) -> (&str, &str) {
+    text.split_once(' ').unwrap_or((text, ""))
+}
+
+/// The word at an index, as a number.
+pub fn number_at(words: &str, index: usize) -> Option<u64> {
+    words.split(' ').nth(index)?.parse::<u64>().ok()
+}
+
+fn figure_of(word: &str) -> Figure {
+    if word == "decided" {
+        Figure::Decided
+    } else if word == "delivered" {
+        Figure::Delivered
+    } else if word == "promised" {
+        Figure::Promised
+    } else if word == "synced" {
+        Figure::Synced
+    } else if word == "dropped" {
+        Figure::Dropped
+    } else if word == "crashed" {
+        Figure::Crashed
+    } else if word == "restarted" {
+        Figure::Restarted
+    } else if word == "accepted" {
+        Figure::Accepted
+    } else {
+        Figure::Other
+    }
+}
+
+fn sent_of(text: &str) -> Option<Message<'_>> {
+    let (number, rest) = split_word(text);
+    let (sender, rest) = split_word(rest);
+    let (kind, fields) = split_word(rest);
+    Some(Message {
+        number,
+        sender: party_of(sender)?,
+        kind: Kind::of(kind)?,
+        fields,
+    })
+}
+
+/// What a line tells. One that is not known draws nothing.
+pub fn scene_of(line: &str) -> Scene<'_> {
+    let (word, rest) = split_word(line);
+    if word == "sent" {
+        return match sent_of(rest) {
+            Some(message) => Scene::Sent(message),
+            None => Scene::Nothing,
+        };
+    }
+    let (party, rest) = split_word(rest);
+    match party_of(party) {
+        Some(party) => Scene::Happens(Happening {
+            word,
+            figure: figure_of(word),
+            party,
+            rest,
+        }),
+        None => Scene::Nothing,
+    }
+}
+
+/// The client that a line names.
+pub fn client_of(scene: Scene<'_>) -> Option<u64> {
+    match scene {
+        Scene::Sent(
+            Message {
+                sender: Party::Client(client),
+                ..
+            },
+        ) => Some(client),
+        Scene::Sent(
+            Message {
+                kind: Kind::Reply,
+                fields,
+                ..
+            },
+        ) => number_at(fields, 0),
+        Scene::Happens(
+            Happening {
+                party: Party::Client(client),
+                ..
+            },
+        ) => Some(client),
+        _ => None,
+    }
+}
+
+/// Whether a line tells of the script.
+pub fn is_of_script(scene: Scene<'_>) -> bool {
+    match scene {
+        Scene::Sent(Message { sender, .. }) => sender == Party::Script,
+        _ => false,
+    }
+}
+
+/// The regency that a member takes part in from a line on.
+pub fn regency_of(happening: Happening<'_>) -> Option<u64> {
+    if happening.word == "place" {
+        number_at(happening.rest, 2)
+    } else if happening.word == "promised" || happening.word == "synced" {
+        number_at(happening.rest, 1)
+    } else {
+        None
+    }
+}
