@@ -167,6 +167,7 @@ impl<D: Disk> CheckpointStore<D> {
             → StandsAt D.cells generation self.new next None (gate_gives D.cells generation self.old)) }
         ensures job { OnOk result ((slot generation self.new).job ≡ SlotJob.Close) }
         ensures err { OnErr result (self.new ≡ self.old) }
+        ensures closed { OnErr result (self.old.state ≡ State.Open → ⊥) }
         ensures untouched { (self.old.state ≡ State.Open → ⊥) → self.new ≡ self.old }
         ensures device { (slot generation self.new).device ≡ (slot generation self.old).device }
         ensures beside { beside generation self.new ≡ beside generation self.old }
