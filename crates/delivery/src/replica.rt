@@ -55,14 +55,6 @@ impl<S> KeptReplica<S> {
     {
         &self.replica
     }
-
-    pub fn into_replica(self) -> Replica<S>
-        requires { self.spent ≡ false }
-        ensures { result ≡ self.replica }
-    {
-        let KeptReplica { replica, spent: _ } = self;
-        replica
-    }
 }
 
 impl<S: Service> KeptReplica<S> {

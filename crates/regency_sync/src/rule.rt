@@ -3,8 +3,6 @@
 /// order.
 #[derive(Clone, Copy, Debug, PartialEq, Eq)]
 pub enum Rule {
-    /// The member adopts the reports with which a leader has begun its regency.
-    Adopt,
     /// More members than may be faulty ask for the next regency: the member asks too.
     Join,
     /// 2f+1 members ask for the next regency: the member promises it, and reports to its leader.

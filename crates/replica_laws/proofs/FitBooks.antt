@@ -23,12 +23,11 @@ use Rattle.vote_book.specs.declared.entry.Decision.{Decision}
 use Rattle.vote_book.specs.declared.entry.LogEntry.{LogEntry}
 use Rattle.vote_book.specs.declared.entry.LogEntry.TheVariants as entries
 use Rattle.regency_sync.specs.Choices.{greatest_last, lock_behind, greater, greatest_lock, choice}
-use Rattle.regency_sync.specs.Synchronizers.{is_adoptable, adopting}
 use Rattle.node_rules.specs.Votes.{certificate_votes}
-use Rattle.node_rules.specs.Nodes.{Node, view_of, regency_of, next_place, open_slot, synchronizer_of}
+use Rattle.node_rules.specs.Nodes.{Node, view_of, regency_of, next_place, open_slot}
 use Rattle.node_rules.specs.Arrivals.{kept, noted}
 use Rattle.node_rules.specs.Rules.{delivers, proposes, writing, write_batch, writes, accepting, accept_batch, accepts, deciding, decide_batch, decides, answers_again}
-use Rattle.node_rules.specs.Changes.{start_by_sync, promised_for, adopts_by, adoption, adopts, joins, next_promise, promising, promise_next, promises, leads, times}
+use Rattle.node_rules.specs.Changes.{start_by_sync, promised_for, adopts_by, is_adoptable, adoption, adopts, joins, next_promise, promising, promise_next, promises, leads, times}
 use Rattle.node_rules.specs.Kept.{node_after}
 use Rattle.node_rules.specs.Steps.{step_of, opened}
 use Rattle.replica_laws.proofs.Lists.{if_find}
@@ -93,9 +92,9 @@ spelled-adopts_by n (Some sync) begun each =
     (start-fits sync.statement begun)
 
 spelled-adopts : {S : Type 0} (secret : List ℕ) (n : Node S) → FitNode secret n → Each FitsEntry n.entries → Each FitsEntry (adopts n).entries
-unfolding adopts adoption adopting
+unfolding adopts adoption
 spelled-adopts secret n is each =
-    spelled-adopts_by n (find (is_adoptable (view_of n) (synchronizer_of n)) n.syncs) (if_find FitsBegun (is_adoptable (view_of n) (synchronizer_of n)) n.syncs is.begun) each
+    spelled-adopts_by n (find (is_adoptable n) n.syncs) (if_find FitsBegun (is_adoptable n) n.syncs is.begun) each
 
 spelled-promise_next : {S : Type 0} (secret : List ℕ) (n : Node S) → regency_of n + 1 < 2 ^ 32 → FitNode secret n → Each FitsEntry n.entries → Each FitsEntry (promise_next n).entries
 unfolding promise_next

@@ -49,7 +49,7 @@ use Rattle.vote_book.specs.declared.entry.Accept as accept
 use Rattle.vote_book.specs.declared.entry.Decision.{Decision}
 use Rattle.vote_book.specs.declared.entry.LogEntry.{LogEntry}
 use Rattle.vote_book.specs.declared.entry.LogEntry.TheVariants as entries
-use Rattle.regency_sync.specs.Synchronizers.{Synchronizer, needs_report, is_lock_of, bears, batch_in, batch_of as bound_batch, is_adoptable, adopting, has_next, is_joining, is_promising, is_report, first_report, is_collecting, collect, collecting}
+use Rattle.regency_sync.specs.Synchronizers.{Synchronizer, needs_report, is_lock_of, bears, batch_in, batch_of as bound_batch, has_next, is_joining, is_promising, is_report, first_report, is_collecting, collect, collecting}
 use Rattle.replica_rules.specs.Seals.{is_verified, signed, digest_of, is_managers, request_fits}
 use Rattle.replica_rules.specs.Replicas.{is_next, line_of, execute, line_made, lines_of, at_next, delivered, executed_lines}
 use Rattle.node_rules.specs.Votes.{is_vote, has_vote, certificate, Named, vote_in, first_vote, certificate_votes, proposed_in, proposed_for, named_in, named_by, known, decision_by, accepted_under}
@@ -57,7 +57,7 @@ use Rattle.replica_rules.specs.Pools.{offered, settled, is_within as is_within_l
 use Rattle.node_rules.specs.Rules.{reply_of, replying, lines_to_answer, deliver_batch, delivers, batch_under, proposing, propose_batch, proposes, ballot, votable, writing, write_batch, writes, written, accepting, accept_batch, accepts, slot_in, decision_in, decision_ahead, deciding, decide_batch, decides, answering, answer_line, answers_again}
 use Rattle.node_rules.specs.Nodes.{Node, view_of, regency_of, regency_in, greatest_regency, start_of, next_place, open_slot, is_free, is_open, bound_at, synchronizer_of, holding, recording}
 use Rattle.node_rules.specs.Arrivals.{signer_why, view_why, regency_why, bears_lock, is_batch_for, rests_on_marks, is_proven, why_report, why_dropped, kept_plain, kept_change, kept, noted}
-use Rattle.node_rules.specs.Changes.{start_by_sync, promised_for, adopts_by, adoption, adopts, stop_for, asks_next, joining, joins, report_of, reported_by, next_promise, promising, promise_next, promises, leading, lead_with, leads, is_pressed, timing, passes_on, presses, times}
+use Rattle.node_rules.specs.Changes.{start_by_sync, promised_for, adopts_by, is_adoptable, adoption, adopts, stop_for, asks_next, joining, joins, report_of, reported_by, next_promise, promising, promise_next, promises, leading, lead_with, leads, is_pressed, timing, passes_on, presses, times}
 use Rattle.node_rules.specs.Steps.{step_of, released, opened}
 use Rattle.node_rules.specs.declared.node.Why.TheVariants.{NotLeader, BadProof}
 use Rattle.node_rules.specs.declared.node.Held.{Held}
@@ -675,9 +675,9 @@ fit-adopts_by secret n (Some sync) begun is =
     }
 
 pub fit-adopts : {S : Type 0} (secret : List ℕ) (n : Node S) → FitNode secret n → FitNode secret (adopts n)
-unfolding adopts adoption adopting
+unfolding adopts adoption
 fit-adopts secret n is =
-    fit-adopts_by secret n (find (is_adoptable (view_of n) (synchronizer_of n)) n.syncs) (if_find FitsBegun (is_adoptable (view_of n) (synchronizer_of n)) n.syncs is.begun) is
+    fit-adopts_by secret n (find (is_adoptable n) n.syncs) (if_find FitsBegun (is_adoptable n) n.syncs is.begun) is
 
 -- the last place that a book makes
 pub last-low : (secret : List ℕ) (es : List LogEntry) → Each (FitsEntry secret) es → last_made es < 2 ^ 63
