@@ -43,7 +43,7 @@ fn execute<S: Service>(
 }
 
 /// Executes a batch's requests in order, and gives the lines that they made. After want of memory
-/// some of them may have been executed, and the service's state may be any.
+/// some of them may have been executed.
 pub fn execute_all<S: Service>(
     alloc: Global,
     replica: &mut Replica<S>,
