@@ -1,5 +1,5 @@
 -- Each reply that a client accepted is the right one: the service's answer at its request's one place in the list.
-use Rattle.std.proofs.Common.{◌≤◌, ◌&&◌, Bool, true, false, filter, eqb-true, inl, inr, ◌≡◌, ℕ, ◌+◌, ◌<◌, ◌==◌, ◌++◌, List, [], ◌∷◌, length, refl, ap, ◌∙◌, sym, Option, Some, None, subst, append-nil, ◌⊎◌}
+use Rattle.std.proofs.Common.{◌≤◌, ◌&&◌, Bool, true, false, filter, eqb-true, inl, inr, ◌≡◌, ℕ, ◌+◌, ◌==◌, ◌++◌, List, [], ◌∷◌, length, refl, ap, ◌∙◌, sym, Option, Some, None, subst, append-nil}
 use Rattle.smart_base.specs.Lists.{Each, same_bytes}
 use Rattle.smart_base.specs.Views.{View, quorum}
 use Rattle.smart_statements.specs.Forms.{SignedBy}

@@ -1,5 +1,5 @@
 -- A transcript tells of all that members have delivered, through all their lives.
-use Rattle.std.proofs.Common.{◌≡◌, ℕ, zero, suc, ◌++◌, ◌==◌, ◌||◌, Bool, true, false, List, [], ◌∷◌, refl, ap, ◌∙◌, sym, Option, Some, None, subst, filter, cond, append-nil, append_assoc, eqb-true, eq-eqb}
+use Rattle.std.proofs.Common.{◌≡◌, ℕ, zero, suc, ◌++◌, ◌==◌, Bool, true, false, List, [], ◌∷◌, refl, ap, ◌∙◌, sym, Option, Some, None, subst, filter, cond, append-nil, append_assoc, eqb-true, eq-eqb}
 use Rattle.std.specs.Prelude.{map, slice_get, slice_set}
 use Rattle.std.specs.List.{flat_map, list_any}
 use Rattle.std.proofs.lemmas.Bool.{or_parts}
@@ -16,7 +16,7 @@ use Rattle.smart_service.specs.Services.{Meaning}
 use Rattle.node_rules.specs.Nodes.{Node}
 use Rattle.node_rules.specs.Deliveries.{delivery_in}
 use Rattle.node_rules.specs.Steps.{Outcome, step_of, leaving}
-use Rattle.node_rules.specs.Reopening.{reopened, entries_in}
+use Rattle.node_rules.specs.Reopening.{entries_in}
 use Rattle.node_rules.specs.declared.node.Why.{Why}
 use Rattle.node_rules.specs.declared.node.Delivery.{Delivery}
 use Rattle.node_rules.specs.declared.node.Fired.{Fired}
