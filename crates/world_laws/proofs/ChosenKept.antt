@@ -47,7 +47,7 @@ use Rattle.world_rules.specs.Worlds.{Course, course_of, Host, World, posts, send
 use Rattle.world_rules.specs.Plays.{world_after}
 use Rattle.world_rules.specs.Premises.{is_among, is_excused, is_forged, too_many}
 use Rattle.node_rules.specs.Deliveries.{AtPlaces}
-use Rattle.world_rules.specs.Promises.{IsNext, IsPrefix}
+use Rattle.world_laws.specs.Promises.{IsNext, IsPrefix}
 use Rattle.world_rules.specs.declared.line.Line.{Line}
 use Rattle.client_quorum.specs.declared.client.Client.{Client}
 use Rattle.client_quorum.specs.declared.client.Heard.{Heard}
@@ -160,7 +160,7 @@ host-met : {S : Type 0} (w : World S) (i : ℕ) (h : Host S) → slice_get w.hos
 host-met w i h at g = (each_get (HostMet (IsMet w.sent)) w.hosts i h g.hosts at).node
 
 -- hosts keep their names
-ids-set : {S : Type 0} (hs : List (Host S)) (i : ℕ) (h h' : Host S) → slice_get hs i ≡ Some h → h'.node.id ≡ h.node.id → map (λ y. y.node.id) (slice_set hs i h') ≡ map (λ y. y.node.id) hs
+pub ids-set : {S : Type 0} (hs : List (Host S)) (i : ℕ) (h h' : Host S) → slice_get hs i ≡ Some h → h'.node.id ≡ h.node.id → map (λ y. y.node.id) (slice_set hs i h') ≡ map (λ y. y.node.id) hs
 ids-set [] i h h' at same = absurd (cc)
 ids-set {S = S} (x ∷ hs) zero h h' at same = ap (λ y. y ∷ map (λ z. z.node.id) hs) (same ∙ sym (ap (λ (z : Host S). z.node.id) (some_equal x h at)))
 ids-set (x ∷ hs) (suc i) h h' at same = ap (λ ys. x.node.id ∷ ys) (ids-set hs i h h' at same)
@@ -464,7 +464,7 @@ hosts_right m view (id ∷ ids) = (opened_right m view id, hosts_right m view id
         }
 
 -- and are the members
-hosts_ids : {S : Type 0} (m : Meaning S) (view : View) (members : List ℕ) → map (λ h. h.node.id) (hosts_from m view members) ≡ members
+pub hosts_ids : {S : Type 0} (m : Meaning S) (view : View) (members : List ℕ) → map (λ h. h.node.id) (hosts_from m view members) ≡ members
 hosts_ids m view [] = refl
 hosts_ids m view (id ∷ ids) = ap (λ xs. id ∷ xs) (hosts_ids m view ids)
 

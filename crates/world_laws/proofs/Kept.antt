@@ -39,7 +39,7 @@ use Rattle.node_laws.proofs.Undamaged.{undamaged, read_again}
 use Rattle.world_rules.specs.Secrets.{group_secret}
 use Rattle.world_rules.specs.Premises.{is_among}
 use Rattle.world_rules.specs.Worlds.{Host, World, is_gone, life_crashed}
-use Rattle.world_rules.specs.Promises.{restored_replica, has_place, MayBeLeft, IsKept, Recovers}
+use Rattle.world_laws.specs.Promises.{restored_replica, has_place, MayBeLeft, IsKept, Recovers}
 use Rattle.world_rules.specs.declared.message.Content.{Content}
 use Rattle.world_rules.specs.declared.message.Content.TheVariants as contents
 use Rattle.world_rules.specs.declared.message.Sent.{Sent}

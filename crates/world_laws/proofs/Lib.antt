@@ -33,5 +33,6 @@ pub mod Replied
 pub mod Replies
 pub mod Accepted
 pub mod Told
+pub mod Delivering
 pub mod Kept
 pub mod OneListLaw
