@@ -31,7 +31,7 @@ use Rattle.world_rules.specs.Premises.{is_among}
 use Rattle.agreement_laws.proofs.Groups.{quorums_share}
 use Rattle.smart_messages.specs.declared.any.AnyMessage.TheVariants.{Plain}
 use Rattle.world_laws.proofs.Keeps.{HasMessage, ask_of, asked_by, by-posts, keeps-sends_all, KeepsAll, ReadsSent, heard_has, signed_by, from_node, from_client, from_script}
-use Rattle.world_laws.proofs.Aligned.{line_told, IsExecuted}
+use Rattle.replica_laws.specs.Lines.{line_told, IsExecuted}
 use Rattle.replica_laws.proofs.OnePlace.{place_of-line, answer-line}
 use Rattle.replica_laws.proofs.Executions.{executions-more, IsOfRequest, request-line, view-line}
 use Rattle.world_laws.proofs.Given.{IsKept, ClientKeeps, kept_last}

@@ -54,7 +54,7 @@ use Rattle.world_laws.proofs.Fitting.{fit-owns}
 use Rattle.world_laws.proofs.Grounded.{grounded-reads}
 use Rattle.world_laws.proofs.Stating.{Proper, says_message}
 use Rattle.world_laws.proofs.Unforged.{content_proper, IsOwnStated, fine_own}
-use Rattle.world_laws.proofs.Longer.{secret-step}
+use Rattle.replica_laws.proofs.Longer.{secret-step}
 use Rattle.world_laws.proofs.Witnessing.{stated_event, stated-grows, stated-either}
 use Rattle.world_laws.proofs.Chosen.{HostRight, ChosenRight}
 use Rattle.world_laws.proofs.ChosenKept.{asks_alone, chosen-kept, chosen-begun, no_member}

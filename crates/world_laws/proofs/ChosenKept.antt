@@ -70,7 +70,7 @@ use Rattle.world_laws.proofs.Aligned.{Aligned, AllAligned}
 use Rattle.world_laws.proofs.Fronts.{front-take, front-batch_at}
 use Rattle.world_laws.proofs.Certified.{Exact, DecidesOnce}
 use Rattle.world_laws.proofs.Stating.{IsSaid, message_says}
-use Rattle.world_laws.proofs.Longer.{front_same, Longer, longer-step}
+use Rattle.replica_laws.proofs.Longer.{front_same, Longer, longer-step}
 use Rattle.world_laws.proofs.Stores.{Fits, IsTold, may-told, firm-grows, fits-stepped, fits-opened, firm-heard}
 use Rattle.world_laws.proofs.Witnessing.{stated_event, stated-grows, StatesShown, ShowsOwn, Firmer, firm_of, shown-faulty, shown-sent, shown-set, leave_shown}
 use Rattle.world_laws.proofs.Chosen.{DeliveredIs, HostRight, WorldRight, Based, ChosenRight, chosen-front, within-step, certified-step, decided-step, right-witnessed, right-once, host-front, waiting-at, due-agrees, host_longer, certified_sent, host_sent, BookRight, front_right, book_longer, none_right}

@@ -34,7 +34,7 @@ use Rattle.world_rules.specs.declared.line.OutLine.TheVariants as outs
 use Rattle.world_rules.specs.declared.message.Sent.{Sent}
 use Rattle.world_laws.specs.Promises.{is_delivery, delivered_line, HasTold}
 use Rattle.world_laws.proofs.Keeps.{IsAside, ask_of, asked_by, by-posts, KeepsLives, live-line_played, signed_by, learned_line, after_call, with_host, entries_left, node_resumed, from_node, from_client, from_script, keeps-sends_all}
-use Rattle.world_laws.proofs.Longer.{told_firm, longer-step}
+use Rattle.replica_laws.proofs.Longer.{told_firm, longer-step}
 use Rattle.world_laws.proofs.ChosenLives.{named}
 use Rattle.world_laws.proofs.ChosenKept.{ids-set, hosts_ids}
 use Rattle.world_laws.proofs.Witnessing.{named_at, not_later}

@@ -15,7 +15,6 @@ pub mod Certified
 pub mod NoClash
 pub mod Stating
 pub mod Unforged
-pub mod Longer
 pub mod Stores
 pub mod Lives
 pub mod Reopens

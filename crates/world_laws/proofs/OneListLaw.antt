@@ -33,11 +33,12 @@ use Rattle.world_laws.proofs.Borne.{borne-begun}
 use Rattle.world_laws.proofs.Chosen.{ChosenRight, right-witnessed}
 use Rattle.world_laws.proofs.ChosenKept.{right-reads, chosen-begun, chosen-aligned, chosen-prefix, witnessed-after}
 use Rattle.world_laws.proofs.Grows.{list-grows, view-stays}
-use Rattle.world_laws.proofs.Replies.{HeldRight, RepliesRight, ReplyRight, reply_stated, keeps-replies, replies-begun}
+use Rattle.replica_laws.specs.Lines.{HeldRight, ReplyRight}
+use Rattle.world_laws.proofs.Replies.{RepliesRight, reply_stated, keeps-replies, replies-begun}
 use Rattle.world_laws.proofs.Asked.{RequestsAsked, asked-after}
 use Rattle.world_laws.proofs.Asking.{ClientsRight, right-after}
 use Rattle.world_laws.proofs.Accepted.{AcceptedTold, Telling, executed-right, keeps-told, told-begun, accepted-right}
-use Rattle.world_laws.proofs.Aligned.{IsExecuted}
+use Rattle.replica_laws.specs.Lines.{IsExecuted}
 use Rattle.world_laws.proofs.Told.{lines-answered, lines-tell_all}
 use Rattle.world_laws.proofs.Delivering.{deliveries-told}
 use Rattle.world_laws.proofs.Witnessing.{members_same}
