@@ -37,10 +37,10 @@ pub trait Service: Drop {
         ensures { Restores result (Meaning.restore meaning bytes.now) };
 
     // A reply has at most 4,096 bytes.
-    ghost brief: { (s : Self) (op : List ℕ) → length (Meaning.reply meaning s op) ≤ 4096 };
+    ghost brief: { (s : Self) (op : List ℕ) → valid s → length (Meaning.reply meaning s op) ≤ 4096 };
 
     // A reply can be printed.
-    ghost printable: { (s : Self) (op : List ℕ) → Each IsPrintable (Meaning.reply meaning s op) };
+    ghost printable: { (s : Self) (op : List ℕ) → valid s → Each IsPrintable (Meaning.reply meaning s op) };
 
     // The first state is valid, and so is each that an operation makes of a valid one.
     ghost valid_first: { valid (Meaning.first meaning) };
