@@ -3,3 +3,4 @@ pub mod Idling
 pub mod Giving
 pub mod Calling
 pub mod Stopping
+pub mod Stepping

@@ -23,7 +23,6 @@ fn is_listed(members: &[MemberId], member: MemberId) -> bool
 }
 
 /// The step of the node at an index, which runs. Whether no rule fired is given.
-#[tactic(auto, unfolding(world_rules::specs::Worlds::stepped))]
 pub fn step_at<S: Service>(
     world: &mut WorldState<S>,
     i: usize,
