@@ -4,3 +4,4 @@ pub mod Giving
 pub mod Calling
 pub mod Stopping
 pub mod Stepping
+pub mod Acting
