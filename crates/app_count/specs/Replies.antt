@@ -5,7 +5,7 @@ use Rattle.std.proofs.lemmas.Fmt.{length-decimal-le, decimal_by_steps}
 use Rattle.smart_base.specs.Decimals.{number_of}
 use Rattle.smart_base.specs.Lists.{Each}
 use Rattle.smart_service.specs.Services.{IsPrintable}
-use Rattle.app_count.specs.Counts.{reply_to, counting}
+use Rattle.app_count.specs.Counts.{IsSum, reply_to, counting}
 use Rattle.app_count.specs.declared.Count.{Count}
 
 brief_number : (n : ℕ) → n < 2 ^ 64 → length (decimal n) ≤ 4096
@@ -16,8 +16,8 @@ brief_reply sum None = omega arith
 brief_reply sum (Some amount) = brief_number (min (sum + amount) (2 ^ 64 - 1)) (omega arith)
 
 -- a reply has at most 4,096 bytes
-pub brief_replies : (s : Count) (op : List ℕ) → length (counting.reply s op) ≤ 4096
-brief_replies s op = brief_reply s.sum (number_of op)
+pub brief_replies : (s : Count) (op : List ℕ) → IsSum s → length (counting.reply s op) ≤ 4096
+brief_replies s op h = brief_reply s.sum (number_of op)
 
 -- a digit behind a text
 printable_end : (text : List ℕ) (n : ℕ) → Each IsPrintable text → Each IsPrintable (text ++ (48 + n % 10) ∷ [])
@@ -34,5 +34,5 @@ printable_reply sum None = ((omega arith, omega arith), tt)
 printable_reply sum (Some amount) = printable_number (min (sum + amount) (2 ^ 64 - 1)) (omega arith)
 
 -- a reply can be printed
-pub printable_replies : (s : Count) (op : List ℕ) → Each IsPrintable (counting.reply s op)
-printable_replies s op = printable_reply s.sum (number_of op)
+pub printable_replies : (s : Count) (op : List ℕ) → IsSum s → Each IsPrintable (counting.reply s op)
+printable_replies s op h = printable_reply s.sum (number_of op)

@@ -49,9 +49,11 @@ impl Service for Count {
         match number_of(op) {
             None => Payload::from_slice(alloc, b"?"),
             Some(amount) => {
-                self.sum = self.sum.saturating_add(amount);
-                let text = self.sum.to_string(alloc)?;
-                Payload::from_slice(alloc, text.as_bytes())
+                let sum = self.sum.saturating_add(amount);
+                let text = sum.to_string(alloc)?;
+                let reply = Payload::from_slice(alloc, text.as_bytes())?;
+                self.sum = sum;
+                Ok(reply)
             }
         }
     }

@@ -64,7 +64,7 @@ module _ (s : List Entry) (key : List ℕ) (at : ℕ) (f : Found s key at) (h : 
   value_fits = (each_at IsEntry s h.each at d f.within).1
 
   pub get_told : codes "=" ++ (get_or s at d).value ≡ reply_of s (get key)
-  get_told = rw (found_value s key at f d, value_fits) refl
+  get_told = rw (found_value s key at f d) refl
 
 -- ---- del
 

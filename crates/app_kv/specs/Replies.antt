@@ -1,11 +1,12 @@
 -- Replies of the key-value service are short, and can be printed.
-use Rattle.std.proofs.Common.{◌≡◌, ℕ, ◌≤◌, Bool, true, false, ltb, leb, ◌&&◌, List, [], ◌∷◌, ◌++◌, length, if◌then◌else◌, Option, Some, None, refl, codes, arith}
+use Rattle.std.proofs.Common.{◌≡◌, ℕ, ◌≤◌, Bool, true, false, ltb, leb, ◌&&◌, List, [], ◌∷◌, length, if◌then◌else◌, Option, Some, None, refl, codes, arith}
 use Rattle.std.proofs.lemmas.Bool.{leb-true}
+use Rattle.std.specs.Str.{bytes_eq}
 use Rattle.smart_base.specs.FieldLaws.{and_true}
 use Rattle.smart_base.specs.Lists.{Each}
 use Rattle.smart_service.specs.Services.{IsPrintable}
 use Rattle.app_kv.specs.Operations.{is_value, are_from, Meant, put, get, del, other, operation_of}
-use Rattle.app_kv.specs.Stores.{value_of, put_reply, get_reply, del_reply, reply_of}
+use Rattle.app_kv.specs.Stores.{IsEntry, IsStore, value_of, put_reply, get_reply, del_reply, reply_of}
 use Rattle.app_kv.specs.Snapshots.{keeping}
 use Rattle.app_kv.specs.declared.store.Entry.{Entry}
 
@@ -42,30 +43,31 @@ put_told : (old : Option (List ℕ)) (count : ℕ) → IsTold (put_reply old cou
 put_told (Some value) count = printable (codes "old") refl (omega arith)
 put_told None count = put_told-step (ltb count 4096)
 
-get_told-step : (value : List ℕ) (ok : Bool) → is_value value ≡ ok → IsTold (if ok then codes "=" ++ value else codes "none")
-get_told-step value true e =
+get_told-step : (same : Bool) (value : List ℕ) (others : Option (List ℕ)) → is_value value ≡ true → IsTold (get_reply others)
+    → IsTold (get_reply (if same then Some value else others))
+get_told-step true value others e is =
     let p = value_parts value e in
     (omega (arith, p.short), ((omega arith, omega arith), printable_text value p.characters))
-get_told-step value false e = printable (codes "none") refl (omega arith)
+get_told-step false value others e is = is
 
-get_told : (value : Option (List ℕ)) → IsTold (get_reply value)
-get_told (Some value) = get_told-step value (is_value value) refl
-get_told None = printable (codes "none") refl (omega arith)
+get_told : (key : List ℕ) (s : List Entry) → Each IsEntry s → IsTold (get_reply (value_of key s))
+get_told key [] each = printable (codes "none") refl (omega arith)
+get_told key (e ∷ es) each = get_told-step (bytes_eq key e.key) e.value (value_of key es) each.0.1 (get_told key es each.1)
 
 del_told : (value : Option (List ℕ)) → IsTold (del_reply value)
 del_told (Some value) = printable (codes "gone") refl (omega arith)
 del_told None = printable (codes "none") refl (omega arith)
 
-told : (s : List Entry) (meant : Meant) → IsTold (reply_of s meant)
-told s (put key value) = put_told (value_of key s) (length s)
-told s (get key) = get_told (value_of key s)
-told s (del key) = del_told (value_of key s)
-told s other = printable (codes "?") refl (omega arith)
+told : (s : List Entry) (meant : Meant) → IsStore s → IsTold (reply_of s meant)
+told s (put key value) h = put_told (value_of key s) (length s)
+told s (get key) h = get_told key s h.each
+told s (del key) h = del_told (value_of key s)
+told s other h = printable (codes "?") refl (omega arith)
 
 -- a reply has at most 4,096 bytes
-pub brief_replies : (s : List Entry) (op : List ℕ) → length (keeping.reply s op) ≤ 4096
-brief_replies s op = (told s (operation_of op)).0
+pub brief_replies : (s : List Entry) (op : List ℕ) → IsStore s → length (keeping.reply s op) ≤ 4096
+brief_replies s op h = (told s (operation_of op) h).0
 
 -- a reply can be printed
-pub printable_replies : (s : List Entry) (op : List ℕ) → Each IsPrintable (keeping.reply s op)
-printable_replies s op = (told s (operation_of op)).1
+pub printable_replies : (s : List Entry) (op : List ℕ) → IsStore s → Each IsPrintable (keeping.reply s op)
+printable_replies s op h = (told s (operation_of op) h).1

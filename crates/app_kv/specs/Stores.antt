@@ -63,9 +63,9 @@ abbrev pub put_reply : Option (List ℕ) → ℕ → List ℕ
 put_reply (Some value) count = codes "old"
 put_reply None count = if nat_lt count 4096 then codes "new" else codes "full"
 
--- what a get replies. What is no value is told as none, so that each reply is short and printable: in a store each is one
+-- what a get replies
 abbrev pub get_reply : Option (List ℕ) → List ℕ
-get_reply (Some value) = if is_value value then codes "=" ++ value else codes "none"
+get_reply (Some value) = codes "=" ++ value
 get_reply None = codes "none"
 
 abbrev pub del_reply : Option (List ℕ) → List ℕ

@@ -1,5 +1,5 @@
 //! Entries that ascend by key.
-ghost use Rattle.std.specs.Prelude.{◌≡◌, ◌≤◌, ◌++◌, length, OnOk, IfOk, IfErr, true, codes};
+ghost use Rattle.std.specs.Prelude.{◌≡◌, ◌≤◌, ◌++◌, length, OnOk, OnErr, IfOk, IfErr, true, codes};
 ghost use Rattle.std.specs.Ordering.{is_lt, is_gt};
 ghost use Rattle.app_kv.specs.Operations.{is_key, is_value, put, get, del};
 ghost use Rattle.app_kv.specs.Stores.{byte_order, ascends, entries_before, Found, Missing, IsStore, next_of, reply_of};
@@ -88,12 +88,15 @@ pub fn put(
     requires value { is_value value.now ≡ true }
     ensures reply { IfOk result (λ reply. reply ≡ reply_of entries.old.items (put key.now value.now)) }
     ensures state { OnOk result (entries.new.items ≡ next_of entries.old.items (put key.now value.now)) }
+    ensures err { OnErr result (entries.new.items ≡ entries.old.items) }
     ensures store { IsStore entries.new.items }
 {
     match place_of(entries.as_slice(), key) {
         Ok(at) => {
-            entries[at].value = Bytes::from_slice(alloc, value)?;
-            Payload::from_slice(alloc, b"old")
+            let value = Bytes::from_slice(alloc, value)?;
+            let reply = Payload::from_slice(alloc, b"old")?;
+            entries[at].value = value;
+            Ok(reply)
         }
         Err(at) => {
             if entries.len() >= ENTRIES {
@@ -103,8 +106,9 @@ pub fn put(
                 key: Bytes::from_slice(alloc, key)?,
                 value: Bytes::from_slice(alloc, value)?,
             };
+            let reply = Payload::from_slice(alloc, b"new")?;
             entries.insert(at, entry)?;
-            Payload::from_slice(alloc, b"new")
+            Ok(reply)
         }
     }
 }
@@ -135,12 +139,14 @@ pub fn del(alloc: Global, entries: &mut Vec<Entry>, key: &[u8]) -> Result<Payloa
     requires { IsStore entries.old.items }
     ensures reply { IfOk result (λ reply. reply ≡ reply_of entries.old.items (del key.now)) }
     ensures state { OnOk result (entries.new.items ≡ next_of entries.old.items (del key.now)) }
+    ensures err { OnErr result (entries.new.items ≡ entries.old.items) }
     ensures store { IsStore entries.new.items }
 {
     match place_of(entries.as_slice(), key) {
         Ok(at) => {
+            let reply = Payload::from_slice(alloc, b"gone")?;
             let _gone = entries.remove(at);
-            Payload::from_slice(alloc, b"gone")
+            Ok(reply)
         }
         Err(_) => Payload::from_slice(alloc, b"none"),
     }

@@ -34,12 +34,12 @@ printable_told holder true e = printable_letters holder (name_parts holder e).1
 printable_told holder false e = ((omega arith, omega arith), tt)
 
 -- a reply has at most 4,096 bytes
-pub brief_replies : (s : Lock) (op : List ℕ) → length (locking.reply s op) ≤ 4096
-brief_replies s op = brief_told (holder_after s.holder op) _ refl
+pub brief_replies : (s : Lock) (op : List ℕ) → IsLock s → length (locking.reply s op) ≤ 4096
+brief_replies s op h = brief_told (holder_after s.holder op) _ refl
 
 -- a reply can be printed
-pub printable_replies : (s : Lock) (op : List ℕ) → Each IsPrintable (locking.reply s op)
-printable_replies s op = printable_told (holder_after s.holder op) _ refl
+pub printable_replies : (s : Lock) (op : List ℕ) → IsLock s → Each IsPrintable (locking.reply s op)
+printable_replies s op h = printable_told (holder_after s.holder op) _ refl
 
 -- ---- valid states
 

@@ -7,7 +7,7 @@
 //! Each reply is the name that holds the lock after the operation, or `-` if nobody does.
 #![tactic(auto)]
 
-ghost use Rattle.std.specs.Prelude.{◌≡◌, ◌≤◌, length, OnOk};
+ghost use Rattle.std.specs.Prelude.{◌≡◌, ◌≤◌, length};
 ghost use Rattle.std.specs.Option.{option_copied};
 ghost use Rattle.app_lock.specs.Locks.{are_letters, is_name, name_after, taken, freed, holder_after, told};
 
@@ -48,35 +48,31 @@ fn name_after<'a>(word: &[u8], op: &'a [u8]) -> Option<&'a [u8]>
     }
 }
 
-/// Gives the lock to a name, if nobody holds it.
-fn take(alloc: Global, holder: &mut Bytes, name: &[u8]) -> Result<(), AllocError>
-    ensures { OnOk result (holder.new ≡ taken holder.old name.now) }
+/// The holder after a name takes the lock: who holds it keeps it.
+fn taken<'a>(holder: &'a [u8], name: &'a [u8]) -> &'a [u8]
+    ensures { result.now ≡ taken holder.now name.now }
 {
-    if !is_name(holder.as_slice()) {
-        *holder = Bytes::from_slice(alloc, name)?;
-    }
-    Ok(())
+    if is_name(holder) { holder } else { name }
 }
 
-/// Frees the lock, if the name holds it.
-fn free(holder: &mut Bytes, name: &[u8])
-    ensures { holder.new ≡ freed holder.old name.now }
+/// The holder after a name frees the lock: nobody, if it was that name.
+fn freed<'a>(holder: &'a [u8], name: &[u8]) -> &'a [u8]
+    ensures { result.now ≡ freed holder.now name.now }
 {
-    if holder.as_slice() == name {
-        holder.truncate(0);
-    }
+    if holder == name { &[] } else { holder }
 }
 
-/// Changes the holder as an operation says.
-fn change(alloc: Global, holder: &mut Bytes, op: &[u8]) -> Result<(), AllocError>
-    ensures { OnOk result (holder.new ≡ holder_after holder.old op.now) }
+/// The holder after an operation.
+fn holder_after<'a>(holder: &'a [u8], op: &'a [u8]) -> &'a [u8]
+    ensures { result.now ≡ holder_after holder.now op.now }
 {
     if let Some(name) = name_after(b"take ", op) {
-        take(alloc, holder, name)?;
+        taken(holder, name)
     } else if let Some(name) = name_after(b"free ", op) {
-        free(holder, name);
+        freed(holder, name)
+    } else {
+        holder
     }
-    Ok(())
 }
 
 /// What a reply says of the holder.
@@ -128,10 +124,12 @@ impl Service for Lock {
         })
     }
 
-    /// An operation changes the state, and the reply says what it is then.
+    /// The reply says what the state is after the operation. It is made before the state changes.
     fn run(&mut self, alloc: Global, op: &[u8]) -> Result<Payload, AllocError> {
-        change(alloc, &mut self.holder, op)?;
-        Payload::from_slice(alloc, told(self.holder.as_slice()))
+        let holder = Bytes::from_slice(alloc, holder_after(self.holder.as_slice(), op))?;
+        let reply = Payload::from_slice(alloc, told(holder.as_slice()))?;
+        self.holder = holder;
+        Ok(reply)
     }
 
     /// The snapshot is the holder's name.

@@ -5,7 +5,7 @@ use Rattle.store_form.specs.Spelling.{Group}
 use Rattle.batch_log.specs.declared.job.Job.{Job}
 use Rattle.batch_log.specs.declared.job.Job.TheVariants.{Rest, Torn, Close, SyncClose, Body, SyncBody, Gate, SyncGate}
 use Rattle.batch_log.specs.Jobs.{Stands, kept_after, other_after, code, code_after}
-use Rattle.batch_log.specs.Exact.{log_called, job_called, end_called}
+use Rattle.batch_log.specs.Exact.{log_called, job_called, end_called, HasRoom, IsNear}
 use Rattle.batch_log.specs.Wires.{Wired}
 use Rattle.batch_log.proofs.Phases.{synced_zero, after_close, after_closed, after_closed_then, after_body, after_body_sync, after_gate, after_gate_sync}
 use Rattle.batch_log.proofs.Lives.{wired_written, wired_same, wired_clean, wired_staged}
@@ -44,3 +44,14 @@ called_code (Body bytes) end = refl
 called_code (SyncBody next) end = refl
 called_code (Gate next) end = refl
 called_code (SyncGate next) end = refl
+
+pub called_near : (job : Job) (end : ℕ) → IsNear job end → HasRoom job end → IsNear (job_called job end) (end_called job end)
+called_near Rest end near room = near
+called_near Torn end near room = near
+called_near (Close waiting) end near room = near
+called_near (SyncClose None) end near room = near
+called_near (SyncClose (Some bytes)) end near room = near
+called_near (Body bytes) end near room = (near.0, room)
+called_near (SyncBody next) end near room = near
+called_near (Gate next) end near room = near
+called_near (SyncGate next) end near room = (near.1, near.1)

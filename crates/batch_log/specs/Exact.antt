@@ -41,9 +41,9 @@ end_called (SyncBody next) end = end
 end_called (Gate next) end = end
 end_called (SyncGate next) end = next
 
--- the groups still end at a number of 64 bits
+-- the groups still end below 2^63, as far as a device has bytes
 abbrev pub HasRoom : Job → ℕ → Type 0
-HasRoom (Body bytes) end = end + length bytes < 2 ^ 64
+HasRoom (Body bytes) end = end + length bytes < 2 ^ 63
 HasRoom Rest end = Unit {0}
 HasRoom Torn end = Unit {0}
 HasRoom (Close waiting) end = Unit {0}
@@ -51,6 +51,21 @@ HasRoom (SyncClose waiting) end = Unit {0}
 HasRoom (SyncBody next) end = Unit {0}
 HasRoom (Gate next) end = Unit {0}
 HasRoom (SyncGate next) end = Unit {0}
+
+-- where they end once the running job is done, from the call on that makes it known
+abbrev pub end_then : Job → ℕ → ℕ
+end_then Rest end = end
+end_then Torn end = end
+end_then (Close waiting) end = end
+end_then (SyncClose waiting) end = end
+end_then (Body bytes) end = end
+end_then (SyncBody next) end = next
+end_then (Gate next) end = next
+end_then (SyncGate next) end = next
+
+-- they end below 2^63, now and once the running job is done
+abbrev pub IsNear : Job → ℕ → Type 0
+IsNear job end = (end < 2 ^ 63) × (end_then job end < 2 ^ 63)
 
 -- ---- a log that is opened over these bytes
 

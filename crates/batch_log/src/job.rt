@@ -1,13 +1,13 @@
 //! A job of a log, one device call at a time.
 ghost use Rattle.std.specs.Prelude.{◌≡◌, List, ℕ, IfOk, OnOk};
-ghost use Rattle.faults.specs.Counts.{HasCause};
+ghost use Rattle.faults.specs.Counts.{HasCause, HasWant};
 ghost use Rattle.disk_model.specs.Cells.{IsImage, Within};
 ghost use Rattle.disk_model.specs.Calls.{Elapses};
 ghost use Rattle.smart_base.specs.Lists.{Each};
 ghost use Rattle.store_form.specs.Spelling.{Group, IsEntry};
 ghost use Rattle.batch_log.specs.Wires.{Wired};
 ghost use Rattle.batch_log.specs.Jobs.{IsUnderWay, IsIdle, IsBody, Begins, idle, Stands, kept_after, other_after, called, code, code_after};
-ghost use Rattle.batch_log.specs.Exact.{log_called, job_called, end_called, HasRoom};
+ghost use Rattle.batch_log.specs.Exact.{log_called, job_called, end_called, HasRoom, IsNear};
 
 use disk_model::disk::Disk;
 use faults::Fault;
@@ -37,7 +37,8 @@ pub enum Job {
 /// Makes the next device call of a job, and answers where the log then ends and what the next call
 /// is. Where no job runs it asks for the length of the device, and changes nothing.
 pub fn step<D: Disk>(device: &mut D, end: u64, job: Job) -> Result<(u64, Job), Fault>
-    requires { D.told → IsUnderWay (D.cells device.old) end job }
+    requires stands { D.told → IsUnderWay (D.cells device.old) end job }
+    requires near { IsNear job end }
     ensures goes { IfOk result (λ r. D.told → (g : Group) (gs other : List Group) → Stands (D.cells device.old) end job g gs other
         → Stands (D.cells device.new) r.0 r.1 g (kept_after job g gs) (other_after job g gs other)) }
     ensures wired { IfOk result (λ r. D.told → (g : Group) (gs other : List Group) → Stands (D.cells device.old) end job g gs other
@@ -46,9 +47,11 @@ pub fn step<D: Disk>(device: &mut D, end: u64, job: Job) -> Result<(u64, Job), F
     ensures cells { IfOk result (λ r. D.told → D.cells device.new ≡ log_called job end (D.cells device.old)) }
     ensures job { IfOk result (λ r. r.1 ≡ job_called job end) }
     ensures end { IfOk result (λ r. r.0 ≡ end_called job end) }
+    ensures near { IfOk result (λ r. IsNear r.1 r.0) }
     ensures torn { D.told → Within (D.cells device.new) (called job end (D.cells device.old)) }
     ensures time { Elapses (D.moment device.old) (D.moment device.new) (D.left_since device.old) (D.left_since device.new) (IsImage (D.cells device.new)) }
     ensures cause { HasCause (D.faults device.old) (D.faults device.new) result }
+    ensures want { HasWant (D.wants device.old) (D.wants device.new) result }
 {
     make_call(device, end, &job)?;
     let next_end = end_behind(end, &job);
@@ -58,12 +61,14 @@ pub fn step<D: Disk>(device: &mut D, end: u64, job: Job) -> Result<(u64, Job), F
 
 /// Makes the next device call of a job. Where no job runs it asks for the length of the device.
 fn make_call<D: Disk>(device: &mut D, end: u64, job: &Job) -> Result<(), Fault>
-    requires { D.told → IsUnderWay (D.cells device.old) end job.now }
+    requires stands { D.told → IsUnderWay (D.cells device.old) end job.now }
+    requires near { IsNear job.now end }
     ensures room { OnOk result (HasRoom job.now end) }
     ensures cells { OnOk result (D.told → D.cells device.new ≡ log_called job.now end (D.cells device.old)) }
     ensures torn { D.told → Within (D.cells device.new) (called job.now end (D.cells device.old)) }
     ensures time { Elapses (D.moment device.old) (D.moment device.new) (D.left_since device.old) (D.left_since device.new) (IsImage (D.cells device.new)) }
     ensures cause { HasCause (D.faults device.old) (D.faults device.new) result }
+    ensures want { HasWant (D.wants device.old) (D.wants device.new) result }
 {
     match job {
         Job::Rest => {
@@ -76,12 +81,7 @@ fn make_call<D: Disk>(device: &mut D, end: u64, job: &Job) -> Result<(), Fault>
         }
         Job::Close(_) => device.write_at(end, &[0]),
         Job::SyncClose(_) => device.sync(),
-        Job::Body(bytes) => {
-            if bytes.len() as u64 >= u64::MAX - end {
-                return Err(Fault::NoMemory);
-            }
-            device.write_at(end + 1, bytes.as_slice())
-        }
+        Job::Body(bytes) => device.write_at(end + 1, bytes.as_slice()),
         Job::SyncBody(_) => device.sync(),
         Job::Gate(_) => device.write_at(end, &[1]),
         Job::SyncGate(_) => device.sync(),

@@ -1,5 +1,6 @@
 //! The log over one device.
 ghost use Rattle.std.specs.Prelude.{◌≡◌, true};
+ghost use Rattle.batch_log.specs.Exact.{IsNear};
 ghost use Rattle.batch_log.specs.Jobs.{idle};
 ghost use Rattle.store_form.specs.declared.ends.State.TheVariants.{Open};
 
@@ -23,10 +24,11 @@ pub struct BatchLog<D: Disk> {
     pub job: Job,
     pub state: State,
     ghost rests: { (state ≡ Open → ⊥) → idle job ≡ true },
+    ghost near: { IsNear job end },
 }
 
 impl<D: Disk> BatchLog<D> {
-    ghost use Rattle.std.specs.Prelude.{◌≡◌, ◌≤◌, ◌++◌, ◌∷◌, [], List, ℕ, IsTrue, ◌↔◌, IfOk, OnOk, OnErr, IsErrOf, None, false};
+    ghost use Rattle.std.specs.Prelude.{◌≡◌, ◌≤◌, ◌++◌, ◌∷◌, [], List, ℕ, IsTrue, ◌↔◌, ◌⊎◌, IfOk, OnOk, OnErr, IsErrOf, None, false};
     ghost use Rattle.faults.specs.Counts.{Rose};
     ghost use Rattle.disk_model.specs.Cells.{IsImage};
     ghost use Rattle.disk_model.specs.Calls.{Elapses, LeavesOnly};
@@ -60,6 +62,9 @@ impl<D: Disk> BatchLog<D> {
         ensures untouched { (self.old.state ≡ State.Open → ⊥) → self.new ≡ self.old }
         ensures later { D.faults self.old.device ≤ D.faults self.new.device }
         ensures cause { IsErrOf result (LogFault.Disk false) → Rose (D.faults self.old.device) (D.faults self.new.device) }
+        // Want of memory that closes the log is one of the device, in this call.
+        ensures want { IsErrOf result LogFault.NoMemory → self.old.state ≡ State.Open → (self.new.state ≡ State.Open) ⊎ Rose (D.wants self.old.device) (D.wants self.new.device) }
+        ensures wants_later { D.wants self.old.device ≤ D.wants self.new.device }
         ensures closes { Closes result self.old.state self.new.state }
     {
         self.append_start(alloc, entries)?;
@@ -136,6 +141,8 @@ impl<D: Disk> BatchLog<D> {
         ensures time { Elapses (D.moment self.old.device) (D.moment self.new.device) (D.left_since self.old.device) (D.left_since self.new.device) (IsImage (D.cells self.new.device)) }
         ensures later { D.faults self.old.device ≤ D.faults self.new.device }
         ensures cause { IsErrOf result (LogFault.Disk false) → Rose (D.faults self.old.device) (D.faults self.new.device) }
+        ensures want { IsErrOf result LogFault.NoMemory → self.old.state ≡ State.Open → Rose (D.wants self.old.device) (D.wants self.new.device) }
+        ensures wants_later { D.wants self.old.device ≤ D.wants self.new.device }
         ensures closes { Closes result self.old.state self.new.state }
     {
         self.state.check()?;

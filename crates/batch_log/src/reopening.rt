@@ -6,7 +6,7 @@ ghost use Rattle.disk_model.specs.Calls.{Elapses};
 ghost use Rattle.store_form.specs.Spelling.{Group};
 ghost use Rattle.batch_log.specs.Log.{restored};
 ghost use Rattle.batch_log.specs.Jobs.{Stands, IsIdle, IsUnderWay};
-ghost use Rattle.batch_log.specs.Exact.{end_opened, job_opened};
+ghost use Rattle.batch_log.specs.Exact.{end_opened, job_opened, IsNear};
 
 use crate::job::Job;
 use crate::log::BatchLog;
@@ -25,6 +25,7 @@ fn read_log<D: Disk>(alloc: Global, device: &mut D) -> Result<(Groups, u64, Job)
     ensures end { IfOk result (λ r. D.told → r.1 ≡ end_opened (D.cells device.old).now) }
     ensures job { IfOk result (λ r. D.told → r.2 ≡ job_opened (D.cells device.old).now) }
     ensures idle { IfOk result (λ r. IsIdle r.2) }
+    ensures near { IfOk result (λ r. IsNear r.2 r.1) }
     ensures same { D.told → D.cells device.new ≡ D.cells device.old }
     ensures time { D.told → Elapses (D.moment device.old) (D.moment device.new) (D.left_since device.old) (D.left_since device.new) (IsImage (D.cells device.new)) }
     ensures cause { HasCause (D.faults device.old) (D.faults device.new) result }

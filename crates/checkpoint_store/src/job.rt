@@ -1,6 +1,6 @@
 //! A job on a slot, one device call at a time.
 ghost use Rattle.std.specs.Prelude.{◌≡◌, ℕ, Bool, Option, IfOk, OnOk};
-ghost use Rattle.faults.specs.Counts.{HasCause};
+ghost use Rattle.faults.specs.Counts.{HasCause, HasWant};
 ghost use Rattle.disk_model.specs.Cells.{IsImage, Within};
 ghost use Rattle.disk_model.specs.Calls.{Elapses};
 ghost use Rattle.store_form.specs.declared.checkpoint.Checkpoint.{Checkpoint};
@@ -47,6 +47,7 @@ pub fn slot_step<D: Disk>(device: &mut D, job: SlotJob) -> Result<SlotJob, Fault
     ensures torn { D.told → Within (D.cells device.new) (slot_called job (D.cells device.old)) }
     ensures time { Elapses (D.moment device.old) (D.moment device.new) (D.left_since device.old) (D.left_since device.new) (IsImage (D.cells device.new)) }
     ensures cause { HasCause (D.faults device.old) (D.faults device.new) result }
+    ensures want { HasWant (D.wants device.old) (D.wants device.new) result }
 {
     make_call(device, &job)?;
     let next = job_behind(job);
@@ -60,6 +61,7 @@ fn make_call<D: Disk>(device: &mut D, job: &SlotJob) -> Result<(), Fault>
     ensures torn { D.told → Within (D.cells device.new) (slot_called job.now (D.cells device.old)) }
     ensures time { Elapses (D.moment device.old) (D.moment device.new) (D.left_since device.old) (D.left_since device.new) (IsImage (D.cells device.new)) }
     ensures cause { HasCause (D.faults device.old) (D.faults device.new) result }
+    ensures want { HasWant (D.wants device.old) (D.wants device.new) result }
 {
     match job {
         SlotJob::Close => device.write_at(0, &[0]),

@@ -85,6 +85,9 @@ pub fn read_pair<D: Disk>(alloc: Global, even: &mut D, odd: &mut D) -> Result<(B
     ensures even_later { D.faults even.old ≤ D.faults even.new }
     ensures odd_later { D.faults odd.old ≤ D.faults odd.new }
     ensures cause { IsErrOf result Fault.Failed → Rose (D.faults even.old) (D.faults even.new) ⊎ Rose (D.faults odd.old) (D.faults odd.new) }
+    ensures even_wants_later { D.wants even.old ≤ D.wants even.new }
+    ensures odd_wants_later { D.wants odd.old ≤ D.wants odd.new }
+    ensures want { IsErrOf result Fault.NoMemory → Rose (D.wants even.old) (D.wants even.new) ⊎ Rose (D.wants odd.old) (D.wants odd.new) }
 {
     let of_even = read_all(alloc, even)?;
     let of_odd = read_all(alloc, odd)?;

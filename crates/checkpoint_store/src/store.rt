@@ -1,6 +1,6 @@
 //! The two slots.
 ghost use Rattle.std.specs.Prelude.{◌≡◌, Bool, true, Option, IfOk, OnOk};
-ghost use Rattle.faults.specs.Counts.{HasCause};
+ghost use Rattle.faults.specs.Counts.{HasCause, HasWant};
 ghost use Rattle.disk_model.specs.Cells.{IsImage, Within};
 ghost use Rattle.disk_model.specs.Calls.{Elapses};
 ghost use Rattle.store_form.specs.declared.checkpoint.Checkpoint.{Checkpoint};
@@ -40,7 +40,7 @@ pub struct CheckpointStore<D> {
 impl<D: Disk> CheckpointStore<D> {
     ghost use Rattle.std.specs.Prelude.{◌≡◌, ◌≤◌, ◌<◌, ◌^◌, ◌⊎◌, List, ℕ, not, Err, Option};
     ghost use Rattle.std.specs.Prelude.{Some, None, length, IsTrue, ◌↔◌, IfOk, OnOk, OnErr, IsErrOf, false, true};
-    ghost use Rattle.faults.specs.Counts.{Rose, HasCause};
+    ghost use Rattle.faults.specs.Counts.{Rose, HasCause, HasWant};
     ghost use Rattle.disk_model.specs.Cells.{IsImage, Within};
     ghost use Rattle.disk_model.specs.Calls.{Elapses, LeavesOnly};
     ghost use Rattle.store_form.specs.Spelling.{checkpoint_text};
@@ -74,6 +74,9 @@ impl<D: Disk> CheckpointStore<D> {
         ensures untouched { (self.old.state ≡ State.Open → ⊥) → self.new ≡ self.old }
         ensures later { D.faults (slot generation self.old).device ≤ D.faults (slot generation self.new).device }
         ensures cause { IsErrOf result (LogFault.Disk false) → Rose (D.faults (slot generation self.old).device) (D.faults (slot generation self.new).device) }
+        // Want of memory that closes the store is one of the device, in this call.
+        ensures want { IsErrOf result LogFault.NoMemory → self.old.state ≡ State.Open → (self.new.state ≡ State.Open) ⊎ Rose (D.wants (slot generation self.old).device) (D.wants (slot generation self.new).device) }
+        ensures wants_later { D.wants (slot generation self.old).device ≤ D.wants (slot generation self.new).device }
         ensures closes { Closes result self.old.state self.new.state }
     {
         self.close_start(generation)?;
@@ -110,6 +113,8 @@ impl<D: Disk> CheckpointStore<D> {
         ensures untouched { (self.old.state ≡ State.Open → ⊥) → self.new ≡ self.old }
         ensures later { D.faults (slot generation self.old).device ≤ D.faults (slot generation self.new).device }
         ensures cause { IsErrOf result (LogFault.Disk false) → Rose (D.faults (slot generation self.old).device) (D.faults (slot generation self.new).device) }
+        ensures want { IsErrOf result LogFault.NoMemory → self.old.state ≡ State.Open → (self.new.state ≡ State.Open) ⊎ Rose (D.wants (slot generation self.old).device) (D.wants (slot generation self.new).device) }
+        ensures wants_later { D.wants (slot generation self.old).device ≤ D.wants (slot generation self.new).device }
         ensures closes { Closes result self.old.state self.new.state }
     {
         self.fill_start(alloc, generation, snapshot)?;
@@ -145,6 +150,8 @@ impl<D: Disk> CheckpointStore<D> {
         ensures untouched { (self.old.state ≡ State.Open → ⊥) → self.new ≡ self.old }
         ensures later { D.faults (slot generation self.old).device ≤ D.faults (slot generation self.new).device }
         ensures cause { IsErrOf result (LogFault.Disk false) → Rose (D.faults (slot generation self.old).device) (D.faults (slot generation self.new).device) }
+        ensures want { IsErrOf result LogFault.NoMemory → self.old.state ≡ State.Open → (self.new.state ≡ State.Open) ⊎ Rose (D.wants (slot generation self.old).device) (D.wants (slot generation self.new).device) }
+        ensures wants_later { D.wants (slot generation self.old).device ≤ D.wants (slot generation self.new).device }
         ensures closes { Closes result self.old.state self.new.state }
     {
         self.gate_start(generation)?;
@@ -160,6 +167,7 @@ impl<D: Disk> CheckpointStore<D> {
             → StandsAt D.cells generation self.new next None (gate_gives D.cells generation self.old)) }
         ensures job { OnOk result ((slot generation self.new).job ≡ SlotJob.Close) }
         ensures err { OnErr result (self.new ≡ self.old) }
+        ensures closed { OnErr result (self.old.state ≡ State.Open → ⊥) }
         ensures untouched { (self.old.state ≡ State.Open → ⊥) → self.new ≡ self.old }
         ensures device { (slot generation self.new).device ≡ (slot generation self.old).device }
         ensures beside { beside generation self.new ≡ beside generation self.old }
@@ -245,6 +253,8 @@ impl<D: Disk> CheckpointStore<D> {
         ensures apart { (beside generation self.new).device ≡ (beside generation self.old).device }
         ensures later { D.faults (slot generation self.old).device ≤ D.faults (slot generation self.new).device }
         ensures cause { IsErrOf result (LogFault.Disk false) → Rose (D.faults (slot generation self.old).device) (D.faults (slot generation self.new).device) }
+        ensures want { IsErrOf result LogFault.NoMemory → self.old.state ≡ State.Open → Rose (D.wants (slot generation self.old).device) (D.wants (slot generation self.new).device) }
+        ensures wants_later { D.wants (slot generation self.old).device ≤ D.wants (slot generation self.new).device }
         ensures closes { Closes result self.old.state self.new.state }
     {
         self.state.check()?;
@@ -274,6 +284,8 @@ impl<D: Disk> CheckpointStore<D> {
         ensures shut { OnErr result (self.new.state ≡ State.Open → ⊥) }
         ensures later { D.faults (slot generation self.old).device ≤ D.faults (slot generation self.new).device }
         ensures cause { IsErrOf result (LogFault.Disk false) → Rose (D.faults (slot generation self.old).device) (D.faults (slot generation self.new).device) }
+        ensures want { IsErrOf result LogFault.NoMemory → Rose (D.wants (slot generation self.old).device) (D.wants (slot generation self.new).device) }
+        ensures wants_later { D.wants (slot generation self.old).device ≤ D.wants (slot generation self.new).device }
         ensures closes { Closes result self.old.state self.new.state }
     {
         while !self.is_idle(generation) {
@@ -300,6 +312,10 @@ impl<D: Disk> CheckpointStore<D> {
         ensures odd_later { D.faults self.old.odd.device ≤ D.faults self.new.odd.device }
         ensures cause { IsErrOf result (LogFault.Disk false)
             → Rose (D.faults self.old.even.device) (D.faults self.new.even.device) ⊎ Rose (D.faults self.old.odd.device) (D.faults self.new.odd.device) }
+        ensures even_wants_later { D.wants self.old.even.device ≤ D.wants self.new.even.device }
+        ensures odd_wants_later { D.wants self.old.odd.device ≤ D.wants self.new.odd.device }
+        ensures want { IsErrOf result LogFault.NoMemory → self.old.state ≡ State.Open
+            → (self.new.state ≡ State.Open) ⊎ (Rose (D.wants self.old.even.device) (D.wants self.new.even.device) ⊎ Rose (D.wants self.old.odd.device) (D.wants self.new.odd.device)) }
         ensures closes { Closes result self.old.state self.new.state }
     {
         self.state.check()?;
@@ -386,6 +402,7 @@ impl<D: Disk> CheckpointStore<D> {
         ensures beside { beside generation self.new ≡ beside generation self.old }
         ensures state { self.new.state ≡ self.old.state }
         ensures cause { HasCause (D.faults (slot generation self.old).device) (D.faults (slot generation self.new).device) result }
+        ensures want { HasWant (D.wants (slot generation self.old).device) (D.wants (slot generation self.new).device) result }
     {
         if is_odd(generation) {
             call(&mut self.odd)
@@ -401,6 +418,7 @@ impl<D: Disk> CheckpointStore<D> {
         ensures odd { self.new.odd.device ≡ self.old.odd.device }
         ensures idle { (idle self.new.even.job ≡ true) × (idle self.new.odd.job ≡ true) }
         ensures failed { result ≡ LogFault.Disk false → fault ≡ Fault.Failed }
+        ensures wanted { result ≡ LogFault.NoMemory → fault ≡ Fault.NoMemory }
         ensures shut { self.new.state ≡ State.Open → ⊥ }
         ensures closes { Closes {T = Unit {0}} (Err result) self.old.state self.new.state }
     {
@@ -435,6 +453,10 @@ impl<D: Disk> CheckpointStore<D> {
         ensures odd_later { D.faults self.old.odd.device ≤ D.faults self.new.odd.device }
         ensures cause { IsErrOf result (LogFault.Disk false)
             → Rose (D.faults self.old.even.device) (D.faults self.new.even.device) ⊎ Rose (D.faults self.old.odd.device) (D.faults self.new.odd.device) }
+        ensures even_wants_later { D.wants self.old.even.device ≤ D.wants self.new.even.device }
+        ensures odd_wants_later { D.wants self.old.odd.device ≤ D.wants self.new.odd.device }
+        ensures want { IsErrOf result LogFault.NoMemory
+            → Rose (D.wants self.old.even.device) (D.wants self.new.even.device) ⊎ Rose (D.wants self.old.odd.device) (D.wants self.new.odd.device) }
         ensures closes { Closes result self.old.state self.new.state }
     {
         match read_pair(alloc, &mut self.even.device, &mut self.odd.device) {
@@ -457,6 +479,7 @@ fn call<D: Disk>(slot: &mut Slot<D>) -> Result<bool, Fault>
     ensures time { Elapses (D.moment slot.old.device) (D.moment slot.new.device)
         (D.left_since slot.old.device) (D.left_since slot.new.device) (IsImage (D.cells slot.new.device)) }
     ensures cause { HasCause (D.faults slot.old.device) (D.faults slot.new.device) result }
+    ensures want { HasWant (D.wants slot.old.device) (D.wants slot.new.device) result }
 {
     let job = std::mem::replace(&mut slot.job, SlotJob::Shut);
     slot.job = slot_step(&mut slot.device, job)?;

@@ -1,5 +1,5 @@
 -- How the instance of a node follows its book, and what is due in it.
-use Rattle.std.proofs.Common.{◌≡◌, ℕ, ◌+◌, ◌<◌, ◌==◌, ◌++◌, ◌&&◌, ◌||◌, not, max, nat_lt, Bool, true, false, List, [], ◌∷◌, refl, ap, sym, ◌∙◌, cond, arith, Option, Some, None, is_some, is_none, option_map}
+use Rattle.std.proofs.Common.{◌≡◌, ℕ, ◌+◌, ◌<◌, ◌==◌, ◌++◌, ◌&&◌, ◌||◌, not, max, Bool, true, false, List, [], ◌∷◌, refl, ap, sym, ◌∙◌, cond, arith, Option, Some, None, is_some, is_none, option_map}
 use Rattle.std.proofs.lemmas.Bool.{eq-eqb, ne_eqb}
 use Rattle.std.proofs.lemmas.List.Folds.{list_any-append}
 use Rattle.std.specs.List.{list_any}
@@ -32,7 +32,7 @@ use Rattle.node_rules.specs.Rules.{writing, accepting}
 use Rattle.consensus_instance.specs.declared.rule.Rule.{Rule}
 use Rattle.consensus_instance.specs.declared.rule.Rule.TheVariants.{Write, Accept}
 use Rattle.consensus_instance.specs.declared.start.Start.{Start}
-use Rattle.consensus_instance.specs.Instances.{Instance, first_of, decided_place, is_free, has_begun, bound_at, is_bound_to, is_unbound, is_open, open_slot, votable, written, due_by, moved_on, promising, is_unsynced, syncing, resuming}
+use Rattle.consensus_instance.specs.Instances.{Instance, first_of, decided_place, is_free, has_begun, bound_at, is_bound_to, is_unbound, is_open, open_slot, votable, written, due_by, moved_on, promising, syncing, resuming}
 use Rattle.consensus_instance.specs.Nodes.{slot_behind, start_by, IsInstance, HasInstance, due_at}
 
 -- BOOLEANS
@@ -302,13 +302,6 @@ same_synced n i has = ap (λ (o : Option Start). is_some o) (same_start n i has)
 not_some : {A : Type 0} (x : Option A) → not (is_some x) ≡ is_none x
 not_some None = refl
 not_some (Some a) = refl
-
-none_where : {A : Type 0} (x : Option A) (t : Bool) → is_some x ≡ t → is_none x ≡ not t
-none_where None t is = ap (λ (b : Bool). not b) is
-none_where (Some a) t is = ap (λ (b : Bool). not b) is
-
-pub same_unsynced : {S : Type 0} (n : Node S) (i : Instance) → HasInstance n i → (regency : ℕ) → is_unsynced regency i ≡ (nat_lt (regency_of n) regency || ((regency_of n == regency) && not (is_synced n)))
-same_unsynced n i has regency = rw (same_regency n i has, none_where i.start (is_synced n) (same_synced n i has)) refl
 
 pub same_decided_place : {S : Type 0} (n : Node S) (i : Instance) → HasInstance n i → decided_place i ≡ nodes.decided_place n
 same_decided_place n i has = rw (has.decided_same, has.place_same) refl

@@ -1,5 +1,5 @@
 -- The instance of consensus in which a member takes part (Mod-SMaRt, EDCC 2012), and what is due in it.
-use Rattle.std.specs.Prelude.{ℕ, ◌+◌, ◌^◌, ◌==◌, nat_lt, nat_le, Bool, false, not, ◌&&◌, ◌||◌, List, [], if◌then◌else◌, Option, Some, None, is_none, filter, filter_map}
+use Rattle.std.specs.Prelude.{ℕ, ◌+◌, ◌^◌, ◌==◌, nat_lt, nat_le, Bool, false, not, ◌&&◌, List, [], if◌then◌else◌, Option, Some, None, filter, filter_map}
 use Rattle.vote_book.specs.declared.votes.OwnVotes.{OwnVotes}
 use Rattle.smart_base.specs.Lists.{or_else}
 use Rattle.smart_base.specs.Views.{View, is_member}
@@ -133,10 +133,6 @@ moved_on votes i = record i { place = i.place + 1; decided = false; wrote = vote
 -- the instance in a later regency, which starts there, if it is synced, and in whose slot the member has voted so
 abbrev pub promising : ℕ → Option Start → OwnVotes → Instance → Instance
 promising regency start votes i = record i { regency = regency; start = start; wrote = votes.wrote; accepted = votes.accepted }
-
--- a regency is later, or it is the one in force and not synced
-abbrev pub is_unsynced : ℕ → Instance → Bool
-is_unsynced regency i = nat_lt i.regency regency || ((i.regency == regency) && is_none i.start)
 
 -- the instance whose regency is synced. Where it was before, its first start stays
 abbrev pub syncing : Start → Instance → Instance

@@ -8,7 +8,7 @@ ghost use Rattle.node_rules.specs.Votes.{has_quorum};
 ghost use Rattle.node_rules.specs.Arrivals.{is_same_proposal, is_same_vote};
 ghost use Rattle.node_rules.specs.Nodes.{is_within};
 ghost use Rattle.node_rules.specs.Votes.{certificate_votes, proposed_for};
-ghost use Rattle.consensus_instance.specs.Instances.{Instance, first_of, regency_of, decided_place, is_free, has_begun, is_bound_to, is_unbound, is_open, open_slot, votable, written, due_by, name_of, accepted_named, trimmed, moved_on, promising, is_unsynced, syncing, resuming};
+ghost use Rattle.consensus_instance.specs.Instances.{Instance, first_of, regency_of, decided_place, is_free, has_begun, is_bound_to, is_unbound, is_open, open_slot, votable, written, due_by, name_of, accepted_named, trimmed, moved_on, promising, syncing, resuming};
 
 use crate::find::{
     accepted_proposal, certificate_votes, has_quorum, proposed_for, repeats_proposal, repeats_vote,
@@ -152,13 +152,6 @@ impl Instance {
         ensures first { self.now.regency ≡ 0 → IsSome result }
     {
         self.start
-    }
-
-    /// Whether a regency may be synced: a later one, or that in force where it is not.
-    pub fn is_unsynced(&self, regency: Regency) -> bool
-        ensures { result ≡ is_unsynced regency self.now }
-    {
-        self.regency < regency || self.regency == regency && self.start.is_none()
     }
 
     /// The last place that is delivered or decided.

@@ -1,12 +1,12 @@
 //! What an instance says of the node that has it.
-ghost use Rattle.std.specs.Prelude.{◌≡◌, ℕ, ◌==◌, nat_lt, not, ◌&&◌, ◌||◌, is_some, option_map};
+ghost use Rattle.std.specs.Prelude.{◌≡◌, ℕ, is_some, option_map};
 ghost use Rattle.smart_messages.specs.declared.message.Proposed.{Proposed};
 ghost use Rattle.node_rules.specs.Nodes as nodes;
 ghost use Rattle.node_rules.specs.Nodes.{Node, view_of, start_of, is_synced};
 ghost use Rattle.node_rules.specs.Arrivals as arrivals;
 ghost use Rattle.node_rules.specs.Rules.{writing, accepting};
 ghost use Rattle.consensus_instance.specs.declared.rule.Rule.TheVariants.{Write, Accept};
-ghost use Rattle.consensus_instance.specs.Instances.{Instance, decided_place, is_free, is_open, open_slot, is_bound_to, is_unbound, is_unsynced, due_by};
+ghost use Rattle.consensus_instance.specs.Instances.{Instance, decided_place, is_free, is_open, open_slot, is_bound_to, is_unbound, due_by};
 ghost use Rattle.consensus_instance.specs.Nodes.{HasInstance, start_by};
 
 use smart_service::service::Service;
@@ -22,7 +22,6 @@ pub fn an_instance_stands_where_its_node_does<S: Service>()
     ensures regency { (n : Node S) (i : Instance) → HasInstance n i → i.regency ≡ nodes.regency_of n }
     ensures start { (n : Node S) (i : Instance) → HasInstance n i → i.start ≡ option_map start_by (start_of n) }
     ensures synced { (n : Node S) (i : Instance) → HasInstance n i → is_some i.start ≡ is_synced n }
-    ensures unsynced { (n : Node S) (i : Instance) (regency : ℕ) → HasInstance n i → is_unsynced regency i ≡ (nat_lt (nodes.regency_of n) regency || ((nodes.regency_of n == regency) && not (is_synced n))) }
     ensures decided_place { (n : Node S) (i : Instance) → HasInstance n i → decided_place i ≡ nodes.decided_place n }
     ensures free { (n : Node S) (i : Instance) → HasInstance n i → is_free i ≡ nodes.is_free n }
     ensures open { (n : Node S) (i : Instance) → HasInstance n i → is_open (view_of n) i ≡ nodes.is_open n }

@@ -23,6 +23,7 @@ fn execute<S: Service>(
     ensures state { OnOk result (replica.new ≡ execute S.meaning replica.old index request.now) }
     ensures place { replica.new.place ≡ replica.old.place }
     ensures views { replica.new.views ≡ replica.old.views }
+    ensures valid { S.valid replica.old.service → S.valid replica.new.service }
     ensures line { IfOk result (λ line. line ≡ line_made S.meaning replica.old index request.now) }
 {
     if !replica.table.is_next(request.client, request.seq) {
@@ -43,7 +44,7 @@ fn execute<S: Service>(
 }
 
 /// Executes a batch's requests in order, and gives the lines that they made. After want of memory
-/// some of them may have been executed, and the service's state may be any.
+/// some of them may have been executed. A valid state of the service stays valid, also then.
 pub fn execute_all<S: Service>(
     alloc: Global,
     replica: &mut Replica<S>,
@@ -52,6 +53,7 @@ pub fn execute_all<S: Service>(
     ensures state { OnOk result (replica.new ≡ execute_all S.meaning replica.old 0 batch.now) }
     ensures place { replica.new.place ≡ replica.old.place }
     ensures views { replica.new.views ≡ replica.old.views }
+    ensures valid { S.valid replica.old.service → S.valid replica.new.service }
     ensures lines { IfOk result (λ lines. lines ≡ lines_of S.meaning replica.old 0 batch.now) }
 {
     let mut lines = Sequence::new(alloc);

@@ -3,6 +3,8 @@ ghost use Rattle.std.specs.Prelude.{◌≡◌, ◌++◌, ℕ, List, [], ◌∷�
 ghost use Rattle.smart_base.specs.Lists.{Each};
 ghost use Rattle.smart_base.specs.Views.{View};
 ghost use Rattle.smart_statements.specs.Batches.{Batch};
+ghost use Rattle.smart_service.specs.Services.{Comes};
+ghost use Rattle.smart_service.specs.declared.replica.Replica.{Replica};
 ghost use Rattle.replica_rules.specs.Replicas.{empty, state, delivered, executed_lines, executions, answer};
 
 use smart_service::service::Service;
@@ -28,4 +30,12 @@ pub fn replies_are_the_answers<S: Service>()
         Each (λ line. answer S.meaning view (list ++ batch ∷ []) line.place line.index ≡ Some line.reply) (executed_lines S.meaning (state S.meaning view list) batch) }
     ensures later { (view : View) (list more : List Batch) (place index : ℕ) (reply : List ℕ) →
         answer S.meaning view list place index ≡ Some reply → answer S.meaning view (list ++ more) place index ≡ Some reply }
+{}
+
+/// A valid state of the service stays valid through batches, so the state of each list is valid.
+/// Each state that the service comes to is valid, also behind a snapshot.
+pub fn states_are_valid<S: Service>()
+    ensures delivered { (r : Replica S) (batch : Batch) → S.valid r.service → S.valid (delivered S.meaning r batch).service }
+    ensures state { (view : View) (list : List Batch) → S.valid (state S.meaning view list).service }
+    ensures comes { (s : S) → Comes S.meaning s → S.valid s }
 {}

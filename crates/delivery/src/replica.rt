@@ -55,14 +55,6 @@ impl<S> KeptReplica<S> {
     {
         &self.replica
     }
-
-    pub fn into_replica(self) -> Replica<S>
-        requires { self.spent ≡ false }
-        ensures { result ≡ self.replica }
-    {
-        let KeptReplica { replica, spent: _ } = self;
-        replica
-    }
 }
 
 impl<S: Service> KeptReplica<S> {
@@ -83,7 +75,8 @@ impl<S: Service> KeptReplica<S> {
 
 /// Executes a batch at the next place, and gives the lines of the requests that were executed, in
 /// order: those whose number is their client's next; any other is passed over. Each line has the
-/// reply that goes to its client. After want of memory the replica is spent.
+/// reply that goes to its client. After want of memory the replica is spent. A valid state of the
+/// service stays valid, also then.
 #[tactic(auto, unfolding(replica_rules::specs::Replicas::delivered, replica_rules::specs::Replicas::executed_lines))]
 pub fn deliver<S: Service>(
     alloc: Global,
@@ -96,6 +89,7 @@ pub fn deliver<S: Service>(
     ensures spent { replica.new.spent ≡ is_err result }
     ensures place { replica.new.replica.place ≡ replica.old.replica.place + 1 }
     ensures views { replica.new.replica.views ≡ replica.old.replica.views }
+    ensures valid { S.valid replica.old.replica.service → S.valid replica.new.replica.service }
     ensures lines { IfOk result (λ lines. lines ≡ executed_lines S.meaning replica.old.replica batch.now) }
 {
     replica.spent = true;

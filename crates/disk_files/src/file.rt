@@ -19,33 +19,55 @@ pub struct FileDisk {
     file: File,
     /// How often a call has failed.
     faults: u64,
+    /// How often it has wanted memory.
+    wants: u64,
 }
 
 impl FileDisk {
+    ghost use Rattle.std.specs.Prelude.{IsErrOf};
     ghost use Rattle.faults.specs.Counts.{Rose};
 
     /// The disk over a file that is open for reading and for writing.
     pub fn new(file: File) -> Self
-        ensures { result.faults ≡ 0 }
+        ensures faults { result.faults ≡ 0 }
+        ensures wants { result.wants ≡ 0 }
     {
-        FileDisk { file, faults: 0 }
+        FileDisk {
+            file,
+            faults: 0,
+            wants: 0,
+        }
     }
 
     /// Counts a fault.
     fn fault(&mut self) -> Fault
         ensures rose { Rose self.old.faults self.new.faults }
         ensures later { self.old.faults ≤ self.new.faults }
+        ensures wants { self.new.wants ≡ self.old.wants }
         ensures failed { result ≡ Fault.Failed }
     {
         self.faults = self.faults.saturating_add(1);
         Fault::Failed
     }
 
+    /// Counts a want of memory.
+    fn want(&mut self) -> Fault
+        ensures rose { Rose self.old.wants self.new.wants }
+        ensures later { self.old.wants ≤ self.new.wants }
+        ensures faults { self.new.faults ≡ self.old.faults }
+        ensures wanted { result ≡ Fault.NoMemory }
+    {
+        self.wants = self.wants.saturating_add(1);
+        Fault::NoMemory
+    }
+
     /// What the system answered, where a fault is counted.
     fn answered<T>(&mut self, answer: io::Result<T>) -> Result<T, Fault>
     where
         T: Drop,
-        ensures { HasCause self.old.faults self.new.faults result }
+        ensures cause { HasCause self.old.faults self.new.faults result }
+        ensures no_want { IsErrOf result Fault.NoMemory → ⊥ }
+        ensures wants { self.new.wants ≡ self.old.wants }
     {
         match answer {
             Ok(value) => Ok(value),
@@ -71,6 +93,8 @@ impl Disk for FileDisk {
 
     ghost faults = { λ disk. disk.faults };
 
+    ghost wants = { λ disk. disk.wants };
+
     fn len(&mut self) -> Result<u64, Fault> {
         let found = self.file.metadata();
         let metadata = self.answered(found)?;
@@ -81,7 +105,7 @@ impl Disk for FileDisk {
         let len = self.len()?;
         let count = cmp::min(count, len.saturating_sub(at));
         let Ok(mut bytes) = zeros(alloc, count as usize) else {
-            return Err(Fault::NoMemory);
+            return Err(self.want());
         };
         let read = self.file.read_exact_at(bytes.as_mut_slice(), at);
         self.answered(read)?;

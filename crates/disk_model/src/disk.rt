@@ -1,6 +1,6 @@
 //! What the calls of a disk do, and what a crash may leave of it.
 ghost use Rattle.std.specs.Prelude.{◌≡◌, ◌≤◌, ◌+◌, ◌<◌, ◌^◌, List, ℕ, length, take, drop, IfOk, OnOk};
-ghost use Rattle.faults.specs.Counts.{HasCause};
+ghost use Rattle.faults.specs.Counts.{HasCause, HasWant};
 ghost use Rattle.disk_model.specs.Cells.{Cells, IsImage, IsSound, Within, written, cut_to, settled};
 ghost use Rattle.disk_model.specs.Calls.{Elapses};
 
@@ -31,19 +31,24 @@ pub trait Disk {
     /// How often it has failed.
     ghost faults: { Self → ℕ };
 
+    /// How often it has wanted memory.
+    ghost wants: { Self → ℕ };
+
     /// How many bytes it has.
     fn len(&mut self) -> Result<u64, Fault>
         ensures length { IfOk result (λ n. told → n ≡ length (cells self.old).now) }
         ensures same { told → cells self.new ≡ cells self.old }
         ensures time { Elapses (moment self.old) (moment self.new) (left_since self.old) (left_since self.new) (IsImage (cells self.new)) }
-        ensures cause { HasCause (faults self.old) (faults self.new) result };
+        ensures cause { HasCause (faults self.old) (faults self.new) result }
+        ensures want { HasWant (wants self.old) (wants self.new) result };
 
     /// The bytes from `at` on, as many as `count` or all where there are fewer.
     fn read(&mut self, alloc: Global, at: u64, count: u64) -> Result<Bytes, Fault>
         ensures bytes { IfOk result (λ bytes. told → bytes ≡ take count (drop at (cells self.old).now)) }
         ensures same { told → cells self.new ≡ cells self.old }
         ensures time { Elapses (moment self.old) (moment self.new) (left_since self.old) (left_since self.new) (IsImage (cells self.new)) }
-        ensures cause { HasCause (faults self.old) (faults self.new) result };
+        ensures cause { HasCause (faults self.old) (faults self.new) result }
+        ensures want { HasWant (wants self.old) (wants self.new) result };
 
     /// Writes over what is there, and past the end. A call that fails may have done any part of it.
     fn write_at(&mut self, at: u64, bytes: &[u8]) -> Result<(), Fault>
@@ -52,21 +57,24 @@ pub trait Disk {
         ensures torn { told → Within (cells self.new) (written at bytes.now (cells self.old)) }
         ensures room { OnOk result (at + length bytes.now < 2 ^ 63) }
         ensures time { Elapses (moment self.old) (moment self.new) (left_since self.old) (left_since self.new) (IsImage (cells self.new)) }
-        ensures cause { HasCause (faults self.old) (faults self.new) result };
+        ensures cause { HasCause (faults self.old) (faults self.new) result }
+        ensures want { HasWant (wants self.old) (wants self.new) result };
 
     /// Cuts it to a length. A call that fails may have done any part of it.
     fn cut(&mut self, to: u64) -> Result<(), Fault>
         ensures cut { OnOk result (told → cells self.new ≡ cut_to to (cells self.old)) }
         ensures torn { told → Within (cells self.new) (cut_to to (cells self.old)) }
         ensures time { Elapses (moment self.old) (moment self.new) (left_since self.old) (left_since self.new) (IsImage (cells self.new)) }
-        ensures cause { HasCause (faults self.old) (faults self.new) result };
+        ensures cause { HasCause (faults self.old) (faults self.new) result }
+        ensures want { HasWant (wants self.old) (wants self.new) result };
 
     /// After it a crash leaves what a read gives. A call that fails makes nothing sure.
     fn sync(&mut self) -> Result<(), Fault>
         ensures settled { OnOk result (told → cells self.new ≡ settled (cells self.old).now) }
         ensures torn { told → Within (cells self.new) (cells self.old) }
         ensures time { Elapses (moment self.old) (moment self.new) (left_since self.old) (left_since self.new) (IsImage (cells self.new)) }
-        ensures cause { HasCause (faults self.old) (faults self.new) result };
+        ensures cause { HasCause (faults self.old) (faults self.new) result }
+        ensures want { HasWant (wants self.old) (wants self.new) result };
 
     /// What a read gives is an image, and so is what it gave at the last sync.
     ghost is_sound: { (disk : Self) → told → IsSound (cells disk) };
@@ -84,6 +92,7 @@ pub fn read_all<D: Disk>(alloc: Global, device: &mut D) -> Result<Bytes, Fault>
     ensures same { D.told → D.cells device.new ≡ D.cells device.old }
     ensures time { D.told → Elapses (D.moment device.old) (D.moment device.new) (D.left_since device.old) (D.left_since device.new) (IsImage (D.cells device.new)) }
     ensures cause { HasCause (D.faults device.old) (D.faults device.new) result }
+    ensures want { HasWant (D.wants device.old) (D.wants device.new) result }
 {
     let length = device.len()?;
     let bytes = device.read(alloc, 0, length)?;

@@ -19,6 +19,7 @@ pub struct MemDisk {
     failing: Vec<u64>,
     made: u64,
     faults: u64,
+    wants: u64,
     ghost replayed: { replay changes.items (settled first) ≡ cells_of platter },
 }
 
@@ -32,6 +33,7 @@ impl Drop for MemDisk {
             failing: _,
             made: _,
             faults: _,
+            wants: _,
         } = self;
     }
 }
@@ -50,6 +52,7 @@ impl MemDisk {
         ensures cells { IfOk result (λ d. disk_cells d ≡ settled bytes) }
         ensures failing { IfOk result (λ d. (d.failing ≡ failing) × (d.made ≡ 0)) }
         ensures faults { IfOk result (λ d. d.faults ≡ 0) }
+        ensures wants { IfOk result (λ d. d.wants ≡ 0) }
     {
         let first = Bytes::from_slice(alloc, bytes.as_slice())?;
         Ok(MemDisk {
@@ -59,6 +62,7 @@ impl MemDisk {
             failing,
             made: 0,
             faults: 0,
+            wants: 0,
         })
     }
 
@@ -67,6 +71,7 @@ impl MemDisk {
         ensures ok { IfOk result (λ d. IsImage (disk_cells self.now) bytes × (disk_cells d ≡ settled bytes)) }
         ensures never { IfOk result (λ d. d.failing.items ≡ []) }
         ensures faults { IfOk result (λ d. d.faults ≡ 0) }
+        ensures wants { IfOk result (λ d. d.wants ≡ 0) }
         ensures not { IfErr result (λ e. Refuses e (disk_cells self.now) bytes) }
     {
         let first = Bytes::from_slice(alloc, bytes.as_slice())?;
@@ -78,6 +83,7 @@ impl MemDisk {
                 failing: Vec::new(alloc),
                 made: 0,
                 faults: 0,
+                wants: 0,
             }),
             Err(NotAnImage { at }) => Err(ImageFault::NotAnImage { at }),
         }
@@ -111,6 +117,7 @@ impl MemDisk {
         ensures err { OnErr result (disk_cells self.new ≡ disk_cells self.old) }
         ensures time { Elapses (disk_moment self.old) (disk_moment self.new) (disk_left self.old) (disk_left self.new) (IsImage (disk_cells self.new)) }
         ensures faults { self.new.faults ≡ self.old.faults }
+        ensures wants { self.new.wants ≡ self.old.wants }
         ensures made { self.new.made ≡ self.old.made }
         ensures failing { self.new.failing ≡ self.old.failing }
     {
@@ -129,6 +136,7 @@ impl MemDisk {
         ensures changes { self.new.changes ≡ self.old.changes }
         ensures first { self.new.first ≡ self.old.first }
         ensures faults { self.new.faults ≡ self.old.faults }
+        ensures wants { self.new.wants ≡ self.old.wants }
     {
         self.made = self.made.saturating_add(1);
         self.failing.contains(&self.made)
@@ -141,6 +149,7 @@ impl MemDisk {
         ensures first { self.new.first ≡ self.old.first }
         ensures made { self.new.made ≡ self.old.made }
         ensures failing { self.new.failing ≡ self.old.failing }
+        ensures wants { self.new.wants ≡ self.old.wants }
         ensures rose { Rose self.old.faults self.new.faults }
         ensures later { self.old.faults ≤ self.new.faults }
         ensures result { result ≡ Fault.Failed }
@@ -148,13 +157,29 @@ impl MemDisk {
         self.faults = self.faults.saturating_add(1);
         Fault::Failed
     }
+
+    /// Counts a want of memory.
+    fn want(&mut self) -> Fault
+        ensures platter { self.new.platter ≡ self.old.platter }
+        ensures changes { self.new.changes ≡ self.old.changes }
+        ensures first { self.new.first ≡ self.old.first }
+        ensures made { self.new.made ≡ self.old.made }
+        ensures failing { self.new.failing ≡ self.old.failing }
+        ensures faults { self.new.faults ≡ self.old.faults }
+        ensures rose { Rose self.old.wants self.new.wants }
+        ensures later { self.old.wants ≤ self.new.wants }
+        ensures result { result ≡ Fault.NoMemory }
+    {
+        self.wants = self.wants.saturating_add(1);
+        Fault::NoMemory
+    }
 }
 
 /// Its changing calls fail exactly where they were told to. Then a read gives what it did before, and a
 /// crash may leave any part of the call.
 impl Disk for MemDisk {
     ghost use Rattle.std.specs.Prelude.{IsErrOf, true, false};
-    ghost use Rattle.faults.specs.Counts.{HasCause};
+    ghost use Rattle.faults.specs.Counts.{HasCause, HasWant};
     ghost use Rattle.disk_model.specs.Cells.{IsImage, Within, written, cut_to};
     ghost use Rattle.disk_model.specs.Calls.{Elapses};
     ghost use Rattle.std.specs.Prelude.{take, drop};
@@ -174,11 +199,14 @@ impl Disk for MemDisk {
 
     ghost faults = { λ d. d.faults };
 
+    ghost wants = { λ d. d.wants };
+
     fn len(&mut self) -> Result<u64, Fault>
         ensures length { IfOk result (λ n. n ≡ length (disk_cells self.old).now) }
         ensures same { disk_cells self.new ≡ disk_cells self.old }
         ensures time { Elapses (disk_moment self.old) (disk_moment self.new) (disk_left self.old) (disk_left self.new) (IsImage (disk_cells self.new)) }
         ensures cause { HasCause self.old.faults self.new.faults result }
+        ensures want { HasWant self.old.wants self.new.wants result }
         ensures uncounted { self.new ≡ self.old }
     {
         Ok(self.platter.contents.len() as u64)
@@ -189,11 +217,13 @@ impl Disk for MemDisk {
         ensures same { disk_cells self.new ≡ disk_cells self.old }
         ensures time { Elapses (disk_moment self.old) (disk_moment self.new) (disk_left self.old) (disk_left self.new) (IsImage (disk_cells self.new)) }
         ensures cause { HasCause self.old.faults self.new.faults result }
-        ensures uncounted { self.new ≡ self.old }
+        ensures want { HasWant self.old.wants self.new.wants result }
+        ensures uncounted { self.new ≡ record self.old { wants = self.new.wants } }
+        ensures unchanged { OnOk result (self.new ≡ self.old) }
     {
         match self.platter.read(alloc, at, count) {
             Ok(bytes) => Ok(bytes),
-            Err(_) => Err(Fault::NoMemory),
+            Err(_) => Err(self.want()),
         }
     }
 
@@ -204,6 +234,7 @@ impl Disk for MemDisk {
         ensures room { OnOk result (at + length bytes.now < 2 ^ 63) }
         ensures time { Elapses (disk_moment self.old) (disk_moment self.new) (disk_left self.old) (disk_left self.new) (IsImage (disk_cells self.new)) }
         ensures cause { HasCause self.old.faults self.new.faults result }
+        ensures want { HasWant self.old.wants self.new.wants result }
         ensures failed { IsErrOf result Fault.Failed → disk_cells self.new ≡ torn_write (record { from = at; upto = at + length bytes.now }) (disk_cells self.old) }
         ensures told { IsErrOf result Fault.Failed → is_due self.old ≡ true }
         ensures not_told { OnOk result (is_due self.old ≡ false) }
@@ -212,22 +243,22 @@ impl Disk for MemDisk {
     {
         let is_to_fail = self.is_to_fail();
         if !has_room(at, bytes.len() as u64) {
-            return Err(Fault::NoMemory);
+            return Err(self.want());
         }
         if is_to_fail {
             let upto = at + bytes.len() as u64;
             return match self.make(Change::TornWrite(Range { from: at, upto })) {
                 Ok(()) => Err(self.fault()),
-                Err(_) => Err(Fault::NoMemory),
+                Err(_) => Err(self.want()),
             };
         }
         let copy = match Bytes::from_slice(*self.changes.allocator(), bytes) {
             Ok(copy) => copy,
-            Err(_) => return Err(Fault::NoMemory),
+            Err(_) => return Err(self.want()),
         };
         match self.make(Change::Wrote(at, copy)) {
             Ok(()) => Ok(()),
-            Err(_) => Err(Fault::NoMemory),
+            Err(_) => Err(self.want()),
         }
     }
 
@@ -236,6 +267,7 @@ impl Disk for MemDisk {
         ensures torn { Within (disk_cells self.new) (cut_to to (disk_cells self.old)) }
         ensures time { Elapses (disk_moment self.old) (disk_moment self.new) (disk_left self.old) (disk_left self.new) (IsImage (disk_cells self.new)) }
         ensures cause { HasCause self.old.faults self.new.faults result }
+        ensures want { HasWant self.old.wants self.new.wants result }
         ensures failed { IsErrOf result Fault.Failed → disk_cells self.new ≡ torn_cut to (disk_cells self.old) }
         ensures told { IsErrOf result Fault.Failed → is_due self.old ≡ true }
         ensures not_told { OnOk result (is_due self.old ≡ false) }
@@ -244,12 +276,12 @@ impl Disk for MemDisk {
     {
         if self.is_to_fail() {
             if self.make(Change::TornCut(to)).is_err() {
-                return Err(Fault::NoMemory);
+                return Err(self.want());
             }
             return Err(self.fault());
         }
         if self.make(Change::Cut(to)).is_err() {
-            return Err(Fault::NoMemory);
+            return Err(self.want());
         }
         Ok(())
     }
@@ -259,6 +291,7 @@ impl Disk for MemDisk {
         ensures torn { Within (disk_cells self.new) (disk_cells self.old) }
         ensures time { Elapses (disk_moment self.old) (disk_moment self.new) (disk_left self.old) (disk_left self.new) (IsImage (disk_cells self.new)) }
         ensures cause { HasCause self.old.faults self.new.faults result }
+        ensures want { HasWant self.old.wants self.new.wants result }
         ensures failed { OnErr result (disk_cells self.new ≡ disk_cells self.old) }
         ensures told { IsErrOf result Fault.Failed → is_due self.old ≡ true }
         ensures not_told { OnOk result (is_due self.old ≡ false) }
@@ -269,7 +302,7 @@ impl Disk for MemDisk {
             return Err(self.fault());
         }
         if self.make(Change::Synced).is_err() {
-            return Err(Fault::NoMemory);
+            return Err(self.want());
         }
         Ok(())
     }

@@ -13,22 +13,30 @@ use std::alloc::{AllocError, Global};
 
 pub struct PlainDisk {
     platter: Platter,
+    /// How often it has wanted memory.
+    wants: u64,
 }
 
 /// Let go by one call, so that no function that lets one go carries the whole of it.
 impl Drop for PlainDisk {
     fn drop(self) {
-        let PlainDisk { platter: _ } = self;
+        let PlainDisk {
+            platter: _,
+            wants: _,
+        } = self;
     }
 }
 
 impl PlainDisk {
+    ghost use Rattle.faults.specs.Counts.{Rose};
+
     /// A disk with these bytes, all of them sure.
     pub fn new(alloc: Global, bytes: Bytes) -> Self
         ensures { plain_cells result ≡ settled bytes }
     {
         PlainDisk {
             platter: Platter::new(alloc, bytes),
+            wants: 0,
         }
     }
 
@@ -38,7 +46,7 @@ impl PlainDisk {
         ensures not { IfErr result (λ e. IsWrong (plain_cells self.now) bytes e.at) }
     {
         match self.platter.image(alloc, bytes) {
-            Ok(platter) => Ok(PlainDisk { platter }),
+            Ok(platter) => Ok(PlainDisk { platter, wants: 0 }),
             Err(wrong) => Err(wrong),
         }
     }
@@ -63,6 +71,17 @@ impl PlainDisk {
     {
         self.platter.as_synced(alloc)
     }
+
+    /// Counts a want of memory.
+    fn want(&mut self) -> Fault
+        ensures platter { self.new.platter ≡ self.old.platter }
+        ensures rose { Rose self.old.wants self.new.wants }
+        ensures later { self.old.wants ≤ self.new.wants }
+        ensures result { result ≡ Fault.NoMemory }
+    {
+        self.wants = self.wants.saturating_add(1);
+        Fault::NoMemory
+    }
 }
 
 impl Disk for PlainDisk {
@@ -80,6 +99,8 @@ impl Disk for PlainDisk {
 
     ghost faults = { λ _. 0 };
 
+    ghost wants = { λ d. d.wants };
+
     fn len(&mut self) -> Result<u64, Fault> {
         Ok(self.platter.contents.len() as u64)
     }
@@ -87,23 +108,23 @@ impl Disk for PlainDisk {
     fn read(&mut self, alloc: Global, at: u64, count: u64) -> Result<Bytes, Fault> {
         match self.platter.read(alloc, at, count) {
             Ok(bytes) => Ok(bytes),
-            Err(_) => Err(Fault::NoMemory),
+            Err(_) => Err(self.want()),
         }
     }
 
     fn write_at(&mut self, at: u64, bytes: &[u8]) -> Result<(), Fault> {
         if !has_room(at, bytes.len() as u64) {
-            return Err(Fault::NoMemory);
+            return Err(self.want());
         }
         match self.platter.write(at, bytes) {
             Ok(()) => Ok(()),
-            Err(_) => Err(Fault::NoMemory),
+            Err(_) => Err(self.want()),
         }
     }
 
     fn cut(&mut self, to: u64) -> Result<(), Fault> {
         if self.platter.cut(to).is_err() {
-            return Err(Fault::NoMemory);
+            return Err(self.want());
         }
         Ok(())
     }

@@ -8,6 +8,7 @@ use Rattle.store_form.specs.Spelling.{Group}
 use Rattle.durable_store.specs.Restored.{Images, log_image, restores}
 use Rattle.durable_store.specs.Turns.{adds}
 use Rattle.durable_store.specs.Standing.{first, calls_log, running, to_come, StoreStands, AreImages}
+use Rattle.durable_store.specs.Calls.{OneWanted}
 use Rattle.durable_store.specs.Wholes.{Grows}
 use Rattle.durable_store.specs.declared.kept.Kept.{Kept}
 use Rattle.durable_store.specs.declared.store.Store.{Store}
@@ -34,6 +35,10 @@ module _ {D : Type 0} {g : Ghosts D} where
     log = subst (λ (n : ℕ). IsImage (g.cells t.log.device) (log_image (is_odd n) images)) generation (subst (λ l. IsImage (g.cells l.device) (log_image (is_odd u.generation) images)) log are.log);
     other_log = subst (λ (n : ℕ). IsImage (g.cells t.other_log) (log_image (not (is_odd n)) images)) generation (subst (λ (d : D). IsImage (g.cells d) (log_image (not (is_odd u.generation)) images)) other_log are.other_log);
   }
+
+  -- a device has wanted memory between two stores, and these have the same devices
+  pub same_wanted : (s m t u : Store D g) → m.slots ≡ s.slots → m.log ≡ s.log → u.slots ≡ t.slots → u.log ≡ t.log → OneWanted m t → OneWanted s u
+  same_wanted s m t u slots log slots' log' one = rw (slots', log', ← slots, ← log) one
 
   -- only what waits differs
   module _ (s m : Store D g) (entries : List (List ℕ)) (log : m.log ≡ s.log) (waiting : m.waiting ≡ s.waiting ++ entries) where

@@ -199,16 +199,41 @@ module _ {D : Type 0} {g : Ghosts D} (s t : Store D g) (other_log : t.other_log 
   same_falls : (a b : D) → b ≡ a → g.faults a ≤ g.faults b
   same_falls a b same = rw (same) (omega arith)
 
-  pub even_falls : g.faults s.slots.even.device ≤ g.faults t.slots.even.device → t.slots.odd.device ≡ s.slots.odd.device → t.log ≡ s.log → NoneFalls s t
-  even_falls even odd log = record { even_slot = even; odd_slot = same_falls s.slots.odd.device t.slots.odd.device odd; log = same_falls s.log.device t.log.device (ap (λ l. l.device) log); other_log = same_falls s.other_log t.other_log other_log }
+  same_wants : (a b : D) → b ≡ a → g.wants a ≤ g.wants b
+  same_wants a b same = rw (same) (omega arith)
 
-  pub odd_falls : g.faults s.slots.odd.device ≤ g.faults t.slots.odd.device → t.slots.even.device ≡ s.slots.even.device → t.log ≡ s.log → NoneFalls s t
-  odd_falls odd even log = record { even_slot = same_falls s.slots.even.device t.slots.even.device even; odd_slot = odd; log = same_falls s.log.device t.log.device (ap (λ l. l.device) log); other_log = same_falls s.other_log t.other_log other_log }
+  pub even_falls : g.faults s.slots.even.device ≤ g.faults t.slots.even.device → g.wants s.slots.even.device ≤ g.wants t.slots.even.device → t.slots.odd.device ≡ s.slots.odd.device → t.log ≡ s.log → NoneFalls s t
+  even_falls even wants odd log = record {
+    even_slot = even;
+    odd_slot = same_falls s.slots.odd.device t.slots.odd.device odd;
+    log = same_falls s.log.device t.log.device (ap (λ l. l.device) log);
+    other_log = same_falls s.other_log t.other_log other_log;
+    even_slot_wants = wants;
+    odd_slot_wants = same_wants s.slots.odd.device t.slots.odd.device odd;
+    log_wants = same_wants s.log.device t.log.device (ap (λ l. l.device) log);
+    other_log_wants = same_wants s.other_log t.other_log other_log;
+  }
 
-  pub log_falls : t.slots ≡ s.slots → g.faults s.log.device ≤ g.faults t.log.device → NoneFalls s t
-  log_falls slots log = record {
+  pub odd_falls : g.faults s.slots.odd.device ≤ g.faults t.slots.odd.device → g.wants s.slots.odd.device ≤ g.wants t.slots.odd.device → t.slots.even.device ≡ s.slots.even.device → t.log ≡ s.log → NoneFalls s t
+  odd_falls odd wants even log = record {
+    even_slot = same_falls s.slots.even.device t.slots.even.device even;
+    odd_slot = odd;
+    log = same_falls s.log.device t.log.device (ap (λ l. l.device) log);
+    other_log = same_falls s.other_log t.other_log other_log;
+    even_slot_wants = same_wants s.slots.even.device t.slots.even.device even;
+    odd_slot_wants = wants;
+    log_wants = same_wants s.log.device t.log.device (ap (λ l. l.device) log);
+    other_log_wants = same_wants s.other_log t.other_log other_log;
+  }
+
+  pub log_falls : t.slots ≡ s.slots → g.faults s.log.device ≤ g.faults t.log.device → g.wants s.log.device ≤ g.wants t.log.device → NoneFalls s t
+  log_falls slots log wants = record {
     even_slot = same_falls s.slots.even.device t.slots.even.device (ap (λ q. q.even.device) slots);
     odd_slot = same_falls s.slots.odd.device t.slots.odd.device (ap (λ q. q.odd.device) slots);
     log = log;
     other_log = same_falls s.other_log t.other_log other_log;
+    even_slot_wants = same_wants s.slots.even.device t.slots.even.device (ap (λ q. q.even.device) slots);
+    odd_slot_wants = same_wants s.slots.odd.device t.slots.odd.device (ap (λ q. q.odd.device) slots);
+    log_wants = wants;
+    other_log_wants = same_wants s.other_log t.other_log other_log;
   }

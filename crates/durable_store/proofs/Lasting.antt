@@ -1,16 +1,21 @@
 -- How a run of calls goes on in time.
-use Rattle.std.proofs.Common.{◌≡◌, ⊎_elim, ℕ, true, not, List, refl, sym, ◌∙◌, subst, arith}
+use Rattle.std.proofs.Common.{◌≡◌, ◌≤◌, inl, inr, ⊎_elim, ℕ, true, not, List, refl, sym, ◌∙◌, subst, arith}
+use Rattle.faults.specs.Counts.{Rose}
 use Rattle.disk_model.specs.Cells.{IsImage}
 use Rattle.disk_model.specs.declared.disk.Disk.{Ghosts}
 use Rattle.checkpoint_store.specs.Slots.{is_odd}
 use Rattle.durable_store.specs.Restored.{Images, log_image, restores}
 use Rattle.durable_store.specs.Turns.{closing}
 use Rattle.durable_store.specs.Standing.{side, calls_log, AreImages}
-use Rattle.durable_store.specs.Calls.{Goes, TimeGoes, CallsOne, NoneFalls, LeftSince}
+use Rattle.durable_store.specs.Calls.{Goes, TimeGoes, CallsOne, NoneFalls, OneWanted, LeftSince}
 use Rattle.durable_store.specs.Wholes.{Lasts, TimeLasts}
 use Rattle.durable_store.specs.declared.kept.Kept.{Kept}
 use Rattle.durable_store.specs.declared.store.Store.{Store}
 use Rattle.durable_store.proofs.Lighter.{not_either}
+
+-- of two counts and the one between them
+rose_on : (before mid now : ℕ) → before ≤ mid → Rose mid now → Rose before now
+rose_on before mid now later rose = omega (arith, later, rose)
 
 module _ {D : Type 0} (g : Ghosts D) where
   now_of : ((d : D) (c : List ℕ) → g.left_since d (g.moment d) c → IsImage (g.cells d) c) → (a b : D) (c : List ℕ) → b ≡ a → g.left_since b (g.moment a) c → IsImage (g.cells b) c
@@ -41,10 +46,36 @@ module _ {D : Type 0} {g : Ghosts D} where
   }
 
   pub falls_none : (s : Store D g) → NoneFalls s s
-  falls_none s = record { even_slot = omega arith; odd_slot = omega arith; log = omega arith; other_log = omega arith }
+  falls_none s = record {
+    even_slot = omega arith;
+    odd_slot = omega arith;
+    log = omega arith;
+    other_log = omega arith;
+    even_slot_wants = omega arith;
+    odd_slot_wants = omega arith;
+    log_wants = omega arith;
+    other_log_wants = omega arith;
+  }
 
   pub falls_on : (s0 s t : Store D g) → NoneFalls s0 s → NoneFalls s t → NoneFalls s0 t
-  falls_on s0 s t a b = record { even_slot = omega (arith, a.even_slot, b.even_slot); odd_slot = omega (arith, a.odd_slot, b.odd_slot); log = omega (arith, a.log, b.log); other_log = omega (arith, a.other_log, b.other_log) }
+  falls_on s0 s t a b = record {
+    even_slot = omega (arith, a.even_slot, b.even_slot);
+    odd_slot = omega (arith, a.odd_slot, b.odd_slot);
+    log = omega (arith, a.log, b.log);
+    other_log = omega (arith, a.other_log, b.other_log);
+    even_slot_wants = omega (arith, a.even_slot_wants, b.even_slot_wants);
+    odd_slot_wants = omega (arith, a.odd_slot_wants, b.odd_slot_wants);
+    log_wants = omega (arith, a.log_wants, b.log_wants);
+    other_log_wants = omega (arith, a.other_log_wants, b.other_log_wants);
+  }
+
+  pub wanted_on : (s0 s t : Store D g) → NoneFalls s0 s → OneWanted s t → OneWanted s0 t
+  wanted_on s0 s t falls one =
+      ⊎_elim (λ even. inl (rose_on (g.wants s0.slots.even.device) (g.wants s.slots.even.device) (g.wants t.slots.even.device) falls.even_slot_wants even))
+      (λ rest. inr (⊎_elim
+      (λ odd. inl (rose_on (g.wants s0.slots.odd.device) (g.wants s.slots.odd.device) (g.wants t.slots.odd.device) falls.odd_slot_wants odd))
+      (λ log. inr (rose_on (g.wants s0.log.device) (g.wants s.log.device) (g.wants t.log.device) falls.log_wants log)) rest))
+      one
 
   -- the devices that were not called
   pub record AreStill (s0 s : Store D g) : Type 0 where

@@ -12,6 +12,7 @@ pub mod Same
 pub mod Leaves
 pub mod Pushed
 pub mod Moves
+pub mod Onward
 pub mod Goes
 pub mod Called
 pub mod Opened

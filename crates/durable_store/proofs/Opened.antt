@@ -1,5 +1,7 @@
 -- A store that is opened again.
-use Rattle.std.proofs.Common.{◌≡◌, ℕ, ◌<◌, ◌^◌, Bool, true, false, not, cond, List, [], length, Option, refl, ap, ◌∙◌, arith}
+use Rattle.std.proofs.Common.{◌≡◌, ◌⊎◌, inl, inr, ℕ, ◌<◌, ◌^◌, Bool, true, false, not, cond, List, [], length, Option, refl, sym, ap, ◌∙◌, subst, arith}
+use Rattle.faults.specs.Counts.{Rose}
+use Rattle.disk_model.specs.Calls.{Elapses}
 use Rattle.disk_model.specs.Cells.{Cells, settled}
 use Rattle.store_form.specs.Spelling.{Group}
 use Rattle.store_form.specs.declared.checkpoint.Checkpoint.{Checkpoint}
@@ -116,3 +118,37 @@ kept_reads true own beside even_has odd_has present entries newest_is parity is 
 kept_reads false own beside even_has odd_has present entries newest_is parity is =
     ap (λ (p : Option Checkpoint). kept_with p entries) newest_is ∙ ap (λ (l : List (List ℕ)). kept_with (newer even_has odd_has) l) is
     ∙ ap (λ (t : Bool). kept_with (newer even_has odd_has) (entries_of (cond t beside own))) parity
+
+-- ---- what it makes of the devices
+
+-- of the log that is opened and of the one that is not, and so of that of the even and of that of the odd generations
+pub on_sides : {D : Type 0} (R : D → D → Type 0) (d : Disks D) (odd side : Bool) (logs : D × D) (log : D) → logs ≡ cond odd (d.odd_log, d.even_log) (d.even_log, d.odd_log) → odd ≡ side
+    → R logs.0 log → R logs.1 logs.1 → R d.even_log (cond side logs.1 log) × R d.odd_log (cond side log logs.1)
+on_sides R d odd side logs log are same one other = by side (are ∙ ap (λ (b : Bool). cond b (d.odd_log, d.even_log) (d.even_log, d.odd_log)) same)
+  where
+    by : (b : Bool) → logs ≡ cond b (d.odd_log, d.even_log) (d.even_log, d.odd_log) → R d.even_log (cond b logs.1 log) × R d.odd_log (cond b log logs.1)
+    by true is = (subst (λ x. R x logs.1) (ap (λ p. p.1) is) other, subst (λ x. R x log) (ap (λ p. p.0) is) one)
+    by false is = (subst (λ x. R x log) (ap (λ p. p.0) is) one, subst (λ x. R x logs.1) (ap (λ p. p.1) is) other)
+
+-- and where both are given back
+pub back_on_sides : {D : Type 0} (R : D → D → Type 0) (d : Disks D) (odd : Bool) (logs back : D × D) (log : D) → logs ≡ cond odd (d.odd_log, d.even_log) (d.even_log, d.odd_log)
+    → back ≡ cond odd (log, logs.1) (logs.1, log) → R logs.0 log → R logs.1 logs.1 → R d.even_log back.1 × R d.odd_log back.0
+back_on_sides {D = D} R d odd logs back log are given one other = by odd are given
+  where
+    at : (a b old new : D) → old ≡ a → new ≡ b → R old b → R a new
+    at a b old new was is r = subst (λ y. R a y) (sym is) (subst (λ y. R y b) was r)
+
+    by : (b : Bool) → logs ≡ cond b (d.odd_log, d.even_log) (d.even_log, d.odd_log) → back ≡ cond b (log, logs.1) (logs.1, log) → R d.even_log back.1 × R d.odd_log back.0
+    by true was is = (at d.even_log logs.1 logs.1 back.1 (ap (λ p. p.1) was) (ap (λ p. p.1) is) other, at d.odd_log log logs.0 back.0 (ap (λ p. p.0) was) (ap (λ p. p.0) is) one)
+    by false was is = (at d.even_log log logs.0 back.1 (ap (λ p. p.0) was) (ap (λ p. p.1) is) one, at d.odd_log logs.1 logs.1 back.0 (ap (λ p. p.1) was) (ap (λ p. p.0) is) other)
+
+pub rose_on_side : {D : Type 0} (faults : D → ℕ) (d : Disks D) (odd : Bool) (logs back : D × D) (log : D) → logs ≡ cond odd (d.odd_log, d.even_log) (d.even_log, d.odd_log)
+    → back ≡ cond odd (log, logs.1) (logs.1, log) → Rose (faults logs.0) (faults log) → Rose (faults d.even_log) (faults back.1) ⊎ Rose (faults d.odd_log) (faults back.0)
+rose_on_side faults d odd logs back log are given one = by odd are given
+  where
+    by : (b : Bool) → logs ≡ cond b (d.odd_log, d.even_log) (d.even_log, d.odd_log) → back ≡ cond b (log, logs.1) (logs.1, log) → Rose (faults d.even_log) (faults back.1) ⊎ Rose (faults d.odd_log) (faults back.0)
+    by true was is = inr (subst (λ x. Rose (faults d.odd_log) (faults x)) (sym (ap (λ p. p.0) is)) (subst (λ x. Rose (faults x) (faults log)) (ap (λ p. p.0) was) one))
+    by false was is = inl (subst (λ x. Rose (faults d.even_log) (faults x)) (sym (ap (λ p. p.1) is)) (subst (λ x. Rose (faults x) (faults log)) (ap (λ p. p.0) was) one))
+
+pub no_time : (moment : ℕ) (left_since : ℕ → List ℕ → Type 0) (leaves : List ℕ → Type 0) → Elapses moment moment left_since left_since leaves
+no_time moment left_since leaves = record { later = omega arith; nothing_else = λ t c le left. inl left; keeps = λ t c le past. past }

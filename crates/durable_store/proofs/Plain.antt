@@ -1,7 +1,6 @@
--- The laws of the state of a store, from those of a store that has it.
+-- The laws of the state of a store.
 use Rattle.std.proofs.Common.{◌≡◌, ℕ, ◌+◌, Bool, true, false, cond, ◌&&◌, List, [], ◌∷◌, ◌++◌, length, drop, Option, Some, None, refl, ap, ◌∙◌, subst}
 use Rattle.disk_model.specs.Cells.{Cells, settled, written}
-use Rattle.disk_model.specs.declared.disk.Disk.{Ghosts}
 use Rattle.store_form.specs.Spelling.{Group, IsGroup}
 use Rattle.store_form.specs.declared.checkpoint.Checkpoint.{Checkpoint}
 use Rattle.batch_log.specs.Exact.{log_called, job_called, end_called}
@@ -9,7 +8,6 @@ use Rattle.batch_log.specs.Jobs.{Stands, code, code_after, kept_after as log_kep
 use Rattle.batch_log.specs.Wires.{Wired}
 use Rattle.batch_log.specs.declared.job.Job.{Job}
 use Rattle.batch_log.specs.declared.job.Job.TheVariants as jobs
-use Rattle.store_form.specs.declared.ends.State.TheVariants as states
 use Rattle.batch_log.proofs.Phases.{after_close, after_closed, after_closed_then, after_body, after_body_sync, after_gate, after_gate_sync}
 use Rattle.batch_log.proofs.Lives.{wired_written, wired_clean, wired_staged}
 use Rattle.checkpoint_store.specs.Exact.{cells_called}
@@ -22,32 +20,9 @@ use Rattle.durable_store.specs.Standing.{some, log_kept, log_others, group_begin
 use Rattle.durable_store.specs.Exact.{log_begins, even_called, odd_called, job_begins, own_log_called, store_called, started}
 use Rattle.durable_store.specs.Lives.{IsUnswitched}
 use Rattle.durable_store.specs.declared.kept.Kept.{Kept}
-use Rattle.durable_store.specs.declared.store.Store.{Store}
 use Rattle.durable_store.proofs.Codes.{kept_is, kept_at, kept_started, others_is, others_at, others_started}
-use Rattle.durable_store.proofs.Goes.{even_goes, odd_goes, begin_goes, call_goes}
+use Rattle.durable_store.proofs.Onward.{even_goes, odd_goes, begin_goes, call_goes}
 use Rattle.durable_store.proofs.Lives.{own_wired, wired_now, calm_even, calm_odd}
-
--- ---- a store with this state, over devices that are what they hold
-
-abbrev plain : Ghosts Cells
-plain = record { told = Unit {0}; remembers = Unit {0}; cells = λ c. c; moment = λ c. 0; left_since = λ c t image. Unit {0}; faults = λ c. 0 }
-
-abbrev store_for : StoreState → Store Cells plain
-store_for s = record {
-  slots = record { even = record { device = s.even.cells; job = s.even.job }; odd = record { device = s.odd.cells; job = s.odd.job }; state = states.Open; rests = λ shut. absurd (shut refl) };
-  log = record { device = s.log.cells; end = s.log.end; job = s.log.job; state = states.Open; rests = λ shut. absurd (shut refl) };
-  other_log = s.other_log;
-  generation = s.generation;
-  firm = s.firm;
-  adding = s.adding;
-  waiting = [];
-  state = states.Open;
-  fit = tt;
-  «open» = λ is. (refl, refl);
-}
-
-abbrev with_waiting : List (List ℕ) → StoreState → StoreState
-with_waiting waiting s = record { even = s.even; odd = s.odd; log = s.log; other_log = s.other_log; generation = s.generation; firm = s.firm; adding = s.adding; waiting = waiting }
 
 -- what waits does not matter
 pub same_but : (s t : StoreState) (added : Group) (kept : Kept) (others : List Kept) → t.even ≡ s.even → t.odd ≡ s.odd → t.log ≡ s.log → t.other_log ≡ s.other_log → t.generation ≡ s.generation → t.firm ≡ s.firm → t.adding ≡ s.adding
@@ -151,24 +126,16 @@ begins_stands waiting cells end (jobs.SyncGate next) fits a gs other s = s
 -- ---- the next call
 
 module _ (s : StoreState) (added : Group) (kept : Kept) (others : List Kept) (h : StateStands s added kept others) where
-  plainly : StateStands (with_waiting [] s) added kept others
-  plainly = same_but s (with_waiting [] s) added kept others refl refl refl refl refl refl refl h
-
   even_then : closing s.even.job ≡ true → StateStands (even_called s) (added_in s added) (kept_in s added kept) (others_in s added kept others)
-  even_then is =
-      let t = even_called s in
-      let goes = even_goes (store_for s) (store_for (even_called s)) added kept others plainly refl refl is (slot_closes false s.even.cells s.even.job is) refl refl refl refl refl in
-      rw (is) (same_but (with_waiting [] (even_called s)) (even_called s) added kept _ refl refl refl refl refl refl refl goes)
+  even_then is = rw (is) (even_goes s (even_called s) added kept others h refl refl is (slot_closes false s.even.cells s.even.job is) refl refl refl refl refl)
 
   odd_then : closing s.even.job ≡ false → closing s.odd.job ≡ true → StateStands (odd_called s) (added_in s added) (kept_in s added kept) (others_in s added kept others)
-  odd_then calm is =
-      let goes = odd_goes (store_for s) (store_for (odd_called s)) added kept others plainly refl refl calm is (slot_closes true s.odd.cells s.odd.job is) refl refl refl refl refl in
-      rw (calm, is) (same_but (with_waiting [] (odd_called s)) (odd_called s) added kept _ refl refl refl refl refl refl refl goes)
+  odd_then calm is = rw (calm, is) (odd_goes s (odd_called s) added kept others h refl refl calm is (slot_closes true s.odd.cells s.odd.job is) refl refl refl refl refl)
 
   module _ (calm : closing s.even.job ≡ false) (too : closing s.odd.job ≡ false) (fits : group_begins s ≡ true → IsGroup s.waiting) where
-    begun : StateStands (with_waiting [] (job_begins s)) (cond (group_begins s) s.waiting added) kept others
+    begun : StateStands (job_begins s) (cond (group_begins s) s.waiting added) kept others
     begun =
-        begin_goes (store_for s) (store_for (job_begins s)) added kept others plainly refl refl refl calm too (some s.waiting) s.waiting
+        begin_goes s (job_begins s) added kept others h refl refl refl refl calm too (some s.waiting) s.waiting
         (begins_stands s.waiting s.log.cells s.log.end s.log.job fits) (code_begins s.waiting s.log.job) refl refl
 
     log_then : StateStands (own_log_called (job_begins s)) (added_in s added) (kept_in s added kept) (others_in s added kept others)
@@ -180,11 +147,10 @@ module _ (s : StoreState) (added : Group) (kept : Kept) (others : List Kept) (h 
         let kept_same : log_kept next a kept ≡ log_kept s.log.job added kept = kept_is a kept others next ∙ ap (λ (n : ℕ). kept_at n a kept) started_so ∙ kept_started s.waiting added kept others (some s.waiting) s.log.job in
         let others_same : log_others next a kept others ≡ log_others s.log.job added kept others =
         others_is a kept others next ∙ ap (λ (n : ℕ). others_at n a kept others) started_so ∙ others_started s.waiting added kept others (some s.waiting) s.log.job in
-        let goes = call_goes (store_for (job_begins s)) (store_for (own_log_called (job_begins s))) a kept others begun refl refl refl calm too (log_calls s.log.cells s.log.end next) (code_called next s.log.end) refl refl in
-        let all = same_but (with_waiting [] (own_log_called (job_begins s))) (own_log_called (job_begins s)) a (log_kept next a kept) (log_others next a kept others) refl refl refl refl refl refl refl goes in
+        let goes = call_goes (job_begins s) (own_log_called (job_begins s)) a kept others begun refl refl refl refl calm too (log_calls s.log.cells s.log.end next) (code_called next s.log.end) refl refl in
         rw (calm, too)
         (subst (λ (k : Kept). StateStands (own_log_called (job_begins s)) a k (log_others s.log.job added kept others)) kept_same
-        (subst (λ (o : List Kept). StateStands (own_log_called (job_begins s)) a (log_kept next a kept) o) others_same all))
+        (subst (λ (o : List Kept). StateStands (own_log_called (job_begins s)) a (log_kept next a kept) o) others_same goes))
 
   pub state_goes : (group_begins s ≡ true → IsGroup s.waiting) → StateStands (store_called s) (added_in s added) (kept_in s added kept) (others_in s added kept others)
   state_goes fits = by (closing s.even.job) (closing s.odd.job) refl refl
@@ -206,7 +172,7 @@ module _ (s : StoreState) (added : Group) (kept : Kept) (others : List Kept) (h 
         slots = w.slots;
         log = wired_now (own_log_called (job_begins s)).log.cells (log_kept_after (log_begins s.waiting s.log.job) (cond (group_begins s) s.waiting added) b.own)
             (log_wired s.log.cells s.log.end (log_begins s.waiting s.log.job) (cond (group_begins s) s.waiting added) b.own b.own_other b.log
-            (own_wired (with_waiting [] (job_begins s)) (cond (group_begins s) s.waiting added) kept others b (record { slots = w.slots; log = w.log })));
+            (own_wired (job_begins s) (cond (group_begins s) s.waiting added) kept others b (record { slots = w.slots; log = w.log })));
       } in
       rw (calm, too) then
 

@@ -22,18 +22,28 @@ module _ {D : Type 0} {g : Ghosts D} where
     pub log : g.left_since new.log.device (g.moment old.log.device) (log_image (side old) images)
     pub other_log : g.left_since new.other_log (g.moment old.other_log) (log_image (not (side old)) images)
 
-  -- no device has failed less often than before
+  -- no device has failed, or wanted memory, less often than before
   pub record NoneFalls (old new : Store D g) : Type 0 where
     pub even_slot : g.faults old.slots.even.device ≤ g.faults new.slots.even.device
     pub odd_slot : g.faults old.slots.odd.device ≤ g.faults new.slots.odd.device
     pub log : g.faults old.log.device ≤ g.faults new.log.device
     pub other_log : g.faults old.other_log ≤ g.faults new.other_log
+    pub even_slot_wants : g.wants old.slots.even.device ≤ g.wants new.slots.even.device
+    pub odd_slot_wants : g.wants old.slots.odd.device ≤ g.wants new.slots.odd.device
+    pub log_wants : g.wants old.log.device ≤ g.wants new.log.device
+    pub other_log_wants : g.wants old.other_log ≤ g.wants new.other_log
 
   -- one of them has failed
   abbrev pub OneRose : Store D g → Store D g → Type 0
   OneRose old new =
       Rose (g.faults old.slots.even.device) (g.faults new.slots.even.device)
       ⊎ (Rose (g.faults old.slots.odd.device) (g.faults new.slots.odd.device) ⊎ Rose (g.faults old.log.device) (g.faults new.log.device))
+
+  -- one of them has wanted memory
+  abbrev pub OneWanted : Store D g → Store D g → Type 0
+  OneWanted old new =
+      Rose (g.wants old.slots.even.device) (g.wants new.slots.even.device)
+      ⊎ (Rose (g.wants old.slots.odd.device) (g.wants new.slots.odd.device) ⊎ Rose (g.wants old.log.device) (g.wants new.log.device))
 
   -- time goes on for each of them
   pub record TimeGoes (old new : Store D g) : Type 0 where

@@ -44,6 +44,8 @@ pub fn close_call<D: Disk>(
     ensures apart { (beside generation slots.new).device ≡ (beside generation slots.old).device }
     ensures later { D.faults (slot generation slots.old).device ≤ D.faults (slot generation slots.new).device }
     ensures cause { IsErrOf result (LogFault.Disk false) → Rose (D.faults (slot generation slots.old).device) (D.faults (slot generation slots.new).device) }
+    ensures want { IsErrOf result LogFault.NoMemory → Rose (D.wants (slot generation slots.old).device) (D.wants (slot generation slots.new).device) }
+    ensures wants_later { D.wants (slot generation slots.old).device ≤ D.wants (slot generation slots.new).device }
     ensures closes { Closes result slots.old.state slots.new.state }
 {
     begin(slots, generation)?;
@@ -57,6 +59,7 @@ fn begin<D: Disk>(slots: &mut CheckpointStore<D>, generation: u64) -> Result<(),
     requires open { slots.old.state ≡ State.Open }
     requires closing { closing (slot generation slots.old).job ≡ true }
     ensures job { OnOk result ((slot generation slots.new).job ≡ job_begun (slot generation slots.old).job) }
+    ensures never { OnErr result ⊥ }
     ensures err { OnErr result (slots.new ≡ slots.old) }
     ensures device { (slot generation slots.new).device ≡ (slot generation slots.old).device }
     ensures beside { beside generation slots.new ≡ beside generation slots.old }

@@ -78,7 +78,7 @@ impl<D: Disk> Store<D> {
     ghost use Rattle.durable_store.specs.Restored.{Images, restores};
     ghost use Rattle.durable_store.specs.Turns.{closing, job_begun, job_closed, other_closed, ends_group, job_started};
     ghost use Rattle.durable_store.specs.Standing.{StoreStands, IsUnderWay, LeavesEither, some, added_by, waiting_after, adding_after, firm_after, kept_after, others_after, at_stake, is_idle, is_due, calls_log, together, to_come, being_added, running, with, AreImages};
-    ghost use Rattle.durable_store.specs.Calls.{LeftSince, NoneFalls, OneRose, NextJobs, CallsOne, TimeGoes};
+    ghost use Rattle.durable_store.specs.Calls.{LeftSince, NoneFalls, OneRose, OneWanted, NextJobs, CallsOne, TimeGoes};
     ghost use Rattle.durable_store.specs.declared.kept.Kept.{Kept};
     ghost use Rattle.durable_store.specs.Given.{given};
     ghost use Rattle.durable_store.specs.Wholes.{Grows, HasRun, Passes, TimeLasts};
@@ -136,6 +136,8 @@ impl<D: Disk> Store<D> {
         ensures time { TimeLasts self.old self.new }
         ensures later { NoneFalls self.old self.new }
         ensures cause { IsErrOf result (LogFault.Disk false) → OneRose self.old self.new }
+        // Want of memory that closes the store is one of a device, in this call.
+        ensures want { IsErrOf result LogFault.NoMemory → self.old.state ≡ State.Open → (self.new.state ≡ State.Open) ⊎ OneWanted self.old self.new }
         ensures closes { Closes result self.old.state self.new.state }
     {
         let waited = self.waiting.len();
@@ -190,6 +192,7 @@ impl<D: Disk> Store<D> {
         ensures time { TimeGoes self.old self.new }
         ensures later { NoneFalls self.old self.new }
         ensures cause { IsErrOf result (LogFault.Disk false) → OneRose self.old self.new }
+        ensures want { IsErrOf result LogFault.NoMemory → self.old.state ≡ State.Open → (self.new.state ≡ State.Open) ⊎ OneWanted self.old self.new }
         ensures closes { Closes result self.old.state self.new.state }
     {
         let _ = tail;
@@ -334,6 +337,7 @@ impl<D: Disk> Store<D> {
         ensures time { TimeLasts self.old self.new }
         ensures later { NoneFalls self.old self.new }
         ensures cause { IsErrOf result (LogFault.Disk false) → OneRose self.old self.new }
+        ensures want { IsErrOf result LogFault.NoMemory → (self.new.state ≡ State.Open) ⊎ OneWanted self.old self.new }
         ensures closes { Closes result self.old.state self.new.state }
     {
         let _before = self.firm;
@@ -388,6 +392,8 @@ impl<D: Disk> Store<D> {
             (D.left_since (slot generation self.old.slots).device) (D.left_since (slot generation self.new.slots).device) (IsImage (D.cells (slot generation self.new.slots).device)) }
         ensures later { D.faults (slot generation self.old.slots).device ≤ D.faults (slot generation self.new.slots).device }
         ensures cause { IsErrOf result (LogFault.Disk false) → Rose (D.faults (slot generation self.old.slots).device) (D.faults (slot generation self.new.slots).device) }
+        ensures want { IsErrOf result LogFault.NoMemory → Rose (D.wants (slot generation self.old.slots).device) (D.wants (slot generation self.new.slots).device) }
+        ensures wants_later { D.wants (slot generation self.old.slots).device ≤ D.wants (slot generation self.new.slots).device }
         ensures shut { OnErr result (self.new.state ≡ State.Open → ⊥) }
         ensures closes { Closes result self.old.state self.new.state }
     {
@@ -492,6 +498,8 @@ impl<D: Disk> Store<D> {
         ensures time { Elapses (D.moment self.old.log.device) (D.moment self.new.log.device) (D.left_since self.old.log.device) (D.left_since self.new.log.device) (IsImage (D.cells self.new.log.device)) }
         ensures later { D.faults self.old.log.device ≤ D.faults self.new.log.device }
         ensures cause { IsErrOf result (LogFault.Disk false) → Rose (D.faults self.old.log.device) (D.faults self.new.log.device) }
+        ensures want { IsErrOf result LogFault.NoMemory → Rose (D.wants self.old.log.device) (D.wants self.new.log.device) }
+        ensures wants_later { D.wants self.old.log.device ≤ D.wants self.new.log.device }
         ensures shut { OnErr result (self.new.state ≡ State.Open → ⊥) }
         ensures closes { Closes result self.old.state self.new.state }
     {

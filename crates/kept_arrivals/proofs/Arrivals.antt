@@ -30,7 +30,7 @@ use Rattle.replica_rules.specs.Replicas.{is_next}
 use Rattle.replica_rules.specs.Seals.{is_verified}
 use Rattle.node_rules.specs.Arrivals.{is_same_proposal, is_same_vote, signer_why, view_why, place_why, regency_why, wish_why, slot_why, why_ask, is_batch_for, is_unbound, why_propose, why_vote, why_reply, why_stop, is_proven, why_report, is_collect, why_sync, why_dropped, noted, kept_plain, kept_change, kept}
 use Rattle.replica_rules.specs.Pools.{offered}
-use Rattle.node_rules.specs.Nodes.{Node, view_of, regency_of, start_of, decided_place, synchronizer_of}
+use Rattle.node_rules.specs.Nodes.{Node, view_of, regency_of, start_of, is_begun, decided_place, synchronizer_of}
 use Rattle.node_rules.specs.declared.node.Why.{Why}
 use Rattle.node_rules.specs.declared.node.Why.TheVariants.{OldView, NewView, OldPlace, FarPlace, OldRegency, NewRegency, NotLeader, InvalidBatch, BadProof, Unbound, Repeated}
 use Rattle.node_rules.specs.Kept.{ahead_of, needed_by, trimmed}
@@ -157,7 +157,7 @@ why_sync_same n s =
     where_false (nat_lt s.statement.regency (regency_of n)) (Some OldRegency) _ _ (λ later.
     ap (λ (again : Bool).
     cond (not (s.signer == leader (view_of n) s.statement.regency)) (Some NotLeader)
-    (cond (not (is_collect n s.statement)) (Some BadProof) (cond again (Some Repeated) None)))
+    (cond (not (is_collect n s.statement)) (Some BadProof) (cond (is_begun n s.statement.regency || again) (Some Repeated) None)))
     (sync_repeats_same n s (needed_here n s.statement.view s.statement.regency (view_is n s.statement.view here) (ltb-false s.statement.regency (regency_of n) later))))))
 
 pub why_same : {S : Type 0} (n : Node S) (message : AnyMessage) → why_dropped (trimmed n) message ≡ why_dropped n message

@@ -1,14 +1,16 @@
 -- Each rule by which the regency changes, on what is needed.
-use Rattle.std.proofs.Common.{◌≡◌, ◌++◌, Bool, true, false, List, [], ◌∷◌, refl, ap, ◌∙◌, cond, arith, Option, Some, None}
+use Rattle.std.proofs.Common.{◌≡◌, ◌++◌, not, Bool, true, false, List, [], ◌∷◌, refl, ap, ◌∙◌, cond, arith, Option, Some, None}
+use Rattle.std.proofs.lemmas.Bool.{and_parts}
 use Rattle.smart_statements.specs.Forms.{SignedBy}
 use Rattle.smart_statements.specs.declared.statement.Request.{Request}
 use Rattle.smart_statements.specs.declared.report.Report.{Report}
 use Rattle.smart_messages.specs.declared.regency.Sync.{Sync}
 use Rattle.vote_book.specs.declared.entry.LogEntry.TheVariants.{Promised, Synced}
-use Rattle.regency_sync.specs.Synchronizers.{adopting, is_joining, is_promising, collecting}
-use Rattle.regency_sync.proofs.Needs.{adopt_same, join_same, promise_same as promise_due, collecting_same}
-use Rattle.node_rules.specs.Nodes.{Node, view_of, regency_of, start_of, decided_place, synchronizer_of}
-use Rattle.node_rules.specs.Changes.{start_by_sync, promised_for, adopts_by, adoption, adopts, asks_next, joining, joins, report_of, reported_by, next_promise, promising, promise_next, promises, leading, lead_with, leads, timing, passes_on, presses, times}
+use Rattle.regency_sync.specs.Synchronizers.{needs_sync, is_joining, is_promising, collecting}
+use Rattle.regency_sync.proofs.Lists.{find_filter}
+use Rattle.regency_sync.proofs.Needs.{join_same, promise_same as promise_due, collecting_same}
+use Rattle.node_rules.specs.Nodes.{Node, view_of, regency_of, start_of, is_begun, decided_place, synchronizer_of}
+use Rattle.node_rules.specs.Changes.{start_by_sync, promised_for, adopts_by, is_adoptable, adoption, adopts, asks_next, joining, joins, report_of, reported_by, next_promise, promising, promise_next, promises, leading, lead_with, leads, timing, passes_on, presses, times}
 use Rattle.node_rules.specs.Kept.{trimmed}
 use Rattle.kept_arrivals.proofs.Needed.{trimmed_behind, trimmed_twice, regency_grows}
 use Rattle.kept_arrivals.proofs.Rules.{exactly, synchronizer_same}
@@ -20,8 +22,10 @@ trimmed-if false x y = refl
 -- ADOPT
 
 pub adoption_same : {S : Type 0} (n : Node S) → adoption (trimmed n) ≡ adoption n
-unfolding adoption trimmed
-adoption_same n = ap (λ s. adopting (view_of n) s) (synchronizer_same n) ∙ adopt_same (view_of n) (synchronizer_of n)
+unfolding adoption trimmed regency_of
+adoption_same n =
+    find_filter (is_adoptable n) (needs_sync (view_of n).number (regency_of n))
+    (λ x is. (and_parts (needs_sync (view_of n).number (regency_of n) x) (not (is_begun n x.statement.regency)) is).0) n.syncs
 
 adopt_same-by : {S : Type 0} (n : Node S) (found : Option (SignedBy Sync)) → trimmed (adopts_by (trimmed n) found) ≡ trimmed (adopts_by n found)
 unfolding adopts_by trimmed regency_of

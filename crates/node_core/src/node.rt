@@ -1,8 +1,7 @@
 //! The node of a member, and what leaves it.
-ghost use Rattle.std.specs.Prelude.{◌≡◌, ℕ, false, length, IfOk, OnOk, OnErr, IsErrOf, Some, None, is_some};
+ghost use Rattle.std.specs.Prelude.{◌≡◌, [], ℕ, false, length, IfOk, OnOk, OnErr, IsErrOf, Some, None, is_some};
 ghost use Rattle.std.specs.Option.{option_copied};
 ghost use Rattle.std.specs.Result.{is_err};
-ghost use Rattle.vote_book.specs.BookReports.{lock_of};
 ghost use Rattle.node_restart.specs.declared.fault.ReopenFault.TheVariants.{Damaged};
 ghost use Rattle.node_rules.specs.Nodes.{view_of, regency_of};
 ghost use Rattle.node_rules.specs.Kept.{core_step};
@@ -15,6 +14,7 @@ use crate::step::step;
 use node_restart::fault::ReopenFault;
 use node_rules::node::{Fired, Held, Why};
 use node_state::state::NodeState;
+use outbox::outbox::Outbox;
 use smart_base::name::MemberId;
 use smart_base::number::{Place, Regency};
 use smart_base::sequence::{Bytes, Sequence};
@@ -24,7 +24,7 @@ use smart_service::service::Service;
 use smart_statements::batch::Batch;
 use smart_statements::entry::NodeEvent;
 use std::alloc::{AllocError, Global};
-use vote_book::entry::{Accept, LogEntry};
+use vote_book::entry::LogEntry;
 
 /// A member's node, and whether want of memory stopped a step half-way. Then the node is broken: no
 /// event happens to it again, and no call makes it whole.
@@ -163,13 +163,6 @@ impl<S: Service> NodeCore<S> {
         self.node.waiting.as_ref()
     }
 
-    /// Whether the node has heard of a view or a place that it does not reach by votes.
-    pub fn behind(&self) -> bool
-        ensures { result ≡ self.now.node.behind }
-    {
-        self.node.behind
-    }
-
     /// The node's entries in the order in which they were made.
     pub fn book(&self) -> &[LogEntry]
         ensures { result.now ≡ self.now.node.entries }
@@ -177,16 +170,9 @@ impl<S: Service> NodeCore<S> {
         self.node.book.pushed()
     }
 
-    /// The batch on which the node is locked: the one that it accepted in this view, in the greatest
-    /// regency, at the place behind the last one that its book makes, if there is one.
-    pub fn lock(&self) -> Option<&Accept>
-        ensures { option_copied result ≡ lock_of (view_of self.now.node).number self.now.node.entries }
-    {
-        self.node.lock()
-    }
-
     /// Takes one event: what happens to the node, and then one pass of its rules. Of what was kept
-    /// before, only what is still needed remains. After want of memory the node is broken.
+    /// before, only what is still needed remains. After want of memory the node is broken, and holds
+    /// nothing: nothing leaves it any more. What counts as firm is then what did before the event.
     pub fn step(&mut self, event: &NodeEvent) -> Result<Outcome, AllocError>
         requires { self.old.broken ≡ false }
         ensures node { OnOk result (self.new.node ≡ (core_step S.meaning self.old.node event.now).node) }
@@ -194,11 +180,21 @@ impl<S: Service> NodeCore<S> {
         ensures dropped { IfOk result (λ o. o.dropped ≡ (core_step S.meaning self.old.node event.now).dropped) }
         ensures broken { self.new.broken ≡ is_err result }
         ensures err { OnErr result (IsPartly self.old.node.entries self.new.node.entries (core_step S.meaning self.old.node event.now).node.entries) }
+        ensures held { OnErr result (self.new.node.held ≡ []) }
+        ensures counts { OnErr result ((self.new.node.firm ≡ self.old.node.firm) × (self.new.node.restored ≡ self.old.node.restored)) }
     {
-        self.broken = true;
-        let outcome = step(&mut self.node, event)?;
-        self.broken = false;
-        Ok(outcome)
+        let firm = self.node.firm;
+        let restored = self.node.restored;
+        match step(&mut self.node, event) {
+            Ok(outcome) => Ok(outcome),
+            Err(fault) => {
+                self.broken = true;
+                self.node.firm = firm;
+                self.node.restored = restored;
+                self.node.held = Outbox::new(self.node.alloc);
+                Err(fault)
+            }
+        }
     }
 
     /// The first held message leaves, if its entries are firm.

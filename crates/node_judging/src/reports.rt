@@ -240,7 +240,7 @@ fn why_sync<S: Service>(node: &NodeState<S>, sync: &Signed<Sync>) -> Option<Why>
         Some(Why::NotLeader)
     } else if !is_collect(node, sync.statement()) {
         Some(Why::BadProof)
-    } else if node.synchronizer().repeats_sync(sync) {
+    } else if node.is_begun(regency) || node.synchronizer().repeats_sync(sync) {
         Some(Why::Repeated)
     } else {
         None

@@ -1,6 +1,6 @@
 -- A node that adopts the reports with which a leader began a regency stays sound.
-use Rattle.std.proofs.Common.{Bool, List, None, Option, Some, append-nil, arith, cond, false, inl, inr, nat_le, nat_lt, not, refl, subst, suc, sym, true, zero, ℕ, ⊎_elim, ◌≡◌, [], ◌≤◌, ◌<◌, ◌==◌, ◌&&◌, ◌||◌, ◌++◌, ◌∷◌, ◌∙◌}
-use Rattle.std.proofs.lemmas.Bool.{eq-eqb, eqb-true, leb-true, ltb-false, ltb-true, or_parts}
+use Rattle.std.proofs.Common.{Bool, List, None, Option, Some, append-nil, arith, cond, false, inl, inr, nat_le, nat_lt, not, refl, subst, suc, sym, true, zero, ℕ, ⊎_elim, ◌≡◌, [], ◌≤◌, ◌<◌, ◌==◌, ◌&&◌, ◌++◌, ◌∷◌, ◌∙◌}
+use Rattle.std.proofs.lemmas.Bool.{eqb-true, leb-true, ltb-false, ltb-true}
 use Rattle.std.specs.List.{flat_map, list_any}
 use Rattle.std.specs.Prelude.{is_none, is_some}
 use Rattle.certificates.proofs.Reported.{collect-exact}
@@ -10,10 +10,10 @@ use Rattle.replica_rules.specs.Seals.{is_verified}
 use Rattle.agreement_laws.specs.Certificates.{IsChosen, IsLockedCollect, IsLockedReport}
 use Rattle.agreement_laws.specs.Statements.{Statement}
 use Rattle.node_rules.specs.Arrivals.{is_collect, rests_on_marks}
-use Rattle.node_rules.specs.Changes.{adoption, adopts, adopts_by, promised_for, start_by_sync}
-use Rattle.node_rules.specs.Nodes.{Node, next_place, recording, regency_of, start_in, synchronizer_of, view_of}
+use Rattle.node_rules.specs.Changes.{adoption, adopts, adopts_by, is_adoptable, promised_for, start_by_sync}
+use Rattle.node_rules.specs.Nodes.{Node, first_start, is_begun, next_place, recording, regency_of, start_in, view_of}
 use Rattle.regency_sync.specs.Choices.{choice}
-use Rattle.regency_sync.specs.Synchronizers.{adopting, collect, is_adoptable}
+use Rattle.regency_sync.specs.Synchronizers.{needs_sync}
 use Rattle.smart_base.specs.Lists.{Each}
 use Rattle.smart_base.specs.Views.{View, present}
 use Rattle.smart_statements.specs.Forms.{SignedBy}
@@ -94,34 +94,29 @@ pub record Adopts {S : Type 0} (n : Node S) (s : SignedBy Sync) : Type 0 where
   pub some : 0 < s.statement.regency
   pub once : s.statement.regency ≡ regency_of n → is_some (start_in (view_of n).number (regency_of n) n.entries) ≡ false
 
-fresh_some : (r R : ℕ) (synced : Bool) → R ≤ r → ((r == R) && ((R == 0) || synced)) ≡ false → 0 < r
-fresh_some zero R synced least fresh =
-    let none : R ≡ 0 = omega (arith, least) in
-    let clash : ((0 == 0) && ((0 == 0) || synced)) ≡ false = subst (λ (k : ℕ). ((0 == k) && ((k == 0) || synced)) ≡ false) none fresh in
-    absurd (cc)
-fresh_some (suc r) R synced least fresh = omega arith
+-- a regency that has not begun is not the first, and no entry begins it
+fresh_parts : (first : Bool) (start : Start) (later : Option Start) → is_some (cond first (Some start) later) ≡ false → (first ≡ false) × (is_some later ≡ false)
+fresh_parts true start later fresh = absurd (cc)
+fresh_parts false start later fresh = (refl, fresh)
 
-fresh_once : (r R : ℕ) (synced : Bool) → ((r == R) && ((R == 0) || synced)) ≡ false → r ≡ R → synced ≡ false
-fresh_once r R synced fresh same =
-    let rest : (true && ((R == 0) || synced)) ≡ false = rw (eq-eqb r R same) at fresh in
-    (or_parts (R == 0) synced rest).1
+past_first : (r : ℕ) → (r == 0) ≡ false → 0 < r
+past_first zero later = absurd (cc)
+past_first (suc r) later = omega arith
 
 adopts_it : {S : Type 0} (n : Node S) (s : SignedBy Sync) → adoption n ≡ Some s → Adopts n s
-unfolding adoption adopting
+unfolding adoption
 adopts_it n s is =
-    let f = found (is_adoptable (view_of n) (synchronizer_of n)) n.syncs s is in
+    let f = found (is_adoptable n) n.syncs s is in
     let r : ℕ = s.statement.regency in
-    let synced : Bool = is_some (start_in (view_of n).number (regency_of n) n.entries) in
-    let outer = and_true ((s.statement.view == (view_of n).number) && nat_le (regency_of n) r) (not ((r == regency_of n) && ((regency_of n == 0) || synced))) f.passes in
+    let outer = and_true (needs_sync (view_of n).number (regency_of n) s) (not (is_begun n r)) f.passes in
     let inner = and_true (s.statement.view == (view_of n).number) (nat_le (regency_of n) r) outer.0 in
-    let fresh = not_true ((r == regency_of n) && ((regency_of n == 0) || synced)) outer.1 in
-    let least : regency_of n ≤ r = leb-true (regency_of n) r inner.1 in
+    let fresh = fresh_parts (r == 0) (first_start (view_of n)) (start_in (view_of n).number r n.entries) (not_true (is_begun n r) outer.1) in
     record {
       there = f.there;
       view_is = eqb-true s.statement.view (view_of n).number inner.0;
-      least = least;
-      some = fresh_some r (regency_of n) synced least fresh;
-      once = fresh_once r (regency_of n) synced fresh;
+      least = leb-true (regency_of n) r inner.1;
+      some = past_first r fresh.0;
+      once = λ same. subst (λ (k : ℕ). is_some (start_in (view_of n).number k n.entries) ≡ false) same fresh.1;
     }
 
 -- the node with the entries of an adoption

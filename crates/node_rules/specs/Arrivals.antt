@@ -34,7 +34,7 @@ use Rattle.regency_sync.specs.Synchronizers.{repeats_stop, repeats_report, repea
 use Rattle.replica_rules.specs.Replicas.{is_next}
 use Rattle.replica_rules.specs.Seals.{is_verified, digest_of, is_managers, fits}
 use Rattle.replica_rules.specs.Pools.{offered}
-use Rattle.node_rules.specs.Nodes.{Node, view_of, regency_of, start_of, bound_at, is_within, decided_place, synchronizer_of}
+use Rattle.node_rules.specs.Nodes.{Node, view_of, regency_of, start_of, is_begun, bound_at, is_within, decided_place, synchronizer_of}
 use Rattle.node_rules.specs.declared.node.Why.{Why}
 use Rattle.node_rules.specs.declared.node.Why.TheVariants.{NotMember, BadTag, Stranger, OldView, NewView, OldPlace, FarPlace, OldRegency, NewRegency, OldSeq, FarSeq, NotLeader, InvalidBatch, BadProof, Unbound, Unasked, Repeated}
 
@@ -193,7 +193,7 @@ why_sync n s =
     (if nat_lt s.statement.regency (regency_of n) then Some OldRegency
     else if not (s.signer == leader (view_of n) s.statement.regency) then Some NotLeader
     else if not (is_collect n s.statement) then Some BadProof
-    else if repeats_sync (synchronizer_of n) s then Some Repeated
+    else if is_begun n s.statement.regency || repeats_sync (synchronizer_of n) s then Some Repeated
     else None))
 
 abbrev pub why_change : {S : Type 0} → Node S → RegencyMessage → Option Why

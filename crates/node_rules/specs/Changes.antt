@@ -1,6 +1,6 @@
 -- The rules by which a node changes the regency with the others of its view (the synchronisation phase of Mod-SMaRt, EDCC 2012). Each is three
 -- definitions: what is due, what the rule does with that, and both.
-use Rattle.std.specs.Prelude.{ℕ, ◌+◌, ◌^◌, ◌==◌, nat_lt, Bool, true, false, not, ◌&&◌, ◌||◌, List, [], ◌∷◌, ◌++◌, length, if◌then◌else◌, Option, Some, None, option_map}
+use Rattle.std.specs.Prelude.{ℕ, ◌+◌, ◌^◌, ◌==◌, nat_lt, Bool, true, false, not, ◌&&◌, ◌||◌, List, [], ◌∷◌, ◌++◌, length, find, if◌then◌else◌, Option, Some, None, option_map}
 use Rattle.smart_base.specs.Views.{is_member, leader}
 use Rattle.smart_statements.specs.Forms.{SignedBy}
 use Rattle.smart_statements.specs.Reports.{reports}
@@ -21,9 +21,9 @@ use Rattle.vote_book.specs.declared.entry.Start.{Start}
 use Rattle.vote_book.specs.declared.entry.LogEntry.{LogEntry}
 use Rattle.vote_book.specs.declared.entry.LogEntry.TheVariants.{Promised, Synced}
 use Rattle.regency_sync.specs.Choices.{choice}
-use Rattle.regency_sync.specs.Synchronizers.{adopting, is_joining, is_promising, collecting}
+use Rattle.regency_sync.specs.Synchronizers.{needs_sync, is_joining, is_promising, collecting}
 use Rattle.replica_rules.specs.Seals.{signed, digest_of}
-use Rattle.node_rules.specs.Nodes.{Node, view_of, regency_of, is_synced, synchronizer_of, holding, recording}
+use Rattle.node_rules.specs.Nodes.{Node, view_of, regency_of, is_begun, is_synced, synchronizer_of, holding, recording}
 use Rattle.node_rules.specs.declared.node.Target.TheVariants as targets
 use Rattle.node_rules.specs.declared.node.Fired.{Fired}
 use Rattle.node_rules.specs.declared.node.Fired.TheVariants as fires
@@ -55,8 +55,13 @@ abbrev pub fired_adopt : Option (SignedBy Sync) → List Fired
 fired_adopt None = []
 fired_adopt (Some sync) = fires.Adopted (start_by_sync sync.statement) ∷ []
 
+-- of the view in force, and of a regency that is in force or later and has not begun
+abbrev pub is_adoptable : {S : Type 0} → Node S → SignedBy Sync → Bool
+is_adoptable n s = needs_sync (view_of n).number (regency_of n) s && not (is_begun n s.statement.regency)
+
+-- the first beginning that may be adopted
 unfoldable pub adoption : {S : Type 0} → Node S → Option (SignedBy Sync)
-adoption n = adopting (view_of n) (synchronizer_of n)
+adoption n = find (is_adoptable n) n.syncs
 
 unfoldable pub adopts : {S : Type 0} → Node S → Node S
 adopts n = adopts_by n (adoption n)

@@ -123,6 +123,10 @@ start_at v regency entries = if regency == 0 then Some (first_start v) else star
 unfoldable pub start_of : {S : Type 0} → Node S → Option Start
 start_of n = start_at (view_of n) (regency_of n) n.entries
 
+-- a regency of the view in force has begun, by the book
+abbrev pub is_begun : {S : Type 0} → Node S → ℕ → Bool
+is_begun n regency = is_some (start_at (view_of n) regency n.entries)
+
 -- the node takes part in the regency in force
 abbrev pub is_synced : {S : Type 0} → Node S → Bool
 is_synced n = is_some (start_of n)

@@ -149,7 +149,7 @@ delivered_after id view later place next waiting taken entries i now s batch vot
       made = made_next waiting place (last_made entries) batch some is.made;
     })
 
-some_mapped : (o : Option Beginning) → is_some (option_map start_by o) ≡ is_some o
+pub some_mapped : (o : Option Beginning) → is_some (option_map start_by o) ≡ is_some o
 some_mapped None = refl
 some_mapped (Some s) = refl
 

@@ -3,9 +3,10 @@ ghost use Rattle.std.specs.Prelude.{◌≡◌, true, length, IfOk, OnOk, OnErr};
 ghost use Rattle.std.specs.Option.{option_copied};
 ghost use Rattle.vote_book.specs.BookReports.{lock_of};
 ghost use Rattle.vote_book.specs.Standing.{own_votes};
-ghost use Rattle.node_rules.specs.Nodes.{view_of, regency_of, decided_place, open_slot, is_free, is_open, synchronizer_of, holding};
+ghost use Rattle.node_rules.specs.Nodes.{view_of, regency_of, is_begun, decided_place, open_slot, is_free, is_open, synchronizer_of, holding};
 ghost use Rattle.node_rules.specs.Steps.{first_leaving, after_first, leaving, released};
 
+use crate::find::start_at;
 use crate::seal::MemberKeys;
 use consensus_instance::instance::Instance;
 use delivery::replica::KeptReplica;
@@ -155,6 +156,18 @@ impl<S: Service> NodeState<S> {
         ensures { result.now ≡ synchronizer_of self.now }
     {
         &self.synchronizer
+    }
+
+    /// Whether a regency of the view in force has begun, by the book. Of the regency in force the
+    /// synchronizer tells it.
+    #[tactic(auto, using(crate::proofs::Starts::begun_now, crate::proofs::Starts::begun_by))]
+    pub fn is_begun(&self, regency: Regency) -> bool
+        ensures { result ≡ is_begun self.now regency }
+    {
+        if regency == self.regency() {
+            return self.synchronizer().is_synced();
+        }
+        start_at(&self.book, self.view(), regency).is_some()
     }
 
     pub fn lock(&self) -> Option<&Accept>

@@ -1,10 +1,9 @@
 -- What a node adopts, and what becomes of it.
-use Rattle.std.proofs.Common.{◌≡◌, ℕ, ◌+◌, ◌<◌, ◌^◌, ◌==◌, ◌++◌, ◌&&◌, ◌||◌, not, nat_lt, nat_le, Bool, true, false, List, [], ◌∷◌, find, refl, ap, sym, ◌∙◌, cond, arith, Option, Some, None, is_some, Bor}
+use Rattle.std.proofs.Common.{◌≡◌, ℕ, ◌+◌, ◌<◌, ◌^◌, ◌==◌, ◌++◌, ◌&&◌, ◌||◌, not, nat_lt, nat_le, Bool, true, false, List, [], ◌∷◌, find, refl, ap, sym, ◌∙◌, cond, arith, Option, Some, None, Bor}
 use Rattle.std.specs.Prelude.{IfSome}
 use Rattle.std.specs.Option.{option_copied}
 use Rattle.std.proofs.lemmas.Bool.{ltb-true, ltb-false, leb-true, eqb-true, eq-eqb, ne_eqb}
 use Rattle.std.proofs.lemmas.List.{append-nil}
-use Rattle.smart_base.specs.Views.{View}
 use Rattle.smart_base.proofs.SameLists.{and_true}
 use Rattle.smart_statements.specs.Forms.{SignedBy}
 use Rattle.smart_messages.specs.declared.regency.Sync.{Sync}
@@ -12,10 +11,9 @@ use Rattle.vote_book.specs.declared.entry.Promise.{Promise}
 use Rattle.vote_book.specs.declared.entry.Start.{Start}
 use Rattle.vote_book.specs.declared.entry.LogEntry.{LogEntry}
 use Rattle.vote_book.specs.declared.entry.LogEntry.TheVariants.{Promised, Synced}
-use Rattle.regency_sync.specs.Synchronizers.{Synchronizer, adopting, is_adoptable, needs_sync, is_synced_in}
-use Rattle.regency_sync.specs.Synchronizers as sync
-use Rattle.node_rules.specs.Nodes.{Node, view_of, regency_of, start_of, start_in, first_start, is_synced, synchronizer_of}
-use Rattle.node_rules.specs.Changes.{is_pressed, timing, start_by_sync, adopts_by, adoption, adopts}
+use Rattle.regency_sync.specs.Synchronizers.{Synchronizer, needs_sync}
+use Rattle.node_rules.specs.Nodes.{Node, view_of, regency_of, start_of, is_begun, is_synced, synchronizer_of}
+use Rattle.node_rules.specs.Changes.{is_pressed, timing, start_by_sync, adopts_by, is_adoptable, adoption, adopts}
 use Rattle.node_state.specs.Following.{is_unbegun, promised_by, reached, begun_at}
 
 found_step : {A : Type 0} (p : A → Bool) (x y : A) (rest : Option A) (t : Bool) → p y ≡ t → (rest ≡ Some x → p x ≡ true) → cond t (Some y) rest ≡ Some x → p x ≡ true
@@ -26,34 +24,30 @@ found_is : {A : Type 0} (p : A → Bool) (xs : List A) (x : A) → find p xs ≡
 found_is p [] x found = absurd (cc)
 found_is p (y ∷ ys) x found = found_step p x y (find p ys) (p y) refl (λ there. found_is p ys x there) found
 
--- a node takes part in its regency where its synchronizer does
-synced_same : {S : Type 0} (n : Node S) → sync.is_synced (synchronizer_of n) ≡ is_synced n
+-- a node takes part in its regency where that has begun
+begun_now : {S : Type 0} (n : Node S) (regency : ℕ) → regency ≡ regency_of n → is_begun n regency ≡ is_synced n
 unfolding start_of
-synced_same n = by (regency_of n == 0)
-  where
-    by : (t : Bool) → (t || is_some (start_in (view_of n).number (regency_of n) n.entries)) ≡ is_some (cond t (Some (first_start (view_of n))) (start_in (view_of n).number (regency_of n) n.entries))
-    by true = refl
-    by false = refl
+begun_now n regency same = ap (λ (r : ℕ). is_begun n r) same
 
-unbegun_by : (later same synced least : Bool) → (later ≡ false → least ≡ true → same ≡ true) → (least && not (same && synced)) ≡ true → (later || (same && not synced)) ≡ true
-unbegun_by true same synced least close is = refl
-unbegun_by false true true true close is = absurd (cc)
-unbegun_by false true false true close is = refl
-unbegun_by false false synced true close is = let wrong : false ≡ true = close refl refl in absurd (cc)
-unbegun_by false same synced false close is = absurd (cc)
+unbegun_by : (later same begun synced : Bool) → (later ≡ false → same ≡ true) → (later ≡ false → begun ≡ synced) → not begun ≡ true → (later || (same && not synced)) ≡ true
+unbegun_by true same begun synced close alike is = refl
+unbegun_by false true false false close alike is = refl
+unbegun_by false true false true close alike is = let wrong : false ≡ true = alike refl in absurd (cc)
+unbegun_by false true true synced close alike is = absurd (cc)
+unbegun_by false false begun synced close alike is = let wrong : false ≡ true = close refl in absurd (cc)
 
 pub adoption_where : {S : Type 0} (n : Node S) (s : SignedBy Sync) → adoption n ≡ Some s → (s.statement.view ≡ (view_of n).number) × (is_unbegun n s.statement.regency ≡ true)
-unfolding adoption adopting
+unfolding adoption
 adoption_where n s is =
-    let found = found_is (is_adoptable (view_of n) (synchronizer_of n)) n.syncs s is in
-    let r = s.statement.regency in
-    let needed = and_true (needs_sync (view_of n).number (regency_of n) s) (not (is_synced_in (synchronizer_of n) r)) found in
+    let found = found_is (is_adoptable n) n.syncs s is in
+    let r : ℕ = s.statement.regency in
+    let needed = and_true (needs_sync (view_of n).number (regency_of n) s) (not (is_begun n r)) found in
     let here = and_true (s.statement.view == (view_of n).number) (nat_le (regency_of n) r) needed.0 in
-    let fresh : (nat_le (regency_of n) r && not ((r == regency_of n) && is_synced n)) ≡ true =
-    rw (here.1, ← synced_same n, needed.1) refl in (
+    let now : nat_lt (regency_of n) r ≡ false → r ≡ regency_of n =
+    λ not_later. omega (arith, ltb-false (regency_of n) r not_later, leb-true (regency_of n) r here.1) in (
       eqb-true s.statement.view (view_of n).number here.0,
-      unbegun_by (nat_lt (regency_of n) r) (r == regency_of n) (is_synced n) (nat_le (regency_of n) r)
-          (λ not_later least. eq-eqb r (regency_of n) (omega (arith, ltb-false (regency_of n) r not_later, leb-true (regency_of n) r least))) fresh,
+      unbegun_by (nat_lt (regency_of n) r) (r == regency_of n) (is_begun n r) (is_synced n) (λ not_later. eq-eqb r (regency_of n) (now not_later))
+          (λ not_later. begun_now n r (now not_later)) needed.1,
     )
 
 same_with : {S : Type 0} (n : Node S) (some others : List LogEntry) (stop stop' sync sync' : Bool) → some ≡ others → stop ≡ stop' → sync ≡ sync'
@@ -112,16 +106,15 @@ pub next_where : {S : Type 0} (n : Node S) → timing n ≡ true → n.impatient
 unfolding timing
 next_where n is here = next_by (is_pressed n) n.impatient (regency_of n) is here
 
-adoption_at : {S : Type 0} (n : Node S) (view : View) (turn : Synchronizer) → view ≡ view_of n → turn ≡ synchronizer_of n → adopting view turn ≡ adoption n
+-- the first of what the synchronizer keeps is the first of what the node keeps
+pub adoption_at : {S : Type 0} (n : Node S) (turn : Synchronizer) (syncs : List (SignedBy Sync)) → syncs ≡ turn.syncs → turn ≡ synchronizer_of n → find (is_adoptable n) syncs ≡ adoption n
 unfolding adoption
-adoption_at n view turn at same = rw (at, same) refl
+adoption_at n turn syncs kept same = ap (λ (xs : List (SignedBy Sync)). find (is_adoptable n) xs) (kept ∙ ap (λ (s : Synchronizer). s.syncs) same)
 
-pub adoption_view : {S : Type 0} (n : Node S) (view : View) (turn : Synchronizer) (o : Option (Bor (SignedBy Sync))) → option_copied o ≡ adopting view turn → view ≡ view_of n → turn ≡ synchronizer_of n
-    → IfSome o (λ s. s.now.statement.view ≡ (view_of n).number)
-adoption_view n view turn None is at same = tt
-adoption_view n view turn (Some s) is at same = (adoption_where n s.now (sym (is ∙ adoption_at n view turn at same))).0
+pub adoption_view : {S : Type 0} (n : Node S) (o : Option (Bor (SignedBy Sync))) → option_copied o ≡ adoption n → IfSome o (λ s. s.now.statement.view ≡ (view_of n).number)
+adoption_view n None is = tt
+adoption_view n (Some s) is = (adoption_where n s.now (sym is)).0
 
-pub adoption_later : {S : Type 0} (n : Node S) (view : View) (turn : Synchronizer) (o : Option (Bor (SignedBy Sync))) → option_copied o ≡ adopting view turn → view ≡ view_of n → turn ≡ synchronizer_of n
-    → IfSome o (λ s. is_unbegun n s.now.statement.regency ≡ true)
-adoption_later n view turn None is at same = tt
-adoption_later n view turn (Some s) is at same = (adoption_where n s.now (sym (is ∙ adoption_at n view turn at same))).1
+pub adoption_later : {S : Type 0} (n : Node S) (o : Option (Bor (SignedBy Sync))) → option_copied o ≡ adoption n → IfSome o (λ s. is_unbegun n s.now.statement.regency ≡ true)
+adoption_later n None is = tt
+adoption_later n (Some s) is = (adoption_where n s.now (sym is)).1

@@ -1,9 +1,9 @@
 //! What a node adopts, joins, promises and leads: what is due, what the rule does with it, and both.
-ghost use Rattle.std.specs.Prelude.{◌≡◌, ◌+◌, ◌<◌, ◌^◌, ◌++◌, true, IfOk, IfSome, OnOk, Some, OnErr};
+ghost use Rattle.std.specs.Prelude.{◌≡◌, ◌+◌, ◌<◌, ◌^◌, ◌++◌, true, find, IfOk, IfSome, OnOk, Some, OnErr};
 ghost use Rattle.std.specs.Option.{option_copied};
 ghost use Rattle.node_rules.specs.Nodes.{view_of, regency_of};
 ghost use Rattle.node_rules.specs.Rules.{fired_if};
-ghost use Rattle.node_rules.specs.Changes.{fired_when, fired_adopt, adoption, adopts, joining, joins, next_promise, promising, promise_next, promises, leading, lead_with, leads};
+ghost use Rattle.node_rules.specs.Changes.{fired_when, fired_adopt, is_adoptable, adoption, adopts, joining, joins, next_promise, promising, promise_next, promises, leading, lead_with, leads};
 ghost use Rattle.node_rules.specs.Steps.{turns, fired_turns};
 ghost use Rattle.node_state.specs.Following.{is_unbegun};
 ghost use Rattle.node_state.specs.Broken.{IsPartly};
@@ -14,6 +14,7 @@ use crate::reports::reported_by;
 use crate::starts::{adopt_start, promise_to, start_by_sync};
 use node_rules::node::{Fired, Target};
 use node_state::state::NodeState;
+use regency_sync::needed::needs_sync;
 use smart_base::duplicate::Duplicate;
 use smart_base::number::Regency;
 use smart_base::sequence::Sequence;
@@ -43,15 +44,32 @@ pub fn turns<S: Service>(
     Ok(())
 }
 
-/// The beginning of a regency that is to be adopted, if one is: of the view in force, and of a
-/// regency that is later, or has not begun.
+/// Whether the beginning of a regency may be adopted: it is of the view in force, and of a regency
+/// that is in force or later and has not begun.
+fn is_adoptable<S: Service>(node: &NodeState<S>, sync: &Signed<Sync>) -> bool
+    ensures { result ≡ is_adoptable node.now sync.now }
+{
+    needs_sync(node.view().number(), node.regency(), sync)
+        && !node.is_begun(sync.statement().regency)
+}
+
+fn first_adoptable<'a, S: Service>(
+    node: &NodeState<S>,
+    syncs: &'a [Signed<Sync>],
+) -> Option<&'a Signed<Sync>>
+    ensures { option_copied result ≡ find (is_adoptable node.now) syncs.now }
+{
+    syncs.iter().find(|sync| is_adoptable(node, sync))
+}
+
+/// The first beginning of a regency that may be adopted, if one came.
 #[tactic(auto, unfolding(node_rules::specs::Changes::adoption))]
 fn adoption<S: Service>(node: &NodeState<S>) -> Option<&Signed<Sync>>
     ensures sync { option_copied result ≡ adoption node.now }
     ensures view { IfSome result (λ s. s.now.statement.view ≡ (view_of node.now).number) }
     ensures later { IfSome result (λ s. is_unbegun node.now s.now.statement.regency ≡ true) }
 {
-    node.synchronizer().adopting(node.view())
+    first_adoptable(node, node.synchronizer().syncs())
 }
 
 #[tactic(auto, unfolding(node_rules::specs::Changes::adopts, node_rules::specs::Changes::adopts_by))]

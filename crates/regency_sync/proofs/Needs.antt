@@ -1,5 +1,5 @@
 -- What a member finds among what it still needs alone.
-use Rattle.std.proofs.Common.{◌≡◌, ℕ, ◌+◌, ◌≤◌, ◌==◌, ◌&&◌, ◌||◌, nat_lt, nat_le, not, is_some, Bool, true, false, cond, List, [], ◌∷◌, length, take, Some, None, option_map, refl, ap, sym, ◌∙◌, arith}
+use Rattle.std.proofs.Common.{◌≡◌, ℕ, ◌+◌, ◌≤◌, ◌==◌, ◌&&◌, nat_lt, nat_le, not, is_some, Bool, true, false, cond, List, [], ◌∷◌, length, take, Some, None, option_map, refl, ap, sym, ◌∙◌, arith}
 use Rattle.std.specs.Prelude.{filter}
 use Rattle.std.specs.List.{list_any}
 use Rattle.std.proofs.lemmas.Bool.{eqb-true, leb-true, le-leb, and_parts, and_left}
@@ -12,8 +12,8 @@ use Rattle.smart_messages.specs.declared.regency.Stop.{Stop}
 use Rattle.smart_messages.specs.declared.regency.Sync.{Sync}
 use Rattle.smart_messages.specs.declared.regency.Reported.{Reported}
 use Rattle.regency_sync.specs.declared.rule.Rule.{Rule}
-use Rattle.regency_sync.specs.declared.rule.Rule.TheVariants.{Adopt, Join, Promise, Collect}
-use Rattle.regency_sync.specs.Synchronizers.{Synchronizer, is_synced, is_needed, needs_stop, needs_report, needs_sync, is_same_stop, is_same_report, is_same_sync, is_synced_in, repeats_stop, repeats_report, repeats_sync, is_adoptable, adopting, is_stop, has_next, stoppers, is_joining, is_promising, is_report, first_report, reporters, is_collecting, collect, collecting, is_due, due, is_lock_of, bears, batch_in, batch_of, with_stop, with_report, with_sync, adopted, stopped, promised, led, moved, trimmed, HasNothingOf}
+use Rattle.regency_sync.specs.declared.rule.Rule.TheVariants.{Join, Promise, Collect}
+use Rattle.regency_sync.specs.Synchronizers.{Synchronizer, is_synced, is_needed, needs_stop, needs_report, needs_sync, is_same_stop, is_same_report, is_same_sync, repeats_stop, repeats_report, repeats_sync, is_stop, has_next, stoppers, is_joining, is_promising, is_report, first_report, reporters, is_collecting, collect, collecting, is_due, due, is_lock_of, bears, batch_in, batch_of, with_stop, with_report, with_sync, adopted, stopped, promised, led, moved, trimmed, HasNothingOf}
 use Rattle.regency_sync.proofs.Lists.{any_filter, find_filter, filter_filter, filter_end, filter_none, each_filter, each_as, filter_alike, find_alike, filter_map_alike}
 
 -- ---- which are needed
@@ -47,12 +47,6 @@ report_needed view regency member x is =
     needed_from view regency x.head.statement.view x.head.statement.regency first.1 (omega (arith, eqb-true x.head.statement.regency regency parts.1))
 
 -- ---- what is due
-
-pub adopt_same : (view : View) (s : Synchronizer) → adopting view (trimmed view s) ≡ adopting view s
-unfolding adopting trimmed
-adopt_same view s =
-    find_filter (is_adoptable view s) (needs_sync view.number s.regency)
-    (λ x is. (and_parts (needs_sync view.number s.regency x) (not (is_synced_in s x.statement.regency)) is).0) s.syncs
 
 stoppers_same : (view : View) (s : Synchronizer) → stoppers view (trimmed view s) ≡ stoppers view s
 unfolding trimmed
@@ -105,14 +99,13 @@ collecting_same view s =
     ∙ ap (λ (rs : List (SignedBy Report)). cond (is_collecting view s) (Some rs) None) (collect_same view s)
 
 rule_same : (view : View) (s : Synchronizer) (rule : Rule) → is_due view (trimmed view s) rule ≡ is_due view s rule
-rule_same view s Adopt = ap is_some (adopt_same view s)
 rule_same view s Join = join_same view s
 rule_same view s Promise = promise_same view s
 rule_same view s Collect = leads_same view s
 
 pub due_same : (view : View) (s : Synchronizer) → due view (trimmed view s) ≡ due view s
 unfolding due
-due_same view s = find_alike (is_due view (trimmed view s)) (is_due view s) (rule_same view s) (Adopt ∷ Join ∷ Promise ∷ Collect ∷ [])
+due_same view s = find_alike (is_due view (trimmed view s)) (is_due view s) (rule_same view s) (Join ∷ Promise ∷ Collect ∷ [])
 
 pub batch_same : (view : View) (s : Synchronizer) (digest : List ℕ) → batch_of view (trimmed view s) digest ≡ batch_of view s digest
 unfolding batch_of trimmed
@@ -149,12 +142,11 @@ pub sync_repeats : (view : View) (s : Synchronizer) (sync : SignedBy Sync) → n
     → repeats_sync (trimmed view s) sync ≡ repeats_sync s sync
 unfolding trimmed
 sync_repeats view s sync needed =
-    ap (λ (t : Bool). is_synced_in s sync.statement.regency || t)
-    (any_filter (is_same_sync sync) (needs_sync view.number s.regency)
+    any_filter (is_same_sync sync) (needs_sync view.number s.regency)
     (λ x is.
     let parts = and_parts ((x.signer == sync.signer) && (x.statement.view == sync.statement.view)) (x.statement.regency == sync.statement.regency) is in
     let first = and_parts (x.signer == sync.signer) (x.statement.view == sync.statement.view) parts.0 in
-    needed_alike view.number s.regency sync.statement.view sync.statement.regency x.statement.view x.statement.regency needed first.1 parts.1) s.syncs)
+    needed_alike view.number s.regency sync.statement.view sync.statement.regency x.statement.view x.statement.regency needed first.1 parts.1) s.syncs
 
 -- ---- what becomes of it
 

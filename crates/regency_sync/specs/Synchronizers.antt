@@ -13,7 +13,7 @@ use Rattle.smart_messages.specs.declared.regency.Stop.{Stop}
 use Rattle.smart_messages.specs.declared.regency.Sync.{Sync}
 use Rattle.smart_messages.specs.declared.regency.Reported.{Reported}
 use Rattle.regency_sync.specs.declared.rule.Rule.{Rule}
-use Rattle.regency_sync.specs.declared.rule.Rule.TheVariants.{Adopt, Join, Promise, Collect}
+use Rattle.regency_sync.specs.declared.rule.Rule.TheVariants.{Join, Promise, Collect}
 
 pub record Synchronizer : Type 0 where
   -- the member
@@ -61,29 +61,16 @@ is_same_report a b =
 abbrev pub is_same_sync : SignedBy Sync → SignedBy Sync → Bool
 is_same_sync a b = (b.signer == a.signer) && (b.statement.view == a.statement.view) && (b.statement.regency == a.statement.regency)
 
--- a regency that the member takes part in
-abbrev pub is_synced_in : Synchronizer → ℕ → Bool
-is_synced_in s regency = (regency == s.regency) && is_synced s
-
 abbrev pub repeats_stop : Synchronizer → SignedBy Stop → Bool
 repeats_stop s stop = list_any (is_same_stop stop) s.stops
 
 abbrev pub repeats_report : Synchronizer → SignedBy Report → Bool
 repeats_report s report = list_any (is_same_report report) s.reports
 
--- a beginning repeats another, or it is of a regency that needs none any more
 abbrev pub repeats_sync : Synchronizer → SignedBy Sync → Bool
-repeats_sync s sync = is_synced_in s sync.statement.regency || list_any (is_same_sync sync) s.syncs
+repeats_sync s sync = list_any (is_same_sync sync) s.syncs
 
 -- ---- what is due
-
--- a beginning of the member's regency, in which it does not take part yet, or of a later one
-abbrev pub is_adoptable : View → Synchronizer → SignedBy Sync → Bool
-is_adoptable view s sync = needs_sync view.number s.regency sync && not (is_synced_in s sync.statement.regency)
-
--- the first beginning that the member adopts
-unfoldable pub adopting : View → Synchronizer → Option (SignedBy Sync)
-adopting view s = find (is_adoptable view s) s.syncs
 
 -- a member asks for a regency
 abbrev pub is_stop : ℕ → ℕ → ℕ → SignedBy Stop → Bool
@@ -133,14 +120,13 @@ collecting view s = if is_collecting view s then Some (collect view s) else None
 
 -- whether a rule is due
 abbrev pub is_due : View → Synchronizer → Rule → Bool
-is_due view s Adopt = is_some (adopting view s)
 is_due view s Join = is_joining view s
 is_due view s Promise = is_promising view s
 is_due view s Collect = is_collecting view s
 
 -- the first rule that is
 unfoldable pub due : View → Synchronizer → Option Rule
-due view s = find (is_due view s) (Adopt ∷ Join ∷ Promise ∷ Collect ∷ [])
+due view s = find (is_due view s) (Join ∷ Promise ∷ Collect ∷ [])
 
 -- ---- the batch that binds
 

@@ -10,7 +10,7 @@ ghost use Rattle.smart_messages.specs.declared.regency.Sync.{Sync};
 ghost use Rattle.smart_messages.specs.declared.regency.Reported.{Reported};
 ghost use Rattle.regency_sync.specs.Choices.{greatest_last, lock_behind, choice, IsBound};
 ghost use Rattle.regency_sync.specs.Synchronizers.{Synchronizer, needs_stop, needs_report, needs_sync, repeats_stop, repeats_report, repeats_sync};
-ghost use Rattle.regency_sync.specs.Synchronizers.{adopting, is_joining, is_promising, collecting, due, batch_of, with_stop, with_report, with_sync};
+ghost use Rattle.regency_sync.specs.Synchronizers.{is_joining, is_promising, collecting, due, batch_of, with_stop, with_report, with_sync};
 ghost use Rattle.regency_sync.specs.Synchronizers.{adopted, stopped, promised, led, moved, trimmed, HasNothingOf};
 
 /// A regency begins at the least place, from 1 on, that is behind each last place.
@@ -32,7 +32,6 @@ pub fn the_greatest_lock_binds()
 
 /// What is due is due by what is still needed alone.
 pub fn what_is_needed_makes_due()
-    ensures adopt { (view : View) (s : Synchronizer) → adopting view (trimmed view s) ≡ adopting view s }
     ensures join { (view : View) (s : Synchronizer) → is_joining view (trimmed view s) ≡ is_joining view s }
     ensures promise { (view : View) (s : Synchronizer) → is_promising view (trimmed view s) ≡ is_promising view s }
     ensures collect { (view : View) (s : Synchronizer) → collecting view (trimmed view s) ≡ collecting view s }

@@ -7,6 +7,6 @@ pub mod choice;
 pub mod choosing;
 mod find;
 pub mod laws;
-mod needed;
+pub mod needed;
 pub mod rule;
 pub mod synchronizer;

@@ -1,10 +1,8 @@
 //! What may be due between regencies.
 /// The rules by which the members of a view change the regency (Mod-SMaRt, EDCC 2012), in their
-/// order.
+/// order. Adoption comes before them, and is the node's, which asks its book.
 #[derive(Clone, Copy, Debug, PartialEq, Eq)]
 pub enum Rule {
-    /// The member adopts the reports with which a leader has begun its regency.
-    Adopt,
     /// More members than may be faulty ask for the next regency: the member asks too.
     Join,
     /// 2f+1 members ask for the next regency: the member promises it, and reports to its leader.

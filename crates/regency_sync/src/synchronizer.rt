@@ -1,8 +1,8 @@
 //! What a member has heard and done to change the regency.
 ghost use Rattle.std.specs.Prelude.{◌≡◌, ◌+◌, ◌<◌, ◌^◌, true, length, find, IfOk, OnOk, OnErr};
 ghost use Rattle.std.specs.Option.{option_copied};
-ghost use Rattle.regency_sync.specs.Synchronizers.{Synchronizer, is_synced, is_synced_in, repeats_stop, repeats_report, repeats_sync, is_adoptable};
-ghost use Rattle.regency_sync.specs.Synchronizers.{adopting, has_next, stoppers, is_joining, is_promising, reporters, is_collecting, collect, collecting, resumed};
+ghost use Rattle.regency_sync.specs.Synchronizers.{Synchronizer, is_synced, repeats_stop, repeats_report, repeats_sync};
+ghost use Rattle.regency_sync.specs.Synchronizers.{has_next, stoppers, is_joining, is_promising, reporters, is_collecting, collect, collecting, resumed};
 ghost use Rattle.regency_sync.specs.Synchronizers.{due, bears, batch_of, begun, with_stop, with_report, with_sync};
 ghost use Rattle.regency_sync.specs.Synchronizers.{adopted, stopped, promised, promised_to, led, moved, trimmed};
 
@@ -10,7 +10,7 @@ use crate::find::{
     carries, collect, count_reporters, count_stoppers, has_same_report, has_same_stop,
     has_same_sync,
 };
-use crate::needed::{keep_reports, keep_stops, keep_syncs, needs_report, needs_sync};
+use crate::needed::{keep_reports, keep_stops, keep_syncs, needs_report};
 use crate::rule::Rule;
 use smart_base::bytes::Digest32;
 use smart_base::name::MemberId;
@@ -162,6 +162,13 @@ impl Synchronizer {
         Ok(())
     }
 
+    /// The beginnings of regencies that were kept, in the order in which they came.
+    pub fn syncs(&self) -> &[Signed<Sync>]
+        ensures { result.now ≡ self.now.syncs }
+    {
+        self.syncs.as_slice()
+    }
+
     /// Whether the signer's wish for the regency was kept before.
     pub fn repeats_stop(&self, stop: &Signed<Stop>) -> bool
         ensures { result ≡ repeats_stop self.now stop.now }
@@ -176,12 +183,11 @@ impl Synchronizer {
         has_same_report(self.reports.as_slice(), report)
     }
 
-    /// Whether the signer's beginning of the regency was kept before, or the member takes part in that
-    /// regency already.
+    /// Whether the signer's beginning of the regency was kept before.
     pub fn repeats_sync(&self, sync: &Signed<Sync>) -> bool
         ensures { result ≡ repeats_sync self.now sync.now }
     {
-        self.is_synced_in(sync.statement().regency) || has_same_sync(self.syncs.as_slice(), sync)
+        has_same_sync(self.syncs.as_slice(), sync)
     }
 
     /// The first rule that is due, if one is.
@@ -189,9 +195,7 @@ impl Synchronizer {
     pub fn due(&self, view: &View) -> Option<Rule>
         ensures { result ≡ due view.now self.now }
     {
-        if self.adopting(view).is_some() {
-            Some(Rule::Adopt)
-        } else if self.is_joining(view) {
+        if self.is_joining(view) {
             Some(Rule::Join)
         } else if self.is_promising(view) {
             Some(Rule::Promise)
@@ -200,18 +204,6 @@ impl Synchronizer {
         } else {
             None
         }
-    }
-
-    /// The beginning of a regency that the member is to adopt, if one was kept: of its own regency,
-    /// in which it does not take part yet, or of a later one.
-    #[tactic(auto, unfolding(crate::specs::Synchronizers::adopting))]
-    pub fn adopting(&self, view: &View) -> Option<&Signed<Sync>>
-        ensures { option_copied result ≡ adopting view.now self.now }
-    {
-        self.syncs
-            .as_slice()
-            .iter()
-            .find(|sync| self.is_adoptable(view, sync))
     }
 
     /// Whether the member is to ask for the next regency, as more members than may be faulty do. There
@@ -332,20 +324,6 @@ impl Synchronizer {
         keep_stops(&mut self.stops, number, self.regency);
         keep_reports(&mut self.reports, number, self.regency);
         keep_syncs(&mut self.syncs, number, self.regency);
-    }
-
-    /// Whether the member takes part in this regency.
-    fn is_synced_in(&self, regency: Regency) -> bool
-        ensures { result ≡ is_synced_in self.now regency }
-    {
-        regency == self.regency && self.is_synced()
-    }
-
-    fn is_adoptable(&self, view: &View, sync: &Signed<Sync>) -> bool
-        ensures { result ≡ is_adoptable view.now self.now sync.now }
-    {
-        needs_sync(view.number(), self.regency, sync)
-            && !self.is_synced_in(sync.statement().regency)
     }
 
     fn has_next(&self) -> bool

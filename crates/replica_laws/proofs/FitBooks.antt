@@ -23,12 +23,11 @@ use Rattle.vote_book.specs.declared.entry.Decision.{Decision}
 use Rattle.vote_book.specs.declared.entry.LogEntry.{LogEntry}
 use Rattle.vote_book.specs.declared.entry.LogEntry.TheVariants as entries
 use Rattle.regency_sync.specs.Choices.{greatest_last, lock_behind, greater, greatest_lock, choice}
-use Rattle.regency_sync.specs.Synchronizers.{is_adoptable, adopting}
 use Rattle.node_rules.specs.Votes.{certificate_votes}
-use Rattle.node_rules.specs.Nodes.{Node, view_of, regency_of, next_place, open_slot, synchronizer_of}
+use Rattle.node_rules.specs.Nodes.{Node, view_of, regency_of, next_place, open_slot}
 use Rattle.node_rules.specs.Arrivals.{kept, noted}
 use Rattle.node_rules.specs.Rules.{delivers, proposes, writing, write_batch, writes, accepting, accept_batch, accepts, deciding, decide_batch, decides, answers_again}
-use Rattle.node_rules.specs.Changes.{start_by_sync, promised_for, adopts_by, adoption, adopts, joins, next_promise, promising, promise_next, promises, leads, times}
+use Rattle.node_rules.specs.Changes.{start_by_sync, promised_for, adopts_by, is_adoptable, adoption, adopts, joins, next_promise, promising, promise_next, promises, leads, times}
 use Rattle.node_rules.specs.Kept.{node_after}
 use Rattle.node_rules.specs.Steps.{step_of, opened}
 use Rattle.replica_laws.proofs.Lists.{if_find}
@@ -41,8 +40,8 @@ use Rattle.agreement_laws.proofs.Lists.{either, either_by, each_end, each_append
 use Rattle.node_rules.proofs.Entries.{noted_same, answers_again_same, kept_same, delivers_same, proposes_same, joins_same, leads_same, times_same}
 
 -- what a node holds has a spelling, and so has each entry of its book
-pub record FitBook {S : Type 0} (secret : List ℕ) (n : Node S) : Type 0 where
-  pub node : FitNode secret n
+pub record FitBook {S : Type 0} (m : Meaning S) (secret : List ℕ) (n : Node S) : Type 0 where
+  pub node : FitNode m secret n
   pub book : Each FitsEntry n.entries
 
 book-as : (es fs : List LogEntry) → fs ≡ es → Each FitsEntry es → Each FitsEntry fs
@@ -92,22 +91,22 @@ spelled-adopts_by n (Some sync) begun each =
     (either (λ (es : List LogEntry). Each FitsEntry es) (nat_lt (regency_of n) sync.statement.regency) _ [] (record { view_fits = begun.view_fits; regency_fits = begun.regency_fits }, tt) tt))
     (start-fits sync.statement begun)
 
-spelled-adopts : {S : Type 0} (secret : List ℕ) (n : Node S) → FitNode secret n → Each FitsEntry n.entries → Each FitsEntry (adopts n).entries
-unfolding adopts adoption adopting
+spelled-adopts : {S : Type 0} {m : Meaning S} (secret : List ℕ) (n : Node S) → FitNode m secret n → Each FitsEntry n.entries → Each FitsEntry (adopts n).entries
+unfolding adopts adoption
 spelled-adopts secret n is each =
-    spelled-adopts_by n (find (is_adoptable (view_of n) (synchronizer_of n)) n.syncs) (if_find FitsBegun (is_adoptable (view_of n) (synchronizer_of n)) n.syncs is.begun) each
+    spelled-adopts_by n (find (is_adoptable n) n.syncs) (if_find FitsBegun (is_adoptable n) n.syncs is.begun) each
 
-spelled-promise_next : {S : Type 0} (secret : List ℕ) (n : Node S) → regency_of n + 1 < 2 ^ 32 → FitNode secret n → Each FitsEntry n.entries → Each FitsEntry (promise_next n).entries
+spelled-promise_next : {S : Type 0} {m : Meaning S} (secret : List ℕ) (n : Node S) → regency_of n + 1 < 2 ^ 32 → FitNode m secret n → Each FitsEntry n.entries → Each FitsEntry (promise_next n).entries
 unfolding promise_next
 spelled-promise_next secret n low is each =
     each_end FitsEntry n.entries (entries.Promised (next_promise n)) each (record { view_fits = view-low (view_of n) is.view; regency_fits = low })
 
-spelled-promises : {S : Type 0} (secret : List ℕ) (n : Node S) → FitNode secret n → Each FitsEntry n.entries → Each FitsEntry (promises n).entries
+spelled-promises : {S : Type 0} {m : Meaning S} (secret : List ℕ) (n : Node S) → FitNode m secret n → Each FitsEntry n.entries → Each FitsEntry (promises n).entries
 unfolding promises
 spelled-promises {S = S} secret n is each =
     either_by (λ (x : Node S). Each FitsEntry x.entries) (promising n) (promise_next n) n (λ due. spelled-promise_next secret n (promising-low n due) is each) (λ not_due. each)
 
-spelled-write_batch : {S : Type 0} (secret : List ℕ) (n : Node S) (p : Option Proposed) → IfSome p (FitsVoted secret (next_place n)) → FitNode secret n → Each FitsEntry n.entries
+spelled-write_batch : {S : Type 0} {m : Meaning S} (secret : List ℕ) (n : Node S) (p : Option Proposed) → IfSome p (FitsVoted secret (next_place n)) → FitNode m secret n → Each FitsEntry n.entries
     → Each FitsEntry (write_batch n p).entries
 unfolding write_batch
 spelled-write_batch secret n None fit is each = each
@@ -115,11 +114,11 @@ spelled-write_batch secret n (Some p) fit is each =
     each_end FitsEntry n.entries (entries.Wrote (record { slot = open_slot n; digest = p.head.statement.digest })) each
     (record { slot_fits = open-fits secret n is fit.low; digest_fits = fit.digest_fits })
 
-spelled-writes : {S : Type 0} (secret : List ℕ) (n : Node S) → FitNode secret n → Each FitsEntry n.entries → Each FitsEntry (writes n).entries
+spelled-writes : {S : Type 0} {m : Meaning S} (secret : List ℕ) (n : Node S) → FitNode m secret n → Each FitsEntry n.entries → Each FitsEntry (writes n).entries
 unfolding writes
 spelled-writes secret n is each = spelled-write_batch secret n (writing n) (writing-fits secret n is) is each
 
-spelled-accept_batch : {S : Type 0} (secret : List ℕ) (n : Node S) (p : Option Proposed) → IfSome p (FitsVoted secret (next_place n)) → FitNode secret n → Each FitsEntry n.entries
+spelled-accept_batch : {S : Type 0} {m : Meaning S} (secret : List ℕ) (n : Node S) (p : Option Proposed) → IfSome p (FitsVoted secret (next_place n)) → FitNode m secret n → Each FitsEntry n.entries
     → Each FitsEntry (accept_batch n p).entries
 unfolding accept_batch
 spelled-accept_batch secret n None fit is each = each
@@ -134,7 +133,7 @@ spelled-accept_batch secret n (Some p) fit is each =
       batch_fits = fit.batch_fits.0;
     })
 
-spelled-accepts : {S : Type 0} (secret : List ℕ) (n : Node S) → FitNode secret n → Each FitsEntry n.entries → Each FitsEntry (accepts n).entries
+spelled-accepts : {S : Type 0} {m : Meaning S} (secret : List ℕ) (n : Node S) → FitNode m secret n → Each FitsEntry n.entries → Each FitsEntry (accepts n).entries
 unfolding accepts
 spelled-accepts secret n is each = spelled-accept_batch secret n (accepting n) (accepting-fits secret n is) is each
 
@@ -149,14 +148,14 @@ spelled-decide_batch n (Some d) fit each =
       accepts_fit = votes-list Accept d.accepts fit.0.accepts_fit;
     })
 
-spelled-decides : {S : Type 0} (secret : List ℕ) (n : Node S) → FitNode secret n → Each FitsEntry n.entries → Each FitsEntry (decides n).entries
+spelled-decides : {S : Type 0} {m : Meaning S} (secret : List ℕ) (n : Node S) → FitNode m secret n → Each FitsEntry n.entries → Each FitsEntry (decides n).entries
 unfolding decides
 spelled-decides secret n is each = spelled-decide_batch n (deciding n) (deciding-fits secret n is) each
 
 -- ---- a step
 
-spelled-rules : {S : Type 0} (secret : List ℕ) → KeptByRules {S = S} (λ n. FitBook secret n)
-spelled-rules secret = record {
+spelled-rules : {S : Type 0} (secret : List ℕ) (m : Meaning S) → KeptByRules {S = S} (λ n. FitBook m secret n)
+spelled-rules secret m = record {
   by_adopts = λ n is. record { node = fit-adopts secret n is.node; book = spelled-adopts secret n is.node is.book };
   by_joins = λ n is. record { node = fit-joins secret n is.node; book = book-as n.entries (joins n).entries (joins_same n) is.book };
   by_promises = λ n is. record { node = fit-promises secret n is.node; book = spelled-promises secret n is.node is.book };
@@ -167,9 +166,9 @@ spelled-rules secret = record {
   by_decides = λ n is. record { node = fit-decides secret n is.node; book = spelled-decides secret n is.node is.book };
 }
 
-spelled-in_steps : {S : Type 0} (secret : List ℕ) (m : Meaning S) → IsBrief m → KeptInSteps m (λ n. FitBook secret n) FitsAny
+spelled-in_steps : {S : Type 0} (secret : List ℕ) (m : Meaning S) → IsBrief m → KeptInSteps m (λ n. FitBook m secret n) FitsAny
 spelled-in_steps secret m brief = record {
-  by_rules = spelled-rules secret;
+  by_rules = spelled-rules secret m;
   by_times = λ n is. record { node = fit-times secret n is.node; book = book-as n.entries (times n).entries (times_same n) is.book };
   by_answers = λ n message is. record { node = fit-answers_again secret n message is.node; book = book-as n.entries (answers_again n message).entries (answers_again_same n message) is.book };
   by_noted = λ n message is. record { node = fit-noted secret n message is.node; book = book-as n.entries (noted n message).entries (noted_same n message) is.book };
@@ -178,20 +177,20 @@ spelled-in_steps secret m brief = record {
 }
 
 -- each event keeps it
-pub spelled-step : {S : Type 0} (secret : List ℕ) (m : Meaning S) → IsBrief m → (n : Node S) (event : NodeEvent) → FitsEvent event → FitBook secret n → FitBook secret (step_of m n event).node
+pub spelled-step : {S : Type 0} (secret : List ℕ) (m : Meaning S) → IsBrief m → (n : Node S) (event : NodeEvent) → FitsEvent event → FitBook m secret n → FitBook m secret (step_of m n event).node
 spelled-step secret m brief n event fit is =
-    keeps_step m (λ x. FitBook secret x) FitsAny n event (spelled-in_steps secret m brief)
+    keeps_step m (λ x. FitBook m secret x) FitsAny n event (spelled-in_steps secret m brief)
     (λ x count good. record { node = fit-as secret x count x.proposed x.stop_made x.sync_made x.impatient x.behind good.node; book = good.book }) fit is
 
 -- a node begins so
 pub spelled-opened : {S : Type 0} (secret : List ℕ) (m : Meaning S) (id : ℕ) (view : View) (period : ℕ) → IsSigner 1 id → is_view view ≡ true → period < 2 ^ 32
-    → FitBook secret (opened m secret id view period)
+    → FitBook m secret (opened m secret id view period)
 spelled-opened secret m id view period named is low = record {
   node = fit-opened secret m id view period named is;
   book = (record { member_fits = (let least = named.0 in omega (arith, least), named.1); period_fits = low; view_fits = is }, tt);
 }
 
-pub spelled_after : {S : Type 0} (secret : List ℕ) (m : Meaning S) → IsBrief m → (n : Node S) (events : List NodeEvent) → Each IsByteEvent events → FitBook secret n → FitBook secret (node_after m n events)
+pub spelled_after : {S : Type 0} (secret : List ℕ) (m : Meaning S) → IsBrief m → (n : Node S) (events : List NodeEvent) → Each IsByteEvent events → FitBook m secret n → FitBook m secret (node_after m n events)
 spelled_after secret m brief n [] each is = is
 spelled_after secret m brief n (e ∷ es) each is = spelled_after secret m brief (step_of m n e).node es each.1 (spelled-step secret m brief n e (event-fits e each.0) is)
 

@@ -39,7 +39,7 @@ use Rattle.smart_messages.specs.declared.any.AnyMessage.{AnyMessage}
 use Rattle.smart_messages.specs.declared.any.AnyMessage.TheVariants.{Plain, Change}
 use Rattle.smart_statements.specs.declared.entry.NodeEvent.{NodeEvent}
 use Rattle.smart_statements.specs.declared.entry.NodeEvent.TheVariants.{Arrive, Tick, Deliver, Firm}
-use Rattle.smart_service.specs.Services.{Meaning}
+use Rattle.smart_service.specs.Services.{Meaning, Comes, comes_first, comes_next}
 use Rattle.smart_service.specs.declared.table.TableLine.{TableLine}
 use Rattle.smart_service.specs.declared.replica.Replica.{Replica}
 use Rattle.vote_book.specs.Books.{Among, HasMade, place_made, last_made, number_or}
@@ -49,7 +49,7 @@ use Rattle.vote_book.specs.declared.entry.Accept as accept
 use Rattle.vote_book.specs.declared.entry.Decision.{Decision}
 use Rattle.vote_book.specs.declared.entry.LogEntry.{LogEntry}
 use Rattle.vote_book.specs.declared.entry.LogEntry.TheVariants as entries
-use Rattle.regency_sync.specs.Synchronizers.{Synchronizer, needs_report, is_lock_of, bears, batch_in, batch_of as bound_batch, is_adoptable, adopting, has_next, is_joining, is_promising, is_report, first_report, is_collecting, collect, collecting}
+use Rattle.regency_sync.specs.Synchronizers.{Synchronizer, needs_report, is_lock_of, bears, batch_in, batch_of as bound_batch, has_next, is_joining, is_promising, is_report, first_report, is_collecting, collect, collecting}
 use Rattle.replica_rules.specs.Seals.{is_verified, signed, digest_of, is_managers, request_fits}
 use Rattle.replica_rules.specs.Replicas.{is_next, line_of, execute, line_made, lines_of, at_next, delivered, executed_lines}
 use Rattle.node_rules.specs.Votes.{is_vote, has_vote, certificate, Named, vote_in, first_vote, certificate_votes, proposed_in, proposed_for, named_in, named_by, known, decision_by, accepted_under}
@@ -57,7 +57,7 @@ use Rattle.replica_rules.specs.Pools.{offered, settled, is_within as is_within_l
 use Rattle.node_rules.specs.Rules.{reply_of, replying, lines_to_answer, deliver_batch, delivers, batch_under, proposing, propose_batch, proposes, ballot, votable, writing, write_batch, writes, written, accepting, accept_batch, accepts, slot_in, decision_in, decision_ahead, deciding, decide_batch, decides, answering, answer_line, answers_again}
 use Rattle.node_rules.specs.Nodes.{Node, view_of, regency_of, regency_in, greatest_regency, start_of, next_place, open_slot, is_free, is_open, bound_at, synchronizer_of, holding, recording}
 use Rattle.node_rules.specs.Arrivals.{signer_why, view_why, regency_why, bears_lock, is_batch_for, rests_on_marks, is_proven, why_report, why_dropped, kept_plain, kept_change, kept, noted}
-use Rattle.node_rules.specs.Changes.{start_by_sync, promised_for, adopts_by, adoption, adopts, stop_for, asks_next, joining, joins, report_of, reported_by, next_promise, promising, promise_next, promises, leading, lead_with, leads, is_pressed, timing, passes_on, presses, times}
+use Rattle.node_rules.specs.Changes.{start_by_sync, promised_for, adopts_by, is_adoptable, adoption, adopts, stop_for, asks_next, joining, joins, report_of, reported_by, next_promise, promising, promise_next, promises, leading, lead_with, leads, is_pressed, timing, passes_on, presses, times}
 use Rattle.node_rules.specs.Steps.{step_of, released, opened}
 use Rattle.node_rules.specs.declared.node.Why.TheVariants.{NotLeader, BadProof}
 use Rattle.node_rules.specs.declared.node.Held.{Held}
@@ -81,6 +81,8 @@ use Rattle.node_laws.proofs.Passes.{each_staying}
 use Rattle.node_laws.proofs.Books.{greatest_push}
 use Rattle.node_laws.proofs.Arriving.{ask_tagged}
 use Rattle.replica_rules.proofs.Places.{views_execute, views_delivered, place_execute}
+use Rattle.replica_rules.proofs.Coming.{valid_execute, valid_delivered}
+use Rattle.smart_service.proofs.Coming.{comes_valid}
 use Rattle.node_rules.proofs.Options.{else_none}
 
 -- ---- what has a spelling
@@ -158,7 +160,7 @@ abbrev pub FitsBegun : SignedBy Sync → Type 0
 FitsBegun s = FitsSync s.statement
 
 -- all that a node holds has a spelling, and what it sends
-pub record FitNode {S : Type 0} (secret : List ℕ) (n : Node S) : Type 0 where
+pub record FitNode {S : Type 0} (m : Meaning S) (secret : List ℕ) (n : Node S) : Type 0 where
   pub named : IsSigner 1 n.id
   pub shared : n.secret ≡ secret
   pub view : is_view (view_of n) ≡ true
@@ -172,6 +174,7 @@ pub record FitNode {S : Type 0} (secret : List ℕ) (n : Node S) : Type 0 where
   pub book : Each (FitsEntry secret) n.entries
   pub waiting : ForBatch n.waiting (FitsAt (next_place n))
   pub held : Each (λ h. IsGood secret h.message) n.held
+  pub service : Comes m n.replica.service
 
 -- a view's number
 pub view-low : (v : View) → is_view v ≡ true → v.number < 2 ^ 32
@@ -189,8 +192,8 @@ view-low v is =
 -- ---- messages that wait to leave, and entries
 
 -- a node that differs in what has no spelling
-pub fit-as : {S : Type 0} (secret : List ℕ) (n : Node S) (firm : ℕ) (slots : List Slot) (stopped led pressed told : Bool) → FitNode secret n
-    → FitNode secret (record n { firm = firm; proposed = slots; stop_made = stopped; sync_made = led; impatient = pressed; behind = told })
+pub fit-as : {S : Type 0} {m : Meaning S} (secret : List ℕ) (n : Node S) (firm : ℕ) (slots : List Slot) (stopped led pressed told : Bool) → FitNode m secret n
+    → FitNode m secret (record n { firm = firm; proposed = slots; stop_made = stopped; sync_made = led; impatient = pressed; behind = told })
 unfolding regency_of
 fit-as secret n firm slots stopped led pressed told is =
     record {
@@ -207,10 +210,11 @@ fit-as secret n firm slots stopped led pressed told is =
       book = is.book;
       waiting = is.waiting;
       held = is.held;
+      service = is.service;
     }
 
 -- a message waits to leave
-fit-holding : {S : Type 0} (secret : List ℕ) (n : Node S) (to : Target) (message : AnyMessage) → IsGood secret message → FitNode secret n → FitNode secret (holding n to message)
+fit-holding : {S : Type 0} {m : Meaning S} (secret : List ℕ) (n : Node S) (to : Target) (message : AnyMessage) → IsGood secret message → FitNode m secret n → FitNode m secret (holding n to message)
 unfolding regency_of
 fit-holding secret n to message good is =
     record {
@@ -227,11 +231,12 @@ fit-holding secret n to message good is =
       book = is.book;
       waiting = is.waiting;
       held = each_end (λ (h : Held). IsGood secret h.message) n.held _ is.held good;
+      service = is.service;
     }
 
 -- entries are recorded
-fit-book : {S : Type 0} (secret : List ℕ) (n : Node S) (more : List LogEntry) → regency_of (record n { entries = n.entries ++ more }) < 2 ^ 32 → Each (FitsEntry secret) more → FitNode secret n
-    → FitNode secret (record n { entries = n.entries ++ more })
+fit-book : {S : Type 0} {m : Meaning S} (secret : List ℕ) (n : Node S) (more : List LogEntry) → regency_of (record n { entries = n.entries ++ more }) < 2 ^ 32 → Each (FitsEntry secret) more → FitNode m secret n
+    → FitNode m secret (record n { entries = n.entries ++ more })
 fit-book secret n more regency fit is =
     record {
       named = is.named;
@@ -247,9 +252,10 @@ fit-book secret n more regency fit is =
       book = each_append (FitsEntry secret) n.entries more is.book fit;
       waiting = is.waiting;
       held = is.held;
+      service = is.service;
     }
 
-fit-recording : {S : Type 0} (secret : List ℕ) (n : Node S) (e : LogEntry) → IsQuiet e → FitsEntry secret e → FitNode secret n → FitNode secret (recording n e)
+fit-recording : {S : Type 0} {m : Meaning S} (secret : List ℕ) (n : Node S) (e : LogEntry) → IsQuiet e → FitsEntry secret e → FitNode m secret n → FitNode m secret (recording n e)
 fit-recording secret n e quiet fit is = fit-book secret n (e ∷ []) (let low = is.regency in let same = regency-quiet n e quiet in omega (arith, same, low)) (fit, tt) is
 
 -- a reply has a spelling
@@ -260,7 +266,7 @@ line-good secret own id line shared named fit =
     (record { view_fits = fit.view; place_fits = fit.place; index_fits = fit.index; client_fits = fit.client; seq_fits = fit.seq; reply_fits = fit.reply }))
 
 -- replies wait to leave
-fit-replying : {S : Type 0} (secret : List ℕ) (n : Node S) (lines : List TableLine) → Each FitsLine lines → FitNode secret n → FitNode secret (replying n lines)
+fit-replying : {S : Type 0} {m : Meaning S} (secret : List ℕ) (n : Node S) (lines : List TableLine) → Each FitsLine lines → FitNode m secret n → FitNode m secret (replying n lines)
 fit-replying secret n [] each is = is
 fit-replying secret n (l ∷ ls) each is =
     fit-replying secret (holding n (targets.Client l.client) (Plain (reply_of n.secret n.id l))) ls each.1
@@ -324,10 +330,10 @@ head-short r short =
     omega (arith, short, long)
 
 -- an arrival that is not dropped is kept
-pub fit-kept : {S : Type 0} (secret : List ℕ) (n : Node S) (message : AnyMessage) → why_dropped n message ≡ None → FitsAny message → FitNode secret n → FitNode secret (kept n message)
+pub fit-kept : {S : Type 0} {m : Meaning S} (secret : List ℕ) (n : Node S) (message : AnyMessage) → why_dropped n message ≡ None → FitsAny message → FitNode m secret n → FitNode m secret (kept n message)
 unfolding kept_plain kept_change regency_of
-fit-kept {S = S} secret n (Plain (Ask q)) fine fit is =
-    either (λ (x : Node S). FitNode secret x) (is_next n.replica.table q.statement) (record n { pool = offered n.pool q }) n
+fit-kept {S = S} {m = m} secret n (Plain (Ask q)) fine fit is =
+    either (λ (x : Node S). FitNode m secret x) (is_next n.replica.table q.statement) (record n { pool = offered n.pool q }) n
     (record {
       named = is.named;
       shared = is.shared;
@@ -343,6 +349,7 @@ fit-kept {S = S} secret n (Plain (Ask q)) fine fit is =
       book = is.book;
       waiting = is.waiting;
       held = is.held;
+      service = is.service;
     }) is
 fit-kept secret n (Plain (Propose p)) fine fit is =
     record {
@@ -366,6 +373,7 @@ fit-kept secret n (Plain (Propose p)) fine fit is =
       book = is.book;
       waiting = is.waiting;
       held = is.held;
+      service = is.service;
     }
 fit-kept secret n (Plain (Vote b)) fine fit is =
     record {
@@ -382,6 +390,7 @@ fit-kept secret n (Plain (Vote b)) fine fit is =
       book = is.book;
       waiting = is.waiting;
       held = is.held;
+      service = is.service;
     }
 fit-kept secret n (Plain (Reply a)) fine fit is = is
 fit-kept secret n (Change (changes.Stop s)) fine fit is =
@@ -399,6 +408,7 @@ fit-kept secret n (Change (changes.Stop s)) fine fit is =
       book = is.book;
       waiting = is.waiting;
       held = is.held;
+      service = is.service;
     }
 fit-kept secret n (Change (changes.StopData r)) fine fit is =
     record {
@@ -424,6 +434,7 @@ fit-kept secret n (Change (changes.StopData r)) fine fit is =
       book = is.book;
       waiting = is.waiting;
       held = is.held;
+      service = is.service;
     }
 fit-kept secret n (Change (changes.Sync s)) fine fit is =
     record {
@@ -440,34 +451,40 @@ fit-kept secret n (Change (changes.Sync s)) fine fit is =
       book = is.book;
       waiting = is.waiting;
       held = is.held;
+      service = is.service;
     }
 
 -- a node is told that it is behind
-pub fit-noted : {S : Type 0} (secret : List ℕ) (n : Node S) (message : AnyMessage) → FitNode secret n → FitNode secret (noted n message)
+pub fit-noted : {S : Type 0} {m : Meaning S} (secret : List ℕ) (n : Node S) (message : AnyMessage) → FitNode m secret n → FitNode m secret (noted n message)
 unfolding noted
 fit-noted secret n message is = fit-as secret n n.firm n.proposed n.stop_made n.sync_made n.impatient _ is
 
 -- a node answers again
-fit-answer_line : {S : Type 0} (secret : List ℕ) (n : Node S) (line : Option TableLine) → ForLine line FitsLine → FitNode secret n → FitNode secret (answer_line n line)
+fit-answer_line : {S : Type 0} {m : Meaning S} (secret : List ℕ) (n : Node S) (line : Option TableLine) → ForLine line FitsLine → FitNode m secret n → FitNode m secret (answer_line n line)
 unfolding answer_line
 fit-answer_line secret n None fit is = is
 fit-answer_line secret n (Some line) fit is =
     fit-holding secret n (targets.Client line.client) (Plain (reply_of n.secret n.id line)) (line-good secret n.secret n.id line is.shared is.named fit) is
 
-pub fit-answers_again : {S : Type 0} (secret : List ℕ) (n : Node S) (message : AnyMessage) → FitNode secret n → FitNode secret (answers_again n message)
+pub fit-answers_again : {S : Type 0} {m : Meaning S} (secret : List ℕ) (n : Node S) (message : AnyMessage) → FitNode m secret n → FitNode m secret (answers_again n message)
 unfolding answers_again
 fit-answers_again secret n message is = fit-answer_line secret n (answering n message) (answering-each FitsLine n message is.lines) is
 
 -- ---- deliver
 
--- replies have at most 4,096 bytes
+-- replies in the states that the service comes to have at most 4,096 bytes
 abbrev pub IsBrief : {S : Type 0} → Meaning S → Type 0
-IsBrief {S} m = (s : S) (op : List ℕ) → length (m.reply s op) ≤ 4096
+IsBrief {S} m = (s : S) (op : List ℕ) → Comes m s → length (m.reply s op) ≤ 4096
+
+-- replies in valid states have
+pub brief_where : {S : Type 0} (m : Meaning S) (valid : S → Type 0) → valid m.first → ((s : S) (op : List ℕ) → valid s → valid (m.next s op))
+    → ((s : S) (bytes : List ℕ) → IsBytes bytes → m.restore bytes ≡ Some s → valid s) → ((s : S) (op : List ℕ) → valid s → length (m.reply s op) ≤ 4096) → IsBrief m
+brief_where m valid first next restored brief s op is = brief s op (comes_valid m valid first next restored s is)
 
 -- the line of a request that is executed
-line_made-fits : {S : Type 0} (m : Meaning S) → IsBrief m → (r : Replica S) (index : ℕ) (q : SignedBy Request) → (present r.views).number < 2 ^ 32 → IsCount r.place → index < 2 ^ 16
+line_made-fits : {S : Type 0} (m : Meaning S) → IsBrief m → (r : Replica S) (index : ℕ) (q : SignedBy Request) → (present r.views).number < 2 ^ 32 → IsCount r.place → index < 2 ^ 16 → Comes m r.service
     → FitsSigned requests FitsRequest q → Each FitsLine (option_to_list (line_made m r index q.statement))
-line_made-fits m brief r index q view place low fit =
+line_made-fits m brief r index q view place low come fit =
     either (λ (line : Option TableLine). Each FitsLine (option_to_list line)) (is_next r.table q.statement) (Some (line_of m r index q.statement)) None (
       record {
         view = view;
@@ -475,31 +492,34 @@ line_made-fits m brief r index q view place low fit =
         index = low;
         client = fit.statement_fits.client_fits;
         seq = fit.statement_fits.seq_fits;
-        reply = brief r.service q.statement.op;
+        reply = brief r.service q.statement.op come;
       },
       tt,
     ) tt
 
 -- the lines of the requests that are
-pub lines_of-fit : {S : Type 0} (m : Meaning S) → IsBrief m → (r : Replica S) (index : ℕ) (qs : Batch) → (present r.views).number < 2 ^ 32 → IsCount r.place → index + length qs ≤ 64
+pub lines_of-fit : {S : Type 0} (m : Meaning S) → IsBrief m → (r : Replica S) (index : ℕ) (qs : Batch) → (present r.views).number < 2 ^ 32 → IsCount r.place → index + length qs ≤ 64 → Comes m r.service
     → AllByRecursion (FitsSigned requests FitsRequest) qs → Each FitsLine (lines_of m r index qs)
-lines_of-fit m brief r index [] view place few all = tt
-lines_of-fit m brief r index (q ∷ qs) view place few all =
+lines_of-fit m brief r index [] view place few come all = tt
+lines_of-fit m brief r index (q ∷ qs) view place few come all =
     each_append FitsLine (option_to_list (line_made m r index q.statement)) (lines_of m (execute m r index q.statement) (index + 1) qs)
-    (line_made-fits m brief r index q view place (omega (arith, few)) all.0)
+    (line_made-fits m brief r index q view place (omega (arith, few)) come all.0)
     (lines_of-fit m brief (execute m r index q.statement) (index + 1) qs
-    (rw (views_execute m r index q.statement) view) (rw (place_execute m r index q.statement) place) (omega (arith, few)) all.1)
+    (rw (views_execute m r index q.statement) view) (rw (place_execute m r index q.statement) place) (omega (arith, few))
+    (valid_execute m (Comes m) comes_next r index q.statement come) all.1)
 
 -- the lines of a batch
-executed_lines-fit : {S : Type 0} (m : Meaning S) → IsBrief m → (n : Node S) (batch : Batch) → (view_of n).number < 2 ^ 32 → FitsAt (next_place n) batch → Each FitsLine (executed_lines m n.replica batch)
+executed_lines-fit : {S : Type 0} (m : Meaning S) → IsBrief m → (n : Node S) (batch : Batch) → (view_of n).number < 2 ^ 32 → FitsAt (next_place n) batch → Comes m n.replica.service
+    → Each FitsLine (executed_lines m n.replica batch)
 unfolding executed_lines
-executed_lines-fit m brief n batch view fit =
-    lines_of-fit m brief (at_next n.replica) 0 batch view (omega arith, fit.1) (omega (arith, fit.0.count_fits.1)) fit.0.each_fits
+executed_lines-fit m brief n batch view fit come =
+    lines_of-fit m brief (at_next n.replica) 0 batch view (omega arith, fit.1) (omega (arith, fit.0.count_fits.1)) come fit.0.each_fits
 
 -- the lines that a node answers with
-lines_to_answer-fit : {S : Type 0} (m : Meaning S) → IsBrief m → (n : Node S) (batch : Batch) → (view_of n).number < 2 ^ 32 → FitsAt (next_place n) batch → Each FitsLine (lines_to_answer m n batch)
-lines_to_answer-fit m brief n batch view fit =
-    either (λ (lines : List TableLine). Each FitsLine lines) (is_member (view_of n) n.id) (executed_lines m n.replica batch) [] (executed_lines-fit m brief n batch view fit) tt
+lines_to_answer-fit : {S : Type 0} (m : Meaning S) → IsBrief m → (n : Node S) (batch : Batch) → (view_of n).number < 2 ^ 32 → FitsAt (next_place n) batch → Comes m n.replica.service
+    → Each FitsLine (lines_to_answer m n batch)
+lines_to_answer-fit m brief n batch view fit come =
+    either (λ (lines : List TableLine). Each FitsLine lines) (is_member (view_of n) n.id) (executed_lines m n.replica batch) [] (executed_lines-fit m brief n batch view fit come) tt
 
 -- a batch is delivered
 delivered-view : {S : Type 0} (m : Meaning S) (r : Replica S) (batch : Batch) → present (delivered m r batch).views ≡ present r.views
@@ -508,7 +528,7 @@ delivered-view m r batch = ap present (views_delivered m r batch)
 regency-view : (v w : View) (es : List LogEntry) → w ≡ v → greatest_regency v.number es < 2 ^ 32 → greatest_regency w.number es < 2 ^ 32
 regency-view v w es same low = subst (λ (x : View). greatest_regency x.number es < 2 ^ 32) (sym same) low
 
-fit-deliver_batch : {S : Type 0} (secret : List ℕ) (m : Meaning S) → IsBrief m → (n : Node S) (batch : Option Batch) → ForBatch batch (FitsAt (next_place n)) → FitNode secret n → FitNode secret (deliver_batch m n batch)
+fit-deliver_batch : {S : Type 0} (secret : List ℕ) (m : Meaning S) → IsBrief m → (n : Node S) (batch : Option Batch) → ForBatch batch (FitsAt (next_place n)) → FitNode m secret n → FitNode m secret (deliver_batch m n batch)
 unfolding deliver_batch regency_of
 fit-deliver_batch secret m brief n None fit is = is
 fit-deliver_batch secret m brief n (Some batch) fit is =
@@ -516,14 +536,14 @@ fit-deliver_batch secret m brief n (Some batch) fit is =
     fit-replying secret
     (record n { replica = delivered m n.replica batch; waiting = None; pool = settled (delivered m n.replica batch).table n.pool; impatient = false })
     (lines_to_answer m n batch)
-    (lines_to_answer-fit m brief n batch low fit)
+    (lines_to_answer-fit m brief n batch low fit is.service)
     (record {
       named = is.named;
       shared = is.shared;
       view = subst (λ (v : View). is_view v ≡ true) (sym (delivered-view m n.replica batch)) is.view;
       views = subst (λ (vs : List View). Each (λ v. is_view v ≡ true) vs) (sym (views_delivered m n.replica batch)) is.views;
       regency = regency-view (view_of n) (present (delivered m n.replica batch).views) n.entries (delivered-view m n.replica batch) is.regency;
-      lines = each-delivered FitsLine m n.replica batch is.lines (executed_lines-fit m brief n batch low fit);
+      lines = each-delivered FitsLine m n.replica batch is.lines (executed_lines-fit m brief n batch low fit is.service);
       pool = each_filter (FitsPool secret) (λ q. is_next (delivered m n.replica batch).table q.statement) n.pool is.pool;
       arrivals = is.arrivals;
       told = is.told;
@@ -531,9 +551,10 @@ fit-deliver_batch secret m brief n (Some batch) fit is =
       book = is.book;
       waiting = tt;
       held = is.held;
+      service = valid_delivered m (Comes m) comes_next n.replica batch is.service;
     })
 
-pub fit-delivers : {S : Type 0} (secret : List ℕ) (m : Meaning S) → IsBrief m → (n : Node S) → FitNode secret n → FitNode secret (delivers m n)
+pub fit-delivers : {S : Type 0} (secret : List ℕ) (m : Meaning S) → IsBrief m → (n : Node S) → FitNode m secret n → FitNode m secret (delivers m n)
 unfolding delivers
 fit-delivers secret m brief n is = fit-deliver_batch secret m brief n n.waiting is.waiting is
 
@@ -619,7 +640,7 @@ promise-low view v r true is low = rw is low
 promise-low view v r false is low = rw is (omega arith)
 
 -- a wish for the next one
-asks-fit : {S : Type 0} (secret : List ℕ) (n : Node S) → regency_of n + 1 < 2 ^ 32 → FitNode secret n → FitNode secret (asks_next n)
+asks-fit : {S : Type 0} {m : Meaning S} (secret : List ℕ) (n : Node S) → regency_of n + 1 < 2 ^ 32 → FitNode m secret n → FitNode m secret (asks_next n)
 asks-fit {S = S} secret n low is =
     let x : Node S = record n { stop_made = true } in
     fit-holding secret x targets.View (stop_for n)
@@ -631,9 +652,9 @@ joining-low : {S : Type 0} (n : Node S) → joining n ≡ true → regency_of n 
 unfolding joining is_joining
 joining-low n is = ltb-true (regency_of n + 1) (2 ^ 32) (and_true (has_next (synchronizer_of n)) (not n.stop_made) (and_true _ _ is).0).0
 
-pub fit-joins : {S : Type 0} (secret : List ℕ) (n : Node S) → FitNode secret n → FitNode secret (joins n)
+pub fit-joins : {S : Type 0} {m : Meaning S} (secret : List ℕ) (n : Node S) → FitNode m secret n → FitNode m secret (joins n)
 unfolding joins
-fit-joins {S = S} secret n is = either_by (λ (x : Node S). FitNode secret x) (joining n) (asks_next n) n (λ due. asks-fit secret n (joining-low n due) is) (λ not_due. is)
+fit-joins {S = S} {m = m} secret n is = either_by (λ (x : Node S). FitNode m secret x) (joining n) (asks_next n) n (λ due. asks-fit secret n (joining-low n due) is) (λ not_due. is)
 
 -- a beginning is adopted
 adopted-low : {S : Type 0} (n : Node S) (s : Sync) → regency_of n < 2 ^ 32 → s.regency < 2 ^ 32
@@ -653,7 +674,7 @@ adopted-low n s low begun =
 promised_for-fit : {S : Type 0} (secret : List ℕ) (n : Node S) (s : Sync) → Each (FitsEntry secret) (promised_for n s)
 promised_for-fit secret n s = either (λ (es : List LogEntry). Each (FitsEntry secret) es) (nat_lt (regency_of n) s.regency) _ [] (tt, tt) tt
 
-fit-adopts_by : {S : Type 0} (secret : List ℕ) (n : Node S) (sync : Option (SignedBy Sync)) → IfSome sync FitsBegun → FitNode secret n → FitNode secret (adopts_by n sync)
+fit-adopts_by : {S : Type 0} {m : Meaning S} (secret : List ℕ) (n : Node S) (sync : Option (SignedBy Sync)) → IfSome sync FitsBegun → FitNode m secret n → FitNode m secret (adopts_by n sync)
 unfolding adopts_by regency_of
 fit-adopts_by secret n None begun is = is
 fit-adopts_by secret n (Some sync) begun is =
@@ -672,12 +693,13 @@ fit-adopts_by secret n (Some sync) begun is =
           (each_append (FitsEntry secret) n.entries (promised_for n sync.statement) is.book (promised_for-fit secret n sync.statement)) tt;
       waiting = is.waiting;
       held = is.held;
+      service = is.service;
     }
 
-pub fit-adopts : {S : Type 0} (secret : List ℕ) (n : Node S) → FitNode secret n → FitNode secret (adopts n)
-unfolding adopts adoption adopting
+pub fit-adopts : {S : Type 0} {m : Meaning S} (secret : List ℕ) (n : Node S) → FitNode m secret n → FitNode m secret (adopts n)
+unfolding adopts adoption
 fit-adopts secret n is =
-    fit-adopts_by secret n (find (is_adoptable (view_of n) (synchronizer_of n)) n.syncs) (if_find FitsBegun (is_adoptable (view_of n) (synchronizer_of n)) n.syncs is.begun) is
+    fit-adopts_by secret n (find (is_adoptable n) n.syncs) (if_find FitsBegun (is_adoptable n) n.syncs is.begun) is
 
 -- the last place that a book makes
 pub last-low : (secret : List ℕ) (es : List LogEntry) → Each (FitsEntry secret) es → last_made es < 2 ^ 63
@@ -762,7 +784,7 @@ lock-batch secret None fit = tt
 lock-batch secret (Some a) fit = fit.batch_fits
 
 -- what a node reports
-report_of-fits : {S : Type 0} (secret : List ℕ) (n : Node S) (regency : ℕ) → regency < 2 ^ 32 → FitNode secret n → FitReport (report_of n regency)
+report_of-fits : {S : Type 0} {m : Meaning S} (secret : List ℕ) (n : Node S) (regency : ℕ) → regency < 2 ^ 32 → FitNode m secret n → FitReport (report_of n regency)
 unfolding report_of
 report_of-fits secret n regency low is = record {
   view_fits = view-low (view_of n) is.view;
@@ -772,7 +794,7 @@ report_of-fits secret n regency low is = record {
   lock_fits = lock-good secret (lock_of (view_of n).number n.entries) (lock-fits secret (view_of n).number (last_made n.entries + 1) n.entries is.book);
 }
 
-reported_by-good : {S : Type 0} (secret : List ℕ) (n : Node S) (regency : ℕ) → regency < 2 ^ 32 → FitNode secret n → IsGood secret (Change (changes.StopData (reported_by n regency)))
+reported_by-good : {S : Type 0} {m : Meaning S} (secret : List ℕ) (n : Node S) (regency : ℕ) → regency < 2 ^ 32 → FitNode m secret n → IsGood secret (Change (changes.StopData (reported_by n regency)))
 unfolding reported_by
 reported_by-good secret n regency low is =
     let lock = lock_of (view_of n).number n.entries in
@@ -785,7 +807,7 @@ pub promising-low : {S : Type 0} (n : Node S) → promising n ≡ true → regen
 unfolding promising is_promising
 promising-low n is = ltb-true (regency_of n + 1) (2 ^ 32) (and_true (has_next (synchronizer_of n)) _ is).0
 
-fit-promised : {S : Type 0} (secret : List ℕ) (n : Node S) → regency_of n + 1 < 2 ^ 32 → FitNode secret n → FitNode secret (recording n (entries.Promised (next_promise n)))
+fit-promised : {S : Type 0} {m : Meaning S} (secret : List ℕ) (n : Node S) → regency_of n + 1 < 2 ^ 32 → FitNode m secret n → FitNode m secret (recording n (entries.Promised (next_promise n)))
 unfolding regency_of
 fit-promised secret n low is =
     fit-book secret n (entries.Promised (next_promise n) ∷ [])
@@ -795,7 +817,7 @@ fit-promised secret n low is =
     let old = is.regency in
     omega (arith, grown, own, old)) (tt, tt) is
 
-fit-promise_next : {S : Type 0} (secret : List ℕ) (n : Node S) → regency_of n + 1 < 2 ^ 32 → FitNode secret n → FitNode secret (promise_next n)
+fit-promise_next : {S : Type 0} {m : Meaning S} (secret : List ℕ) (n : Node S) → regency_of n + 1 < 2 ^ 32 → FitNode m secret n → FitNode m secret (promise_next n)
 unfolding promise_next
 fit-promise_next {S = S} secret n low is =
     let x : Node S = recording n (entries.Promised (next_promise n)) in
@@ -803,9 +825,9 @@ fit-promise_next {S = S} secret n low is =
     fit-holding secret y (targets.Node (leader (view_of n) (regency_of n + 1))) (Change (changes.StopData (reported_by n (regency_of n + 1)))) (reported_by-good secret n (regency_of n + 1) low is)
     (fit-as secret x x.firm x.proposed false false true x.behind (fit-promised secret n low is))
 
-pub fit-promises : {S : Type 0} (secret : List ℕ) (n : Node S) → FitNode secret n → FitNode secret (promises n)
+pub fit-promises : {S : Type 0} {m : Meaning S} (secret : List ℕ) (n : Node S) → FitNode m secret n → FitNode m secret (promises n)
 unfolding promises
-fit-promises {S = S} secret n is = either_by (λ (x : Node S). FitNode secret x) (promising n) (promise_next n) n (λ due. fit-promise_next secret n (promising-low n due) is) (λ not_due. is)
+fit-promises {S = S} {m = m} secret n is = either_by (λ (x : Node S). FitNode m secret x) (promising n) (promise_next n) n (λ due. fit-promise_next secret n (promising-low n due) is) (λ not_due. is)
 
 -- the reports with which a leader begins
 pub record FitsCollect (secret : List ℕ) (rs : List (SignedBy Report)) : Type 0 where
@@ -829,13 +851,13 @@ collect-fits secret view s is each =
           (each_given (λ (m : ℕ). Unit {0}) (FitsCollected secret) (first_report view.number s.regency s.reports) (λ member any. first_report-fits secret view.number s.regency s.reports member each) view.members (each_any view.members));
     }
 
-leading-fits : {S : Type 0} (secret : List ℕ) (n : Node S) → FitNode secret n → IfSome (leading n) (FitsCollect secret)
+leading-fits : {S : Type 0} {m : Meaning S} (secret : List ℕ) (n : Node S) → FitNode m secret n → IfSome (leading n) (FitsCollect secret)
 unfolding leading collecting
 leading-fits secret n is =
     if_cond (FitsCollect secret) (is_collecting (view_of n) (synchronizer_of n)) (Some (collect (view_of n) (synchronizer_of n)))
     (λ due. collect-fits secret (view_of n) (synchronizer_of n) is.view is.told)
 
-fit-lead_with : {S : Type 0} (secret : List ℕ) (n : Node S) (collected : Option (List (SignedBy Report))) → IfSome collected (FitsCollect secret) → FitNode secret n → FitNode secret (lead_with n collected)
+fit-lead_with : {S : Type 0} {m : Meaning S} (secret : List ℕ) (n : Node S) (collected : Option (List (SignedBy Report))) → IfSome collected (FitsCollect secret) → FitNode m secret n → FitNode m secret (lead_with n collected)
 unfolding lead_with
 fit-lead_with secret n None fit is = is
 fit-lead_with {S = S} secret n (Some collected) fit is =
@@ -845,12 +867,12 @@ fit-lead_with {S = S} secret n (Some collected) fit is =
     (sync-good secret n.id (record { view = (view_of n).number; regency = regency_of n; collect = collected }) is.named (view-low (view_of n) is.view) is.regency fit.few fit.each))
     (fit-as secret n n.firm n.proposed n.stop_made true n.impatient n.behind is)
 
-pub fit-leads : {S : Type 0} (secret : List ℕ) (n : Node S) → FitNode secret n → FitNode secret (leads n)
+pub fit-leads : {S : Type 0} {m : Meaning S} (secret : List ℕ) (n : Node S) → FitNode m secret n → FitNode m secret (leads n)
 unfolding leads
 fit-leads secret n is = fit-lead_with secret n (leading n) (leading-fits secret n is) is
 
 -- time passes
-fit-passes_on : {S : Type 0} (secret : List ℕ) (n : Node S) (pool : List (SignedBy Request)) → Each (FitsPool secret) pool → FitNode secret n → FitNode secret (passes_on n pool)
+fit-passes_on : {S : Type 0} {m : Meaning S} (secret : List ℕ) (n : Node S) (pool : List (SignedBy Request)) → Each (FitsPool secret) pool → FitNode m secret n → FitNode m secret (passes_on n pool)
 fit-passes_on secret n [] each is = is
 fit-passes_on secret n (q ∷ qs) each is = fit-holding secret n (targets.Node (leader (view_of n) (regency_of n))) (Plain (Ask q)) (ask-good secret q each.0.fits each.0.tagged) is
 
@@ -859,17 +881,17 @@ timing-low : {S : Type 0} (n : Node S) (impatient : Bool) → (is_pressed n && (
 timing-low n true is same = ltb-true (regency_of n + 1) (2 ^ 32) (and_true (is_pressed n) (nat_lt (regency_of n + 1) (2 ^ 32)) is).1
 timing-low n false is same = absurd (cc)
 
-fit-presses : {S : Type 0} (secret : List ℕ) (n : Node S) → timing n ≡ true → FitNode secret n → FitNode secret (presses n)
+fit-presses : {S : Type 0} {m : Meaning S} (secret : List ℕ) (n : Node S) → timing n ≡ true → FitNode m secret n → FitNode m secret (presses n)
 unfolding presses timing
-fit-presses {S = S} secret n due is =
+fit-presses {S = S} {m = m} secret n due is =
     let x : Node S = record n { impatient = true } in
-    either_by (λ (y : Node S). FitNode secret y) n.impatient (asks_next n) (passes_on x n.pool)
+    either_by (λ (y : Node S). FitNode m secret y) n.impatient (asks_next n) (passes_on x n.pool)
     (λ impatient. asks-fit secret n (timing-low n n.impatient due impatient) is)
     (λ patient. fit-passes_on secret x n.pool is.pool (fit-as secret n n.firm n.proposed n.stop_made n.sync_made true n.behind is))
 
-pub fit-times : {S : Type 0} (secret : List ℕ) (n : Node S) → FitNode secret n → FitNode secret (times n)
+pub fit-times : {S : Type 0} {m : Meaning S} (secret : List ℕ) (n : Node S) → FitNode m secret n → FitNode m secret (times n)
 unfolding times
-fit-times {S = S} secret n is = either_by (λ (x : Node S). FitNode secret x) (timing n) (presses n) n (λ due. fit-presses secret n due is) (λ not_due. is)
+fit-times {S = S} {m = m} secret n is = either_by (λ (x : Node S). FitNode m secret x) (timing n) (presses n) n (λ due. fit-presses secret n due is) (λ not_due. is)
 
 -- ---- propose, write and accept
 
@@ -886,7 +908,7 @@ open-low : {S : Type 0} (n : Node S) → is_open n ≡ true → next_place n < 2
 open-low n is = free-low n (and_true (is_member (view_of n) n.id) (is_free n) (and_true _ _ is).0).1
 
 -- the slot that is open has a spelling
-pub open-fits : {S : Type 0} (secret : List ℕ) (n : Node S) → FitNode secret n → next_place n < 2 ^ 63 → FitsSlot (open_slot n)
+pub open-fits : {S : Type 0} {m : Meaning S} (secret : List ℕ) (n : Node S) → FitNode m secret n → next_place n < 2 ^ 63 → FitsSlot (open_slot n)
 open-fits secret n is low = record { view_fits = view-low (view_of n) is.view; place_fits = (omega arith, low); regency_fits = is.regency }
 
 -- what fits is filled with what the limits leave room for
@@ -942,7 +964,7 @@ accepted_under-fits secret view place digest es each =
     named None fit = tt
     named (Some x) fit = fit
 
-batch_under-fits : {S : Type 0} (secret : List ℕ) (n : Node S) (bound : Option (List ℕ)) → FitNode secret n → ForBatch (batch_under n bound) (FitsSending secret)
+batch_under-fits : {S : Type 0} {m : Meaning S} (secret : List ℕ) (n : Node S) (bound : Option (List ℕ)) → FitNode m secret n → ForBatch (batch_under n bound) (FitsSending secret)
 unfolding batch_under bound_batch
 batch_under-fits secret n None is = gathered-fits secret n.pool (next_place n) is.pool
 batch_under-fits secret n (Some digest) is =
@@ -951,7 +973,7 @@ batch_under-fits secret n (Some digest) is =
     (if_found (FitsReported secret) (bears (view_of n) (synchronizer_of n) digest) n.reports is.told))
     (accepted_under-fits secret (view_of n).number (next_place n) digest n.entries is.book)
 
-proposing-fits : {S : Type 0} (secret : List ℕ) (n : Node S) → FitNode secret n → ForBatch (proposing n) (FitsProposed secret (next_place n))
+proposing-fits : {S : Type 0} {m : Meaning S} (secret : List ℕ) (n : Node S) → FitNode m secret n → ForBatch (proposing n) (FitsProposed secret (next_place n))
 unfolding proposing
 proposing-fits secret n is =
     guarded (FitsProposed secret (next_place n)) _ (batch_under n (bound_at (next_place n) (start_of n)))
@@ -960,7 +982,7 @@ proposing-fits secret n is =
     for_batch-weaker (FitsSending secret) (FitsProposed secret (next_place n)) (λ batch fit. ((fit.0, open-low n two.0), fit.1)) (batch_under n (bound_at (next_place n) (start_of n)))
     (batch_under-fits secret n (bound_at (next_place n) (start_of n)) is))
 
-fit-propose_batch : {S : Type 0} (secret : List ℕ) (n : Node S) (batch : Option Batch) → ForBatch batch (FitsProposed secret (next_place n)) → FitNode secret n → FitNode secret (propose_batch n batch)
+fit-propose_batch : {S : Type 0} {m : Meaning S} (secret : List ℕ) (n : Node S) (batch : Option Batch) → ForBatch batch (FitsProposed secret (next_place n)) → FitNode m secret n → FitNode m secret (propose_batch n batch)
 unfolding propose_batch
 fit-propose_batch secret n None fit is = is
 fit-propose_batch {S = S} secret n (Some batch) fit is =
@@ -972,12 +994,12 @@ fit-propose_batch {S = S} secret n (Some batch) fit is =
     (record { slot_fits = open-fits secret n is fit.0.1; digest_fits = digest_of-length batch }) fit.0.0 fit.1))
     (fit-as secret n n.firm x.proposed n.stop_made n.sync_made n.impatient n.behind is)
 
-pub fit-proposes : {S : Type 0} (secret : List ℕ) (n : Node S) → FitNode secret n → FitNode secret (proposes n)
+pub fit-proposes : {S : Type 0} {m : Meaning S} (secret : List ℕ) (n : Node S) → FitNode m secret n → FitNode m secret (proposes n)
 unfolding proposes
 fit-proposes secret n is = fit-propose_batch secret n (proposing n) (proposing-fits secret n is) is
 
 -- a vote has a spelling
-ballot-good : {S : Type 0} (secret : List ℕ) (n : Node S) (kind : VoteKind) (digest : List ℕ) → next_place n < 2 ^ 63 → length digest ≡ 32 → FitNode secret n → IsGood secret (ballot n kind digest)
+ballot-good : {S : Type 0} {m : Meaning S} (secret : List ℕ) (n : Node S) (kind : VoteKind) (digest : List ℕ) → next_place n < 2 ^ 63 → length digest ≡ 32 → FitNode m secret n → IsGood secret (ballot n kind digest)
 ballot-good secret n kind digest low long is =
     subst (λ (s : List ℕ). IsGood secret (Plain (Vote (signed ballots s n.id (record { kind = kind; slot = open_slot n; digest = digest }))))) (sym is.shared)
     (vote-good secret n.id (record { kind = kind; slot = open_slot n; digest = digest }) is.named (record { slot_fits = open-fits secret n is low; digest_fits = long }))
@@ -1002,18 +1024,18 @@ proposed_for-fits secret slot [] each = tt
 proposed_for-fits secret slot (x ∷ xs) each =
     if_or (λ (p : Proposed). FitsSending secret p.batch × (length p.head.statement.digest ≡ 32)) (proposed_in slot x) (proposed_for xs slot) (proposed_in-fits secret slot x each.0) (proposed_for-fits secret slot xs each.1)
 
-voted-fits : {S : Type 0} (secret : List ℕ) (n : Node S) → next_place n < 2 ^ 63 → FitNode secret n → IfSome (votable n (proposed_for n.arrivals (open_slot n))) (FitsVoted secret (next_place n))
+voted-fits : {S : Type 0} {m : Meaning S} (secret : List ℕ) (n : Node S) → next_place n < 2 ^ 63 → FitNode m secret n → IfSome (votable n (proposed_for n.arrivals (open_slot n))) (FitsVoted secret (next_place n))
 voted-fits secret n low is =
     votable-if (FitsVoted secret (next_place n)) n (proposed_for n.arrivals (open_slot n))
     (if_weaker (λ (p : Proposed). FitsSending secret p.batch × (length p.head.statement.digest ≡ 32)) (FitsVoted secret (next_place n))
     (λ p fit. record { low = low; batch_fits = fit.0; digest_fits = fit.1 }) (proposed_for n.arrivals (open_slot n)) (proposed_for-fits secret (open_slot n) n.arrivals is.arrivals))
 
-pub writing-fits : {S : Type 0} (secret : List ℕ) (n : Node S) → FitNode secret n → IfSome (writing n) (FitsVoted secret (next_place n))
+pub writing-fits : {S : Type 0} {m : Meaning S} (secret : List ℕ) (n : Node S) → FitNode m secret n → IfSome (writing n) (FitsVoted secret (next_place n))
 unfolding writing
 writing-fits secret n is =
     if_cond (FitsVoted secret (next_place n)) _ (votable n (proposed_for n.arrivals (open_slot n))) (λ may. voted-fits secret n (open-low n (and_true (is_open n) _ may).0) is)
 
-fit-write_batch : {S : Type 0} (secret : List ℕ) (n : Node S) (p : Option Proposed) → IfSome p (FitsVoted secret (next_place n)) → FitNode secret n → FitNode secret (write_batch n p)
+fit-write_batch : {S : Type 0} {m : Meaning S} (secret : List ℕ) (n : Node S) (p : Option Proposed) → IfSome p (FitsVoted secret (next_place n)) → FitNode m secret n → FitNode m secret (write_batch n p)
 unfolding write_batch
 fit-write_batch secret n None fit is = is
 fit-write_batch secret n (Some p) fit is =
@@ -1021,17 +1043,17 @@ fit-write_batch secret n (Some p) fit is =
     fit-holding secret (recording n entry) targets.View (ballot n Write p.head.statement.digest) (ballot-good secret n Write p.head.statement.digest fit.low fit.digest_fits is)
     (fit-recording secret n entry (quiet-wrote _) tt is)
 
-pub fit-writes : {S : Type 0} (secret : List ℕ) (n : Node S) → FitNode secret n → FitNode secret (writes n)
+pub fit-writes : {S : Type 0} {m : Meaning S} (secret : List ℕ) (n : Node S) → FitNode m secret n → FitNode m secret (writes n)
 unfolding writes
 fit-writes secret n is = fit-write_batch secret n (writing n) (writing-fits secret n is) is
 
-pub accepting-fits : {S : Type 0} (secret : List ℕ) (n : Node S) → FitNode secret n → IfSome (accepting n) (FitsVoted secret (next_place n))
+pub accepting-fits : {S : Type 0} {m : Meaning S} (secret : List ℕ) (n : Node S) → FitNode m secret n → IfSome (accepting n) (FitsVoted secret (next_place n))
 unfolding accepting
 accepting-fits secret n is =
     if_cond (FitsVoted secret (next_place n)) _ (written n (votable n (proposed_for n.arrivals (open_slot n))))
     (λ may. written-if (FitsVoted secret (next_place n)) n (votable n (proposed_for n.arrivals (open_slot n))) (voted-fits secret n (open-low n (and_true (is_open n) _ may).0) is))
 
-fit-accept_batch : {S : Type 0} (secret : List ℕ) (n : Node S) (p : Option Proposed) → IfSome p (FitsVoted secret (next_place n)) → FitNode secret n → FitNode secret (accept_batch n p)
+fit-accept_batch : {S : Type 0} {m : Meaning S} (secret : List ℕ) (n : Node S) (p : Option Proposed) → IfSome p (FitsVoted secret (next_place n)) → FitNode m secret n → FitNode m secret (accept_batch n p)
 unfolding accept_batch
 fit-accept_batch secret n None fit is = is
 fit-accept_batch secret n (Some p) fit is =
@@ -1049,7 +1071,7 @@ fit-accept_batch secret n (Some p) fit is =
       batch_fits = fit.batch_fits;
     }) is)
 
-pub fit-accepts : {S : Type 0} (secret : List ℕ) (n : Node S) → FitNode secret n → FitNode secret (accepts n)
+pub fit-accepts : {S : Type 0} {m : Meaning S} (secret : List ℕ) (n : Node S) → FitNode m secret n → FitNode m secret (accepts n)
 unfolding accepts
 fit-accepts secret n is = fit-accept_batch secret n (accepting n) (accepting-fits secret n is) is
 
@@ -1071,7 +1093,7 @@ known-fits secret view place regency arrivals es came book =
     (each_given (FitsArrival secret) (λ (x : Named). FitsSending secret x.batch) (named_in view place regency) (named_in-fits secret view place regency) arrivals came)
     (each_given (FitsEntry secret) (λ (x : Named). FitsSending secret x.batch) (named_by view place) (named_by-fits secret view place) es book)
 
-decision_by-fits : {S : Type 0} (secret : List ℕ) (n : Node S) (regency : ℕ) (found : Option Named) → next_place n < 2 ^ 63 → regency < 2 ^ 32 → FitNode secret n → IfSome found (λ (x : Named). FitsSending secret x.batch)
+decision_by-fits : {S : Type 0} {m : Meaning S} (secret : List ℕ) (n : Node S) (regency : ℕ) (found : Option Named) → next_place n < 2 ^ 63 → regency < 2 ^ 32 → FitNode m secret n → IfSome found (λ (x : Named). FitsSending secret x.batch)
     → IfSome (decision_by (view_of n) (slot_in n regency) n.arrivals found) FitsDecision
 decision_by-fits secret n regency None low small is fit = tt
 decision_by-fits secret n regency (Some x) low small is fit = record {
@@ -1082,14 +1104,14 @@ decision_by-fits secret n regency (Some x) low small is fit = record {
   batch_fits = fit.0;
 }
 
-decision_in-fits : {S : Type 0} (secret : List ℕ) (n : Node S) (regency : ℕ) → next_place n < 2 ^ 63 → regency < 2 ^ 32 → FitNode secret n → IfSome (decision_in n regency) FitsDecision
+decision_in-fits : {S : Type 0} {m : Meaning S} (secret : List ℕ) (n : Node S) (regency : ℕ) → next_place n < 2 ^ 63 → regency < 2 ^ 32 → FitNode m secret n → IfSome (decision_in n regency) FitsDecision
 unfolding decision_in
 decision_in-fits secret n regency low small is =
     decision_by-fits secret n regency _ low small is
     (if_find (λ (x : Named). FitsSending secret x.batch) _ (known (view_of n).number (next_place n) (regency_of n) n.arrivals n.entries)
     (known-fits secret (view_of n).number (next_place n) (regency_of n) n.arrivals n.entries is.arrivals is.book))
 
-pub deciding-fits : {S : Type 0} (secret : List ℕ) (n : Node S) → FitNode secret n → IfSome (deciding n) (λ d. FitsDecision d × (next_place n < 2 ^ 63))
+pub deciding-fits : {S : Type 0} {m : Meaning S} (secret : List ℕ) (n : Node S) → FitNode m secret n → IfSome (deciding n) (λ d. FitsDecision d × (next_place n < 2 ^ 63))
 unfolding deciding
 deciding-fits secret n is =
     if_cond (λ d. FitsDecision d × (next_place n < 2 ^ 63)) (is_free n) (or_else (decision_in n (regency_of n)) (decision_ahead n))
@@ -1100,7 +1122,7 @@ deciding-fits secret n is =
     (λ room. decision_in-fits secret n (regency_of n + 1) low (ltb-true (regency_of n + 1) (2 ^ 32) room) is))))
 
 -- a batch waits at the next place
-waits : {S : Type 0} (secret : List ℕ) (n : Node S) (batch : Batch) → FitsAt (next_place n) batch → FitNode secret n → FitNode secret (record n { waiting = Some batch })
+waits : {S : Type 0} {m : Meaning S} (secret : List ℕ) (n : Node S) (batch : Batch) → FitsAt (next_place n) batch → FitNode m secret n → FitNode m secret (record n { waiting = Some batch })
 unfolding regency_of
 waits secret n batch fit is =
     record {
@@ -1117,22 +1139,23 @@ waits secret n batch fit is =
       book = is.book;
       waiting = fit;
       held = is.held;
+      service = is.service;
     }
 
-fit-decide_batch : {S : Type 0} (secret : List ℕ) (n : Node S) (d : Option Decision) → IfSome d (λ x. FitsDecision x × (next_place n < 2 ^ 63)) → FitNode secret n → FitNode secret (decide_batch n d)
+fit-decide_batch : {S : Type 0} {m : Meaning S} (secret : List ℕ) (n : Node S) (d : Option Decision) → IfSome d (λ x. FitsDecision x × (next_place n < 2 ^ 63)) → FitNode m secret n → FitNode m secret (decide_batch n d)
 unfolding decide_batch
 fit-decide_batch secret n None fit is = is
 fit-decide_batch {S = S} secret n (Some d) fit is =
     waits secret (recording n (entries.Decided d)) d.batch (fit.0.batch_fits, fit.1) (fit-recording secret n (entries.Decided d) (quiet-decided d) fit.0 is)
 
-pub fit-decides : {S : Type 0} (secret : List ℕ) (n : Node S) → FitNode secret n → FitNode secret (decides n)
+pub fit-decides : {S : Type 0} {m : Meaning S} (secret : List ℕ) (n : Node S) → FitNode m secret n → FitNode m secret (decides n)
 unfolding decides
 fit-decides secret n is = fit-decide_batch secret n (deciding n) (deciding-fits secret n is) is
 
 -- ---- a step
 
-fit-rules : {S : Type 0} (secret : List ℕ) → KeptByRules {S = S} (λ n. FitNode secret n)
-fit-rules secret = record {
+fit-rules : {S : Type 0} (secret : List ℕ) (m : Meaning S) → KeptByRules {S = S} (λ n. FitNode m secret n)
+fit-rules secret m = record {
   by_adopts = λ n is. fit-adopts secret n is;
   by_joins = λ n is. fit-joins secret n is;
   by_promises = λ n is. fit-promises secret n is;
@@ -1143,9 +1166,9 @@ fit-rules secret = record {
   by_decides = λ n is. fit-decides secret n is;
 }
 
-fit-in_steps : {S : Type 0} (secret : List ℕ) (m : Meaning S) → IsBrief m → KeptInSteps m (λ n. FitNode secret n) FitsAny
+fit-in_steps : {S : Type 0} (secret : List ℕ) (m : Meaning S) → IsBrief m → KeptInSteps m (λ n. FitNode m secret n) FitsAny
 fit-in_steps secret m brief = record {
-  by_rules = fit-rules secret;
+  by_rules = fit-rules secret m;
   by_times = λ n is. fit-times secret n is;
   by_answers = λ n message is. fit-answers_again secret n message is;
   by_noted = λ n message is. fit-noted secret n message is;
@@ -1158,12 +1181,12 @@ abbrev pub FitsEvent : NodeEvent → Type 0
 FitsEvent event = ForEvent FitsAny event
 
 -- each event keeps that what a node holds has a spelling
-pub fit-step : {S : Type 0} (secret : List ℕ) (m : Meaning S) → IsBrief m → (n : Node S) (event : NodeEvent) → FitsEvent event → FitNode secret n → FitNode secret (step_of m n event).node
+pub fit-step : {S : Type 0} (secret : List ℕ) (m : Meaning S) → IsBrief m → (n : Node S) (event : NodeEvent) → FitsEvent event → FitNode m secret n → FitNode m secret (step_of m n event).node
 fit-step secret m brief n event fit is =
-    keeps_step m (λ x. FitNode secret x) FitsAny n event (fit-in_steps secret m brief) (λ x count good. fit-as secret x count x.proposed x.stop_made x.sync_made x.impatient x.behind good) fit is
+    keeps_step m (λ x. FitNode m secret x) FitsAny n event (fit-in_steps secret m brief) (λ x count good. fit-as secret x count x.proposed x.stop_made x.sync_made x.impatient x.behind good) fit is
 
 -- what is firm has left
-pub fit-released : {S : Type 0} (secret : List ℕ) (n : Node S) → FitNode secret n → FitNode secret (released n)
+pub fit-released : {S : Type 0} {m : Meaning S} (secret : List ℕ) (n : Node S) → FitNode m secret n → FitNode m secret (released n)
 unfolding regency_of
 fit-released secret n is =
     record {
@@ -1180,10 +1203,11 @@ fit-released secret n is =
       book = is.book;
       waiting = is.waiting;
       held = each_staying (λ (h : Held). IsGood secret h.message) n.firm n.held is.held;
+      service = is.service;
     }
 
 -- a node begins so
-pub fit-opened : {S : Type 0} (secret : List ℕ) (m : Meaning S) (id : ℕ) (view : View) (period : ℕ) → IsSigner 1 id → is_view view ≡ true → FitNode secret (opened m secret id view period)
+pub fit-opened : {S : Type 0} (secret : List ℕ) (m : Meaning S) (id : ℕ) (view : View) (period : ℕ) → IsSigner 1 id → is_view view ≡ true → FitNode m secret (opened m secret id view period)
 unfolding regency_of
 fit-opened secret m id view period named is =
     record {
@@ -1200,6 +1224,7 @@ fit-opened secret m id view period named is =
       book = (tt, tt);
       waiting = tt;
       held = tt;
+      service = comes_first;
     }
 
 -- ---- whatever comes
@@ -1215,7 +1240,7 @@ event-fits Tick are = tt
 event-fits Deliver are = tt
 event-fits (Firm count) are = tt
 
-pub fit_after : {S : Type 0} (secret : List ℕ) (m : Meaning S) → IsBrief m → (n : Node S) (events : List NodeEvent) → Each IsByteEvent events → FitNode secret n → FitNode secret (node_after m n events)
+pub fit_after : {S : Type 0} (secret : List ℕ) (m : Meaning S) → IsBrief m → (n : Node S) (events : List NodeEvent) → Each IsByteEvent events → FitNode m secret n → FitNode m secret (node_after m n events)
 fit_after secret m brief n [] each is = is
 fit_after secret m brief n (e ∷ es) each is = fit_after secret m brief (step_of m n e).node es each.1 (fit-step secret m brief n e (event-fits e each.0) is)
 
@@ -1223,6 +1248,6 @@ pub holds_genuine : {S : Type 0} (m : Meaning S) → IsBrief m → (secret : Lis
     → HoldsGenuine (node_after m (opened m secret id view period) events)
 holds_genuine {S = S} m brief secret id view period events named viewed each =
     let n : Node S = node_after m (opened m secret id view period) events in
-    let fit : FitNode secret n = fit_after secret m brief (opened m secret id view period) events each (fit-opened secret m id view period named viewed) in
+    let fit : FitNode m secret n = fit_after secret m brief (opened m secret id view period) events each (fit-opened secret m id view period named viewed) in
     each-weaken (λ (h : Held). IsGood secret h.message) (λ (h : Held). IsGenuine n.secret h.message)
     (λ h good. subst (λ (s : List ℕ). IsGenuine s h.message) (sym fit.shared) (good-genuine secret h.message good)) n.held fit.held

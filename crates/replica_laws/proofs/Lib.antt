@@ -18,3 +18,5 @@ pub mod Collected
 pub mod FitNodes
 pub mod FitBooks
 pub mod Sources
+pub mod Longer
+pub mod Telling

@@ -32,7 +32,7 @@ use Rattle.vote_book.specs.declared.entry.LogEntry.{LogEntry}
 use Rattle.vote_book.specs.declared.entry.LogEntry.TheVariants.{Opened, Wrote, Accepted, Promised, Synced, Decided, Installed, Marked}
 use Rattle.vote_book.proofs.Growth.{last_or_earlier}
 use Rattle.vote_book.proofs.Locks.{made_most}
-use Rattle.regency_sync.specs.Synchronizers.{Synchronizer, is_needed, is_adoptable, adopting, is_stop, is_promising}
+use Rattle.regency_sync.specs.Synchronizers.{Synchronizer, is_needed, is_stop, is_promising}
 use Rattle.replica_rules.specs.Pools.{offered, settled}
 use Rattle.replica_rules.specs.Replicas.{is_next, delivered, state}
 use Rattle.agreement_laws.specs.Statements.{Statement}
@@ -40,7 +40,7 @@ use Rattle.node_rules.specs.Votes.{is_vote, has_vote, has_quorum, proposed_in, p
 use Rattle.node_rules.specs.Nodes.{Node, view_of, regency_of, regency_in, greatest_regency, open_slot, synchronizer_of}
 use Rattle.node_rules.specs.Arrivals.{kept_plain, kept_change, kept, noted}
 use Rattle.node_rules.specs.Rules.{lines_to_answer, replying, deliver_batch, delivers, proposes, votable, writing, write_batch, writes, written, accepting, accept_batch, accepts, slot_in, deciding, decide_batch, decides, answers_again}
-use Rattle.node_rules.specs.Changes.{start_by_sync, promised_for, adopts_by, adoption, adopts, joins, next_promise, promising, promise_next, promises, leads, times}
+use Rattle.node_rules.specs.Changes.{start_by_sync, promised_for, adopts_by, is_adoptable, adoption, adopts, joins, next_promise, promising, promise_next, promises, leads, times}
 use Rattle.node_rules.specs.Steps.{step_of, released, opened}
 use Rattle.node_rules.specs.Reopening.{decided_of, stopped, reopened}
 use Rattle.node_laws.specs.Restored.{IsSoundBook}
@@ -331,12 +331,12 @@ record IsAdopted (sources : List (List ℕ)) (view : ℕ) (s : SignedBy Sync) : 
   of_view : s.statement.view ≡ view
 
 adoption-from : {S : Type 0} (sources : List (List ℕ)) (n : Node S) → FromSources sources n → IfSome (adoption n) (IsAdopted sources (view_of n).number)
-unfolding adoption adopting
+unfolding adoption
 adoption-from sources n from =
-    by (find (is_adoptable (view_of n) (synchronizer_of n)) n.syncs)
-    (if_found (λ (s : SignedBy Sync). HasSource sources (Change (changes.Sync s))) (is_adoptable (view_of n) (synchronizer_of n)) n.syncs from.syncs)
+    by (find (is_adoptable n) n.syncs)
+    (if_found (λ (s : SignedBy Sync). HasSource sources (Change (changes.Sync s))) (is_adoptable n) n.syncs from.syncs)
   where
-    by : (o : Option (SignedBy Sync)) → IfSome o (λ s. HasSource sources (Change (changes.Sync s)) × (is_adoptable (view_of n) (synchronizer_of n) s ≡ true)) → IfSome o (IsAdopted sources (view_of n).number)
+    by : (o : Option (SignedBy Sync)) → IfSome o (λ s. HasSource sources (Change (changes.Sync s)) × (is_adoptable n s ≡ true)) → IfSome o (IsAdopted sources (view_of n).number)
     by None due = tt
     by (Some s) due =
         let outer = and_true (is_needed (view_of n).number (regency_of n) s.statement.view s.statement.regency) _ due.1 in

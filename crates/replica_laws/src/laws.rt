@@ -11,7 +11,7 @@ ghost use Rattle.replica_rules.specs.Replicas.{executions};
 ghost use Rattle.node_rules.specs.Steps.{opened};
 ghost use Rattle.node_rules.specs.Kept.{node_after};
 ghost use Rattle.replica_laws.specs.Books.{AcceptsOnce, DeliversInOrder};
-ghost use Rattle.replica_laws.specs.Lines.{HasLine, InOrder};
+ghost use Rattle.replica_laws.specs.Lines.{HasLine, InOrder, HoldsExecuted};
 ghost use Rattle.replica_laws.specs.Sending.{LeavesFirm, HoldsOwn, IsByteEvent, HoldsGenuine};
 
 use smart_service::service::Service;
@@ -36,9 +36,16 @@ pub fn executes_once<S: Service>()
     ensures ordered { (view : View) (list : List Batch) → InOrder (executions S.meaning view list) }
 {}
 
-/// A vote leaves only when its entry is firm, a reply only when firm entries make its place, and a
-/// report only when its promise is, behind entries that are what the report says. Of the other
-/// messages nothing is said. Whatever comes to a node that has let nothing go yet, each vote, report
+/// Whatever comes, each reply that a node holds tells an execution of the batches that its book
+/// decides: the reply of that execution, to that client and number, at that place and index, in that
+/// view.
+pub fn replies_tell_executions<S: Service>()
+    ensures { (secret : List ℕ) (id : ℕ) (view : View) (period : ℕ) (events : List NodeEvent) → HoldsExecuted S.meaning view (node_after S.meaning (opened S.meaning secret id view period) events) }
+{}
+
+/// A vote leaves only when its entry is firm, a reply only when firm entries make its place or a later
+/// one, and a report only when its promise is, behind entries that are what the report says. Of the
+/// other messages nothing is said. Whatever comes to a node that has let nothing go yet, each vote, report
 /// and reply that would leave it now rests on firm entries.
 pub fn votes_leave_when_firm<S: Service>()
     ensures { (secret : List ℕ) (id : ℕ) (view : View) (period : ℕ) (events : List NodeEvent) → LeavesFirm (node_after S.meaning (opened S.meaning secret id view period) events) }

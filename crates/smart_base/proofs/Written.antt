@@ -1,6 +1,7 @@
 -- What is written one after the other.
 use Rattle.std.proofs.Common.{◌≡◌, List, ◌∷◌, ◌++◌, ℕ, append_assoc, ap, subst, ◌∙◌}
 use Rattle.std.specs.List.{flat_map}
+use Rattle.smart_base.specs.Spelling.{Extends}
 
 -- a text behind what was written before
 pub wrote : (out x all y next : List ℕ) → all ≡ out ++ x → next ≡ all ++ y → next ≡ out ++ (x ++ y)
@@ -12,3 +13,10 @@ pub wrote-item : {X : Type 0} (f : X → List ℕ) (all rest : List X) (x : X) (
 wrote-item f all rest x out next total e n h =
     let t = subst (λ l. out ++ flat_map f l ≡ total) e h in
     ap (λ (o : List ℕ). o ++ flat_map f rest) n ∙ append_assoc out (f x) (flat_map f rest) ∙ t
+
+-- what extends an extension extends what stood before it
+pub extends-on : (a b c : List ℕ) → Extends a b → Extends b c → Extends a c
+extends-on a b c first second = record {
+  rest = first.rest ++ second.rest;
+  is = second.is ∙ ap (λ (t : List ℕ). t ++ second.rest) first.is ∙ append_assoc a first.rest second.rest;
+}

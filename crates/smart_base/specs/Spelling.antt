@@ -53,3 +53,10 @@ pub record Spelled (c : Cut) (text : List ℕ) (d : Cut) : Type 0 where
 pub record Law {A : Type 0} (fits : A → Type 0) (spell : A → List ℕ) (read : Cut → Read A) : Type 0 where
   pub takes : (c : Cut) (x : A × Cut) → IsBytes c.left → read c ≡ Ok x → fits x.0 × Spelled c (spell x.0) x.1
   pub again : (c : Cut) (x : A) (d : Cut) → fits x → Spelled c (spell x) d → read c ≡ Ok (x, d)
+
+-- ---- writing
+
+-- What stands in a list is a front of what stands in another.
+pub record Extends (old new : List ℕ) : Type 0 where
+  pub rest : List ℕ
+  pub is : new ≡ old ++ rest

@@ -2,7 +2,7 @@
 ghost use Rattle.std.specs.Prelude.{◌≡◌, ◌<◌, ◌≤◌, ◌^◌, ◌++◌, length, IfOk, OnOk, OnErr};
 ghost use Rattle.std.specs.Int.{w16, w32};
 ghost use Rattle.smart_base.specs.Cuts.{IsBytes, Gives, Takes};
-ghost use Rattle.smart_base.specs.Spelling.{u8, u16, u32, u64, behind};
+ghost use Rattle.smart_base.specs.Spelling.{u8, u16, u32, u64, behind, Extends};
 ghost use Rattle.smart_base.specs.Fields.{kind_at, same_at, count_at, items_at, digest_at, tag_at, text_to, payload_at};
 
 use crate::bytes::{Digest32, PAYLOAD_BYTES, Payload, TAG_BYTES, Tag};
@@ -144,7 +144,8 @@ pub fn take_payload(alloc: Global, cut: &mut Cursor<'_>) -> Result<Payload, Read
 
 /// Adds a byte.
 pub fn put_u8(out: &mut Vec<u8>, number: u8) -> Result<(), AllocError>
-    ensures { OnOk result (out.new.items ≡ out.old.items ++ u8 number) }
+    ensures text { OnOk result (out.new.items ≡ out.old.items ++ u8 number) }
+    ensures err { OnErr result (out.new.items ≡ out.old.items) }
 {
     out.extend_from_slice(&number.to_be_bytes())?;
     Ok(())
@@ -152,7 +153,8 @@ pub fn put_u8(out: &mut Vec<u8>, number: u8) -> Result<(), AllocError>
 
 /// Adds a number of 16 bits.
 pub fn put_u16(out: &mut Vec<u8>, number: u16) -> Result<(), AllocError>
-    ensures { OnOk result (out.new.items ≡ out.old.items ++ u16 number) }
+    ensures text { OnOk result (out.new.items ≡ out.old.items ++ u16 number) }
+    ensures err { OnErr result (out.new.items ≡ out.old.items) }
 {
     out.extend_from_slice(&number.to_be_bytes())?;
     Ok(())
@@ -160,7 +162,8 @@ pub fn put_u16(out: &mut Vec<u8>, number: u16) -> Result<(), AllocError>
 
 /// Adds a number of 32 bits.
 pub fn put_u32(out: &mut Vec<u8>, number: u32) -> Result<(), AllocError>
-    ensures { OnOk result (out.new.items ≡ out.old.items ++ u32 number) }
+    ensures text { OnOk result (out.new.items ≡ out.old.items ++ u32 number) }
+    ensures err { OnErr result (out.new.items ≡ out.old.items) }
 {
     out.extend_from_slice(&number.to_be_bytes())?;
     Ok(())
@@ -168,7 +171,8 @@ pub fn put_u32(out: &mut Vec<u8>, number: u32) -> Result<(), AllocError>
 
 /// Adds a number of 64 bits.
 pub fn put_u64(out: &mut Vec<u8>, number: u64) -> Result<(), AllocError>
-    ensures { OnOk result (out.new.items ≡ out.old.items ++ u64 number) }
+    ensures text { OnOk result (out.new.items ≡ out.old.items ++ u64 number) }
+    ensures err { OnErr result (out.new.items ≡ out.old.items) }
 {
     out.extend_from_slice(&number.to_be_bytes())?;
     Ok(())
@@ -177,7 +181,8 @@ pub fn put_u64(out: &mut Vec<u8>, number: u64) -> Result<(), AllocError>
 /// Adds a text behind a length of 16 bits.
 pub fn put_short(out: &mut Vec<u8>, text: &[u8]) -> Result<(), AllocError>
     requires { length text.now < 2 ^ 16 }
-    ensures { OnOk result (out.new.items ≡ out.old.items ++ behind w16 text.now) }
+    ensures text { OnOk result (out.new.items ≡ out.old.items ++ behind w16 text.now) }
+    ensures err { OnErr result (Extends out.old.items out.new.items) }
 {
     out.extend_from_slice(&(text.len() as u16).to_be_bytes())?;
     out.extend_from_slice(text)?;
@@ -187,7 +192,8 @@ pub fn put_short(out: &mut Vec<u8>, text: &[u8]) -> Result<(), AllocError>
 /// Adds a text behind a length of 32 bits.
 pub fn put_text(out: &mut Vec<u8>, text: &[u8]) -> Result<(), AllocError>
     requires { length text.now < 2 ^ 32 }
-    ensures { OnOk result (out.new.items ≡ out.old.items ++ behind w32 text.now) }
+    ensures text { OnOk result (out.new.items ≡ out.old.items ++ behind w32 text.now) }
+    ensures err { OnErr result (Extends out.old.items out.new.items) }
 {
     out.extend_from_slice(&(text.len() as u32).to_be_bytes())?;
     out.extend_from_slice(text)?;

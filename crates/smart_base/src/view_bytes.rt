@@ -1,9 +1,9 @@
 //! The bytes of views.
-ghost use Rattle.std.specs.Prelude.{◌≡◌, ◌++◌, nat_lt, true, IfOk, OnOk, Ok};
+ghost use Rattle.std.specs.Prelude.{◌≡◌, ◌++◌, nat_lt, true, IfOk, OnOk, OnErr, Ok};
 ghost use Rattle.std.specs.List.{flat_map};
 ghost use Rattle.std.specs.Int.{w16};
 ghost use Rattle.smart_base.specs.Cuts.{Cut, IsBytes, Gives, Takes, ranged, number_at};
-ghost use Rattle.smart_base.specs.Spelling.{u16, Spelled};
+ghost use Rattle.smart_base.specs.Spelling.{u16, Spelled, Extends};
 ghost use Rattle.smart_base.specs.Views.{View, is_view};
 ghost use Rattle.smart_base.specs.ViewBytes.{view_text, view_number_at, start_at, faulty_at, member_count_at, members_at, view_at};
 
@@ -120,12 +120,17 @@ pub fn read_view(alloc: Global, cut: &mut Cursor<'_>) -> Result<View, ReadError>
     ensures only { (v : View) (d : Cut) → is_view v ≡ true → Spelled cut.old (view_text v) d → Gives result cut.new (Ok (v, d)) }
     // Else the offset of the first field that cannot be read or is out of its range.
     ensures exact { Gives result cut.new (view_at cut.old) }
+    ensures unchanged { OnErr result (cut.new ≡ cut.old) }
 {
-    take_view(alloc, cut)
+    let mut ahead = cut.ahead();
+    let view = take_view(alloc, &mut ahead)?;
+    *cut = ahead;
+    Ok(view)
 }
 
 fn put_members(out: &mut Vec<u8>, members: &[MemberId]) -> Result<(), AllocError>
-    ensures { OnOk result (out.new.items ≡ out.old.items ++ flat_map u16 members.now) }
+    ensures text { OnOk result (out.new.items ≡ out.old.items ++ flat_map u16 members.now) }
+    ensures err { OnErr result (Extends out.old.items out.new.items) }
 {
     for member in members {
         put_u16(out, member.get())?;
@@ -136,7 +141,8 @@ fn put_members(out: &mut Vec<u8>, members: &[MemberId]) -> Result<(), AllocError
 /// Adds a view's bytes.
 #[tactic(auto, unfolding(crate::specs::ViewBytes::view_text))]
 pub fn put_view(out: &mut Vec<u8>, view: &View) -> Result<(), AllocError>
-    ensures { OnOk result (out.new.items ≡ out.old.items ++ view_text view.now) }
+    ensures text { OnOk result (out.new.items ≡ out.old.items ++ view_text view.now) }
+    ensures err { OnErr result (Extends out.old.items out.new.items) }
 {
     let members = view.members();
     put_u32(out, view.number().get())?;

@@ -1,6 +1,7 @@
 //! The one spelling of each message, and how messages are read.
-ghost use Rattle.std.specs.Prelude.{◌≡◌, ◌++◌, IfOk, OnOk, Ok};
+ghost use Rattle.std.specs.Prelude.{◌≡◌, ◌++◌, IfOk, OnOk, OnErr, Ok};
 ghost use Rattle.smart_base.specs.Cuts.{Gives, GivesAll, Takes, limited};
+ghost use Rattle.smart_base.specs.Spelling.{Extends};
 ghost use Rattle.smart_statements.specs.Batches.{batch_text};
 ghost use Rattle.smart_statements.specs.Kinds.{proposals};
 ghost use Rattle.smart_statements.specs.Spelling.{signed};
@@ -139,7 +140,8 @@ fn kind(message: &Message) -> u8
 }
 
 fn put_proposed(out: &mut Vec<u8>, proposed: &Proposed) -> Result<(), AllocError>
-    ensures { OnOk result (out.new.items ≡ out.old.items ++ (signed proposals proposed.now.head ++ batch_text proposed.now.batch)) }
+    ensures text { OnOk result (out.new.items ≡ out.old.items ++ (signed proposals proposed.now.head ++ batch_text proposed.now.batch)) }
+    ensures err { OnErr result (Extends out.old.items out.new.items) }
 {
     proposed.head.put(out)?;
     proposed.batch.put(out)?;
@@ -148,7 +150,8 @@ fn put_proposed(out: &mut Vec<u8>, proposed: &Proposed) -> Result<(), AllocError
 
 /// Adds the bytes that stand behind the first one.
 fn put_content(out: &mut Vec<u8>, message: &Message) -> Result<(), AllocError>
-    ensures { OnOk result (out.new.items ≡ out.old.items ++ content message.now) }
+    ensures text { OnOk result (out.new.items ≡ out.old.items ++ content message.now) }
+    ensures err { OnErr result (Extends out.old.items out.new.items) }
 {
     match message {
         Message::Ask(ask) => ask.put(out),
@@ -161,7 +164,8 @@ fn put_content(out: &mut Vec<u8>, message: &Message) -> Result<(), AllocError>
 /// Adds the message's bytes.
 #[tactic(auto, unfolding(crate::specs::Messages::spelling))]
 pub fn put_message(out: &mut Vec<u8>, message: &Message) -> Result<(), AllocError>
-    ensures { OnOk result (out.new.items ≡ out.old.items ++ spelling message.now) }
+    ensures text { OnOk result (out.new.items ≡ out.old.items ++ spelling message.now) }
+    ensures err { OnErr result (Extends out.old.items out.new.items) }
 {
     put_u8(out, kind(message))?;
     put_content(out, message)?;

@@ -1,6 +1,7 @@
 //! How the messages that change the regency are spelled and read.
-ghost use Rattle.std.specs.Prelude.{◌≡◌, ◌++◌, OnOk};
+ghost use Rattle.std.specs.Prelude.{◌≡◌, ◌++◌, OnOk, OnErr};
 ghost use Rattle.smart_base.specs.Cuts.{Gives};
+ghost use Rattle.smart_base.specs.Spelling.{Extends};
 ghost use Rattle.smart_statements.specs.Kinds.{requests};
 ghost use Rattle.smart_statements.specs.Reports.{reports};
 ghost use Rattle.smart_statements.specs.Spelling.{signed};
@@ -69,7 +70,8 @@ pub fn read_change_body(
 }
 
 fn put_batch(out: &mut Vec<u8>, batch: &Option<Batch>) -> Result<(), AllocError>
-    ensures { OnOk result (out.new.items ≡ out.old.items ++ optional batch_text batch.now) }
+    ensures text { OnOk result (out.new.items ≡ out.old.items ++ optional batch_text batch.now) }
+    ensures err { OnErr result (Extends out.old.items out.new.items) }
 {
     match batch {
         None => {
@@ -95,7 +97,8 @@ fn change_kind(message: &RegencyMessage) -> u8
 }
 
 fn put_reported(out: &mut Vec<u8>, reported: &Reported) -> Result<(), AllocError>
-    ensures { OnOk result (out.new.items ≡ out.old.items ++ (signed reports reported.now.head ++ optional batch_text reported.now.batch)) }
+    ensures text { OnOk result (out.new.items ≡ out.old.items ++ (signed reports reported.now.head ++ optional batch_text reported.now.batch)) }
+    ensures err { OnErr result (Extends out.old.items out.new.items) }
 {
     reported.head.put(out)?;
     put_batch(out, &reported.batch)?;
@@ -104,7 +107,8 @@ fn put_reported(out: &mut Vec<u8>, reported: &Reported) -> Result<(), AllocError
 
 /// Adds the bytes that stand behind the first one.
 fn put_content(out: &mut Vec<u8>, message: &RegencyMessage) -> Result<(), AllocError>
-    ensures { OnOk result (out.new.items ≡ out.old.items ++ change_content message.now) }
+    ensures text { OnOk result (out.new.items ≡ out.old.items ++ change_content message.now) }
+    ensures err { OnErr result (Extends out.old.items out.new.items) }
 {
     match message {
         RegencyMessage::Stop(stop) => stop.put(out),
@@ -116,7 +120,8 @@ fn put_content(out: &mut Vec<u8>, message: &RegencyMessage) -> Result<(), AllocE
 /// Adds the message's bytes.
 #[tactic(auto, unfolding(crate::specs::RegencyMessages::change_spelling))]
 pub fn put_change(out: &mut Vec<u8>, message: &RegencyMessage) -> Result<(), AllocError>
-    ensures { OnOk result (out.new.items ≡ out.old.items ++ change_spelling message.now) }
+    ensures text { OnOk result (out.new.items ≡ out.old.items ++ change_spelling message.now) }
+    ensures err { OnErr result (Extends out.old.items out.new.items) }
 {
     put_u8(out, change_kind(message))?;
     put_content(out, message)?;

@@ -1,5 +1,6 @@
 -- What a service means.
 use Rattle.std.specs.Prelude.{◌≡◌, ℕ, ◌≤◌, List, Result, Ok, Err, Option, Some, None}
+use Rattle.smart_base.specs.Cuts.{IsBytes}
 use Rattle.smart_service.specs.declared.fault.RestoreError.{RestoreError}
 use Rattle.smart_service.specs.declared.fault.RestoreError.TheVariants as errors
 
@@ -10,6 +11,12 @@ pub record Meaning (S : Type 0) : Type 0 where
   pub reply : S → List ℕ → List ℕ
   pub snapshot : S → List ℕ
   pub restore : List ℕ → Option S
+
+-- the states that a service comes to: the first, what an operation makes of one, and what is restored from bytes
+pub data Comes {S : Type 0} (m : Meaning S) : S → Type 0 where
+  comes_first : Comes m m.first
+  comes_next : (s : S) (op : List ℕ) → Comes m s → Comes m (m.next s op)
+  comes_restored : (s : S) (bytes : List ℕ) → IsBytes bytes → m.restore bytes ≡ Some s → Comes m s
 
 -- what a function returned is the state that bytes are, or says that they are none, unless memory ran out
 abbrev pub Restores : {S : Type 0} → Result S RestoreError → Option S → Type 0

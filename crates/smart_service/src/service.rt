@@ -1,5 +1,5 @@
 //! A service that is replicated.
-ghost use Rattle.std.specs.Prelude.{◌≡◌, ◌≤◌, ℕ, List, length, Some, IfOk, OnOk};
+ghost use Rattle.std.specs.Prelude.{◌≡◌, ◌≤◌, ℕ, List, length, Some, IfOk, OnOk, OnErr};
 ghost use Rattle.smart_base.specs.Cuts.{IsBytes};
 ghost use Rattle.smart_base.specs.Lists.{Each};
 ghost use Rattle.smart_service.specs.Services.{Meaning, Restores, IsPrintable};
@@ -22,10 +22,11 @@ pub trait Service: Drop {
     fn first(alloc: Global) -> Result<Self, AllocError>
         ensures { IfOk result (λ s. s ≡ Meaning.first meaning) };
 
-    /// Runs an operation and gives its reply. After want of memory the state may be any.
+    /// Runs an operation and gives its reply. Where memory runs out the state stays.
     fn run(&mut self, alloc: Global, op: &[u8]) -> Result<Payload, AllocError>
         ensures reply { IfOk result (λ reply. reply ≡ Meaning.reply meaning self.old op.now) }
-        ensures state { OnOk result (self.new ≡ Meaning.next meaning self.old op.now) };
+        ensures state { OnOk result (self.new ≡ Meaning.next meaning self.old op.now) }
+        ensures err { OnErr result (self.new ≡ self.old) };
 
     /// The state in bytes.
     fn snapshot(&self, alloc: Global) -> Result<Bytes, AllocError>
@@ -36,10 +37,10 @@ pub trait Service: Drop {
         ensures { Restores result (Meaning.restore meaning bytes.now) };
 
     // A reply has at most 4,096 bytes.
-    ghost brief: { (s : Self) (op : List ℕ) → length (Meaning.reply meaning s op) ≤ 4096 };
+    ghost brief: { (s : Self) (op : List ℕ) → valid s → length (Meaning.reply meaning s op) ≤ 4096 };
 
     // A reply can be printed.
-    ghost printable: { (s : Self) (op : List ℕ) → Each IsPrintable (Meaning.reply meaning s op) };
+    ghost printable: { (s : Self) (op : List ℕ) → valid s → Each IsPrintable (Meaning.reply meaning s op) };
 
     // The first state is valid, and so is each that an operation makes of a valid one.
     ghost valid_first: { valid (Meaning.first meaning) };

@@ -1,6 +1,7 @@
 //! The requests of one place.
-ghost use Rattle.std.specs.Prelude.{◌≡◌, ◌<◌, ◌≤◌, [], ◌∷◌, ◌++◌, length, IfOk, OnOk};
+ghost use Rattle.std.specs.Prelude.{◌≡◌, ◌<◌, ◌≤◌, [], ◌∷◌, ◌++◌, length, IfOk, OnOk, OnErr};
 ghost use Rattle.smart_base.specs.Cuts.{Gives};
+ghost use Rattle.smart_base.specs.Spelling.{Extends};
 ghost use Rattle.smart_statements.specs.Kinds.{requests};
 ghost use Rattle.smart_statements.specs.Batches.{batch_text};
 ghost use Rattle.smart_statements.specs.Reading.{requests_at, batch_at};
@@ -93,7 +94,8 @@ impl Batch {
     /// Adds the batch's bytes.
     #[tactic(auto, unfolding(crate::specs::Batches::batch_text))]
     pub fn put(&self, out: &mut Vec<u8>) -> Result<(), AllocError>
-        ensures { OnOk result (out.new.items ≡ out.old.items ++ batch_text self.now) }
+        ensures text { OnOk result (out.new.items ≡ out.old.items ++ batch_text self.now) }
+        ensures err { OnErr result (Extends out.old.items out.new.items) }
     {
         put_u16(out, self.len() as u16)?;
         put_each(out, self.as_slice())?;
@@ -112,7 +114,8 @@ impl Batch {
     /// Reads a batch. A field that ends past its limit of bytes cannot be read.
     #[tactic(auto, unfolding(crate::specs::Reading::batch_at, smart_base::specs::Cuts::limited))]
     pub fn read(alloc: Global, cut: &mut Cursor<'_>) -> Result<Batch, ReadError>
-        ensures { Gives result cut.new (batch_at requests cut.old) }
+        ensures exact { Gives result cut.new (batch_at requests cut.old) }
+        ensures unchanged { OnErr result (cut.new ≡ cut.old) }
     {
         let mut inner = cut.front(BATCH_BYTES);
         let room = inner.rest().len();

@@ -1,5 +1,5 @@
-//! What members and clients state and sign, lists of it, batches of requests, reports, and what a
-//! member writes down; and the one spelling of each.
+//! What members and clients state and sign, lists of it, batches of requests and reports, and the
+//! one spelling of each; and what happens to a member's node.
 #![tactic(auto)]
 
 pub mod batch;

@@ -1,5 +1,5 @@
 //! Values that may be there or not.
-ghost use Rattle.std.specs.Prelude.{◌≡◌, IfOk};
+ghost use Rattle.std.specs.Prelude.{◌≡◌, IfOk, OnErr};
 ghost use Rattle.smart_base.specs.Cuts.{Takes};
 ghost use Rattle.smart_statements.specs.SignedLists.{flag_at};
 
@@ -11,14 +11,16 @@ use std::alloc::{AllocError, Global};
 /// The byte that says whether a value is there: 1, or 0.
 #[tactic(auto, unfolding(smart_base::specs::Cuts::ranged))]
 pub fn take_flag(cut: &mut Cursor<'_>) -> Result<u8, Unread>
-    ensures { Takes result cut.new (flag_at cut.old) }
+    ensures flag { Takes result cut.new (flag_at cut.old) }
+    ensures unchanged { OnErr result (cut.new ≡ cut.old) }
 {
-    let at = cut.at();
-    let found = cut.take_u8()?;
+    let mut ahead = cut.ahead();
+    let found = ahead.take_u8()?;
     if found == 0 || found == 1 {
+        *cut = ahead;
         Ok(found)
     } else {
-        Err(Unread { at })
+        Err(Unread { at: cut.at() })
     }
 }
 

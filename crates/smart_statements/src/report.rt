@@ -1,6 +1,7 @@
 //! What a member reports to the leader of a regency.
-ghost use Rattle.std.specs.Prelude.{◌≡◌, ◌++◌, OnOk};
+ghost use Rattle.std.specs.Prelude.{◌≡◌, ◌++◌, OnOk, OnErr};
 ghost use Rattle.smart_base.specs.Cuts.{Gives, Takes};
+ghost use Rattle.smart_base.specs.Spelling.{Extends};
 ghost use Rattle.smart_statements.specs.Reports.{FitsMark, marks, decision_proof, decision_proof_at, mark_certificate, mark_certificate_at, evidence, evidence_kind_at, decided_at, marked_at, evidence_body_at, evidence_at, lock_certificate, lock_certificate_at, last_at, FitsReport, reports};
 ghost use Rattle.smart_statements.specs.ReportLaws.{mark_law, report_law};
 ghost use Rattle.smart_statements.specs.SignedLists.{optional, optional_at};
@@ -164,7 +165,8 @@ impl DecisionProof {
     }
 
     fn put(&self, out: &mut Vec<u8>) -> Result<(), AllocError>
-        ensures { OnOk result (out.new.items ≡ out.old.items ++ decision_proof self.now) }
+        ensures text { OnOk result (out.new.items ≡ out.old.items ++ decision_proof self.now) }
+        ensures err { OnErr result (Extends out.old.items out.new.items) }
     {
         let (view, regency) = (self.view.get(), self.regency.get());
         put_u32(out, view)?;
@@ -191,7 +193,8 @@ impl MarkCertificate {
     }
 
     fn put(&self, out: &mut Vec<u8>) -> Result<(), AllocError>
-        ensures { OnOk result (out.new.items ≡ out.old.items ++ mark_certificate self.now) }
+        ensures text { OnOk result (out.new.items ≡ out.old.items ++ mark_certificate self.now) }
+        ensures err { OnErr result (Extends out.old.items out.new.items) }
     {
         let view = self.view.get();
         put_u32(out, view)?;
@@ -217,7 +220,8 @@ impl LockCertificate {
     }
 
     fn put(&self, out: &mut Vec<u8>) -> Result<(), AllocError>
-        ensures { OnOk result (out.new.items ≡ out.old.items ++ lock_certificate self.now) }
+        ensures text { OnOk result (out.new.items ≡ out.old.items ++ lock_certificate self.now) }
+        ensures err { OnErr result (Extends out.old.items out.new.items) }
     {
         let regency = self.regency.get();
         put_u32(out, regency)?;
@@ -277,7 +281,8 @@ impl Evidence {
     }
 
     fn put(&self, out: &mut Vec<u8>) -> Result<(), AllocError>
-        ensures { OnOk result (out.new.items ≡ out.old.items ++ evidence self.now) }
+        ensures text { OnOk result (out.new.items ≡ out.old.items ++ evidence self.now) }
+        ensures err { OnErr result (Extends out.old.items out.new.items) }
     {
         match self {
             Evidence::Nothing => {
@@ -321,7 +326,8 @@ fn read_lock(alloc: Global, cut: &mut Cursor<'_>) -> Result<Option<LockCertifica
 }
 
 fn put_lock(out: &mut Vec<u8>, lock: &Option<LockCertificate>) -> Result<(), AllocError>
-    ensures { OnOk result (out.new.items ≡ out.old.items ++ optional lock_certificate lock.now) }
+    ensures text { OnOk result (out.new.items ≡ out.old.items ++ optional lock_certificate lock.now) }
+    ensures err { OnErr result (Extends out.old.items out.new.items) }
 {
     match lock {
         None => {

@@ -1,8 +1,8 @@
 //! A statement, its bytes and the tag over them.
-ghost use Rattle.std.specs.Prelude.{◌≡◌, ◌+◌, ◌++◌, ◌<◌, ◌^◌, ◌⊎◌, ℕ, List, length, OnOk, IfOk, IfErr};
+ghost use Rattle.std.specs.Prelude.{◌≡◌, ◌+◌, ◌++◌, ◌<◌, ◌^◌, ◌⊎◌, ℕ, List, length, OnOk, OnErr, IfOk, IfErr};
 ghost use Rattle.smart_base.specs.declared.keys.SignRefused.TheVariants.{NoMemory};
 ghost use Rattle.smart_base.specs.Cuts.{Gives, Takes};
-ghost use Rattle.smart_base.specs.Spelling.{Law};
+ghost use Rattle.smart_base.specs.Spelling.{Law, Extends};
 ghost use Rattle.smart_statements.specs.Forms.{Form, party_of};
 ghost use Rattle.smart_statements.specs.Reading.{signed_at, signer_at};
 ghost use Rattle.smart_statements.specs.Spelling.{signed};
@@ -44,7 +44,8 @@ pub trait Statement: Duplicate {
     /// statement may take.
     fn put(&self, out: &mut Vec<u8>) -> Result<(), AllocError>
         ensures text { OnOk result (out.new.items ≡ out.old.items ++ Form.spell form self.now) }
-        ensures small { OnOk result (length (Form.spell form self.now) < 2 ^ 32) };
+        ensures small { OnOk result (length (Form.spell form self.now) < 2 ^ 32) }
+        ensures err { OnErr result (Extends out.old.items out.new.items) };
 
     // What is read is what is spelled.
     ghost agree: { (signer : ℕ) → Law (fits signer) (Form.spell form) (Form.read form signer) };
@@ -231,7 +232,8 @@ impl<S: Statement> Signed<S> {
 
     /// Adds the bytes of all.
     pub fn put(&self, out: &mut Vec<u8>) -> Result<(), AllocError>
-        ensures { OnOk result (out.new.items ≡ out.old.items ++ signed S.form self.now) }
+        ensures text { OnOk result (out.new.items ≡ out.old.items ++ signed S.form self.now) }
+        ensures err { OnErr result (Extends out.old.items out.new.items) }
     {
         let kept = self.kept.as_slice();
         let tag = self.tag.as_slice();
@@ -244,7 +246,8 @@ impl<S: Statement> Signed<S> {
 
     /// Reads a signed statement.
     pub fn read(alloc: Global, cut: &mut Cursor<'_>) -> Result<Signed<S>, ReadError>
-        ensures { Gives result cut.new (signed_at S.form cut.old) }
+        ensures exact { Gives result cut.new (signed_at S.form cut.old) }
+        ensures unchanged { OnErr result (cut.new ≡ cut.old) }
     {
         Signed::<S>::read_selected(alloc, &Every, cut)
     }
@@ -256,18 +259,21 @@ impl<S: Statement> Signed<S> {
         which: &W,
         cut: &mut Cursor<'_>,
     ) -> Result<Signed<S>, ReadError>
-        ensures { Gives result cut.new (signed_at (W.form which.now) cut.old) }
+        ensures exact { Gives result cut.new (signed_at (W.form which.now) cut.old) }
+        ensures unchanged { OnErr result (cut.new ≡ cut.old) }
     {
         let kind = S::kind();
-        take_kind(cut, kind)?;
-        let signer = take_signer(cut, kind)?;
-        let mut body = cut.take_bytes()?;
+        let mut ahead = cut.ahead();
+        take_kind(&mut ahead, kind)?;
+        let signer = take_signer(&mut ahead, kind)?;
+        let mut body = ahead.take_bytes()?;
         let kept = copied(alloc, &body)?;
         let statement = which.read(alloc, signer, &mut body)?;
         if !body.is_done() {
             return Err(ReadError::Unread { at: body.at() });
         }
-        let tag = take_tag(alloc, cut)?;
+        let tag = take_tag(alloc, &mut ahead)?;
+        *cut = ahead;
         Ok(Signed {
             signer,
             statement,

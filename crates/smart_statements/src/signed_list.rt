@@ -2,6 +2,7 @@
 ghost use Rattle.std.specs.Prelude.{◌≡◌, ◌+◌, ◌<◌, ◌^◌, ◌==◌, [], ◌∷◌, ◌++◌, length, IfOk, OnOk, OnErr};
 ghost use Rattle.std.specs.List.{flat_map};
 ghost use Rattle.smart_base.specs.Cuts.{Gives, times_at};
+ghost use Rattle.smart_base.specs.Spelling.{Extends};
 ghost use Rattle.smart_statements.specs.Reading.{signed_at};
 ghost use Rattle.smart_statements.specs.Reports.{votes_of};
 ghost use Rattle.smart_statements.specs.SignedLists.{listed, list_at};
@@ -97,7 +98,8 @@ impl<S: Statement> SignedList<S> {
 
     /// Adds the bytes of the count and of each statement.
     pub fn put(&self, out: &mut Vec<u8>) -> Result<(), AllocError>
-        ensures { OnOk result (out.new.items ≡ out.old.items ++ listed S.form self.now) }
+        ensures text { OnOk result (out.new.items ≡ out.old.items ++ listed S.form self.now) }
+        ensures err { OnErr result (Extends out.old.items out.new.items) }
     {
         put_u16(out, self.len() as u16)?;
         put_each(out, self.as_slice())?;
@@ -106,7 +108,8 @@ impl<S: Statement> SignedList<S> {
 
     /// Reads a list.
     pub fn read(alloc: Global, cut: &mut Cursor<'_>) -> Result<SignedList<S>, ReadError>
-        ensures { Gives result cut.new (list_at S.form cut.old) }
+        ensures exact { Gives result cut.new (list_at S.form cut.old) }
+        ensures unchanged { OnErr result (cut.new ≡ cut.old) }
     {
         read_selected(alloc, &Every, cut)
     }
@@ -119,7 +122,8 @@ impl SignedList<Ballot> {
         kind: VoteKind,
         cut: &mut Cursor<'_>,
     ) -> Result<SignedList<Ballot>, ReadError>
-        ensures { Gives result cut.new (list_at (votes_of kind) cut.old) }
+        ensures exact { Gives result cut.new (list_at (votes_of kind) cut.old) }
+        ensures unchanged { OnErr result (cut.new ≡ cut.old) }
     {
         read_selected(alloc, &kind, cut)
     }
@@ -131,16 +135,20 @@ fn read_selected<S: Statement, W: Selection<S>>(
     which: &W,
     cut: &mut Cursor<'_>,
 ) -> Result<SignedList<S>, ReadError>
-    ensures { Gives result cut.new (list_at (W.form which.now) cut.old) }
+    ensures exact { Gives result cut.new (list_at (W.form which.now) cut.old) }
+    ensures unchanged { OnErr result (cut.new ≡ cut.old) }
 {
-    let count = cut.take_u16()?;
-    let items = read_each::<S, W>(alloc, which, count, cut)?;
+    let mut ahead = cut.ahead();
+    let count = ahead.take_u16()?;
+    let items = read_each::<S, W>(alloc, which, count, &mut ahead)?;
+    *cut = ahead;
     Ok(SignedList { items })
 }
 
 /// Adds the bytes of each of the statements.
 pub fn put_each<S: Statement>(out: &mut Vec<u8>, items: &[Signed<S>]) -> Result<(), AllocError>
-    ensures { OnOk result (out.new.items ≡ out.old.items ++ flat_map (signed S.form) items.now) }
+    ensures text { OnOk result (out.new.items ≡ out.old.items ++ flat_map (signed S.form) items.now) }
+    ensures err { OnErr result (Extends out.old.items out.new.items) }
 {
     for item in items {
         item.put(out)?;

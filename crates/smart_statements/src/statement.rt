@@ -1,6 +1,7 @@
 //! What members and clients state.
-ghost use Rattle.std.specs.Prelude.{◌≡◌, ◌++◌, OnOk};
+ghost use Rattle.std.specs.Prelude.{◌≡◌, ◌++◌, OnOk, OnErr};
 ghost use Rattle.smart_base.specs.Cuts.{Takes};
+ghost use Rattle.smart_base.specs.Spelling.{Extends};
 ghost use Rattle.smart_statements.specs.Kinds.{proposals, ballots, answers, requests};
 ghost use Rattle.smart_statements.specs.Reading.{slot_at, proposal_at, vote_kind_at, ballot_at, answer_at, request_at};
 ghost use Rattle.smart_statements.specs.Reports.{votes_of, FitsVote};
@@ -114,7 +115,8 @@ fn take_slot(cut: &mut Cursor<'_>) -> Result<Slot, Unread>
 }
 
 fn put_slot(out: &mut Vec<u8>, slot: Slot) -> Result<(), AllocError>
-    ensures { OnOk result (out.new.items ≡ out.old.items ++ slot_text slot) }
+    ensures text { OnOk result (out.new.items ≡ out.old.items ++ slot_text slot) }
+    ensures err { OnErr result (Extends out.old.items out.new.items) }
 {
     let (view, place, regency) = (slot.view.get(), slot.place.get(), slot.regency.get());
     put_u32(out, view)?;

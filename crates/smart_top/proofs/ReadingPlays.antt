@@ -9,7 +9,7 @@ use Rattle.app_count.specs.Counts.{counting}
 use Rattle.app_kv.specs.Snapshots.{keeping}
 use Rattle.world_rules.specs.Worlds.{World, course_of, begun}
 use Rattle.world_rules.specs.Plays.{Play, is_there, line_played, rested, world_after}
-use Rattle.world_rules.specs.Promises.{OneListThroughout}
+use Rattle.world_laws.specs.Promises.{OneListThroughout}
 use Rattle.world_rules.specs.Scripts.{is_printed, is_short, is_nothing, words_in, line_of, members_from, view_for, group_words, group_by, group_line, app_line}
 use Rattle.world_rules.specs.declared.line.App.{App}
 use Rattle.world_rules.specs.declared.line.App.TheVariants as apps

@@ -8,7 +8,7 @@ use Rattle.app_count.specs.Counts.{counting}
 use Rattle.app_kv.specs.Snapshots.{keeping}
 use Rattle.world_rules.specs.Worlds.{course_of, begun}
 use Rattle.world_rules.specs.Plays.{Play, world_after, lines_told}
-use Rattle.world_rules.specs.Promises.{OneListThroughout}
+use Rattle.world_laws.specs.Promises.{OneListThroughout}
 use Rattle.world_rules.specs.Texts.{header_line, text_of}
 use Rattle.world_rules.specs.declared.line.App.{App}
 use Rattle.world_rules.specs.declared.line.App.TheVariants as apps

@@ -1,9 +1,9 @@
 -- What is read is what is spelled, in both directions.
-use Rattle.std.proofs.Common.{◌≡◌, ℕ, ◌<◌, ◌^◌, List, [], ◌∷◌, ◌++◌, length, Ok, true, refl, subst, ◌∙◌, arith}
+use Rattle.std.proofs.Common.{◌≡◌, ℕ, ◌<◌, ◌^◌, List, [], ◌∷◌, length, Ok, true, refl, subst, ◌∙◌}
 use Rattle.std.specs.Int.{w32, w64, to_be_bytes}
 use Rattle.std.specs.List.{flat_map, AllByRecursion}
 use Rattle.smart_base.specs.Lists.{Each}
-use Rattle.smart_base.specs.Cuts.{Cut, Read, ◌>>=◌, number_at, text_at, bytes_at, anything, contents, whole, times_at}
+use Rattle.smart_base.specs.Cuts.{◌>>=◌, number_at, text_at, bytes_at, anything, whole, times_at}
 use Rattle.smart_base.specs.Spelling.{Law, Spelled, behind}
 use Rattle.smart_base.specs.Bytes.{bytes-after}
 use Rattle.smart_base.specs.FieldLaws.{u64_law}

@@ -1,6 +1,7 @@
 //! Checkpoints.
-ghost use Rattle.std.specs.Prelude.{◌≡◌, ◌<◌, ◌^◌, ◌++◌, length, OnOk};
+ghost use Rattle.std.specs.Prelude.{◌≡◌, ◌<◌, ◌^◌, ◌++◌, length, OnOk, OnErr};
 ghost use Rattle.smart_base.specs.Cuts.{Gives};
+ghost use Rattle.smart_base.specs.Spelling.{Extends};
 ghost use Rattle.store_form.specs.Spelling.{IsCheckpoint, checkpoint_text};
 ghost use Rattle.store_form.specs.Reading.{checkpoint_at};
 
@@ -27,13 +28,16 @@ impl Drop for Checkpoint {
     }
 }
 
-/// A checkpoint that stands behind its gate. An `Err` leaves the cursor anywhere.
+/// A checkpoint that stands behind its gate.
 #[tactic(auto, unfolding(crate::specs::Reading::checkpoint_at))]
 pub fn take_checkpoint(alloc: Global, cut: &mut Cursor<'_>) -> Result<Checkpoint, ReadError>
-    ensures { Gives result cut.new (checkpoint_at cut.old) }
+    ensures exact { Gives result cut.new (checkpoint_at cut.old) }
+    ensures unchanged { OnErr result (cut.new ≡ cut.old) }
 {
-    let generation = cut.take_u64()?;
-    let snapshot = take_entry(alloc, cut)?;
+    let mut ahead = cut.ahead();
+    let generation = ahead.take_u64()?;
+    let snapshot = take_entry(alloc, &mut ahead)?;
+    *cut = ahead;
     Ok(Checkpoint {
         generation,
         snapshot,
@@ -44,7 +48,8 @@ pub fn take_checkpoint(alloc: Global, cut: &mut Cursor<'_>) -> Result<Checkpoint
 #[tactic(auto, unfolding(crate::specs::Spelling::checkpoint_text))]
 pub fn put_checkpoint(out: &mut Vec<u8>, generation: u64, snapshot: &[u8]) -> Result<(), AllocError>
     requires { length snapshot.now < 2 ^ 32 }
-    ensures { OnOk result (out.new.items ≡ out.old.items ++ checkpoint_text (record { generation = generation; snapshot = snapshot.now })) }
+    ensures text { OnOk result (out.new.items ≡ out.old.items ++ checkpoint_text (record { generation = generation; snapshot = snapshot.now })) }
+    ensures err { OnErr result (Extends out.old.items out.new.items) }
 {
     put_u64(out, generation)?;
     put_text(out, snapshot)?;

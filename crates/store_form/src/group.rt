@@ -4,7 +4,7 @@ ghost use Rattle.std.specs.Int.{w32, w64};
 ghost use Rattle.std.specs.List.{flat_map};
 ghost use Rattle.smart_base.specs.Lists.{Each};
 ghost use Rattle.smart_base.specs.Cuts.{Gives, Takes, text_at, times_at, anything};
-ghost use Rattle.smart_base.specs.Spelling.{behind};
+ghost use Rattle.smart_base.specs.Spelling.{behind, Extends};
 ghost use Rattle.store_form.specs.Spelling.{IsEntry, IsGroup, payload, group_text};
 ghost use Rattle.store_form.specs.Reading.{entry_at, payload_at, group_at};
 
@@ -17,10 +17,14 @@ use std::alloc::{AllocError, Global};
 /// An entry behind its length.
 #[tactic(auto, unfolding(smart_base::specs::Cuts::contents))]
 pub fn take_entry(alloc: Global, cut: &mut Cursor<'_>) -> Result<Bytes, ReadError>
-    ensures { Gives result cut.new (entry_at cut.old) }
+    ensures exact { Gives result cut.new (entry_at cut.old) }
+    ensures unchanged { OnErr result (cut.new ≡ cut.old) }
 {
-    let field = cut.take_bytes()?;
-    Ok(copied(alloc, &field)?)
+    let mut ahead = cut.ahead();
+    let field = ahead.take_bytes()?;
+    let entry = copied(alloc, &field)?;
+    *cut = ahead;
+    Ok(entry)
 }
 
 fn take_entries(
@@ -60,16 +64,19 @@ fn take_field<'a>(cut: &mut Cursor<'a>) -> Result<Cursor<'a>, Unread>
     Ok(field)
 }
 
-/// The entries of a group that stands behind its gate. An `Err` leaves the cursor anywhere.
+/// The entries of a group that stands behind its gate.
 #[tactic(auto, unfolding(crate::specs::Reading::group_at, smart_base::specs::Cuts::whole))]
 pub fn take_group(alloc: Global, cut: &mut Cursor<'_>) -> Result<Sequence<Bytes>, ReadError>
-    ensures { Gives result cut.new (group_at cut.old) }
+    ensures exact { Gives result cut.new (group_at cut.old) }
+    ensures unchanged { OnErr result (cut.new ≡ cut.old) }
 {
-    let mut field = take_field(cut)?;
+    let mut ahead = cut.ahead();
+    let mut field = take_field(&mut ahead)?;
     let entries = take_payload(alloc, &mut field)?;
     if !field.is_done() {
         return Err(ReadError::Unread { at: field.at() });
     }
+    *cut = ahead;
     Ok(entries)
 }
 
@@ -100,6 +107,7 @@ pub fn put_group(alloc: Global, out: &mut Vec<u8>, entries: &[Bytes]) -> Result<
     requires { Each IsEntry entries.now }
     ensures text { OnOk result (out.new.items ≡ out.old.items ++ group_text entries.now) }
     ensures fits { OnOk result (IsGroup entries.now) }
+    ensures err { OnErr result (Extends out.old.items out.new.items) }
 {
     let _count = entries.len();
     let text = payload_of(alloc, entries)?;

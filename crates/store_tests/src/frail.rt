@@ -18,6 +18,7 @@ pub struct FrailDisk {
     failing: u64,
     made: u64,
     faults: u64,
+    wants: u64,
 }
 
 /// Let go by one call, so that no function that lets one go carries the whole of it.
@@ -28,6 +29,7 @@ impl Drop for FrailDisk {
             failing: _,
             made: _,
             faults: _,
+            wants: _,
         } = self;
     }
 }
@@ -43,6 +45,7 @@ impl FrailDisk {
             failing,
             made: 0,
             faults: 0,
+            wants: 0,
         }
     }
 
@@ -62,7 +65,8 @@ impl FrailDisk {
 
     /// Counts a call that changes the disk, and tells whether it is to fail.
     fn is_to_fail(&mut self) -> bool
-        ensures { self.new.faults ≡ self.old.faults }
+        ensures faults { self.new.faults ≡ self.old.faults }
+        ensures wants { self.new.wants ≡ self.old.wants }
     {
         self.made = self.made.saturating_add(1);
         self.made == self.failing
@@ -72,10 +76,22 @@ impl FrailDisk {
     fn fault(&mut self) -> Fault
         ensures rose { Rose self.old.faults self.new.faults }
         ensures later { self.old.faults ≤ self.new.faults }
+        ensures wants { self.new.wants ≡ self.old.wants }
         ensures failed { result ≡ Fault.Failed }
     {
         self.faults = self.faults.saturating_add(1);
         Fault::Failed
+    }
+
+    /// Counts a want of memory.
+    fn want(&mut self) -> Fault
+        ensures rose { Rose self.old.wants self.new.wants }
+        ensures later { self.old.wants ≤ self.new.wants }
+        ensures faults { self.new.faults ≡ self.old.faults }
+        ensures wanted { result ≡ Fault.NoMemory }
+    {
+        self.wants = self.wants.saturating_add(1);
+        Fault::NoMemory
     }
 }
 
@@ -92,6 +108,8 @@ impl Disk for FrailDisk {
 
     ghost faults = { λ disk. disk.faults };
 
+    ghost wants = { λ disk. disk.wants };
+
     fn len(&mut self) -> Result<u64, Fault> {
         Ok(self.inner.as_read().len() as u64)
     }
@@ -99,7 +117,7 @@ impl Disk for FrailDisk {
     fn read(&mut self, alloc: Global, at: u64, count: u64) -> Result<Bytes, Fault> {
         match self.inner.read(alloc, at, count) {
             Ok(bytes) => Ok(bytes),
-            Err(_) => Err(Fault::NoMemory),
+            Err(_) => Err(self.want()),
         }
     }
 
@@ -116,7 +134,7 @@ impl Disk for FrailDisk {
         }
         match self.inner.write_at(at, bytes) {
             Ok(()) => Ok(()),
-            Err(_) => Err(Fault::NoMemory),
+            Err(_) => Err(self.want()),
         }
     }
 
@@ -126,7 +144,7 @@ impl Disk for FrailDisk {
         }
         match self.inner.cut(to) {
             Ok(()) => Ok(()),
-            Err(_) => Err(Fault::NoMemory),
+            Err(_) => Err(self.want()),
         }
     }
 
@@ -136,7 +154,7 @@ impl Disk for FrailDisk {
         }
         match self.inner.sync() {
             Ok(()) => Ok(()),
-            Err(_) => Err(Fault::NoMemory),
+            Err(_) => Err(self.want()),
         }
     }
 

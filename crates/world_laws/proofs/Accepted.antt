@@ -1,5 +1,5 @@
 -- Each reply that a client accepted is the right one: the service's answer at its request's one place in the list.
-use Rattle.std.proofs.Common.{◌≤◌, ◌&&◌, Bool, true, false, filter, eqb-true, inl, inr, ◌≡◌, ℕ, ◌+◌, ◌<◌, ◌==◌, ◌++◌, List, [], ◌∷◌, length, refl, ap, ◌∙◌, sym, Option, Some, None, subst, append-nil, ◌⊎◌}
+use Rattle.std.proofs.Common.{◌≤◌, ◌&&◌, Bool, true, false, filter, eqb-true, inl, inr, ◌≡◌, ℕ, ◌+◌, ◌==◌, ◌++◌, List, [], ◌∷◌, length, refl, ap, ◌∙◌, sym, Option, Some, None, subst, append-nil}
 use Rattle.smart_base.specs.Lists.{Each, same_bytes}
 use Rattle.smart_base.specs.Views.{View, quorum}
 use Rattle.smart_statements.specs.Forms.{SignedBy}
@@ -14,7 +14,7 @@ use Rattle.node_rules.specs.Nodes.{next_place}
 use Rattle.node_rules.specs.Steps.{Outcome, step_of, leaving}
 use Rattle.client_quorum.specs.Clients.{acceptance, same_answer, has_answer, have, is_waited_for}
 use Rattle.world_rules.specs.Clients.{heard}
-use Rattle.world_rules.specs.Promises.{HasAsked, IsRight, IsRightReply, IsRogue}
+use Rattle.world_laws.specs.Promises.{HasAsked, IsRight, IsRightReply, IsRogue, answer_accepted}
 use Rattle.world_rules.specs.Worlds.{Course, course_of, Host, World, posts, chosen_with, stepped, acceptance_in, hearing, begun}
 use Rattle.client_quorum.specs.declared.client.Client.{Client}
 use Rattle.client_quorum.specs.declared.client.Acceptance.{Acceptance}
@@ -31,7 +31,7 @@ use Rattle.world_rules.specs.Premises.{is_among}
 use Rattle.agreement_laws.proofs.Groups.{quorums_share}
 use Rattle.smart_messages.specs.declared.any.AnyMessage.TheVariants.{Plain}
 use Rattle.world_laws.proofs.Keeps.{HasMessage, ask_of, asked_by, by-posts, keeps-sends_all, KeepsAll, ReadsSent, heard_has, signed_by, from_node, from_client, from_script}
-use Rattle.world_laws.proofs.Aligned.{line_told, IsExecuted}
+use Rattle.replica_laws.specs.Lines.{line_told, IsExecuted}
 use Rattle.replica_laws.proofs.OnePlace.{place_of-line, answer-line}
 use Rattle.replica_laws.proofs.Executions.{executions-more, IsOfRequest, request-line, view-line}
 use Rattle.world_laws.proofs.Given.{IsKept, ClientKeeps, kept_last}
@@ -56,14 +56,6 @@ IsTold m view chosen a = HasLine (executions m view chosen) (line_accepted a)
 -- all accepted replies tell executions of the chosen list
 pub record AcceptedTold {S : Type 0} (m : Meaning S) (w : World S) : Type 0 where
   pub all : Each (IsTold m w.view w.chosen) w.accepted
-
--- an accepted reply is right, unless its client is rogue
-abbrev pub RightUnlessRogue : {S : Type 0} → Meaning S → View → List ℕ → List Sent → List Batch → Acceptance → Type 0
-RightUnlessRogue m view rogue sent chosen a = IsRogue rogue a.request.client ⊎ IsRight m view sent chosen a
-
--- all accepted replies are right, but for those of rogue clients
-pub record AcceptedRight {S : Type 0} (m : Meaning S) (w : World S) : Type 0 where
-  pub all : Each (RightUnlessRogue m w.view w.rogue w.sent w.chosen) w.accepted
 
 -- messages that leave
 
@@ -192,48 +184,37 @@ told-begun m view = record { all = tt }
 
 -- what follows
 
--- a reply that tells an execution is right
-pub executed-right : {S : Type 0} (m : Meaning S) (v : View) (chosen : List Batch) (a : Answer) → IsExecuted m v chosen a → IsRightReply m v chosen a
-executed-right m v chosen a executed =
-    let q : IsOfRequest chosen (line_told a) = request-line m v chosen (line_told a) executed in
+-- a reply that tells an execution is right: its client asked the request that stands there, unless it is rogue, after earlier places alone
+pub executed-right : {S : Type 0} (m : Meaning S) (w : World S) (a : Answer) → RequestsAsked w → IsExecuted m w.view w.chosen a → IsRightReply m w a
+executed-right {S = S} m w a requests executed =
+    let q : IsOfRequest w.chosen (line_told a) = request-line m w.view w.chosen (line_told a) executed in
+    let stands : StandsRight w.rogue w.sent a.place q.request = stands_right w a.place a.index q.request requests q.there in
     record {
       request = q.request;
       request_is = q.there;
       client_is = q.client;
       seq_is = q.seq;
-      place_is = place_of-line m v chosen (line_told a) executed;
-      reply_is = answer-line m v chosen (line_told a) executed;
-      view_is = view-line m v chosen (line_told a) executed;
+      asked = stands.asked;
+      above = stands.below;
+      place_is = place_of-line m w.view w.chosen (line_told a) executed;
+      reply_is = answer-line m w.view w.chosen (line_told a) executed;
+      view_is = view-line m w.view w.chosen (line_told a) executed;
     }
 
--- what a reply states that was accepted
-abbrev answer_accepted : Acceptance → Answer
-answer_accepted a = record { view = a.view; place = a.place; index = a.index; client = a.request.client; seq = a.request.seq; reply = a.reply }
-
--- an accepted reply that tells an execution is right, unless its client is rogue: the request that stands there is the one that the client asked, for a client asks one request of a number
-is_right : {S : Type 0} (m : Meaning S) (w : World S) (a : Acceptance) → RequestsAsked w → ClientsRight w → IsTold m w.view w.chosen a → HasAsked w.sent a.request
-    → RightUnlessRogue m w.view w.rogue w.sent w.chosen a
+-- an accepted reply that tells an execution is right. The request that stands there is the one that the client asked, for a client asks one request of a number
+is_right : {S : Type 0} (m : Meaning S) (w : World S) (a : Acceptance) → RequestsAsked w → ClientsRight w → IsTold m w.view w.chosen a → HasAsked w.sent a.request → IsRight m w a
 is_right {S = S} m w a requests clients told asked =
-    let right : IsRightReply m w.view w.chosen (answer_accepted a) = executed-right m w.view w.chosen (answer_accepted a) told in
-    let stands : StandsRight w.rogue w.sent a.place right.request = stands_right w a.place a.index right.request requests right.request_is in
-    elim stands.asked [
-      | inl breaks ↦ inl (subst (IsRogue w.rogue) right.client_is breaks)
-      | inr sent ↦
-          let same : right.request ≡ a.request = clients.all.one right.request a.request sent asked right.client_is right.seq_is in
-          inr (record {
-            asked = asked;
-            place_is = right.place_is;
-            request_is = right.request_is ∙ ap (λ (r : Request). Some r) same;
-            reply_is = right.reply_is;
-            view_is = right.view_is;
-            above = subst (λ (r : Request). r.after < a.place) same stands.below;
-          })
-    ]
-
--- all accepted replies are right, but for those of rogue clients
-pub accepted-right : {S : Type 0} (m : Meaning S) (w : World S) → RequestsAsked w → ClientsRight w → AcceptedTold m w → AcceptedRight m w
-accepted-right m w requests clients told =
+    let right : IsRightReply m w (answer_accepted a) = executed-right m w (answer_accepted a) requests told in
     record {
-      all = each_both (IsTold m w.view w.chosen) (λ a. HasAsked w.sent a.request) (RightUnlessRogue m w.view w.rogue w.sent w.chosen) (λ a is asked. is_right m w a requests clients is asked) w.accepted
-          told.all clients.all.asked;
+      asked = asked;
+      right = right;
+      own = elim right.asked [
+        | inl breaks ↦ inl (subst (IsRogue w.rogue) right.client_is breaks)
+        | inr sent ↦ inr (clients.all.one right.request a.request sent asked right.client_is right.seq_is)
+      ];
     }
+
+-- all accepted replies are
+pub accepted-right : {S : Type 0} (m : Meaning S) (w : World S) → RequestsAsked w → ClientsRight w → AcceptedTold m w → Each (IsRight m w) w.accepted
+accepted-right m w requests clients told =
+    each_both (IsTold m w.view w.chosen) (λ a. HasAsked w.sent a.request) (IsRight m w) (λ a is asked. is_right m w a requests clients is asked) w.accepted told.all clients.all.asked

@@ -34,7 +34,7 @@ use Rattle.client_quorum.specs.Clients.{request_of}
 use Rattle.client_quorum.specs.declared.client.Client.{Client}
 use Rattle.world_rules.specs.Secrets.{group_secret}
 use Rattle.world_rules.specs.Premises.{is_among, is_from, is_forged}
-use Rattle.world_rules.specs.Promises.{HasAsked, IsRogue}
+use Rattle.world_laws.specs.Promises.{HasAsked, IsRogue}
 use Rattle.world_rules.specs.Worlds.{course_of, Host, World, posts, sends_all, chosen_with, stepped, hearing, begun}
 use Rattle.world_rules.specs.Plays.{world_after}
 use Rattle.world_rules.specs.declared.line.Line.{Line}
@@ -54,7 +54,7 @@ use Rattle.world_laws.proofs.Fitting.{fit-owns}
 use Rattle.world_laws.proofs.Grounded.{grounded-reads}
 use Rattle.world_laws.proofs.Stating.{Proper, says_message}
 use Rattle.world_laws.proofs.Unforged.{content_proper, IsOwnStated, fine_own}
-use Rattle.world_laws.proofs.Longer.{secret-step}
+use Rattle.replica_laws.proofs.Longer.{secret-step}
 use Rattle.world_laws.proofs.Witnessing.{stated_event, stated-grows, stated-either}
 use Rattle.world_laws.proofs.Chosen.{HostRight, ChosenRight}
 use Rattle.world_laws.proofs.ChosenKept.{asks_alone, chosen-kept, chosen-begun, no_member}

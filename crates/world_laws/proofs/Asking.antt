@@ -13,7 +13,7 @@ use Rattle.node_rules.specs.Steps.{Outcome, leaving}
 use Rattle.node_rules.specs.declared.node.Held.{Held}
 use Rattle.client_quorum.specs.Clients.{fresh, request_of, asking, learning, acceptance, after_heard}
 use Rattle.world_rules.specs.Clients.{heard}
-use Rattle.world_rules.specs.Promises.{HasAsked, Rises}
+use Rattle.world_laws.specs.Promises.{HasAsked, Rises}
 use Rattle.world_rules.specs.Worlds.{Course, Host, World, posts, stepped, acceptance_in, hearing, clients_from, begun}
 use Rattle.world_rules.specs.Plays.{rested, world_after}
 use Rattle.client_quorum.specs.declared.client.Client.{Client}
@@ -330,7 +330,7 @@ keeps-right course =
         inject = λ w x on read fine is. right-posts w (from_script x) (script_quiet x) is;
         declare = λ w faulty rogue ending on how is. record { all = right-sent w.sent w.sent w.ending ending w.clients w.accepted (λ q asked. asked) (λ q asked. asked) how.over is.all };
         mark = λ w s on at is. record { all = is.all };
-        tell = λ w line beside is. record { all = is.all };
+        tell = λ w line aside is. record { all = is.all };
       };
       crash = λ w i h left on up at may is. record { all = is.all };
       resume = λ w i h on down at is. record { all = is.all };

@@ -8,7 +8,7 @@ use Rattle.replica_rules.specs.Seals.{signed}
 use Rattle.vote_book.specs.Books.{Among}
 use Rattle.node_rules.specs.declared.node.Target.TheVariants as targets
 use Rattle.world_rules.specs.Secrets.{group_secret}
-use Rattle.world_rules.specs.Promises.{HasAsked}
+use Rattle.world_laws.specs.Promises.{HasAsked}
 use Rattle.world_rules.specs.Worlds.{World, posts}
 use Rattle.world_rules.specs.declared.message.Content.TheVariants as contents
 use Rattle.world_rules.specs.declared.message.Origin.TheVariants as origins

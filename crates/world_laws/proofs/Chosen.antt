@@ -81,11 +81,11 @@ pub record WorldRight {S : Type 0} (m : Meaning S) (w : World S) : Type 0 where
   pub short : length w.sent ≤ 2 ^ 24
 
 -- all batches were met, and are one where their digests are; what was sent is read, and is not forged
-abbrev pub Based : {S : Type 0} → World S → Type 0
-Based w = Grounded w × Unforged w
+abbrev pub Based : {S : Type 0} → Meaning S → World S → Type 0
+Based m w = Grounded m w × Unforged w
 
 abbrev pub ChosenRight : {S : Type 0} → Meaning S → World S → Type 0
-ChosenRight m w = Based w × WorldRight m w
+ChosenRight m w = Based m w × WorldRight m w
 
 -- the list with the batch that waits at a node
 

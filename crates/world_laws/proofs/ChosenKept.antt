@@ -47,7 +47,7 @@ use Rattle.world_rules.specs.Worlds.{Course, course_of, Host, World, posts, send
 use Rattle.world_rules.specs.Plays.{world_after}
 use Rattle.world_rules.specs.Premises.{is_among, is_excused, is_forged, too_many}
 use Rattle.node_rules.specs.Deliveries.{AtPlaces}
-use Rattle.world_rules.specs.Promises.{IsNext, IsPrefix}
+use Rattle.world_laws.specs.Promises.{IsNext, IsPrefix}
 use Rattle.world_rules.specs.declared.line.Line.{Line}
 use Rattle.client_quorum.specs.declared.client.Client.{Client}
 use Rattle.client_quorum.specs.declared.client.Heard.{Heard}
@@ -70,7 +70,7 @@ use Rattle.world_laws.proofs.Aligned.{Aligned, AllAligned}
 use Rattle.world_laws.proofs.Fronts.{front-take, front-batch_at}
 use Rattle.world_laws.proofs.Certified.{Exact, DecidesOnce}
 use Rattle.world_laws.proofs.Stating.{IsSaid, message_says}
-use Rattle.world_laws.proofs.Longer.{front_same, Longer, longer-step}
+use Rattle.replica_laws.proofs.Longer.{front_same, Longer, longer-step}
 use Rattle.world_laws.proofs.Stores.{Fits, IsTold, may-told, firm-grows, fits-stepped, fits-opened, firm-heard}
 use Rattle.world_laws.proofs.Witnessing.{stated_event, stated-grows, StatesShown, ShowsOwn, Firmer, firm_of, shown-faulty, shown-sent, shown-set, leave_shown}
 use Rattle.world_laws.proofs.Chosen.{DeliveredIs, HostRight, WorldRight, Based, ChosenRight, chosen-front, within-step, certified-step, decided-step, right-witnessed, right-once, host-front, waiting-at, due-agrees, host_longer, certified_sent, host_sent, BookRight, front_right, book_longer, none_right}
@@ -156,11 +156,11 @@ inject_shows {S = S} w c fine reads read x there =
     (λ own. inl (stands_stated w.sent own.stands.message x own.stands.there own.stands.states)) (fine_own w.faulty w.rogue w.sent c x fine reads read there)
 
 -- the batches of a host were met
-host-met : {S : Type 0} (w : World S) (i : ℕ) (h : Host S) → slice_get w.hosts i ≡ Some h → Grounded w → NodeMet (IsMet w.sent) h.node
+host-met : {S : Type 0} {m : Meaning S} (w : World S) (i : ℕ) (h : Host S) → slice_get w.hosts i ≡ Some h → Grounded m w → NodeMet (IsMet w.sent) h.node
 host-met w i h at g = (each_get (HostMet (IsMet w.sent)) w.hosts i h g.hosts at).node
 
 -- hosts keep their names
-ids-set : {S : Type 0} (hs : List (Host S)) (i : ℕ) (h h' : Host S) → slice_get hs i ≡ Some h → h'.node.id ≡ h.node.id → map (λ y. y.node.id) (slice_set hs i h') ≡ map (λ y. y.node.id) hs
+pub ids-set : {S : Type 0} (hs : List (Host S)) (i : ℕ) (h h' : Host S) → slice_get hs i ≡ Some h → h'.node.id ≡ h.node.id → map (λ y. y.node.id) (slice_set hs i h') ≡ map (λ y. y.node.id) hs
 ids-set [] i h h' at same = absurd (cc)
 ids-set {S = S} (x ∷ hs) zero h h' at same = ap (λ y. y ∷ map (λ z. z.node.id) hs) (same ∙ sym (ap (λ (z : Host S). z.node.id) (some_equal x h at)))
 ids-set (x ∷ hs) (suc i) h h' at same = ap (λ ys. x.node.id ∷ ys) (ids-set hs i h h' at same)
@@ -211,7 +211,7 @@ IsSourced w event = ForEvent (λ message. HasSource (sources w.sent) message) ev
 host-stepped : {S : Type 0} (m : Meaning S) (w : World S) (i : ℕ) (h : Host S) (event : NodeEvent) → h.up ≡ true → slice_get w.hosts i ≡ Some h → MayRead w h event → IsSourced w event → IsTold h event → ChosenRight m w
     → HostRight w.sent m w.view (chosen_with w.chosen (next_place (step_of m h.node event).node) (step_of m h.node event).node.waiting) (host_after (course_of m) h (step_of m h.node event))
 host-stepped {S = S} m w i h event up at may came firm r =
-    let g : Grounded w = r.0.0 in
+    let g : Grounded m w = r.0.0 in
     let o : Outcome S = step_of m h.node event in
     let n' : Node S = o.node in
     let more : List Batch = chosen_with w.chosen (next_place n') n'.waiting in
@@ -306,8 +306,8 @@ right-set m w i h h' at f right r = record {
 pub host-right : {S : Type 0} (m : Meaning S) (w : World S) (i : ℕ) (h : Host S) → slice_get w.hosts i ≡ Some h → ChosenRight m w → HostRight w.sent m w.view w.chosen h
 host-right m w i h at r = each_get (HostRight w.sent m w.view w.chosen) w.hosts i h r.1.right at
 
-pub host-fit : {S : Type 0} (m : Meaning S) (w : World S) (i : ℕ) (h : Host S) → slice_get w.hosts i ≡ Some h → ChosenRight m w → FitHost h
-host-fit m w i h at r = each_get FitHost w.hosts i h r.0.0.fit.hosts at
+pub host-fit : {S : Type 0} (m : Meaning S) (w : World S) (i : ℕ) (h : Host S) → slice_get w.hosts i ≡ Some h → ChosenRight m w → FitHost m h
+host-fit m w i h at r = each_get (FitHost m) w.hosts i h r.0.0.fit.hosts at
 
 -- the store of a host makes a call
 right-called : {S : Type 0} (m : Meaning S) (w : World S) (i : ℕ) (h : Host S) → h.up ≡ true → slice_get w.hosts i ≡ Some h → ChosenRight m w → WorldRight m (called (course_of m) w i h)
@@ -369,11 +369,11 @@ keeps-both course P Q k l =
     }
 
 -- each event keeps the base
-keeps-based : {S : Type 0} (m : Meaning S) → IsBrief m → Keeps (course_of m) Based
-keeps-based m brief = keeps-both (course_of m) Grounded Unforged (keeps-grounded m brief) (keeps-unforged (course_of m)).kept
+keeps-based : {S : Type 0} (m : Meaning S) → IsBrief m → Keeps (course_of m) (Based m)
+keeps-based m brief = keeps-both (course_of m) (Grounded m) Unforged (keeps-grounded m brief) (keeps-unforged (course_of m)).kept
 
 based-resumes : {S : Type 0} (m : Meaning S) → IsBrief m → (w : World S) (i : ℕ) (h : Host S) → IsDown w h → slice_get w.hosts i ≡ Some h → ChosenRight m w
-    → Based (with_host w i (host_resumed h (node_resumed (course_of m) w h)))
+    → Based m (with_host w i (host_resumed h (node_resumed (course_of m) w h)))
 based-resumes m brief w i h down at r = (
   grounded-resumes m brief w i h at r.1.viewed (resumes-diary m w i h at down.0 r) (diary-decides m w i h at r) r.0.0,
   (keeps-unforged (course_of m)).resume w i h down at r.0.1,
@@ -464,7 +464,7 @@ hosts_right m view (id ∷ ids) = (opened_right m view id, hosts_right m view id
         }
 
 -- and are the members
-hosts_ids : {S : Type 0} (m : Meaning S) (view : View) (members : List ℕ) → map (λ h. h.node.id) (hosts_from m view members) ≡ members
+pub hosts_ids : {S : Type 0} (m : Meaning S) (view : View) (members : List ℕ) → map (λ h. h.node.id) (hosts_from m view members) ≡ members
 hosts_ids m view [] = refl
 hosts_ids m view (id ∷ ids) = ap (λ xs. id ∷ xs) (hosts_ids m view ids)
 

@@ -74,7 +74,7 @@ aside_right sent view chosen s es b = either (λ (xs : List LogEntry). BookRight
 pub own_few : {S : Type 0} (sent : List Sent) (m : Meaning S) (view : View) (chosen : List Batch) (h : Host S) → length sent ≤ 2 ^ 24 → HostRight sent m view chosen h → length h.node.entries < 2 ^ 28
 own_few sent m view chosen h short r = few-book group_secret (stated sent) view sent h.node.entries (own_right sent m view chosen h r).sound r.few.node.book short
 
-pub host-called : {S : Type 0} (sent : List Sent) (m : Meaning S) (view : View) (chosen : List Batch) (h : Host S) → h.up ≡ true → length sent ≤ 2 ^ 24 → FitHost h → HostRight sent m view chosen h
+pub host-called : {S : Type 0} (sent : List Sent) (m : Meaning S) (view : View) (chosen : List Batch) (h : Host S) → h.up ≡ true → length sent ≤ 2 ^ 24 → FitHost m h → HostRight sent m view chosen h
     → HostRight sent m view chosen (after_call (course_of m) h)
 host-called sent m view chosen h up short fit r = record {
   sound = r.sound;
@@ -100,11 +100,11 @@ left_right : {S : Type 0} (sent : List Sent) (m : Meaning S) (view : View) (chos
 left_right sent m view chosen h r =
     either (λ (xs : List LogEntry). BookRight sent view chosen xs) (is_unclosed h.store.log.job) h.life.aside h.node.entries r.aside (own_right sent m view chosen h r)
 
-pub host-crash : {S : Type 0} (sent : List Sent) (m : Meaning S) (view : View) (chosen : List Batch) (h : Host S) (left : Images) → h.up ≡ true → MayLeave h.store left → FitHost h → HostRight sent m view chosen h
+pub host-crash : {S : Type 0} (sent : List Sent) (m : Meaning S) (view : View) (chosen : List Batch) (h : Host S) (left : Images) → h.up ≡ true → MayLeave h.store left → FitHost m h → HostRight sent m view chosen h
     → Crashed h left
 host-crash sent m view chosen h left up may fit r = crashed h left up may (spelled-life h.life fit.life) fit.node.book r.lasts
 
-pub host-crashes : {S : Type 0} (sent : List Sent) (m : Meaning S) (view : View) (chosen : List Batch) (h : Host S) (left : Images) → h.up ≡ true → MayLeave h.store left → FitHost h
+pub host-crashes : {S : Type 0} (sent : List Sent) (m : Meaning S) (view : View) (chosen : List Batch) (h : Host S) (left : Images) → h.up ≡ true → MayLeave h.store left → FitHost m h
     → HostRight sent m view chosen h → HostRight sent m view chosen (host_crashed (course_of m) h left)
 host-crashes sent m view chosen h left up may fit r =
     let c : Crashed h left = host-crash sent m view chosen h left up may fit r in
@@ -144,7 +144,7 @@ named {S = S} m secret id view period (e ∷ es) =
     subst (λ (n : Node S). Named secret id (e ∷ es) n) (sym (reopened_is m secret id view period e es)) (record { name = refl; shared = refl; decides = refl })
 
 -- what the devices of a member that has crashed hold is its diary
-pub diary_held : {S : Type 0} (h : Host S) → h.up ≡ false → FitHost h → Lasts h → entries_in (entries_left h) ≡ h.life.diary
+pub diary_held : {S : Type 0} {m : Meaning S} (h : Host S) → h.up ≡ false → FitHost m h → Lasts h → entries_in (entries_left h) ≡ h.life.diary
 diary_held h down fit is = ap entries_in (left-restored h (is.down down)) ∙ read_again h.life.diary (spelled-life h.life fit.life).diary
 
 host_goes_on : {S : Type 0} (sent : List Sent) (m : Meaning S) (view : View) (chosen : List Batch) (h : Host S) → h.up ≡ false → length sent ≤ 2 ^ 24 → HostRight sent m view chosen h

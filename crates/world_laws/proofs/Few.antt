@@ -26,7 +26,7 @@ use Rattle.world_rules.specs.declared.message.Content.{Content}
 use Rattle.world_rules.specs.declared.message.Sent.{Sent}
 use Rattle.world_laws.proofs.Keeps.{HasContent, MayCome, after_call}
 use Rattle.world_laws.proofs.Lives.{book_left}
-use Rattle.world_laws.proofs.Longer.{longer-step, told_firm}
+use Rattle.replica_laws.proofs.Longer.{longer-step, told_firm}
 use Rattle.agreement_laws.proofs.Lists.{either}
 use Rattle.node_rules.proofs.Rulewise.{ForRead, ForEvent}
 use Rattle.std.proofs.lemmas.List.{length-map}

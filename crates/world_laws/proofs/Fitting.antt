@@ -93,20 +93,20 @@ abbrev pub EntryFits : LogEntry → Type 0
 EntryFits e = nodes.FitsEntry group_secret e × FitsEntry e
 
 -- a host of which all has a spelling: what its node holds, and the entries of all lives
-pub record FitHost {S : Type 0} (h : Host S) : Type 0 where
-  pub node : FitBook group_secret h.node
+pub record FitHost {S : Type 0} (m : Meaning S) (h : Host S) : Type 0 where
+  pub node : FitBook m group_secret h.node
   pub life : EachLife EntryFits h.life
 
 -- the entries of its book
-pub book_fits : {S : Type 0} (n : Node S) → FitBook group_secret n → Each EntryFits n.entries
+pub book_fits : {S : Type 0} {m : Meaning S} (n : Node S) → FitBook m group_secret n → Each EntryFits n.entries
 book_fits n is = each_both (nodes.FitsEntry group_secret) FitsEntry EntryFits (λ e one other. (one, other)) n.entries is.node.book is.book
 
 pub spelled-life : (l : Life) → EachLife EntryFits l → EachLife FitsEntry l
 spelled-life l is = life-weaker EntryFits FitsEntry (λ e fits. fits.1) l is
 
 -- all that nodes and clients hold has a spelling, and all that was sent is read
-pub record AllFit {S : Type 0} (w : World S) : Type 0 where
-  pub hosts : Each FitHost w.hosts
+pub record AllFit {S : Type 0} (m : Meaning S) (w : World S) : Type 0 where
+  pub hosts : Each (FitHost m) w.hosts
   pub clients : Each FitClient w.clients
   pub sent : Each (λ s. IsRead s.content) w.sent
   pub tagged : Each (λ s. IsTaggedFrom s.origin s.content) w.sent
@@ -116,15 +116,15 @@ pub sent-read : (sent : List Sent) (x : Content) → Each (λ s. IsRead s.conten
 sent-read [] x each has = absurd has
 sent-read (s ∷ sent) x each has = elim has [ inl here ↦ subst IsRead here each.0 | inr later ↦ sent-read sent x each.1 later ]
 
-pub fit-reads : {S : Type 0} (w : World S) → AllFit w → ReadsSent w
+pub fit-reads : {S : Type 0} {m : Meaning S} (w : World S) → AllFit m w → ReadsSent w
 fit-reads w is x has = sent-read w.sent x is.sent has
 
 -- and what waits is its client's own
-pub fit-owns : {S : Type 0} (w : World S) → AllFit w → OwnWaits w
+pub fit-owns : {S : Type 0} {m : Meaning S} (w : World S) → AllFit m w → OwnWaits w
 fit-owns w is i c q at waits = ((each_get FitClient w.clients i c is.clients at).waits q waits).client_is
 
 -- what may come
-pub may-fit : {S : Type 0} (w : World S) (h : Host S) (event : NodeEvent) → AllFit w → MayCome w h event → FitsEvent event
+pub may-fit : {S : Type 0} {m : Meaning S} (w : World S) (h : Host S) (event : NodeEvent) → AllFit m w → MayCome w h event → FitsEvent event
 may-fit w h (Arrive bytes) is may = by (any_decoded bytes) refl
   where
     by : (read : Result AnyMessage ℕ) → any_decoded bytes ≡ read → ForRead FitsAny read
@@ -135,9 +135,9 @@ may-fit w h Deliver is may = tt
 may-fit w h (Firm count) is may = tt
 
 -- something is sent
-fit-posts : {S : Type 0} (w : World S) (s : Sent) → IsRead s.content → IsTaggedFrom s.origin s.content → AllFit w → AllFit (posts w s)
-fit-posts {S = S} w s read tagged is =
-    by-posts (λ (v : World S). AllFit v) w s
+fit-posts : {S : Type 0} {m : Meaning S} (w : World S) (s : Sent) → IsRead s.content → IsTaggedFrom s.origin s.content → AllFit m w → AllFit m (posts w s)
+fit-posts {S = S} {m = m} w s read tagged is =
+    by-posts (λ (v : World S). AllFit m v) w s
     (λ ending. record { hosts = is.hosts; clients = is.clients; sent = is.sent; tagged = is.tagged })
     (λ free room. record {
       hosts = is.hosts;
@@ -147,37 +147,37 @@ fit-posts {S = S} w s read tagged is =
     })
 
 -- messages of a node leave
-fit-sends_all : {S : Type 0} (id : ℕ) (w : World S) (held : List Held) → Each (λ h. IsGood group_secret h.message) held → AllFit w → AllFit (sends_all id w held)
+fit-sends_all : {S : Type 0} {m : Meaning S} (id : ℕ) (w : World S) (held : List Held) → Each (λ h. IsGood group_secret h.message) held → AllFit m w → AllFit m (sends_all id w held)
 fit-sends_all id w [] each is = is
 fit-sends_all id w (h ∷ hs) each is = fit-sends_all id (posts w (from_node id h)) hs each.1 (fit-posts w (from_node id h) (parts-fit h.message each.0.fits) each.0 is)
 
 -- a host's node takes an event
-fit-after : {S : Type 0} (m : Meaning S) (h : Host S) (o : Outcome S) → FitBook group_secret o.node → FitHost h → FitHost (host_after (course_of m) h o)
+fit-after : {S : Type 0} (m : Meaning S) (h : Host S) (o : Outcome S) → FitBook m group_secret o.node → FitHost m h → FitHost m (host_after (course_of m) h o)
 fit-after m h o fit is = record { node = record { node = fit-released group_secret o.node fit.node; book = fit.book }; life = life-firm EntryFits h.life o.node (book_fits o.node fit) is.life }
 
-fit-stepped : {S : Type 0} (m : Meaning S) (w : World S) (i : ℕ) (h : Host S) (o : Outcome S) → slice_get w.hosts i ≡ Some h → FitBook group_secret o.node → AllFit w → AllFit (stepped (course_of m) w i h o)
+fit-stepped : {S : Type 0} (m : Meaning S) (w : World S) (i : ℕ) (h : Host S) (o : Outcome S) → slice_get w.hosts i ≡ Some h → FitBook m group_secret o.node → AllFit m w → AllFit m (stepped (course_of m) w i h o)
 unfolding stepped
 fit-stepped {S = S} m w i h o at fit is =
     fit-sends_all h.node.id _ (leaving o.node.firm o.node.held) (each-leaving (λ (x : Held). IsGood group_secret x.message) o.node.firm o.node.held fit.node.held)
     (record {
-      hosts = each_set FitHost w.hosts i (host_after (course_of m) h o) is.hosts (fit-after m h o fit (each_get FitHost w.hosts i h is.hosts at));
+      hosts = each_set (FitHost m) w.hosts i (host_after (course_of m) h o) is.hosts (fit-after m h o fit (each_get (FitHost m) w.hosts i h is.hosts at));
       clients = is.clients;
       sent = is.sent;
       tagged = is.tagged;
     })
 
 -- another host stands at an index
-fit-set : {S : Type 0} (w : World S) (i : ℕ) (h : Host S) → FitHost h → AllFit w → AllFit (with_host w i h)
-fit-set w i h fit is = record { hosts = each_set FitHost w.hosts i h is.hosts fit; clients = is.clients; sent = is.sent; tagged = is.tagged }
+fit-set : {S : Type 0} {m : Meaning S} (w : World S) (i : ℕ) (h : Host S) → FitHost m h → AllFit m w → AllFit m (with_host w i h)
+fit-set {m = m} w i h fit is = record { hosts = each_set (FitHost m) w.hosts i h is.hosts fit; clients = is.clients; sent = is.sent; tagged = is.tagged }
 
 -- a node goes on from entries that have spellings
 pub fit-resumes : {S : Type 0} (m : Meaning S) → IsBrief m → (w : World S) (i : ℕ) (h : Host S) → slice_get w.hosts i ≡ Some h → is_view w.view ≡ true → entries_in (entries_left h) ≡ h.life.diary
-    → length (decided_of h.life.diary) < 2 ^ 63 → AllFit w → AllFit (with_host w i (host_resumed h (node_resumed (course_of m) w h)))
+    → length (decided_of h.life.diary) < 2 ^ 63 → AllFit m w → AllFit m (with_host w i (host_resumed h (node_resumed (course_of m) w h)))
 fit-resumes {S = S} m brief w i h at viewed same few is =
-    let fit : FitHost h = each_get FitHost w.hosts i h is.hosts at in
+    let fit : FitHost m h = each_get (FitHost m) w.hosts i h is.hosts at in
     let kept : Each (nodes.FitsEntry group_secret) h.life.diary = each-weaken EntryFits (nodes.FitsEntry group_secret) (λ e fits. fits.0) h.life.diary fit.life.diary in
-    let node : FitBook group_secret (node_resumed (course_of m) w h) =
-    subst (λ (es : List LogEntry). FitBook group_secret (reopened m group_secret h.node.id w.view 1024 es)) (sym same)
+    let node : FitBook m group_secret (node_resumed (course_of m) w h) =
+    subst (λ (es : List LogEntry). FitBook m group_secret (reopened m group_secret h.node.id w.view 1024 es)) (sym same)
     (fit_reopened group_secret m brief h.node.id w.view 1024 h.life.diary fit.node.node.named viewed (omega arith) kept (spelled-life h.life fit.life).diary few) in
     fit-set w i (host_resumed h (node_resumed (course_of m) w h)) (record { node = node; life = fit.life }) is
 
@@ -200,18 +200,18 @@ reply-low : (a : SignedBy Answer) → FitsParts (Plain (Reply a)) → a.statemen
 reply-low a fits = fits.content_fits.statement_fits.place_fits.1
 
 -- each event keeps that all has a spelling
-pub keeps-fit : {S : Type 0} (m : Meaning S) → IsBrief m → Keeps (course_of m) AllFit
+pub keeps-fit : {S : Type 0} (m : Meaning S) → IsBrief m → Keeps (course_of m) (AllFit m)
 unfolding hearing
 keeps-fit {S = S} m brief =
     record {
       event = λ w i h event up at may is.
           fit-stepped m w i h (step_of m h.node event) at
-          (spelled-step group_secret m brief h.node event (may-fit w h event is may) (each_get FitHost w.hosts i h is.hosts at).node) is;
+          (spelled-step group_secret m brief h.node event (may-fit w h event is may) (each_get (FitHost m) w.hosts i h is.hosts at).node) is;
       disk = λ w i h up at is.
-          let fit : FitHost h = each_get FitHost w.hosts i h is.hosts at in
+          let fit : FitHost m h = each_get (FitHost m) w.hosts i h is.hosts at in
           fit-set w i (after_call (course_of m) h) (record { node = fit.node; life = life-called EntryFits h.life (store_called h.store) fit.life }) is;
       crash = λ w i h left up at may is.
-          let fit : FitHost h = each_get FitHost w.hosts i h is.hosts at in
+          let fit : FitHost m h = each_get (FitHost m) w.hosts i h is.hosts at in
           fit-set w i (host_crashed (course_of m) h left) (record { node = fit.node; life = life-crashed EntryFits h left (book_fits h.node fit.node) fit.life }) is;
       hear = λ w i c x a at has read is.
           record {
@@ -272,7 +272,7 @@ view_parts v is =
     (leb-true v.number 1023 f.0, a.1)
 
 -- hosts that have just opened
-hosts_fit : {S : Type 0} (m : Meaning S) (view : View) (ids : List ℕ) → is_view view ≡ true → Each (IsSigner 1) ids → Each FitHost (hosts_from m view ids)
+hosts_fit : {S : Type 0} (m : Meaning S) (view : View) (ids : List ℕ) → is_view view ≡ true → Each (IsSigner 1) ids → Each (FitHost m) (hosts_from m view ids)
 hosts_fit m view [] low each = tt
 hosts_fit m view (id ∷ ids) low each =
     (record { node = spelled-opened group_secret m id view 1024 each.0 low (omega arith); life = record { diary = tt; aside = tt } }, hosts_fit m view ids low each.1)
@@ -284,7 +284,7 @@ clients_fit zero i low = tt
 clients_fit (suc count) i low = (record { named = omega (arith, low); seen = omega arith; waits = no_request i }, clients_fit count (i + 1) (omega (arith, low)))
 
 -- a play begins so
-pub fit-begun : {S : Type 0} (m : Meaning S) (view : View) → is_view view ≡ true → AllFit (begun m view)
+pub fit-begun : {S : Type 0} (m : Meaning S) (view : View) → is_view view ≡ true → AllFit m (begun m view)
 fit-begun m view is =
     let parts = view_parts view is in
     record { hosts = hosts_fit m view view.members is (ascending 0 view.members parts.1); clients = clients_fit 1025 0 (omega arith); sent = tt; tagged = tt }
@@ -314,7 +314,7 @@ genuine-from (origins.Node id) x read tagged = genuine_content x tagged
 genuine-from (origins.Client id) x read tagged = genuine_content x tagged
 genuine-from origins.Script x read tagged = tt
 
-pub all_genuine : {S : Type 0} (w : World S) → AllFit w → AllGenuine w
+pub all_genuine : {S : Type 0} {m : Meaning S} (w : World S) → AllFit m w → AllGenuine w
 all_genuine w fit =
     record {
       read = each-weaken (λ (s : Sent). IsRead s.content) (λ (s : Sent). IsReadAs s.content) (λ s. reads-as s.content) w.sent fit.sent;

@@ -342,18 +342,18 @@ host-weaker M N weaker h is = record { node = met-weaker M N weaker h.node is.no
 -- worlds
 
 -- all that is held and sent has a spelling, batches of one digest have one text, and all batches at nodes and all that were chosen were met
-pub record Grounded {S : Type 0} (w : World S) : Type 0 where
-  pub fit : AllFit w
+pub record Grounded {S : Type 0} (m : Meaning S) (w : World S) : Type 0 where
+  pub fit : AllFit m w
   pub texts : TextsExact w.sent
   pub hosts : Each (HostMet (IsMet w.sent)) w.hosts
   pub chosen : Each (IsMet w.sent) w.chosen
 
 -- so batches that were met are one where their digests are
-pub grounded-exact : {S : Type 0} (w : World S) → Grounded w → Exact (IsMet w.sent)
+pub grounded-exact : {S : Type 0} {m : Meaning S} (w : World S) → Grounded m w → Exact (IsMet w.sent)
 grounded-exact w is = met-exact w.sent is.fit.sent is.texts
 
 -- and what was sent is read
-pub grounded-reads : {S : Type 0} (w : World S) → Grounded w → ReadsSent w
+pub grounded-reads : {S : Type 0} {m : Meaning S} (w : World S) → Grounded m w → ReadsSent w
 grounded-reads w is = fit-reads w is.fit
 
 -- the part of it that is not about spelling
@@ -417,19 +417,19 @@ event-met w h Tick may = tt
 event-met w h Deliver may = tt
 event-met w h (Firm count) may = tt
 
-part : {S : Type 0} (w : World S) → Grounded w → Met w
+part : {S : Type 0} {m : Meaning S} (w : World S) → Grounded m w → Met w
 part w is = record { texts = is.texts; hosts = is.hosts; chosen = is.chosen }
 
-whole : {S : Type 0} (w : World S) → AllFit w → Met w → Grounded w
+whole : {S : Type 0} {m : Meaning S} (w : World S) → AllFit m w → Met w → Grounded m w
 whole w fit is = record { fit = fit; texts = is.texts; hosts = is.hosts; chosen = is.chosen }
 
 -- another host stands at an index
-met-set : {S : Type 0} (w : World S) (i : ℕ) (h : Host S) → AllFit (with_host w i h) → HostMet (IsMet w.sent) h → Grounded w → Grounded (with_host w i h)
+met-set : {S : Type 0} {m : Meaning S} (w : World S) (i : ℕ) (h : Host S) → AllFit m (with_host w i h) → HostMet (IsMet w.sent) h → Grounded m w → Grounded m (with_host w i h)
 met-set w i h fit met is = record { fit = fit; texts = is.texts; hosts = each_set (HostMet (IsMet w.sent)) w.hosts i h is.hosts met; chosen = is.chosen }
 
 -- a node goes on from entries whose batches were met
 pub grounded-resumes : {S : Type 0} (m : Meaning S) → IsBrief m → (w : World S) (i : ℕ) (h : Host S) → slice_get w.hosts i ≡ Some h → is_view w.view ≡ true → entries_in (entries_left h) ≡ h.life.diary
-    → length (decided_of h.life.diary) < 2 ^ 63 → Grounded w → Grounded (with_host w i (host_resumed h (node_resumed (course_of m) w h)))
+    → length (decided_of h.life.diary) < 2 ^ 63 → Grounded m w → Grounded m (with_host w i (host_resumed h (node_resumed (course_of m) w h)))
 grounded-resumes {S = S} m brief w i h at viewed same few is =
     let met : HostMet (IsMet w.sent) h = each_get (HostMet (IsMet w.sent)) w.hosts i h is.hosts at in
     let node : NodeMet (IsMet w.sent) (node_resumed (course_of m) w h) =
@@ -437,10 +437,10 @@ grounded-resumes {S = S} m brief w i h at viewed same few is =
     met-set w i (host_resumed h (node_resumed (course_of m) w h)) (fit-resumes m brief w i h at viewed same few is.fit) (record { node = node; life = met.life }) is
 
 -- each event keeps that
-pub keeps-grounded : {S : Type 0} (m : Meaning S) → IsBrief m → Keeps (course_of m) Grounded
+pub keeps-grounded : {S : Type 0} (m : Meaning S) → IsBrief m → Keeps (course_of m) (Grounded m)
 unfolding hearing
 keeps-grounded {S = S} m brief =
-    let k : Keeps (course_of m) AllFit = keeps-fit m brief in
+    let k : Keeps (course_of m) (AllFit m) = keeps-fit m brief in
     record {
       event = λ w i h event up at may is.
           whole (stepped (course_of m) w i h (step_of m h.node event)) (k.event w i h event up at may is.fit)
@@ -473,6 +473,6 @@ hosts_met : {S : Type 0} (M : Batch → Type 0) (m : Meaning S) (view : View) (i
 hosts_met M m view [] = tt
 hosts_met M m view (id ∷ ids) = (record { node = record { arrivals = tt; entries = (tt, tt); waiting = tt }; life = record { diary = tt; aside = tt } }, hosts_met M m view ids)
 
-pub grounded-begun : {S : Type 0} (m : Meaning S) (view : View) → is_view view ≡ true → Grounded (begun m view)
+pub grounded-begun : {S : Type 0} (m : Meaning S) (view : View) → is_view view ≡ true → Grounded m (begun m view)
 grounded-begun m view is =
     record { fit = fit-begun m view is; texts = record { same = λ a b ma mb same. absurd ma }; hosts = hosts_met (IsMet []) m view view.members; chosen = tt }

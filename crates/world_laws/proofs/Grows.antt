@@ -10,7 +10,7 @@ use Rattle.node_rules.specs.Steps.{Outcome, leaving}
 use Rattle.world_rules.specs.Clients.{heard}
 use Rattle.world_rules.specs.Worlds.{Course, course_of, Host, World, posts, chosen_with, stepped, hearing, begun}
 use Rattle.world_rules.specs.Plays.{line_played, rested, world_after}
-use Rattle.world_rules.specs.Promises.{world_at}
+use Rattle.world_laws.specs.Promises.{world_at}
 use Rattle.client_quorum.specs.declared.client.Client.{Client}
 use Rattle.client_quorum.specs.declared.client.Heard.{Heard}
 use Rattle.world_rules.specs.declared.line.Line.{Line}

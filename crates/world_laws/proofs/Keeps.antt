@@ -200,6 +200,54 @@ IsBeside (outs.Stands member place number regency) = Unit {0}
 IsBeside (outs.Seen client place) = Unit {0}
 IsBeside (outs.End lines messages) = Unit {0}
 
+-- a transcript line that tells of no delivery either
+abbrev pub IsAside : OutLine → Type 0
+IsAside (outs.Group members faulty app) = Unit {0}
+IsAside (outs.Sent number origin summary) = Unit {0}
+IsAside (outs.Decided member place) = Unit {0}
+IsAside (outs.Delivered member place executed) = ⊥
+IsAside (outs.Promised member number regency) = Unit {0}
+IsAside (outs.Synced member number regency base bound) = Unit {0}
+IsAside (outs.Dropped member why) = Unit {0}
+IsAside (outs.Counted client have need) = Unit {0}
+IsAside (outs.Accepted client seq place index reply) = ⊥
+IsAside (outs.Ignored client why) = Unit {0}
+IsAside (outs.Busy client seq) = Unit {0}
+IsAside (outs.Absent member) = Unit {0}
+IsAside (outs.Crashed member) = Unit {0}
+IsAside (outs.Restarted member place entries) = Unit {0}
+IsAside (outs.Down member) = Unit {0}
+IsAside (outs.Idle member) = Unit {0}
+IsAside (outs.IdleClient client) = Unit {0}
+IsAside (outs.Learned client place) = ⊥
+IsAside (outs.Stands member place number regency) = Unit {0}
+IsAside (outs.Seen client place) = Unit {0}
+IsAside (outs.End lines messages) = Unit {0}
+
+-- it tells of no place either
+pub aside_beside : (line : OutLine) → IsAside line → IsBeside line
+aside_beside (outs.Group members faulty app) aside = tt
+aside_beside (outs.Sent number origin summary) aside = tt
+aside_beside (outs.Decided member place) aside = tt
+aside_beside (outs.Delivered member place executed) aside = absurd aside
+aside_beside (outs.Promised member number regency) aside = tt
+aside_beside (outs.Synced member number regency base bound) aside = tt
+aside_beside (outs.Dropped member why) aside = tt
+aside_beside (outs.Counted client have need) aside = tt
+aside_beside (outs.Accepted client seq place index reply) aside = absurd aside
+aside_beside (outs.Ignored client why) aside = tt
+aside_beside (outs.Busy client seq) aside = tt
+aside_beside (outs.Absent member) aside = tt
+aside_beside (outs.Crashed member) aside = tt
+aside_beside (outs.Restarted member place entries) aside = tt
+aside_beside (outs.Down member) aside = tt
+aside_beside (outs.Idle member) aside = tt
+aside_beside (outs.IdleClient client) aside = tt
+aside_beside (outs.Learned client place) aside = absurd aside
+aside_beside (outs.Stands member place number regency) aside = tt
+aside_beside (outs.Seen client place) aside = tt
+aside_beside (outs.End lines messages) aside = tt
+
 -- who is faulty and who is rogue from now on, and how the play ended: more are, not too many, and what has ended stays so
 pub record Declares {S : Type 0} (w : World S) (faulty rogue : List ℕ) (ending : Option Ending) : Type 0 where
   pub more_faulty : (member : ℕ) → is_among w.faulty member ≡ true → is_among faulty member ≡ true
@@ -263,8 +311,8 @@ pub record KeepsLive {S : Type 0} (course : Course S) (P : World S → Type 0) :
       → P (record w { faulty = faulty; rogue = rogue; ending = ending })
   -- a flow goes on to the message behind the mark
   pub mark : (w : World S) (s : Sent) → w.ending ≡ None → slice_get w.sent w.mark ≡ Some s → P w → P (record w { mark = w.mark + 1 })
-  -- a line is told that tells of no place that a client knows, and nothing else changes
-  pub tell : (w : World S) (line : OutLine) → IsBeside line → P w → P (telling w line)
+  -- a line is told that tells of no place that a client knows and of no delivery, and nothing else changes
+  pub tell : (w : World S) (line : OutLine) → IsAside line → P w → P (telling w line)
 
 -- a fact that crashes keep, too, and nodes that go on
 pub record KeepsLives {S : Type 0} (course : Course S) (P : World S → Type 0) : Type 0 where
@@ -288,7 +336,7 @@ live course P k =
       inject = λ w x on read fine p. k.inject w x read fine p;
       declare = λ w faulty rogue ending on how p. k.declare w faulty rogue ending how p;
       mark = λ w s on at p. k.same w (w.mark + 1) w.told p;
-      tell = λ w line beside p. k.same w w.mark (w.told ++ line ∷ []) p;
+      tell = λ w line aside p. k.same w w.mark (w.told ++ line ∷ []) p;
     }
 
 -- through all lives
@@ -366,7 +414,7 @@ live-carries course P x k =
       inject = λ w y on read fine p. (k.inject w y on read fine p.0, has-posts x w (from_script y) p.1);
       declare = λ w faulty rogue ending on how p. (k.declare w faulty rogue ending on how p.0, p.1);
       mark = λ w s on at p. (k.mark w s on at p.0, p.1);
-      tell = λ w line beside p. (k.tell w line beside p.0, p.1);
+      tell = λ w line aside p. (k.tell w line aside p.0, p.1);
     }
 
 -- what is not there is nothing
@@ -481,34 +529,34 @@ at_index-keeps P f keeps w None p = p
 at_index-keeps P f keeps w (Some i) p = keeps i w p
 
 -- unless its node does not run
-at_host-keeps : {S : Type 0} (P : World S → Type 0) (f : ℕ → World S → World S) → ((i : ℕ) (w : World S) → P w → P (f i w)) → ((w : World S) (line : OutLine) → IsBeside line → P w → P (telling w line))
+at_host-keeps : {S : Type 0} (P : World S → Type 0) (f : ℕ → World S → World S) → ((i : ℕ) (w : World S) → P w → P (f i w)) → ((w : World S) (line : OutLine) → IsAside line → P w → P (telling w line))
     → (i : ℕ) (w : World S) (found : Option (Host S)) → P w → P (at_host f i w found)
 at_host-keeps P f keeps tells i w None p = p
 at_host-keeps P f keeps tells i w (Some h) p = either P (is_up w h) (f i w) _ (keeps i w p) (tells w (outs.Absent h.node.id) tt p)
 
-pub at_member-keeps : {S : Type 0} (P : World S → Type 0) (f : ℕ → World S → World S) → ((i : ℕ) (w : World S) → P w → P (f i w)) → ((w : World S) (line : OutLine) → IsBeside line → P w → P (telling w line))
+pub at_member-keeps : {S : Type 0} (P : World S → Type 0) (f : ℕ → World S → World S) → ((i : ℕ) (w : World S) → P w → P (f i w)) → ((w : World S) (line : OutLine) → IsAside line → P w → P (telling w line))
     → (member : ℕ) (w : World S) → P w → P (at_member f member w)
 at_member-keeps P f keeps tells member w p =
     at_index-keeps P (λ i v. at_host f i v (slice_get v.hosts i)) (λ i v q. at_host-keeps P f keeps tells i v (slice_get v.hosts i) q) w (host_index w.hosts member) p
 
 -- lines that are told
 
-pub live-telling_all : {S : Type 0} (course : Course S) (P : World S → Type 0) → KeepsLive course P → (w : World S) (lines : List OutLine) → Each IsBeside lines → P w → P (telling_all w lines)
-live-telling_all course P k w [] beside p = subst (λ (told : List OutLine). P (record w { told = told })) (sym (append-nil w.told)) p
-live-telling_all course P k w (l ∷ ls) beside p =
-    subst (λ (told : List OutLine). P (record w { told = told })) (append_assoc w.told (l ∷ []) ls) (live-telling_all course P k (telling w l) ls beside.1 (k.tell w l beside.0 p))
+pub live-telling_all : {S : Type 0} (course : Course S) (P : World S → Type 0) → KeepsLive course P → (w : World S) (lines : List OutLine) → Each IsAside lines → P w → P (telling_all w lines)
+live-telling_all course P k w [] aside p = subst (λ (told : List OutLine). P (record w { told = told })) (sym (append-nil w.told)) p
+live-telling_all course P k w (l ∷ ls) aside p =
+    subst (λ (told : List OutLine). P (record w { told = told })) (append_assoc w.told (l ∷ []) ls) (live-telling_all course P k (telling w l) ls aside.1 (k.tell w l aside.0 p))
 
 -- who is absent accepts nothing
-absent-beside : (members : List ℕ) (id : ℕ) → Each IsBeside (told_absent members id)
-absent-beside [] id = tt
-absent-beside (m ∷ ms) id = (tt, tt)
+absent-aside : (members : List ℕ) (id : ℕ) → Each IsAside (told_absent members id)
+absent-aside [] id = tt
+absent-aside (m ∷ ms) id = (tt, tt)
 
 -- a node that is found settles, unless it is gone
 live-settle_present : {S : Type 0} (course : Course S) (P : World S → Type 0) → KeepsLive course P → (members : List ℕ) (i : ℕ) (w : World S) (found : Option (Host S)) → P w
     → P (settle_present course members i w found)
 live-settle_present course P k members i w None p = p
 live-settle_present course P k members i w (Some h) p =
-    either P (is_up w h) (settle course i w) _ (live-settle course P k i w p) (live-telling_all course P k w (told_absent members h.node.id) (absent-beside members h.node.id) p)
+    either P (is_up w h) (settle course i w) _ (live-settle course P k i w p) (live-telling_all course P k w (told_absent members h.node.id) (absent-aside members h.node.id) p)
 
 pub live-settles_present : {S : Type 0} (course : Course S) (P : World S → Type 0) → KeepsLive course P → (members : List ℕ) (i : ℕ) (w : World S) → P w
     → P (settle_present course members i w (slice_get w.hosts i))
@@ -675,9 +723,9 @@ live-give_number : {S : Type 0} (course : Course S) (P : World S → Type 0) →
 live-give_number course P k number tos w p = live-sent_arrives course P k (number - 1) tos w (slice_get w.sent (number - 1)) refl p
 
 -- who is idle accepts nothing
-pub idle-beside : (id : ℕ) (fired : List Fired) → Each IsBeside (told_idle id fired)
-idle-beside id [] = (tt, tt)
-idle-beside id (rule ∷ rules) = tt
+pub idle-aside : (id : ℕ) (fired : List Fired) → Each IsAside (told_idle id fired)
+idle-aside id [] = (tt, tt)
+idle-aside id (rule ∷ rules) = tt
 
 -- delivery and a tick may always come
 abbrev MayTry : NodeEvent → Type 0
@@ -698,7 +746,7 @@ live-host_tries : {S : Type 0} (course : Course S) (P : World S → Type 0) → 
 live-host_tries course P k event may i w None on at p = p
 live-host_tries course P k event may i w (Some h) on at p =
     either_by P (not (is_up w h)) w _ (λ not_up. p)
-    (λ up. live-telling_all course P k (stepped course w i h (course.step h.node event)) (told_idle h.node.id (course.step h.node event).fired) (idle-beside h.node.id (course.step h.node event).fired)
+    (λ up. live-telling_all course P k (stepped course w i h (course.step h.node event)) (told_idle h.node.id (course.step h.node event).fired) (idle-aside h.node.id (course.step h.node event).fired)
     (k.event w i h event on (is-up w h (not_false (is_up w h) up)) at (try_may w h event may) p))
 
 live-tries_at : {S : Type 0} (course : Course S) (P : World S → Type 0) → KeepsLive course P → (event : NodeEvent) → MayTry event → (i : ℕ) (w : World S) → P w → P (tries_at course event i w)
@@ -740,21 +788,21 @@ outcome-beside id o = each_append IsBeside (told_drop id o.dropped) (flat_map (t
 
 -- what is shown
 
-pub hosts-beside : {S : Type 0} (faulty : List ℕ) (hosts : List (Host S)) → Each IsBeside (flat_map (shown_host faulty) hosts)
-hosts-beside faulty [] = tt
-hosts-beside faulty (h ∷ hs) =
-    each_append IsBeside (shown_host faulty h) (flat_map (shown_host faulty) hs)
-    (either (λ (lines : List OutLine). Each IsBeside lines) (is_among faulty h.node.id) [] _ tt (either (λ (lines : List OutLine). Each IsBeside lines) h.up _ _ (tt, tt) (tt, tt))) (hosts-beside faulty hs)
+pub hosts-aside : {S : Type 0} (faulty : List ℕ) (hosts : List (Host S)) → Each IsAside (flat_map (shown_host faulty) hosts)
+hosts-aside faulty [] = tt
+hosts-aside faulty (h ∷ hs) =
+    each_append IsAside (shown_host faulty h) (flat_map (shown_host faulty) hs)
+    (either (λ (lines : List OutLine). Each IsAside lines) (is_among faulty h.node.id) [] _ tt (either (λ (lines : List OutLine). Each IsAside lines) h.up _ _ (tt, tt) (tt, tt))) (hosts-aside faulty hs)
 
-pub clients-beside : (clients : List Client) → Each IsBeside (flat_map shown_client clients)
-clients-beside [] = tt
-clients-beside (c ∷ cs) =
-    each_append IsBeside (shown_client c) (flat_map shown_client cs) (either (λ (lines : List OutLine). Each IsBeside lines) (nat_lt 0 c.last) (outs.Seen c.id c.seen ∷ []) [] (tt, tt) tt) (clients-beside cs)
+pub clients-aside : (clients : List Client) → Each IsAside (flat_map shown_client clients)
+clients-aside [] = tt
+clients-aside (c ∷ cs) =
+    each_append IsAside (shown_client c) (flat_map shown_client cs) (either (λ (lines : List OutLine). Each IsAside lines) (nat_lt 0 c.last) (outs.Seen c.id c.seen ∷ []) [] (tt, tt) tt) (clients-aside cs)
 
 live-shows : {S : Type 0} (course : Course S) (P : World S → Type 0) → KeepsLive course P → (w : World S) → P w → P (shows w)
 live-shows course P k w p =
     live-telling_all course P k w (flat_map (shown_host w.faulty) w.hosts ++ flat_map shown_client w.clients)
-    (each_append IsBeside (flat_map (shown_host w.faulty) w.hosts) (flat_map shown_client w.clients) (hosts-beside w.faulty w.hosts) (clients-beside w.clients)) p
+    (each_append IsAside (flat_map (shown_host w.faulty) w.hosts) (flat_map shown_client w.clients) (hosts-aside w.faulty w.hosts) (clients-aside w.clients)) p
 
 -- who breaks the rules
 

@@ -39,7 +39,7 @@ use Rattle.node_laws.proofs.Undamaged.{undamaged, read_again}
 use Rattle.world_rules.specs.Secrets.{group_secret}
 use Rattle.world_rules.specs.Premises.{is_among}
 use Rattle.world_rules.specs.Worlds.{Host, World, is_gone, life_crashed}
-use Rattle.world_rules.specs.Promises.{restored_replica, has_place, MayBeLeft, IsKept, Recovers}
+use Rattle.world_laws.specs.Promises.{restored_replica, has_place, MayBeLeft, IsKept, Recovers}
 use Rattle.world_rules.specs.declared.message.Content.{Content}
 use Rattle.world_rules.specs.declared.message.Content.TheVariants as contents
 use Rattle.world_rules.specs.declared.message.Sent.{Sent}
@@ -97,7 +97,7 @@ diary_firm {S = S} h few is = by h.up refl
 left_book : {S : Type 0} (m : Meaning S) (w : World S) (i : ℕ) (h : Host S) (left : Images) → slice_get w.hosts i ≡ Some h → MayLeave h.store left → ChosenRight m w → LeftBook w h left
 left_book {S = S} m w i h left at may r =
     let right : HostRight w.sent m w.view w.chosen h = host-right m w i h at r in
-    let fit : FitHost h = host-fit m w i h at r in
+    let fit : FitHost m h = host-fit m w i h at r in
     let met : HostMet (IsMet w.sent) h = each_get (HostMet (IsMet w.sent)) w.hosts i h r.0.0.hosts at in
     let few = diary-few m w i h at r in
     let leaves : Leaves h.store (texts (book_now h)) (texts h.life.aside) left = crash_leaves h.store (texts (book_now h)) (texts h.life.aside) right.lasts.holds left may in

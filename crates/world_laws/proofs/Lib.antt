@@ -15,7 +15,6 @@ pub mod Certified
 pub mod NoClash
 pub mod Stating
 pub mod Unforged
-pub mod Longer
 pub mod Stores
 pub mod Lives
 pub mod Reopens
@@ -33,5 +32,6 @@ pub mod Replied
 pub mod Replies
 pub mod Accepted
 pub mod Told
+pub mod Delivering
 pub mod Kept
 pub mod OneListLaw

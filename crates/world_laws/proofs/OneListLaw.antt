@@ -1,22 +1,26 @@
 -- One list holds throughout a script.
-use Rattle.std.proofs.Common.{◌≡◌, ℕ, false, true, List, take, refl}
+use Rattle.std.proofs.Common.{◌≡◌, ℕ, false, true, List, [], ◌∷◌, take, refl, sym, subst, Option, Some, None}
+use Rattle.std.specs.Prelude.{map}
+use Rattle.smart_base.specs.declared.party.Party.TheVariants.{Member}
 use Rattle.smart_base.specs.Lists.{Each}
 use Rattle.smart_base.specs.Views.{View, is_view}
 use Rattle.smart_statements.specs.Forms.{SignedBy}
 use Rattle.smart_statements.specs.Batches.{Batch}
 use Rattle.smart_statements.specs.declared.statement.Answer.{Answer}
 use Rattle.smart_messages.specs.declared.message.Message.TheVariants.{Ask, Propose, Vote, Reply}
+use Rattle.smart_messages.specs.declared.regency.RegencyMessage.TheVariants as changes
 use Rattle.smart_messages.specs.declared.any.AnyMessage.{AnyMessage}
 use Rattle.smart_messages.specs.declared.any.AnyMessage.TheVariants.{Plain, Change}
 use Rattle.smart_service.specs.Services.{Meaning}
 use Rattle.vote_book.specs.Books.{Among}
 use Rattle.agreement_laws.specs.Statements as statements
+use Rattle.agreement_laws.specs.Statements.{Statement, signer_of, requests_of, said}
 use Rattle.node_rules.specs.declared.node.Held.{Held}
 use Rattle.world_rules.specs.Premises.{is_among}
 use Rattle.world_rules.specs.Stated.{stated}
 use Rattle.world_rules.specs.Worlds.{course_of, Host, World, begun}
 use Rattle.world_rules.specs.Plays.{lines_told}
-use Rattle.world_rules.specs.Promises.{AreRepliesRight, IsAnswered, IsKept, IsRightIfReply, OneList, OneListThroughout, world_at}
+use Rattle.world_laws.specs.Promises.{AreRepliesRight, IsAnswered, IsKept, IsRightStatement, OneList, OneListThroughout, world_at}
 use Rattle.world_rules.specs.declared.line.Line.{Line}
 use Rattle.world_laws.proofs.Keeps.{KeepsAll, keeps-world_after}
 use Rattle.world_laws.proofs.Kept.{all_recover, replied_kept}
@@ -28,13 +32,16 @@ use Rattle.world_laws.proofs.Replied.{RightBorne, right-borne-kept, reply_there,
 use Rattle.world_laws.proofs.Borne.{borne-begun}
 use Rattle.world_laws.proofs.Chosen.{ChosenRight, right-witnessed}
 use Rattle.world_laws.proofs.ChosenKept.{right-reads, chosen-begun, chosen-aligned, chosen-prefix, witnessed-after}
-use Rattle.world_laws.proofs.Grows.{list-grows}
-use Rattle.world_laws.proofs.Replies.{HeldRight, RepliesRight, ReplyRight, reply_stated, keeps-replies, replies-begun}
-use Rattle.world_laws.proofs.Asked.{asked-after}
-use Rattle.world_laws.proofs.Asking.{right-after}
-use Rattle.world_laws.proofs.Accepted.{AcceptedTold, AcceptedRight, Telling, executed-right, keeps-told, told-begun, accepted-right}
-use Rattle.world_laws.proofs.Aligned.{IsExecuted}
-use Rattle.world_laws.proofs.Told.{lines-answered}
+use Rattle.world_laws.proofs.Grows.{list-grows, view-stays}
+use Rattle.replica_laws.specs.Lines.{HeldRight, ReplyRight}
+use Rattle.world_laws.proofs.Replies.{RepliesRight, reply_stated, keeps-replies, replies-begun}
+use Rattle.world_laws.proofs.Asked.{RequestsAsked, asked-after}
+use Rattle.world_laws.proofs.Asking.{ClientsRight, right-after}
+use Rattle.world_laws.proofs.Accepted.{AcceptedTold, Telling, executed-right, keeps-told, told-begun, accepted-right}
+use Rattle.replica_laws.specs.Lines.{IsExecuted}
+use Rattle.world_laws.proofs.Told.{lines-answered, lines-tell_all}
+use Rattle.world_laws.proofs.Delivering.{deliveries-told}
+use Rattle.world_laws.proofs.Witnessing.{members_same}
 use Rattle.world_laws.proofs.Past.{past-known}
 use Rattle.smart_base.proofs.ViewFacts.{each-weaken}
 
@@ -62,21 +69,46 @@ telling m w is =
       executed = λ r has tagged correct. stated_executed m w is r (reply_there w.sent r has tagged) correct;
     }
 
--- it is right, and so is each reply that a node holds
-right_message : {S : Type 0} (m : Meaning S) (view : View) (chosen : List Batch) (x : AnyMessage) → ReplyRight m view chosen x → IsRightIfReply m view chosen x
-right_message m view chosen (Plain (Ask q)) right = tt
-right_message m view chosen (Plain (Propose p)) right = tt
-right_message m view chosen (Plain (Vote b)) right = tt
-right_message m view chosen (Plain (Reply a)) right = executed-right m view chosen a.statement right
-right_message m view chosen (Change x) right = tt
+-- what a message says that is no reply, or a right one, is right
+asked_right : {S : Type 0} (m : Meaning S) (w : World S) (batch : Batch) → Each (IsRightStatement m w) (map (λ q. statements.Asked q) batch)
+asked_right m w [] = tt
+asked_right m w (q ∷ qs) = (tt, asked_right m w qs)
 
-all_replies_right : {S : Type 0} (m : Meaning S) (w : World S) → Heard m w → AreRepliesRight m w
-all_replies_right {S = S} m w is =
+asked_right_if : {S : Type 0} (m : Meaning S) (w : World S) (batch : Option Batch) → Each (IsRightStatement m w) (requests_of batch)
+asked_right_if m w None = tt
+asked_right_if m w (Some batch) = asked_right m w batch
+
+right_message : {S : Type 0} (m : Meaning S) (w : World S) (x : AnyMessage) → RequestsAsked w → ReplyRight m w.view w.chosen x → Each (IsRightStatement m w) (said x)
+right_message m w (Plain (Ask q)) requests right = (tt, tt)
+right_message m w (Plain (Propose p)) requests right = (tt, asked_right m w p.batch)
+right_message m w (Plain (Vote b)) requests right = (tt, tt)
+right_message m w (Plain (Reply a)) requests right = (executed-right m w a.statement requests right, tt)
+right_message m w (Change (changes.Stop s)) requests right = (tt, tt)
+right_message m w (Change (changes.StopData r)) requests right = (tt, asked_right_if m w r.batch)
+right_message m w (Change (changes.Sync s)) requests right = (tt, tt)
+
+-- what members have stated that are not faulty is right
+right_stated : {S : Type 0} (m : Meaning S) (w : World S) → Heard m w → RequestsAsked w → (s : Statement) (member : ℕ) → Among s (stated w.sent) → signer_of s ≡ Member member → is_among w.faulty member ≡ false
+    → IsRightStatement m w s
+right_stated m w is requests (statements.Asked q) member there signer correct = tt
+right_stated m w is requests (statements.Proposed p) member there signer correct = tt
+right_stated m w is requests (statements.Voted b) member there signer correct = tt
+right_stated m w is requests (statements.Stopped s) member there signer correct = tt
+right_stated m w is requests (statements.Reported r) member there signer correct = tt
+right_stated m w is requests (statements.Synced s) member there signer correct = tt
+right_stated m w is requests (statements.Marked x) member there signer correct = tt
+right_stated m w is requests (statements.Replied a) member there signer correct =
+    executed-right m w a.statement requests (stated_executed m w is a there (subst (λ (k : ℕ). is_among w.faulty k ≡ false) (sym (members_same a.signer member signer)) correct))
+right_stated m w is requests (statements.Informed i) member there signer correct = tt
+
+-- so is what nodes hold
+all_replies_right : {S : Type 0} (m : Meaning S) (w : World S) → Heard m w → RequestsAsked w → AreRepliesRight m w
+all_replies_right {S = S} m w is requests =
     record {
-      held = each-weaken (λ (h : Host S). HeldRight m w.view w.chosen h.node) (λ (h : Host S). Each (λ x. IsRightIfReply m w.view w.chosen x.message) h.node.held)
-          (λ h held. each-weaken (λ (x : Held). ReplyRight m w.view w.chosen x.message) (λ (x : Held). IsRightIfReply m w.view w.chosen x.message)
-          (λ x right. right_message m w.view w.chosen x.message right) h.node.held held) w.hosts is.0.1.held;
-      sent = λ r there correct. executed-right m w.view w.chosen r.statement (stated_executed m w is r there correct);
+      held = each-weaken (λ (h : Host S). HeldRight m w.view w.chosen h.node) (λ (h : Host S). Each (λ x. Each (IsRightStatement m w) (said x.message)) h.node.held)
+          (λ h held. each-weaken (λ (x : Held). ReplyRight m w.view w.chosen x.message) (λ (x : Held). Each (IsRightStatement m w) (said x.message))
+          (λ x right. right_message m w x.message requests right) h.node.held held) w.hosts is.0.1.held;
+      sent = right_stated m w is requests;
     }
 
 -- each event keeps that
@@ -91,35 +123,39 @@ told_right-at m brief view is ls k =
     keeps-world_after (course_of m) (ToldRight m) (keeps-told_right m brief) (begun m view) (take k ls)
     ((((chosen-begun m view is, borne-begun m view), replies-begun m view), replied-begun m view), told-begun m view)
 
--- and all accepted replies are right
-pub accepted-at : {S : Type 0} (m : Meaning S) → IsBrief m → (view : View) → is_view view ≡ true → (ls : List Line) (k : ℕ) → AcceptedRight m (world_at m view ls k)
-accepted-at m brief view is ls k =
-    accepted-right m (world_at m view ls k) (asked-after m brief view (take k ls) is) (right-after m (course_of m) view (take k ls)) (told_right-at m brief view is ls k).1
-
 -- one list holds after each line of a script
+one_list-of : {S : Type 0} (m : Meaning S) (w : World S) → RequestsAsked w → ClientsRight w → ToldRight m w → OneList m w
+one_list-of m w requests clients is =
+    record {
+      members = is.0.0.0.0.1.ids;
+      hosts = chosen-prefix m w is.0.0.0.0;
+      replied = all_replies_right m w is.0 requests;
+      recovers = all_recover m w is.0.0.0.0;
+      accepted = accepted-right m w requests clients is.1;
+      quorums = record { each = is.0.1.accepted };
+      kept = each-weaken (QuorumReplied w.view w.faulty w.sent) (λ (a : Acceptance). IsKept m w a.place) (λ a replied. replied_kept m w a is.0.0.0.0 replied) w.accepted is.0.1.accepted;
+      rising = clients.all.rising;
+      firm = is.0.0.0.1.sent;
+    }
+
 pub one_list-at : {S : Type 0} (m : Meaning S) → IsBrief m → (view : View) → is_view view ≡ true → (ls : List Line) (k : ℕ) → OneList m (world_at m view ls k)
 one_list-at m brief view is ls k =
-    record {
-      hosts = chosen-prefix m (world_at m view ls k) (told_right-at m brief view is ls k).0.0.0.0;
-      replied = all_replies_right m (world_at m view ls k) (told_right-at m brief view is ls k).0;
-      recovers = all_recover m (world_at m view ls k) (told_right-at m brief view is ls k).0.0.0.0;
-      accepted = (accepted-at m brief view is ls k).all;
-      kept = each-weaken (QuorumReplied (world_at m view ls k).view (world_at m view ls k).faulty (world_at m view ls k).sent) (λ (a : Acceptance). IsKept m (world_at m view ls k) a.place)
-          (λ a replied. replied_kept m (world_at m view ls k) a (told_right-at m brief view is ls k).0.0.0.0 replied) (world_at m view ls k).accepted (told_right-at m brief view is ls k).0.1.accepted;
-      rising = (right-after m (course_of m) view (take k ls)).all.rising;
-    }
+    one_list-of m (world_at m view ls k) (asked-after m brief view (take k ls) is) (right-after m (course_of m) view (take k ls)) (told_right-at m brief view is ls k)
 
 -- each line that told of an accepted reply until then tells its answer
 pub told-at : {S : Type 0} (m : Meaning S) → IsBrief m → (view : View) → is_view view ≡ true → (ls : List Line) (k : ℕ)
-    → Each (IsAnswered m view (world_at m view ls k).rogue (world_at m view ls k).chosen) (lines_told (course_of m) (begun m view) (take k ls))
-told-at m brief view is ls k = lines-answered m view (take k ls) (accepted-at m brief view is ls k)
+    → Each (IsAnswered m view (world_at m view ls k).chosen) (lines_told (course_of m) (begun m view) (take k ls))
+told-at m brief view is ls k = lines-answered m view (take k ls) (told_right-at m brief view is ls k).1
 
 -- one list holds throughout a script and only grows, and the lines of accepted replies tell its answers
 pub one_list-throughout : {S : Type 0} (m : Meaning S) → IsBrief m → (view : View) → is_view view ≡ true → (ls : List Line) → OneListThroughout m view ls
 one_list-throughout m brief view is ls = record {
   one_list = one_list-at m brief view is ls;
+  viewed = λ k. view-stays m (begun m view) (take k ls);
   grows = list-grows m view ls;
   told = told-at m brief view is ls;
+  told_all = λ k. lines-tell_all m view (take k ls);
+  told_deliveries = λ k. deliveries-told m view (take k ls) is;
   past_known = past-known m view ls;
   witnessed = λ k. witnessed-after m brief view (take k ls) is;
 }

@@ -15,7 +15,7 @@ use Rattle.client_quorum.specs.declared.client.Heard.{Heard}
 use Rattle.client_quorum.specs.declared.client.Heard.TheVariants as hears
 use Rattle.world_rules.specs.Clients.{heard}
 use Rattle.world_rules.specs.Knowing.{known_by}
-use Rattle.world_rules.specs.Promises.{HasAsked, IsPast, world_at}
+use Rattle.world_laws.specs.Promises.{HasAsked, IsPast, world_at}
 use Rattle.world_rules.specs.Worlds.{Course, course_of, Host, World, posts, stepped, acceptance_in, hearing, begun}
 use Rattle.world_rules.specs.Plays.{rested, world_after, lines_told}
 use Rattle.world_rules.specs.declared.line.Line.{Line}
@@ -182,7 +182,7 @@ keeps-stating course before known =
           },
         );
         mark = λ w s on at is. (k.live.mark w s on at is.0, record { each = is.1.each; accepted = is.1.accepted });
-        tell = λ w line beside is. (k.live.tell w line beside is.0, record { each = is.1.each; accepted = is.1.accepted });
+        tell = λ w line aside is. (k.live.tell w line aside is.0, record { each = is.1.each; accepted = is.1.accepted });
       };
       crash = λ w i h left on up at may is. (k.crash w i h left on up at may is.0, record { each = is.1.each; accepted = is.1.accepted });
       resume = λ w i h on down at is. (k.resume w i h on down at is.0, record { each = is.1.each; accepted = is.1.accepted });

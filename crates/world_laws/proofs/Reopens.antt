@@ -5,7 +5,7 @@ use Rattle.smart_base.specs.Lists.{Each}
 use Rattle.smart_base.specs.Views.{View, is_view, present}
 use Rattle.smart_statements.specs.Batches.{Batch, FitsBatch}
 use Rattle.smart_statements.specs.Spelling.{IsSigner}
-use Rattle.smart_service.specs.Services.{Meaning}
+use Rattle.smart_service.specs.Services.{Meaning, Comes, comes_first, comes_next}
 use Rattle.smart_service.specs.declared.replica.Replica.{Replica}
 use Rattle.vote_book.specs.Entries.{FitsEntry}
 use Rattle.vote_book.specs.declared.entry.LogEntry.{LogEntry}
@@ -27,6 +27,7 @@ use Rattle.replica_laws.proofs.FitNodes.{FitNode, FitsLine, IsBrief, fit-as, lin
 use Rattle.replica_laws.proofs.FitNodes as nodes
 use Rattle.replica_laws.proofs.FitBooks.{FitBook, spelled-opened}
 use Rattle.agreement_laws.proofs.Lists.{either}
+use Rattle.replica_rules.proofs.Coming.{valid_delivered, valid_state}
 use Rattle.replica_rules.proofs.Places.{state_place, views_delivered, place_delivered}
 
 -- the node that goes on from some entries
@@ -80,22 +81,22 @@ batches-fit (Decided d ∷ es) each = (each.0.batch_fits, batches-fit es each.1)
 batches-fit (Installed i ∷ es) each = batches-fit es each.1
 batches-fit (Marked k ∷ es) each = batches-fit es each.1
 
-executed-fit : {S : Type 0} (m : Meaning S) → IsBrief m → (r : Replica S) (batch : Batch) → (present r.views).number < 2 ^ 32 → r.place + 1 < 2 ^ 63 → FitsBatch batch
+executed-fit : {S : Type 0} (m : Meaning S) → IsBrief m → (r : Replica S) (batch : Batch) → (present r.views).number < 2 ^ 32 → r.place + 1 < 2 ^ 63 → FitsBatch batch → Comes m r.service
     → Each FitsLine (executed_lines m r batch)
 unfolding executed_lines
-executed-fit m brief r batch view low fit = lines_of-fit m brief (at_next r) 0 batch view (omega arith, low) (omega (arith, fit.count_fits.1)) fit.each_fits
+executed-fit m brief r batch view low fit come = lines_of-fit m brief (at_next r) 0 batch view (omega arith, low) (omega (arith, fit.count_fits.1)) come fit.each_fits
 
 lines-fit : {S : Type 0} (m : Meaning S) → IsBrief m → (r : Replica S) (bs : List Batch) → (present r.views).number < 2 ^ 32 → r.place + length bs < 2 ^ 63 → Each FitsBatch bs
-    → Each FitsLine r.table → Each FitsLine (after_batches m r bs).table
-lines-fit m brief r [] view low fit lines = lines
-lines-fit {S = S} m brief r (b ∷ bs) view low fit lines =
+    → Comes m r.service → Each FitsLine r.table → Each FitsLine (after_batches m r bs).table
+lines-fit m brief r [] view low fit come lines = lines
+lines-fit {S = S} m brief r (b ∷ bs) view low fit come lines =
     lines-fit m brief (delivered m r b) bs
     (subst (λ (vs : List View). (present vs).number < 2 ^ 32) (sym (views_delivered m r b)) view)
     (let next : (delivered m r b).place ≡ r.place + 1 = place_delivered m r b in omega (arith, next, low))
-    fit.1 (each-delivered FitsLine m r b lines (executed-fit m brief r b view (omega (arith, low)) fit.0))
+    fit.1 (valid_delivered m (Comes m) comes_next r b come) (each-delivered FitsLine m r b lines (executed-fit m brief r b view (omega (arith, low)) fit.0 come))
 
 going_fits : {S : Type 0} (secret : List ℕ) (m : Meaning S) → IsBrief m → (id : ℕ) (view : View) (es : List LogEntry) → IsSigner 1 id → is_view view ≡ true
-    → Each (nodes.FitsEntry secret) es → Each FitsEntry es → length (decided_of es) < 2 ^ 63 → FitNode secret (going m secret id view es)
+    → Each (nodes.FitsEntry secret) es → Each FitsEntry es → length (decided_of es) < 2 ^ 63 → FitNode m secret (going m secret id view es)
 unfolding going regency_of
 going_fits secret m brief id view es named viewed kept spelled few =
     let vs : (state m view (decided_of es)).views ≡ view ∷ [] = state-views m view (decided_of es) in
@@ -106,7 +107,7 @@ going_fits secret m brief id view es named viewed kept spelled few =
       view = subst (λ (xs : List View). is_view (present xs) ≡ true) (sym vs) viewed;
       views = subst (λ (xs : List View). Each (λ v. is_view v ≡ true) xs) (sym vs) (viewed, tt);
       regency = regency-fits (present (state m view (decided_of es)).views).number es spelled;
-      lines = lines-fit m brief (empty m view) (decided_of es) (view-low view viewed) from_none (batches-fit es spelled) tt;
+      lines = lines-fit m brief (empty m view) (decided_of es) (view-low view viewed) from_none (batches-fit es spelled) comes_first tt;
       pool = tt;
       arrivals = tt;
       told = tt;
@@ -114,19 +115,20 @@ going_fits secret m brief id view es named viewed kept spelled few =
       book = kept;
       waiting = tt;
       held = tt;
+      service = valid_state m (Comes m) comes_next view (decided_of es) comes_first;
     }
 
 -- the entries of a node that fits, or a front of them, leave one that fits
 pub fit_reopened : {S : Type 0} (secret : List ℕ) (m : Meaning S) → IsBrief m → (id : ℕ) (view : View) (period : ℕ) (entries : List LogEntry) → IsSigner 1 id → is_view view ≡ true
     → period < 2 ^ 32 → Each (nodes.FitsEntry secret) entries → Each FitsEntry entries → length (decided_of entries) < 2 ^ 63
-    → FitBook secret (reopened m secret id view period entries)
+    → FitBook m secret (reopened m secret id view period entries)
 unfolding reopened going
 fit_reopened {S = S} secret m brief id view period [] named viewed low kept spelled few =
     let n : Node S = opened m secret id view period in
-    let is : FitBook secret n = spelled-opened secret m id view period named viewed low in
+    let is : FitBook m secret n = spelled-opened secret m id view period named viewed low in
     record { node = fit-as secret n 0 [] false false false true is.node; book = is.book }
 fit_reopened {S = S} secret m brief id view period (e ∷ es) named viewed low kept spelled few =
-    subst (λ (n : Node S). FitBook secret n) (sym (reopened_is m secret id view period e es))
+    subst (λ (n : Node S). FitBook m secret n) (sym (reopened_is m secret id view period e es))
     (record { node = going_fits secret m brief id view (e ∷ es) named viewed kept spelled few; book = spelled })
 
 -- ---- what is behind a reply

@@ -19,7 +19,7 @@ use Rattle.node_rules.specs.Nodes.{Node}
 use Rattle.node_rules.specs.Steps.{made_firm, step_of, opened}
 use Rattle.world_rules.specs.Worlds.{course_of, Host, World, spelled_behind, host_after, host_of_node}
 use Rattle.world_laws.proofs.Keeps.{Hears, MayCome}
-use Rattle.world_laws.proofs.Longer.{told_firm, longer-step}
+use Rattle.replica_laws.proofs.Longer.{told_firm, longer-step}
 use Rattle.agreement_laws.proofs.Lists.{either}
 
 -- how many entries the running job makes firm

@@ -1,6 +1,8 @@
 -- Each line of a transcript that tells of an accepted reply tells the service's answer.
-use Rattle.std.proofs.Common.{◌≡◌, ℕ, ◌++◌, List, [], ◌∷◌, refl, ap, ◌∙◌, sym, Some, inl, inr, ◌⊎◌, subst}
-use Rattle.std.specs.Prelude.{slice_get}
+use Rattle.std.proofs.Common.{◌≡◌, ℕ, ◌++◌, Bool, false, cond, List, [], ◌∷◌, refl, ap, ◌∙◌, sym, Some, inl, inr, ◌⊎◌, subst, filter, append-nil, append_assoc}
+use Rattle.std.specs.Prelude.{map, slice_get}
+use Rattle.std.proofs.lemmas.List.{map-append}
+use Rattle.std.proofs.lemmas.List.Elements.{filter-append}
 use Rattle.std.specs.List.{flat_map}
 use Rattle.smart_base.specs.Lists.{Each}
 use Rattle.smart_base.specs.Views.{View}
@@ -12,7 +14,7 @@ use Rattle.smart_service.specs.Services.{Meaning}
 use Rattle.node_rules.specs.Steps.{Outcome, leaving}
 use Rattle.client_quorum.specs.Clients.{learning}
 use Rattle.world_rules.specs.Clients.{heard}
-use Rattle.world_rules.specs.Promises.{IsAnswered}
+use Rattle.world_laws.specs.Promises.{IsAnswered, is_acceptance, accepted_line}
 use Rattle.world_rules.specs.Worlds.{Course, course_of, Host, World, posts, told_drop, told_fired, stepped, told_heard, acceptance_in, hearing, begun}
 use Rattle.world_rules.specs.Plays.{line_played, rested, world_after, lines_told}
 use Rattle.client_quorum.specs.declared.client.Client.{Client}
@@ -24,22 +26,19 @@ use Rattle.world_rules.specs.declared.line.OutLine.{OutLine}
 use Rattle.world_rules.specs.declared.line.OutLine.TheVariants as outs
 use Rattle.world_rules.specs.declared.message.Sent.{Sent}
 use Rattle.world_laws.proofs.Numbered.{each_at_get}
-use Rattle.world_laws.proofs.Keeps.{IsBeside, outcome-beside, ask_of, asked_by, by-posts, KeepsAll, KeepsLives, live-line_played, keeps-world_after, signed_by, learned_line, from_node, from_client, from_script, keeps-sends_all}
+use Rattle.world_laws.proofs.Keeps.{aside_beside, IsBeside, outcome-beside, ask_of, asked_by, by-posts, KeepsAll, KeepsLives, live-line_played, keeps-world_after, signed_by, learned_line, from_node, from_client, from_script, keeps-sends_all}
 use Rattle.world_laws.proofs.Hearing.{Accepts, accepts_waiting}
 use Rattle.world_laws.proofs.Asking.{ClientRight, ClientsRight, keeps-right, rested-right, right-begun}
-use Rattle.world_laws.proofs.Accepted.{AcceptedRight, RightUnlessRogue}
+use Rattle.replica_laws.proofs.OnePlace.{place_of-line, answer-line}
+use Rattle.world_laws.proofs.Accepted.{AcceptedTold, IsTold, line_accepted}
 use Rattle.world_laws.proofs.Grows.{view-stays}
 use Rattle.agreement_laws.proofs.Lists.{each_end, each_append}
 use Rattle.smart_base.proofs.ViewFacts.{each-weaken}
 
--- the line that tells of an accepted reply
-abbrev line_of : Acceptance → OutLine
-line_of a = outs.Accepted a.request.client a.request.seq a.place a.index a.reply
-
 -- a line tells of one of the accepted replies
 abbrev IsOf : List Acceptance → OutLine → Type 0
 IsOf [] line = ⊥
-IsOf (a ∷ accepted) line = (line_of a ≡ line) ⊎ IsOf accepted line
+IsOf (a ∷ accepted) line = (accepted_line a ≡ line) ⊎ IsOf accepted line
 
 -- a line tells of what a client learned
 record IsLearned (line : OutLine) : Type 0 where
@@ -67,7 +66,7 @@ stems_more : (accepted more : List Acceptance) (line : OutLine) → Stems accept
 stems_more accepted more line stems = elim stems [ inl beside ↦ inl beside | inr other ↦ inr (elim other [ inl learned ↦ inl learned | inr is ↦ inr (of_more accepted more line is) ]) ]
 
 -- the line of what is accepted last
-of_last : (accepted : List Acceptance) (a : Acceptance) (line : OutLine) → line_of a ≡ line → IsOf (accepted ++ a ∷ []) line
+of_last : (accepted : List Acceptance) (a : Acceptance) (line : OutLine) → accepted_line a ≡ line → IsOf (accepted ++ a ∷ []) line
 of_last [] a line is = inl is
 of_last (b ∷ accepted) a line is = inr (of_last accepted a line is)
 
@@ -144,7 +143,7 @@ keeps-stemming course =
         inject = λ w x on read fine is. (k.live.inject w x on read fine is.0, stems-posts w (from_script x) is.1);
         declare = λ w faulty rogue ending on how is. (k.live.declare w faulty rogue ending on how is.0, record { all = is.1.all });
         mark = λ w s on at is. (k.live.mark w s on at is.0, record { all = is.1.all });
-        tell = λ w line beside is. (k.live.tell w line beside is.0, record { all = each_end (Stems w.accepted) w.told line is.1.all (inl beside) });
+        tell = λ w line aside is. (k.live.tell w line aside is.0, record { all = each_end (Stems w.accepted) w.told line is.1.all (inl (aside_beside line aside)) });
       };
       crash = λ w i h left on up at may is. (k.crash w i h left on up at may is.0, record { all = is.1.all });
       resume = λ w i h on down at is. (k.resume w i h on down at is.0, record { all = is.1.all });
@@ -204,57 +203,181 @@ lines-stem {S = S} course w (l ∷ ls) is =
     (lines-stem course (rested played) ls (rested-stemming played stemming))
 
 -- a line that tells of no accepted reply
-beside-answered : {S : Type 0} (m : Meaning S) (view : View) (rogue : List ℕ) (chosen : List Batch) (line : OutLine) → IsBeside line → IsAnswered m view rogue chosen line
-beside-answered m view rogue chosen (outs.Group members faulty app) beside = tt
-beside-answered m view rogue chosen (outs.Sent number origin summary) beside = tt
-beside-answered m view rogue chosen (outs.Decided member place) beside = tt
-beside-answered m view rogue chosen (outs.Delivered member place executed) beside = tt
-beside-answered m view rogue chosen (outs.Promised member number regency) beside = tt
-beside-answered m view rogue chosen (outs.Synced member number regency base bound) beside = tt
-beside-answered m view rogue chosen (outs.Dropped member why) beside = tt
-beside-answered m view rogue chosen (outs.Counted client have need) beside = tt
-beside-answered m view rogue chosen (outs.Accepted client seq place index reply) beside = absurd beside
-beside-answered m view rogue chosen (outs.Ignored client why) beside = tt
-beside-answered m view rogue chosen (outs.Busy client seq) beside = tt
-beside-answered m view rogue chosen (outs.Absent member) beside = tt
-beside-answered m view rogue chosen (outs.Crashed member) beside = tt
-beside-answered m view rogue chosen (outs.Restarted member place entries) beside = tt
-beside-answered m view rogue chosen (outs.Down member) beside = tt
-beside-answered m view rogue chosen (outs.Idle member) beside = tt
-beside-answered m view rogue chosen (outs.IdleClient client) beside = tt
-beside-answered m view rogue chosen (outs.Learned client place) beside = absurd beside
-beside-answered m view rogue chosen (outs.Stands member place number regency) beside = tt
-beside-answered m view rogue chosen (outs.Seen client place) beside = tt
-beside-answered m view rogue chosen (outs.End lines messages) beside = tt
+beside-answered : {S : Type 0} (m : Meaning S) (view : View) (chosen : List Batch) (line : OutLine) → IsBeside line → IsAnswered m view chosen line
+beside-answered m view chosen (outs.Group members faulty app) beside = tt
+beside-answered m view chosen (outs.Sent number origin summary) beside = tt
+beside-answered m view chosen (outs.Decided member place) beside = tt
+beside-answered m view chosen (outs.Delivered member place executed) beside = tt
+beside-answered m view chosen (outs.Promised member number regency) beside = tt
+beside-answered m view chosen (outs.Synced member number regency base bound) beside = tt
+beside-answered m view chosen (outs.Dropped member why) beside = tt
+beside-answered m view chosen (outs.Counted client have need) beside = tt
+beside-answered m view chosen (outs.Accepted client seq place index reply) beside = absurd beside
+beside-answered m view chosen (outs.Ignored client why) beside = tt
+beside-answered m view chosen (outs.Busy client seq) beside = tt
+beside-answered m view chosen (outs.Absent member) beside = tt
+beside-answered m view chosen (outs.Crashed member) beside = tt
+beside-answered m view chosen (outs.Restarted member place entries) beside = tt
+beside-answered m view chosen (outs.Down member) beside = tt
+beside-answered m view chosen (outs.Idle member) beside = tt
+beside-answered m view chosen (outs.IdleClient client) beside = tt
+beside-answered m view chosen (outs.Learned client place) beside = absurd beside
+beside-answered m view chosen (outs.Stands member place number regency) beside = tt
+beside-answered m view chosen (outs.Seen client place) beside = tt
+beside-answered m view chosen (outs.End lines messages) beside = tt
 
--- a line that tells of an accepted reply that is right
-of-answered : {S : Type 0} (m : Meaning S) (view : View) (rogue : List ℕ) (sent : List Sent) (chosen : List Batch) (accepted : List Acceptance) (line : OutLine)
-    → Each (RightUnlessRogue m view rogue sent chosen) accepted → IsOf accepted line → IsAnswered m view rogue chosen line
-of-answered m view rogue sent chosen [] line right is = absurd is
-of-answered m view rogue sent chosen (a ∷ accepted) line right is =
+-- a line that tells of an accepted reply, which tells an execution
+of-answered : {S : Type 0} (m : Meaning S) (view : View) (chosen : List Batch) (accepted : List Acceptance) (line : OutLine) → Each (IsTold m view chosen) accepted → IsOf accepted line → IsAnswered m view chosen line
+of-answered m view chosen [] line told is = absurd is
+of-answered m view chosen (a ∷ accepted) line told is =
     elim is [
-      | inl here ↦ subst (IsAnswered m view rogue chosen) here (elim right.0 [ inl breaks ↦ inl breaks | inr is_right ↦ inr (is_right.place_is, is_right.reply_is) ])
-      | inr later ↦ of-answered m view rogue sent chosen accepted line right.1 later
+      | inl here ↦ subst (IsAnswered m view chosen) here (place_of-line m view chosen (line_accepted a) told.0, answer-line m view chosen (line_accepted a) told.0)
+      | inr later ↦ of-answered m view chosen accepted line told.1 later
     ]
 
--- a line that stems from accepted replies that are right
-stems-answered : {S : Type 0} (m : Meaning S) (view : View) (rogue : List ℕ) (sent : List Sent) (chosen : List Batch) (accepted : List Acceptance) → Each (RightUnlessRogue m view rogue sent chosen) accepted
-    → (line : OutLine) → Stems accepted line → IsAnswered m view rogue chosen line
-stems-answered m view rogue sent chosen accepted right line stems =
+-- a line that stems from accepted replies that tell executions
+stems-answered : {S : Type 0} (m : Meaning S) (view : View) (chosen : List Batch) (accepted : List Acceptance) → Each (IsTold m view chosen) accepted → (line : OutLine) → Stems accepted line
+    → IsAnswered m view chosen line
+stems-answered m view chosen accepted told line stems =
     elim stems [
-      | inl beside ↦ beside-answered m view rogue chosen line beside
+      | inl beside ↦ beside-answered m view chosen line beside
       | inr other ↦ elim other [
-        | inl learned ↦ subst (IsAnswered m view rogue chosen) learned.is tt
-        | inr is ↦ of-answered m view rogue sent chosen accepted line right is
+        | inl learned ↦ subst (IsAnswered m view chosen) learned.is tt
+        | inr is ↦ of-answered m view chosen accepted line told is
       ]
     ]
 
--- where all accepted replies are right, each line that tells of one tells the service's answer
-pub lines-answered : {S : Type 0} (m : Meaning S) (view : View) (ls : List Line) → AcceptedRight m (world_after (course_of m) (begun m view) ls)
-    → Each (IsAnswered m view (world_after (course_of m) (begun m view) ls).rogue (world_after (course_of m) (begun m view) ls).chosen) (lines_told (course_of m) (begun m view) ls)
-lines-answered {S = S} m view ls right =
+-- where all accepted replies tell executions, each line that tells of one tells the service's answer
+pub lines-answered : {S : Type 0} (m : Meaning S) (view : View) (ls : List Line) → AcceptedTold m (world_after (course_of m) (begun m view) ls)
+    → Each (IsAnswered m view (world_after (course_of m) (begun m view) ls).chosen) (lines_told (course_of m) (begun m view) ls)
+lines-answered {S = S} m view ls told =
     let after : World S = world_after (course_of m) (begun m view) ls in
     let same : after.view ≡ view = view-stays m (begun m view) ls in
-    each-weaken (Stems after.accepted) (IsAnswered m view after.rogue after.chosen)
-    (stems-answered m view after.rogue after.sent after.chosen after.accepted (subst (λ (v : View). Each (RightUnlessRogue m v after.rogue after.sent after.chosen) after.accepted) same right.all))
+    each-weaken (Stems after.accepted) (IsAnswered m view after.chosen)
+    (stems-answered m view after.chosen after.accepted (subst (λ (v : View). Each (IsTold m v after.chosen) after.accepted) same told.all))
     (lines_told (course_of m) (begun m view) ls) (lines-stem (course_of m) (begun m view) ls (right-begun m view, record { all = tt }))
+
+-- a transcript tells of all that was accepted, and of nothing else
+
+-- what a transcript tells of accepted replies is told of two parts one after the other
+told-parts : (xs ys : List OutLine) → filter is_acceptance (xs ++ ys) ≡ filter is_acceptance xs ++ filter is_acceptance ys
+told-parts xs ys = filter-append is_acceptance xs ys
+
+-- a line beside tells of no accepted reply
+none_accepted : (line : OutLine) → IsBeside line → is_acceptance line ≡ false
+none_accepted (outs.Group members faulty app) beside = refl
+none_accepted (outs.Sent number origin summary) beside = refl
+none_accepted (outs.Decided member place) beside = refl
+none_accepted (outs.Delivered member place executed) beside = refl
+none_accepted (outs.Promised member number regency) beside = refl
+none_accepted (outs.Synced member number regency base bound) beside = refl
+none_accepted (outs.Dropped member why) beside = refl
+none_accepted (outs.Counted client have need) beside = refl
+none_accepted (outs.Accepted client seq place index reply) beside = absurd beside
+none_accepted (outs.Ignored client why) beside = refl
+none_accepted (outs.Busy client seq) beside = refl
+none_accepted (outs.Absent member) beside = refl
+none_accepted (outs.Crashed member) beside = refl
+none_accepted (outs.Restarted member place entries) beside = refl
+none_accepted (outs.Down member) beside = refl
+none_accepted (outs.Idle member) beside = refl
+none_accepted (outs.IdleClient client) beside = refl
+none_accepted (outs.Learned client place) beside = absurd beside
+none_accepted (outs.Stands member place number regency) beside = refl
+none_accepted (outs.Seen client place) beside = refl
+none_accepted (outs.End lines messages) beside = refl
+
+-- nor do many
+none_among : (lines : List OutLine) → Each IsBeside lines → filter is_acceptance lines ≡ []
+none_among [] each = refl
+none_among (l ∷ ls) each = ap (λ (t : Bool). cond t (l ∷ filter is_acceptance ls) (filter is_acceptance ls)) (none_accepted l each.0) ∙ none_among ls each.1
+
+-- what was accepted before the present script line, and what that tells of, is all that is accepted
+record TellsAll {S : Type 0} (before : List OutLine) (w : World S) : Type 0 where
+  all : map accepted_line w.accepted ≡ before ++ filter is_acceptance w.told
+
+-- lines beside change nothing
+all-beside : (before told lines : List OutLine) → Each IsBeside lines → before ++ filter is_acceptance (told ++ lines) ≡ before ++ filter is_acceptance told
+all-beside before told lines beside =
+    ap (λ (xs : List OutLine). before ++ xs) (told-parts told lines ∙ (ap (λ (xs : List OutLine). filter is_acceptance told ++ xs) (none_among lines beside) ∙ append-nil (filter is_acceptance told)))
+
+all-posts : {S : Type 0} (before : List OutLine) (w : World S) (s : Sent) → TellsAll before w → TellsAll before (posts w s)
+all-posts {S = S} before w s is =
+    by-posts (λ (v : World S). TellsAll before v) w s (λ ending. record { all = is.all }) (λ free room. record { all = is.all ∙ sym (all-beside before w.told _ (tt, tt)) })
+
+all-stepped : {S : Type 0} (course : Course S) (before : List OutLine) (w : World S) (i : ℕ) (h : Host S) (o : Outcome S) → TellsAll before w → TellsAll before (stepped course w i h o)
+unfolding stepped
+all-stepped {S = S} course before w i h o is =
+    keeps-sends_all (λ (v : World S). TellsAll before v) h.node.id (λ v held all. all-posts before v (from_node h.node.id held) all) _ (leaving o.node.firm o.node.held)
+    (record { all = is.all ∙ sym (all-beside before w.told (told_drop h.node.id o.dropped ++ flat_map (told_fired h.node.id) o.fired) (outcome-beside h.node.id o)) })
+
+-- a client tells of what it accepts
+all-heard : (before told : List OutLine) (accepted : List Acceptance) (v : View) (c : Client) (a : SignedBy Answer) (h : Heard) → heard v c a ≡ h → ((q : Request) → c.waiting ≡ Some q → q.client ≡ c.id)
+    → map accepted_line accepted ≡ before ++ filter is_acceptance told → map accepted_line (accepted ++ acceptance_in h) ≡ before ++ filter is_acceptance (told ++ told_heard c.id h ∷ [])
+all-heard before told accepted v c a (hears.Counted count need) is own all =
+    ap (λ (xs : List Acceptance). map accepted_line xs) (append-nil accepted) ∙ (all ∙ sym (all-beside before told _ (tt, tt)))
+all-heard before told accepted v c a (hears.Ignored why) is own all =
+    ap (λ (xs : List Acceptance). map accepted_line xs) (append-nil accepted) ∙ (all ∙ sym (all-beside before told _ (tt, tt)))
+all-heard before told accepted v c a (hears.Accepted acc) is own all =
+    let taken : Accepts v c a acc = accepts_waiting v c a acc is in
+    let client : acc.request.client ≡ c.id = ap (λ (b : Acceptance). b.request.client) taken.is ∙ own taken.request taken.counts.waits in
+    let last : OutLine = outs.Accepted c.id acc.request.seq acc.place acc.index acc.reply in
+    map-append accepted_line accepted (acc ∷ [])
+    ∙ (ap (λ (xs : List OutLine). xs ++ accepted_line acc ∷ []) all
+    ∙ (append_assoc before (filter is_acceptance told) (accepted_line acc ∷ [])
+    ∙ ap (λ (xs : List OutLine). before ++ xs)
+    (ap (λ (id : ℕ). filter is_acceptance told ++ outs.Accepted id acc.request.seq acc.place acc.index acc.reply ∷ []) client ∙ sym (told-parts told (last ∷ [])))))
+
+all-hearing : {S : Type 0} (before : List OutLine) (w : World S) (i : ℕ) (c : Client) (a : SignedBy Answer) → ((q : Request) → c.waiting ≡ Some q → q.client ≡ c.id) → TellsAll before w
+    → TellsAll before (hearing w i c a (heard w.view c a))
+unfolding hearing
+all-hearing before w i c a own is = record { all = all-heard before w.told w.accepted w.view c a (heard w.view c a) refl own is.all }
+
+-- clients are right, and all that was accepted is told
+abbrev TellingAll : {S : Type 0} → List OutLine → World S → Type 0
+TellingAll before w = ClientsRight w × TellsAll before w
+
+-- each event keeps that
+keeps-all : {S : Type 0} (course : Course S) (before : List OutLine) → KeepsLives course (TellingAll before)
+keeps-all course before =
+    let k = keeps-right course in
+    record {
+      live = record {
+        event = λ w i h event on up at may is. (k.live.event w i h event on up at may is.0, all-stepped course before w i h (course.step h.node event) is.1);
+        disk = λ w i h on up at is. (k.live.disk w i h on up at is.0, record { all = is.1.all });
+        hear = λ w i c x a on at has read is. (k.live.hear w i c x a on at has read is.0, all-hearing before w i c a (waits_own w i c at is.0) is.1);
+        ask = λ w i c op on at free few brief is. (
+          k.live.ask w i c op on at free few brief is.0,
+          all-posts before (asked_by w i c op) (from_client c (ask_of c op)) (record { all = is.1.all }),
+        );
+        again = λ w i c q on at waits is. (k.live.again w i c q on at waits is.0, all-posts before w (from_client c (signed_by c q)) is.1);
+        learn = λ w i j c d on at other is. (
+          k.live.learn w i j c d on at other is.0,
+          record { all = is.1.all ∙ sym (ap (λ (xs : List OutLine). before ++ xs) (told-parts w.told (learned_line c d.seen ∷ []) ∙ append-nil (filter is_acceptance w.told))) },
+        );
+        inject = λ w x on read fine is. (k.live.inject w x on read fine is.0, all-posts before w (from_script x) is.1);
+        declare = λ w faulty rogue ending on how is. (k.live.declare w faulty rogue ending on how is.0, record { all = is.1.all });
+        mark = λ w s on at is. (k.live.mark w s on at is.0, record { all = is.1.all });
+        tell = λ w line aside is. (k.live.tell w line aside is.0, record { all = is.1.all ∙ sym (all-beside before w.told (line ∷ []) (aside_beside line aside, tt)) });
+      };
+      crash = λ w i h left on up at may is. (k.crash w i h left on up at may is.0, record { all = is.1.all });
+      resume = λ w i h on down at is. (k.resume w i h on down at is.0, record { all = is.1.all });
+    }
+
+-- behind lines all that was accepted is what was before them, and what they tell of
+all-after : {S : Type 0} (course : Course S) (before : List OutLine) (w : World S) (ls : List Line) → ClientsRight w → w.told ≡ [] → map accepted_line w.accepted ≡ before
+    → map accepted_line (world_after course w ls).accepted ≡ before ++ filter is_acceptance (lines_told course w ls)
+all-after course before w [] right none is = is ∙ sym (append-nil before)
+all-after {S = S} course before w (l ∷ ls) right none is =
+    let played : World S = line_played course w l in
+    let first : List OutLine = filter is_acceptance played.told in
+    let later : List OutLine = lines_told course (rested played) ls in
+    let begins : TellsAll before w = record { all = is ∙ sym (subst (λ (told : List OutLine). before ++ filter is_acceptance told ≡ before) (sym none) (append-nil before)) } in
+    let k : TellingAll before played = live-line_played course (TellingAll before) (keeps-all course before) w l (right, begins) in
+    all-after course (before ++ first) (rested played) ls (rested-right played k.0) refl k.1.all
+    ∙ (append_assoc before first (filter is_acceptance later) ∙ ap (λ (xs : List OutLine). before ++ xs) (sym (told-parts played.told later)))
+
+-- after any lines of any script the transcript tells of each reply that was accepted, once, in order, and of no other
+pub lines-tell_all : {S : Type 0} (m : Meaning S) (view : View) (ls : List Line)
+    → filter is_acceptance (lines_told (course_of m) (begun m view) ls) ≡ map accepted_line (world_after (course_of m) (begun m view) ls).accepted
+lines-tell_all m view ls = sym (all-after (course_of m) [] (begun m view) ls (right-begun m view) refl refl)

@@ -158,7 +158,7 @@ shown-set {S = S} faulty stated hosts i h h' at f all x there =
 -- what one host shows, is shown at all, as each has its own member
 
 -- a host's name is among the names
-named_at : {S : Type 0} (hs : List (Host S)) (i : ℕ) (h : Host S) → slice_get hs i ≡ Some h → list_any (λ y. y == h.node.id) (map (λ g. g.node.id) hs) ≡ true
+pub named_at : {S : Type 0} (hs : List (Host S)) (i : ℕ) (h : Host S) → slice_get hs i ≡ Some h → list_any (λ y. y == h.node.id) (map (λ g. g.node.id) hs) ≡ true
 named_at [] i h at = absurd (cc)
 named_at {S = S} (g ∷ hs) zero h at = first (g.node.id == h.node.id) (list_any (λ y. y == h.node.id) (map (λ k. k.node.id) hs)) (eq-eqb g.node.id h.node.id (ap (λ (k : Host S). k.node.id) (some_equal g h at)))
   where
@@ -172,10 +172,10 @@ named_at (g ∷ hs) (suc i) h at = later (g.node.id == h.node.id) (list_any (λ 
     later false b is = is
 
 -- so no other host has it
-not_later : (a id : ℕ) (ids : List ℕ) → a ≡ id → list_any (λ y. y == a) ids ≡ false → list_any (λ y. y == id) ids ≡ true → ⊥
+pub not_later : (a id : ℕ) (ids : List ℕ) → a ≡ id → list_any (λ y. y == a) ids ≡ false → list_any (λ y. y == id) ids ≡ true → ⊥
 not_later a id ids same none some = let found = subst (λ (k : ℕ). list_any (λ y. y == k) ids ≡ true) (sym same) some in cc
 
-members_same : (a b : ℕ) → Member a ≡ Member b → a ≡ b
+pub members_same : (a b : ℕ) → Member a ≡ Member b → a ≡ b
 members_same a b same = cc
 
 -- none of some hosts has it

@@ -4,7 +4,7 @@ use Rattle.smart_statements.specs.Forms.{SignedBy}
 use Rattle.smart_statements.specs.declared.statement.Request.{Request}
 use Rattle.vote_book.specs.Books.{Among}
 use Rattle.agreement_laws.specs.Statements.{Asked}
-use Rattle.world_rules.specs.Promises.{HasAsked, IsRogue}
+use Rattle.world_laws.specs.Promises.{HasAsked, IsRogue}
 use Rattle.world_rules.specs.Stated.{stated}
 use Rattle.world_rules.specs.Worlds.{World}
 

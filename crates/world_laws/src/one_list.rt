@@ -2,7 +2,7 @@
 ghost use Rattle.std.specs.Prelude.{◌≡◌, List, true};
 ghost use Rattle.smart_base.specs.Views.{View, is_view};
 ghost use Rattle.world_rules.specs.declared.line.Line.{Line};
-ghost use Rattle.world_rules.specs.Promises.{OneListThroughout};
+ghost use Rattle.world_laws.specs.Promises.{OneListThroughout};
 
 use smart_service::service::Service;
 
@@ -19,20 +19,23 @@ use smart_service::service::Service;
 /// of the list; nor is what a member that has crashed goes on from. A crash may always leave each
 /// device as it was at its last sync, and each as it reads. A crash without patches never ends a play.
 /// A reply is right where it is the service's answer at its place and index, to the request of its
-/// client and number there. The request is executed at no other place, and the reply states the view in
-/// force there. Each reply that a node holds is right. Each reply with the tag of a member that is not
-/// faulty is right, in whosever message it was sent. Each reply that a client accepted is the service's
-/// answer at the one place where its request stands in the list, the request there is the one that the
-/// client asked, the reply states the view in force there, and that place is past the one that the
-/// request states; of a client that was declared rogue none of this is said. The place of each accepted
-/// reply is kept: whatever crashes leave of the devices of all members that are not faulty, more than f
-/// of them go on from it or a later one. The place that a request states is no less than any that the
-/// client knew before it asked: after no line before its request was sent had the transcript told it a
-/// greater place, be it of a reply that it accepted or one that it was told. The list only grows: what
-/// it holds after one line, it begins with after every later one. Each line of the transcript that
-/// tells of a reply that a client accepted, unless it is rogue, names the one place of its request in
-/// the list, and tells the service's answer there. After each line the diary of each member that is not
-/// faulty is lawful. It shows what the member has stated.
+/// client and number there. Its client asked that request, unless it is rogue, and the place is past the
+/// one that the request states. The request is executed at no other place, and the reply states the view
+/// in force there. Each reply that a node holds is right. Each reply with the tag of a member that is not
+/// faulty is right, in whosever message it was sent. Each reply that a client accepted is right, and the
+/// request there is the one that the client asked, unless it is rogue. A quorum of the view's members
+/// has given it. The place of each accepted reply is kept: whatever crashes leave of the devices of all
+/// members that are not faulty, more than f of them go on from it or a later one. The place that a
+/// request states is no less than any that the client knew before it asked: after no line before its
+/// request was sent had the transcript told it a greater place, be it of a reply that it accepted or one
+/// that it was told. The view is the group's throughout, and its members have one node each. The list
+/// only grows: what it holds after one line, it begins with after every later one. Each line of the
+/// transcript that tells of a reply that a client accepted names the one place of its request in the
+/// list, and tells the service's answer there. The transcript tells of each accepted reply, once and in
+/// order, and of no other. So it does of what each node has delivered in all its lives. What a node or a
+/// client has sent is its own, and a node's votes, replies and reports rest on what became firm there.
+/// After each line the diary of each member that is not faulty is lawful. It shows what the member has
+/// stated.
 pub fn one_list_throughout<S: Service>()
     ensures { (view : View) (ls : List Line) → is_view view ≡ true → OneListThroughout S.meaning view ls }
 {}

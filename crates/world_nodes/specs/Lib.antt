@@ -1,3 +1,4 @@
+pub mod Acting
 pub mod Idling
 pub mod Calling
 pub mod Crashes

@@ -1,7 +1,8 @@
 //! Events of nodes: what is due at them, and what is given to those that a line lists.
 ghost use Rattle.std.specs.Prelude.{◌≡◌, ◌<◌, true, IfOk, OnOk, length, slice_get, false};
-ghost use Rattle.world_rules.specs.Worlds.{core_course, told_absent, settle_present, node_takes, calls_disk, settle_once, settle, settle_all, give_all, give_one, is_listed, at_listed, at_index, host_index, telling_all};
+ghost use Rattle.world_rules.specs.Worlds.{core_course, told_absent, settle_present, node_takes, calls_disk, takes_due, settle_once, settle, settle_all, give_all, give_one, is_listed, at_listed, at_index, host_index, telling_all};
 ghost use Rattle.world_rules.specs.Repeats.{repeated};
+ghost use Rattle.world_nodes.specs.Acting.{acts};
 ghost use Rattle.world_nodes.specs.Calling.{steps_if, calls};
 ghost use Rattle.world_nodes.specs.Crashes.{runs};
 ghost use Rattle.world_nodes.specs.Idling.{steps, is_idle_at};
@@ -23,7 +24,6 @@ fn is_listed(members: &[MemberId], member: MemberId) -> bool
 }
 
 /// The step of the node at an index, which runs. Whether no rule fired is given.
-#[tactic(auto, unfolding(world_rules::specs::Worlds::stepped))]
 pub fn step_at<S: Service>(
     world: &mut WorldState<S>,
     i: usize,
@@ -123,19 +123,24 @@ pub fn call_often<S: Service>(
     Ok(())
 }
 
-/// What is due at an index happens, if anything is: a device call, or else a delivery. Nothing is
-/// at a node that does not run.
-#[tactic(auto, unfolding(world_rules::specs::Worlds::settle_once, world_rules::specs::Worlds::calls_disk, world_rules::specs::Worlds::node_takes))]
-fn settle_once<S: Service>(world: &mut WorldState<S>, i: usize) -> Result<bool, AllocError>
-    ensures world { OnOk result (world.new ≡ settle_once (core_course S.meaning) i world.old) }
-    ensures idle { IfOk result (λ more. more ≡ false → world.new ≡ world.old) }
+/// Whether something may happen at an index: the play goes on, and the node there runs.
+fn acts<S: Service>(world: &WorldState<S>, i: usize) -> bool
+    ensures { result ≡ acts world.now (slice_get world.now.hosts i) }
 {
     if world.ending.is_some() || i >= world.hosts.len() {
-        return Ok(false);
+        return false;
     }
-    if !world.is_up(&world.hosts[i]) {
-        return Ok(false);
-    }
+    world.is_up(&world.hosts[i])
+}
+
+/// What is due at the node at an index, which runs, happens, if anything is: a device call, or else
+/// a delivery.
+fn settle_up<S: Service>(world: &mut WorldState<S>, i: usize) -> Result<bool, AllocError>
+    requires within { i < length world.old.hosts }
+    requires up { runs (slice_get world.old.hosts i) ≡ true }
+    ensures world { OnOk result (world.new ≡ takes_due (core_course S.meaning) i world.old (slice_get world.old.hosts i)) }
+    ensures idle { IfOk result (λ more. more ≡ false → world.new ≡ world.old) }
+{
     if world.hosts[i].has_call() {
         calls_disk(world, i)?;
         return Ok(true);
@@ -143,6 +148,17 @@ fn settle_once<S: Service>(world: &mut WorldState<S>, i: usize) -> Result<bool, 
     if world.hosts[i].waits() {
         node_takes(world, i, &NodeEvent::Deliver)?;
         return Ok(true);
+    }
+    Ok(false)
+}
+
+/// What is due at an index happens, if anything is. Nothing is at a node that does not run.
+fn settle_once<S: Service>(world: &mut WorldState<S>, i: usize) -> Result<bool, AllocError>
+    ensures world { OnOk result (world.new ≡ settle_once (core_course S.meaning) i world.old) }
+    ensures idle { IfOk result (λ more. more ≡ false → world.new ≡ world.old) }
+{
+    if acts(world, i) {
+        return settle_up(world, i);
     }
     Ok(false)
 }

@@ -9,6 +9,5 @@ pub mod Worlds
 pub mod Plays
 pub mod Knowing
 pub mod Stated
-pub mod Promises
 pub mod Texts
 pub mod Scripts

@@ -51,6 +51,7 @@ AllCertified stated view place [] = Unit {0}
 AllCertified stated view place (batch ∷ batches) = Certified stated view place (digest_of batch) × AllCertified stated view (suc place) batches
 
 -- While a node runs, its member's diary is what is firm of its book. What the devices of a member that has crashed restore is its diary, no more and no less.
+-- INTERIM(checkpoints): later the book and the devices hold the cut of it.
 pub record HasDiary {S : Type 0} (h : Host S) : Type 0 where
   pub up : h.up ≡ true → h.life.diary ≡ take h.node.firm h.node.entries
   pub down : h.up ≡ false → (restores (bytes_held h.store)).entries ≡ map entry_text h.life.diary

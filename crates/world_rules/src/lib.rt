@@ -1,6 +1,5 @@
-//! What a script plays: clients, hosts, the world of both, the lines of a script and of its
-//! transcript, and what is promised of a play. The definitions stand in `specs/`; here are the
-//! types that they speak of.
+//! What a script plays: clients, hosts, the world of both, and the lines of a script and of its
+//! transcript. The definitions stand in `specs/`; here are the types that they speak of.
 #![tactic(auto)]
 
 pub mod crash;

@@ -2,22 +2,21 @@ use Rattle.std.proofs.Common.{sym, ◌∙◌, List, subst}
 use Rattle.app_kv.specs.Stores.{IsStore, Found, Missing}
 use Rattle.app_kv.specs.declared.store.Entry.{Entry}
 use Rattle.app_kv.proofs.Places.{none_out}
-use Rattle.app_kv.proofs.Turns.{told_as, on_ok, gone_reply, gone_state, gone_store}
+use Rattle.app_kv.proofs.Turns.{on_ok, gone_reply, gone_state, gone_store}
 use Rattle.app_kv.proofs.store.del.Goals as goal
 
-pub returns-in-Ok-clause-reply : goal.returns-in-Ok-clause-reply
-returns-in-Ok-clause-reply c =
+pub returns-in_ok-reply-in-Ok-clause-reply : goal.returns-in_ok-reply-in-Ok-clause-reply
+returns-in_ok-reply-in-Ok-clause-reply c =
     let f = subst (λ (s : List Entry). Found s c.args.key.now c.in-Ok.at) c.as_slice.ensures.value c.in-Ok.ensures.found in
-    told_as c.from_slice.result _ _ (gone_reply c.args.entries.now.items c.args.key.now c.in-Ok.at f c.remove-gone.result) c.from_slice.ensures
+    c.in_ok-reply-in-Ok.ensures ∙ gone_reply c.args.entries.now.items c.args.key.now c.in-Ok.at f c.remove-gone.result
 
-pub returns-in-Ok-clause-state : goal.returns-in-Ok-clause-state
-returns-in-Ok-clause-state c =
+pub returns-in_ok-reply-in-Ok-clause-state : goal.returns-in_ok-reply-in-Ok-clause-state
+returns-in_ok-reply-in-Ok-clause-state c =
     let f = subst (λ (s : List Entry). Found s c.args.key.now c.in-Ok.at) c.as_slice.ensures.value c.in-Ok.ensures.found in
-    on_ok c.from_slice.result _
-    (c.remove-gone.ensures.items ∙ gone_state c.args.entries.now.items c.args.key.now c.in-Ok.at f c.remove-gone.result)
+    c.remove-gone.ensures.items ∙ gone_state c.args.entries.now.items c.args.key.now c.in-Ok.at f c.remove-gone.result
 
-pub returns-in-Ok-clause-store : goal.returns-in-Ok-clause-store
-returns-in-Ok-clause-store c =
+pub returns-in_ok-reply-in-Ok-clause-store : goal.returns-in_ok-reply-in-Ok-clause-store
+returns-in_ok-reply-in-Ok-clause-store c =
     let f = subst (λ (s : List Entry). Found s c.args.key.now c.in-Ok.at) c.as_slice.ensures.value c.in-Ok.ensures.found in
     subst IsStore (sym c.remove-gone.ensures.items)
     (gone_store c.args.entries.now.items c.args.key.now c.in-Ok.at f c.remove-gone.result c.requires)

@@ -1,6 +1,6 @@
 use Rattle.std.proofs.Common.{◌∙◌, ap}
 use Rattle.batch_log.specs.Jobs.{code}
-use Rattle.batch_log.proofs.Synced.{called_goes, called_wired, called_code}
+use Rattle.batch_log.proofs.Synced.{called_goes, called_wired, called_code, called_near}
 use Rattle.batch_log.proofs.job.step.Goals as goal
 
 pub returns-clause-goes : goal.returns-clause-goes
@@ -14,3 +14,6 @@ returns-clause-wired g c = λ told group gs other s w.
 
 pub returns-clause-next : goal.returns-clause-next
 returns-clause-next g c = ap code c.job_behind-next.ensures ∙ called_code c.args.job c.args.end
+
+pub returns-clause-near : goal.returns-clause-near
+returns-clause-near g c = rw (c.end_behind-next_end.ensures, c.job_behind-next.ensures) (called_near c.args.job c.args.end c.requires.near c.in_ok-make_call.ensures.room)

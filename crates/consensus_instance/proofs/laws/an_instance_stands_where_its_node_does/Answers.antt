@@ -1,4 +1,4 @@
-use Rattle.consensus_instance.proofs.Entries.{same_regency, same_start, same_synced, same_unsynced, same_open, same_slot_open, same_bound, same_unbound}
+use Rattle.consensus_instance.proofs.Entries.{same_regency, same_start, same_synced, same_open, same_slot_open, same_bound, same_unbound}
 use Rattle.consensus_instance.proofs.laws.an_instance_stands_where_its_node_does.Goals as goal
 
 pub returns-clause-regency : goal.returns-clause-regency
@@ -21,6 +21,3 @@ returns-clause-bound g c = λ n i place has. same_bound n i has place
 
 pub returns-clause-unbound : goal.returns-clause-unbound
 returns-clause-unbound g c = λ n i p has. same_unbound n i has p
-
-pub returns-clause-unsynced : goal.returns-clause-unsynced
-returns-clause-unsynced g c = λ n i regency has. same_unsynced n i has regency

@@ -8,5 +8,6 @@ invariant-loop-i g l = record {
   state : execute_all g.S.Service.meaning l.replica l.i (drop l.i l.batch) ≡ execute_all g.S.Service.meaning l.fn.replica 0 l.batch;
   place : l.replica.place ≡ l.fn.replica.place;
   views : l.replica.views ≡ l.fn.replica.views;
+  valid : g.S.Service.valid l.fn.replica.service → g.S.Service.valid l.replica.service;
   lines : l.lines ++ lines_of g.S.Service.meaning l.replica l.i (drop l.i l.batch) ≡ lines_of g.S.Service.meaning l.fn.replica 0 l.batch;
 }

@@ -1,8 +1,5 @@
-use Rattle.regency_sync.proofs.Needs.{adopt_same, join_same, promise_same, collecting_same, due_same, batch_same}
+use Rattle.regency_sync.proofs.Needs.{join_same, promise_same, collecting_same, due_same, batch_same}
 use Rattle.regency_sync.proofs.laws.what_is_needed_makes_due.Goals as goal
-
-pub returns-clause-adopt : goal.returns-clause-adopt
-returns-clause-adopt c = λ view s. adopt_same view s
 
 pub returns-clause-join : goal.returns-clause-join
 returns-clause-join c = λ view s. join_same view s

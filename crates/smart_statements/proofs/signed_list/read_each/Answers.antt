@@ -10,13 +10,13 @@ returns-in_err-item-clause-list g c =
     let p = err_from_is_err_and c.from_residual.result c.from_residual.ensures.1 in
     rw (p.1, p.2)
     (ends c.in_err-item.field-0.0 (signed_at (g.W.Selection.form c.args.which.now)) c.loop-turn.list c.args.count c.loop-turn.turn c.loop-turn.cut
-    (times_at (signed_at (g.W.Selection.form c.args.which.now)) c.args.count c.args.cut.now) c.loop-turn-test.true c.in_err-item.ensures c.loop-turn.invariant.0)
+    (times_at (signed_at (g.W.Selection.form c.args.which.now)) c.args.count c.args.cut.now) c.loop-turn-test.true c.in_err-item.ensures.exact c.loop-turn.invariant.0)
 
 pub loop-turn-preserved : goal.loop-turn-preserved
 loop-turn-preserved g c = (
   rw c.in_ok-push.ensures.ok
       (goes_on (signed_at (g.W.Selection.form c.args.which.now)) c.loop-turn.list c.args.count c.loop-turn.turn c.loop-turn.cut c.in_ok-item.item c.read_selected.new.cut
-      (times_at (signed_at (g.W.Selection.form c.args.which.now)) c.args.count c.args.cut.now) c.loop-turn-test.true c.in_ok-item.ensures c.loop-turn.invariant.0),
+      (times_at (signed_at (g.W.Selection.form c.args.which.now)) c.args.count c.args.cut.now) c.loop-turn-test.true c.in_ok-item.ensures.exact c.loop-turn.invariant.0),
   omega (arith, ap length c.in_ok-push.ensures.ok, length-append c.loop-turn.list (c.in_ok-item.item ∷ []), c.loop-turn.invariant.1),
 )
 

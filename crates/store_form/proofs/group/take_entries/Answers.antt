@@ -9,13 +9,13 @@ returns-in_err-entry c =
     let p = err_from_is_err_and c.from_residual.result c.from_residual.ensures.1 in
     rw (p.1, p.2)
     (ends c.in_err-entry.field-0.0 entry_at c.loop-turn.list c.args.count c.loop-turn.turn c.loop-turn.cut (times_at entry_at c.args.count c.args.cut.now)
-    c.loop-turn-test.true c.in_err-entry.ensures c.loop-turn.invariant)
+    c.loop-turn-test.true c.in_err-entry.ensures.exact c.loop-turn.invariant)
 
 pub loop-turn-preserved : goal.loop-turn-preserved
 loop-turn-preserved c =
     rw c.in_ok-push.ensures.ok
     (goes_on entry_at c.loop-turn.list c.args.count c.loop-turn.turn c.loop-turn.cut c.in_ok-entry.entry c.take_entry.new.cut (times_at entry_at c.args.count c.args.cut.now)
-    c.loop-turn-test.true c.in_ok-entry.ensures c.loop-turn.invariant)
+    c.loop-turn-test.true c.in_ok-entry.ensures.exact c.loop-turn.invariant)
 
 pub returns : goal.returns
 returns c =

@@ -1,5 +1,8 @@
+use Rattle.replica_laws.proofs.FitNodes.{brief_where}
 use Rattle.world_laws.proofs.OneListLaw.{one_list-throughout}
 use Rattle.world_laws.proofs.one_list.one_list_throughout.Goals as goal
 
 pub returns : goal.returns
-returns g c = λ view ls is. one_list-throughout g.S.Service.meaning g.met.S.Service.brief view is ls
+returns g c =
+    let brief = brief_where g.S.Service.meaning g.S.Service.valid g.met.S.Service.valid_first g.met.S.Service.valid_next g.met.S.Service.valid_restored g.met.S.Service.brief in
+    λ view ls is. one_list-throughout g.S.Service.meaning brief view is ls

@@ -1,5 +1,8 @@
+use Rattle.replica_laws.proofs.FitNodes.{brief_where}
 use Rattle.world_laws.proofs.Borne.{genuine-after}
 use Rattle.world_laws.proofs.promises.what_is_sent_is_read.Goals as goal
 
 pub returns : goal.returns
-returns g c = λ view ls is. genuine-after g.S.Service.meaning g.met.S.Service.brief view ls is
+returns g c =
+    let brief = brief_where g.S.Service.meaning g.S.Service.valid g.met.S.Service.valid_first g.met.S.Service.valid_next g.met.S.Service.valid_restored g.met.S.Service.brief in
+    λ view ls is. genuine-after g.S.Service.meaning brief view ls is

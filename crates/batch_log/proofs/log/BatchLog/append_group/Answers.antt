@@ -27,6 +27,7 @@ loop-self-init g c =
       moments = λ told remembers gs other s.
           rw (c.append_start.ensures.device) (begins g.D.Disk.moment g.D.Disk.left_since g.D.Disk.cells c.args.self.now.device c.args.self.now.end c.args.self.now.job c.args.entries.now gs other s (g.met.D.Disk.only_now remembers c.args.self.now.device));
       later = rw (c.append_start.ensures.device) (omega arith);
+      wants = rw (c.append_start.ensures.device) (omega arith);
     }
 
 pub loop-self-preserved : goal.loop-self-preserved
@@ -47,6 +48,7 @@ loop-self-preserved g c =
           goes_further g.D.Disk.moment g.D.Disk.left_since g.D.Disk.cells c.args.self.now.device c.loop-self.self.device c.next_call.new.self.device c.loop-self.self.job c.args.entries.now gs other (i.moments told remembers gs other s) e.time
           (e.crash told c.args.entries.now (kept_now c.loop-self.self.job c.args.entries.now gs) (other_now c.loop-self.self.job c.args.entries.now gs other) (i.runs told gs other s).1);
       later = omega (arith, i.later, e.later);
+      wants = omega (arith, i.wants, e.wants_later);
     }
 
 pub returns-in_err-next_call-clause-any_moment : goal.returns-in_err-next_call-clause-any_moment

@@ -17,6 +17,7 @@ invariant-loop-self g l = record {
   moments : g.D.Disk.told → g.D.Disk.remembers → (gs other : List Group) → Stands (g.D.Disk.cells l.fn.self.device) l.fn.self.end l.fn.self.job l.entries gs other
       → LeavesOnly g.D.Disk.moment g.D.Disk.left_since l.fn.self.device l.self.device (λ c. OneOf (restored c) gs other (gs ++ l.entries ∷ []));
   later : g.D.Disk.faults l.fn.self.device ≤ g.D.Disk.faults l.self.device;
+  wants : g.D.Disk.wants l.fn.self.device ≤ g.D.Disk.wants l.self.device;
 }
 
 abbrev pub decreases-loop-self : goal.decreases-loop-self

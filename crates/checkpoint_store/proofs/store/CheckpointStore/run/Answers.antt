@@ -20,6 +20,7 @@ loop-self-init g c =
           (stakes odd (g.D.Disk.cells own.device) own.job next has other s) (g.met.D.Disk.only_now remembers own.device);
       apart = refl;
       later = omega arith;
+      wants = omega arith;
     }
 
 pub loop-self-preserved : goal.loop-self-preserved
@@ -43,6 +44,7 @@ loop-self-preserved g c =
           (call_leaves odd (g.D.Disk.cells old.device) (g.D.Disk.cells new.device) first.job old.job next has other r (e.crash told next r.now r.instead r.stands));
       apart = e.beside ∙ i.apart;
       later = omega (arith, i.later, e.later);
+      wants = omega (arith, i.wants, e.wants_later);
     }
 
 pub returns-clause-crash : goal.returns-clause-crash

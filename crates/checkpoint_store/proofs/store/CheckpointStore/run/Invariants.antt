@@ -19,6 +19,7 @@ invariant-loop-self g l = record {
       → LeavesOnly g.D.Disk.moment g.D.Disk.left_since (slot l.generation l.fn.self).device (slot l.generation l.self).device (Leaves (is_odd l.generation) has (slot_stake (slot l.generation l.fn.self).job next other));
   apart : beside l.generation l.self ≡ beside l.generation l.fn.self;
   later : g.D.Disk.faults (slot l.generation l.fn.self).device ≤ g.D.Disk.faults (slot l.generation l.self).device;
+  wants : g.D.Disk.wants (slot l.generation l.fn.self).device ≤ g.D.Disk.wants (slot l.generation l.self).device;
 }
 
 abbrev pub decreases-loop-self : goal.decreases-loop-self

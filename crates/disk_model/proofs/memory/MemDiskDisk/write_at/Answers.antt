@@ -10,7 +10,7 @@ use Rattle.disk_model.proofs.memory.MemDiskDisk.write_at.Goals as goal
 
 pub returns-then-not-has_room-clause-torn : goal.returns-then-not-has_room-clause-torn
 returns-then-not-has_room-clause-torn c =
-    begun c.args.at c.args.bytes.now (disk_cells c.args.self.now) (disk_cells c.is_to_fail-is_to_fail.new.self) c.requires (ap (λ (p : Platter). cells_of p) c.is_to_fail-is_to_fail.ensures.platter)
+    begun c.args.at c.args.bytes.now (disk_cells c.args.self.now) (disk_cells c.want.new.self) c.requires (ap (λ (p : Platter). cells_of p) (c.want.ensures.platter ∙ c.is_to_fail-is_to_fail.ensures.platter))
 
 pub returns-in-Ok-clause-torn : goal.returns-in-Ok-clause-torn
 returns-in-Ok-clause-torn c =
@@ -21,12 +21,12 @@ returns-in-Ok-clause-torn c =
 
 pub returns-in-Err-clause-torn : goal.returns-in-Err-clause-torn
 returns-in-Err-clause-torn c =
-    begun c.args.at c.args.bytes.now (disk_cells c.args.self.now) (disk_cells c.make.new.self) c.requires (c.in-Err.ensures.err ∙ ap (λ (p : Platter). cells_of p) c.is_to_fail-is_to_fail.ensures.platter)
+    begun c.args.at c.args.bytes.now (disk_cells c.args.self.now) (disk_cells c.want-in-Err.new.self) c.requires (ap (λ (p : Platter). cells_of p) c.want-in-Err.ensures.platter ∙ c.in-Err.ensures.err ∙ ap (λ (p : Platter). cells_of p) c.is_to_fail-is_to_fail.ensures.platter)
 
 pub returns-in-Err-from_slice-clause-torn : goal.returns-in-Err-from_slice-clause-torn
 returns-in-Err-from_slice-clause-torn c =
-    begun c.args.at c.args.bytes.now (disk_cells c.args.self.now) (disk_cells c.is_to_fail-is_to_fail.new.self) c.requires (ap (λ (p : Platter). cells_of p) c.is_to_fail-is_to_fail.ensures.platter)
+    begun c.args.at c.args.bytes.now (disk_cells c.args.self.now) (disk_cells c.want-in-Err-from_slice.new.self) c.requires (ap (λ (p : Platter). cells_of p) c.want-in-Err-from_slice.ensures.platter ∙ ap (λ (p : Platter). cells_of p) c.is_to_fail-is_to_fail.ensures.platter)
 
 pub returns-in-Err-make-clause-torn : goal.returns-in-Err-make-clause-torn
 returns-in-Err-make-clause-torn c =
-    begun c.args.at c.args.bytes.now (disk_cells c.args.self.now) (disk_cells c.make-2.new.self) c.requires (c.in-Err-make.ensures.err ∙ ap (λ (p : Platter). cells_of p) c.is_to_fail-is_to_fail.ensures.platter)
+    begun c.args.at c.args.bytes.now (disk_cells c.args.self.now) (disk_cells c.want-in-Err-make.new.self) c.requires (ap (λ (p : Platter). cells_of p) c.want-in-Err-make.ensures.platter ∙ c.in-Err-make.ensures.err ∙ ap (λ (p : Platter). cells_of p) c.is_to_fail-is_to_fail.ensures.platter)

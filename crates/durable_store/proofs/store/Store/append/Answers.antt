@@ -1,4 +1,4 @@
-use Rattle.std.proofs.Common.{◌≤◌, ◌++◌, refl, length, ◌∙◌, [], sym, ap, subst, inr, ◌≡◌, true}
+use Rattle.std.proofs.Common.{◌≤◌, ◌++◌, refl, length, ◌∙◌, [], sym, ap, subst, inl, inr, ⊎_elim, ◌≡◌, true}
 use Rattle.durable_store.specs.Restored.{restores}
 use Rattle.durable_store.specs.Turns.{rests}
 use Rattle.durable_store.specs.Standing.{StoreStands, AreImages, is_idle, calls_log, with, running, to_come}
@@ -9,7 +9,7 @@ use Rattle.durable_store.proofs.Called.{on_ok, on_err}
 use Rattle.durable_store.proofs.Fronts.{counted_now, present_now}
 use Rattle.durable_store.proofs.Lasting.{images_now}
 use Rattle.durable_store.proofs.Grows.{growth_still}
-use Rattle.durable_store.proofs.Appending.{same_images, still_known, ran_same, all_same, calls_same, to_come_same, taken_back, firm_is, restores_all}
+use Rattle.durable_store.proofs.Appending.{same_images, still_known, ran_same, all_same, calls_same, to_come_same, taken_back, firm_is, restores_all, same_wanted}
 use Rattle.durable_store.proofs.store.Store.append.Goals as goal
 
 pub returns-in_err-start-clause-crash : goal.returns-in_err-start-clause-crash
@@ -145,3 +145,20 @@ returns-else-is_err-clause-moments g c = λ is_open told remembers added kept ot
     passes_same s m t t kept others _ _ _ _ e.slots e.log e.other_log e.generation refl refl refl
     (ran_same s m c.args.entries e.log e.waiting added) (all_same s m c.args.entries e.log e.waiting added)
     (c.finish-answer.ensures.moments told remembers added kept others (e.stands added kept others h))
+
+-- ---- what closes the store
+
+pub returns-in_err-start-clause-want : goal.returns-in_err-start-clause-want
+returns-in_err-start-clause-want g c = λ is is_open. inl (c.start.ensures.state ∙ is_open)
+
+pub returns-then-is_err-clause-want : goal.returns-then-is_err-clause-want
+returns-then-is_err-clause-want g c = λ is is_open.
+    let e = c.in_ok-start.ensures in
+    let b = c.take_back.ensures in
+    ⊎_elim (λ still. inl (b.state ∙ still)) (λ one. inr (same_wanted c.args.self.now c.start.new.self c.finish-answer.new.self c.take_back.new.self e.slots e.log b.slots b.log one)) (c.finish-answer.ensures.want is)
+
+pub returns-else-is_err-clause-want : goal.returns-else-is_err-clause-want
+returns-else-is_err-clause-want g c = λ is is_open.
+    let e = c.in_ok-start.ensures in
+    let t = c.finish-answer.new.self in
+    ⊎_elim (λ still. inl still) (λ one. inr (same_wanted c.args.self.now c.start.new.self t t e.slots e.log refl refl one)) (c.finish-answer.ensures.want is)

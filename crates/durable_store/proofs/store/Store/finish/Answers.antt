@@ -1,4 +1,8 @@
-use Rattle.std.proofs.Common.{◌≡◌, ◌∙◌, ◌++◌, ℕ, inr, true, false, refl, sym, ap, subst, arith}
+use Rattle.std.proofs.Common.{◌≡◌, ◌∙◌, ◌++◌, ℕ, Bool, Err, inl, inr, ⊎_elim, true, false, refl, sym, ap, subst, arith}
+use Rattle.std.specs.Prelude.{IsErrOf}
+use Rattle.std.proofs.lemmas.Result.{err_from_is_err_and}
+use Rattle.store_form.specs.declared.ends.LogFault.{LogFault}
+use Rattle.store_form.specs.declared.ends.LogFault.TheVariants.{NoMemory}
 use Rattle.durable_store.specs.Restored.{restores}
 use Rattle.durable_store.specs.Standing.{is_due, running}
 use Rattle.durable_store.specs.Wholes.{Grows, HasRun}
@@ -11,7 +15,7 @@ use Rattle.durable_store.proofs.Fronts.{counted_then, counted_now, present_then,
 use Rattle.durable_store.proofs.Passing.{passing_first, passing_on, passes_call, passes_end}
 use Rattle.durable_store.proofs.Firms.{MayCount, counting_first, counting_on, counting_due, may_rise}
 use Rattle.durable_store.proofs.Grows.{growth_of, growth_now}
-use Rattle.durable_store.proofs.Lasting.{times_none, times_on, falls_none, falls_on, still_first, still_on, images_now, moment_on}
+use Rattle.durable_store.proofs.Lasting.{times_none, times_on, falls_none, falls_on, wanted_on, still_first, still_on, images_now, moment_on}
 use Rattle.durable_store.proofs.store.Store.finish.Goals as goal
 
 pub loop-alloc-init : goal.loop-alloc-init
@@ -119,6 +123,17 @@ returns-in_err-next_call-clause-time g c = times_on c.args.self.now c.loop-alloc
 
 pub returns-in_err-next_call-clause-later : goal.returns-in_err-next_call-clause-later
 returns-in_err-next_call-clause-later g c = falls_on c.args.self.now c.loop-alloc.self c.next_call.new.self c.loop-alloc.invariant.falls c.next_call.ensures.later
+
+err_of : (e f : LogFault) → e ≡ f → IsErrOf {T = Bool} {E = LogFault} (Err e) f
+err_of e f is = cc
+
+pub returns-in_err-next_call-clause-want : goal.returns-in_err-next_call-clause-want
+returns-in_err-next_call-clause-want g c = λ is.
+    let i = c.loop-alloc.invariant in
+    let p = err_from_is_err_and c.from_residual.result c.from_residual.ensures.1 in
+    let no : c.in_err-next_call.field-0.0 ≡ NoMemory = first_of (cc (is, p.1, p.2), grind (arith, is, p.1, p.2)) in
+    ⊎_elim (λ still. inl still) (λ one. inr (wanted_on c.args.self.now c.loop-alloc.self c.next_call.new.self i.falls one))
+    (c.in_err-next_call.ensures.want (err_of c.in_err-next_call.field-0.0 NoMemory no) i.is_open)
 
 pub returns-clause-ok : goal.returns-clause-ok
 returns-clause-ok g c = λ told added kept others h.

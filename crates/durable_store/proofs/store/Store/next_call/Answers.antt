@@ -216,23 +216,24 @@ returns-clause-untouched g c =
 pub returns-then-is_closing-clause-later : goal.returns-then-is_closing-clause-later
 returns-then-is_closing-clause-later g c =
     let e = c.close_slot.ensures in
-    even_falls c.args.self.now c.close_slot.new.self e.other_log e.later e.apart e.log
+    even_falls c.args.self.now c.close_slot.new.self e.other_log e.later e.wants_later e.apart e.log
 
 pub returns-then-is_closing-2-clause-later : goal.returns-then-is_closing-2-clause-later
 returns-then-is_closing-2-clause-later g c =
     let e = c.close_slot-then-is_closing-2.ensures in
-    odd_falls c.args.self.now c.close_slot-then-is_closing-2.new.self e.other_log e.later e.apart e.log
+    odd_falls c.args.self.now c.close_slot-then-is_closing-2.new.self e.other_log e.later e.wants_later e.apart e.log
 
 pub returns-in_err-begin-clause-later : goal.returns-in_err-begin-clause-later
 returns-in_err-begin-clause-later g c =
     let b = c.in_err-begin.ensures in
-    log_falls c.args.self.now c.begin.new.self b.other_log b.slots (rw (b.device) (omega arith))
+    log_falls c.args.self.now c.begin.new.self b.other_log b.slots (rw (b.device) (omega arith)) (rw (b.device) (omega arith))
 
 pub returns-clause-later : goal.returns-clause-later
 returns-clause-later g c =
     let b = c.in_ok-begin.ensures in
     let e = c.call_log.ensures in
     log_falls c.args.self.now c.call_log.new.self (e.other_log ∙ b.other_log) (e.slots ∙ b.slots) (subst (λ (d : _). g.D.Disk.faults d ≤ g.D.Disk.faults c.call_log.new.self.log.device) b.device e.later)
+    (subst (λ (d : _). g.D.Disk.wants d ≤ g.D.Disk.wants c.call_log.new.self.log.device) b.device e.wants_later)
 
 pub returns-then-is_closing-clause-cause : goal.returns-then-is_closing-clause-cause
 returns-then-is_closing-clause-cause g c =
@@ -245,6 +246,22 @@ returns-then-is_closing-2-clause-cause g c =
 pub returns-clause-cause : goal.returns-clause-cause
 returns-clause-cause g c =
     λ is. inr (inr (subst (λ (d : _). Rose (g.D.Disk.faults d) (g.D.Disk.faults c.call_log.new.self.log.device)) c.in_ok-begin.ensures.device (c.call_log.ensures.cause is)))
+
+pub returns-then-is_closing-clause-want : goal.returns-then-is_closing-clause-want
+returns-then-is_closing-clause-want g c =
+    λ is is_open. inr (inl (c.close_slot.ensures.want is))
+
+pub returns-then-is_closing-2-clause-want : goal.returns-then-is_closing-2-clause-want
+returns-then-is_closing-2-clause-want g c =
+    λ is is_open. inr (inr (inl (c.close_slot-then-is_closing-2.ensures.want is)))
+
+pub returns-in_err-begin-clause-want : goal.returns-in_err-begin-clause-want
+returns-in_err-begin-clause-want g c =
+    λ is is_open. inl (c.begin.ensures.state ∙ is_open)
+
+pub returns-clause-want : goal.returns-clause-want
+returns-clause-want g c =
+    λ is is_open. inr (inr (inr (subst (λ (d : _). Rose (g.D.Disk.wants d) (g.D.Disk.wants c.call_log.new.self.log.device)) c.in_ok-begin.ensures.device (c.call_log.ensures.want is))))
 
 pub returns-then-is_closing-clause-any_moment : goal.returns-then-is_closing-clause-any_moment
 returns-then-is_closing-clause-any_moment g c = λ is_open told remembers added kept others h images left.

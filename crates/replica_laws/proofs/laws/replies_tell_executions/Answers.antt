@@ -1,0 +1,5 @@
+use Rattle.replica_laws.proofs.Telling.{holds_executed}
+use Rattle.replica_laws.proofs.laws.replies_tell_executions.Goals as goal
+
+pub returns : goal.returns
+returns g c = λ secret id view period events. holds_executed g.S.Service.meaning secret id view period events

@@ -1,0 +1,278 @@
+-- What is promised of a play: one list.
+use Rattle.std.specs.Prelude.{ℕ, true, ◌+◌, ◌++◌, ◌==◌, ◌≡◌, ◌<◌, ◌≤◌, ◌⊎◌, List, [], ◌∷◌, length, take, filter, map, nat_le, not, ◌&&◌, Bool, false, Option, Some, None}
+use Rattle.smart_base.specs.Lists.{Each}
+use Rattle.smart_base.specs.Views.{View}
+use Rattle.smart_statements.specs.Kinds.{requests}
+use Rattle.smart_statements.specs.Batches.{Batch}
+use Rattle.smart_statements.specs.declared.statement.Request.{Request}
+use Rattle.smart_statements.specs.declared.statement.Answer.{Answer}
+use Rattle.smart_base.specs.declared.party.Party.TheVariants.{Member}
+use Rattle.smart_messages.specs.declared.message.Message.TheVariants.{Ask}
+use Rattle.smart_messages.specs.declared.any.AnyMessage.TheVariants.{Plain}
+use Rattle.smart_service.specs.Services.{Meaning}
+use Rattle.replica_rules.specs.Replicas.{state, answer, place_of, batch_at, request_at, view_at}
+use Rattle.replica_rules.specs.Seals.{signed}
+use Rattle.node_rules.specs.Nodes.{next_place}
+use Rattle.node_rules.specs.Deliveries.{AtPlaces}
+use Rattle.node_rules.specs.Reopening.{reopened, damaged, entries_in}
+use Rattle.smart_service.specs.declared.replica.Replica.{Replica}
+use Rattle.vote_book.specs.Books.{Among}
+use Rattle.vote_book.specs.Entries.{entry_text}
+use Rattle.agreement_laws.specs.Statements.{Statement, Asked, Proposed, Voted, Stopped, Reported, Synced, Marked, Replied, Informed, signer_of, said}
+use Rattle.durable_store.specs.Restored.{Images, restores}
+use Rattle.world_rules.specs.Crashes.{bytes_held, images_left, wrong_images}
+use Rattle.world_rules.specs.declared.crash.Image.{Image}
+use Rattle.durable_store.specs.Standing.{MayLeave}
+use Rattle.node_rules.specs.declared.node.Target.TheVariants as targets
+use Rattle.node_rules.specs.declared.node.Delivery.{Delivery}
+use Rattle.world_rules.specs.Secrets.{group_secret}
+use Rattle.world_rules.specs.Premises.{is_among}
+use Rattle.world_rules.specs.declared.message.Content.TheVariants as contents
+use Rattle.world_rules.specs.Worlds.{Host, World, course_of, is_gone, life_crashed, begun}
+use Rattle.world_rules.specs.Plays.{world_after, lines_told}
+use Rattle.world_rules.specs.Knowing.{known_by}
+use Rattle.world_rules.specs.Stated.{IsWitnessed, stated}
+use Rattle.client_quorum.specs.declared.client.Acceptance.{Acceptance}
+use Rattle.world_laws.specs.Sending.{QuorumsReplied, SentFirm}
+use Rattle.world_rules.specs.declared.line.Line.{Line}
+use Rattle.world_rules.specs.declared.line.OutLine.{OutLine}
+use Rattle.world_rules.specs.declared.line.OutLine.TheVariants as outs
+use Rattle.world_rules.specs.declared.message.Sent.{Sent}
+use Rattle.world_rules.specs.declared.message.Origin.TheVariants as origins
+
+-- a batch that waits for its delivery is the list's at its place
+abbrev pub IsNext : List Batch → ℕ → Option Batch → Type 0
+IsNext chosen place None = Unit {0}
+IsNext chosen place (Some batch) = batch_at chosen place ≡ Some batch
+
+-- a batch was delivered where the list has it
+abbrev pub IsChosenAt : List Batch → Delivery → Type 0
+IsChosenAt chosen d = batch_at chosen d.place ≡ Some d.batch
+
+-- A host has delivered a front of the list: its replica is the state of that front. In this life it has delivered one batch at each place of it behind the
+-- one from which it went on, in order, and each batch that it ever delivered is the list's at its place. So is the batch that it has decided and not
+-- delivered.
+pub record IsPrefix {S : Type 0} (m : Meaning S) (view : View) (chosen : List Batch) (h : Host S) : Type 0 where
+  pub within : h.node.replica.place ≤ length chosen
+  pub replica : h.node.replica ≡ state m view (take h.node.replica.place chosen)
+  pub count : h.resumed + length h.delivered ≡ h.node.replica.place
+  pub places : AtPlaces (h.resumed + 1) h.delivered
+  pub delivered : Each (IsChosenAt chosen) h.delivered
+  pub earlier : Each (IsChosenAt chosen) h.earlier
+  pub waiting : IsNext chosen (next_place h.node) h.node.waiting
+
+-- ---- kept places
+
+-- the replica that a member's devices restore, where a crash leaves this of them
+abbrev pub restored_replica : {S : Type 0} → Meaning S → View → Host S → Images → Replica S
+restored_replica m view h left = (reopened m group_secret h.node.id view 1024 (entries_in (restores left).entries)).replica
+
+-- a member that is not faulty, whose devices restore a place or a later one
+abbrev pub has_place : {S : Type 0} → Meaning S → World S → (ℕ → Images) → ℕ → Host S → Bool
+has_place m w left place h = not (is_gone w h.node.id) && nat_le place (restored_replica m w.view h (left h.node.id)).place
+
+-- a crash now may leave this of the devices of all members that are not faulty, of those that run and of those that have stopped
+abbrev pub MayBeLeft : {S : Type 0} → World S → (ℕ → Images) → Type 0
+MayBeLeft w left = Each (λ h. is_gone w h.node.id ≡ false → MayLeave h.store (left h.node.id)) w.hosts
+
+-- A place is kept: whatever crashes leave of the devices of all members that are not faulty, more of them than may be faulty restore that place or a later
+-- one.
+pub record IsKept {S : Type 0} (m : Meaning S) (w : World S) (place : ℕ) : Type 0 where
+  pub enough : (left : ℕ → Images) → MayBeLeft w left → w.view.f < length (filter (has_place m w left place) w.hosts)
+
+-- A crash may leave each device as it was at its last sync, and each as it reads. A script's crash without patches never ends a play. Whatever a crash now
+-- leaves of a member's devices, they restore exactly the diary that this crash makes. It begins with the present diary, and behind it stands at most what was
+-- not firm yet. No entry that they restore is damaged, and the replica that they restore is the state of a front of the list. What a member that has crashed
+-- goes on from is not damaged either. INTERIM(checkpoints): later devices restore the cut of that diary.
+pub record Recovers {S : Type 0} (m : Meaning S) (w : World S) (h : Host S) : Type 0 where
+  pub possible : (image : Image) → wrong_images h.store (images_left image [] h.store) ≡ None
+  pub leaves : (image : Image) → MayLeave h.store (images_left image [] h.store)
+  pub diary : (left : Images) → MayLeave h.store left → (restores left).entries ≡ map entry_text (life_crashed h left).diary
+  pub undamaged : (left : Images) → MayLeave h.store left → damaged group_secret w.view (restores left).entries ≡ None
+  pub restarts : h.up ≡ false → damaged group_secret w.view (restores (bytes_held h.store)).entries ≡ None
+  pub within : (left : Images) → MayLeave h.store left → (restored_replica m w.view h left).place ≤ length w.chosen
+  pub right : (left : Images) → MayLeave h.store left → restored_replica m w.view h left ≡ state m w.view (take (restored_replica m w.view h left).place w.chosen)
+
+-- ---- replies
+
+-- the client that a request names has signed and sent it
+abbrev pub HasAsked : List Sent → Request → Type 0
+HasAsked [] q = ⊥
+HasAsked (s ∷ sent) q =
+    (s ≡ record { origin = origins.Client q.client; to = Some targets.View; content = contents.Message (Plain (Ask (signed requests group_secret q.client q))) }) ⊎ HasAsked sent q
+
+-- a client was declared rogue
+abbrev pub IsRogue : List ℕ → ℕ → Type 0
+IsRogue rogue client = is_among rogue client ≡ true
+
+-- A reply is right where it is the service's answer at its place and index, to the request of its client and number there. Its client asked that request,
+-- unless it is rogue. The place is above the one that the request states. The request is first executed there, and `executes_once` of replica_laws says that
+-- it is executed at no other place. The reply states the view in force there.
+pub record IsRightReply {S : Type 0} (m : Meaning S) (w : World S) (a : Answer) : Type 0 where
+  pub request : Request
+  pub request_is : request_at w.chosen a.place a.index ≡ Some request
+  pub client_is : request.client ≡ a.client
+  pub seq_is : request.seq ≡ a.seq
+  pub asked : IsRogue w.rogue request.client ⊎ HasAsked w.sent request
+  pub above : request.after < a.place
+  pub place_is : place_of m w.view w.chosen a.client a.seq ≡ Some (a.place, a.index)
+  pub reply_is : answer m w.view w.chosen a.place a.index ≡ Some a.reply
+  pub view_is : a.view ≡ (view_at m w.view w.chosen a.place).number
+
+-- a statement is right: a reply is a right one, and of the other kinds nothing is said here
+abbrev pub IsRightStatement : {S : Type 0} → Meaning S → World S → Statement → Type 0
+IsRightStatement m w (Asked q) = Unit {0}
+IsRightStatement m w (Proposed p) = Unit {0}
+IsRightStatement m w (Voted b) = Unit {0}
+IsRightStatement m w (Stopped s) = Unit {0}
+IsRightStatement m w (Reported r) = Unit {0}
+IsRightStatement m w (Synced s) = Unit {0}
+IsRightStatement m w (Marked x) = Unit {0}
+IsRightStatement m w (Replied a) = IsRightReply m w a.statement
+IsRightStatement m w (Informed i) = Unit {0}
+
+-- Each statement in a message that a node holds is right. So is each statement with the tag of a member that is not faulty, in whosever message it was sent.
+pub record AreRepliesRight {S : Type 0} (m : Meaning S) (w : World S) : Type 0 where
+  pub held : Each (λ h. Each (λ x. Each (IsRightStatement m w) (said x.message)) h.node.held) w.hosts
+  pub sent : (s : Statement) (member : ℕ) → Among s (stated w.sent) → signer_of s ≡ Member member → is_among w.faulty member ≡ false → IsRightStatement m w s
+
+-- what an accepted reply states
+abbrev pub answer_accepted : Acceptance → Answer
+answer_accepted a = record { view = a.view; place = a.place; index = a.index; client = a.request.client; seq = a.request.seq; reply = a.reply }
+
+-- Its client has asked the request for which a reply was accepted. The reply is right. The request that is executed at its place is the one that the client
+-- asked, unless the client is rogue. So its place is above the one that this request states: the greatest that the client knew when it asked (`past_known` of
+-- `OneListThroughout`).
+pub record IsRight {S : Type 0} (m : Meaning S) (w : World S) (a : Acceptance) : Type 0 where
+  pub asked : HasAsked w.sent a.request
+  pub right : IsRightReply m w (answer_accepted a)
+  pub own : IsRogue w.rogue a.request.client ⊎ (right.request ≡ a.request)
+
+-- the request of a later reply states a place no less than that of each reply that its client accepted before
+abbrev pub Rises : List Acceptance → Type 0
+Rises [] = Unit {0}
+Rises (a ∷ later) = Each (λ b. b.request.client ≡ a.request.client → a.place ≤ b.request.after) later × Rises later
+
+-- All nodes, those that are gone or have stopped too, have delivered fronts of one list, and go on from such fronts whatever crashes leave of their devices.
+-- Each member of the view has one node. Each reply that a node holds or a correct member has stated is right. Each reply that was accepted is right, a quorum
+-- has given it, and its place is kept. What a node or a client has sent is its own, and a node's votes, replies and reports rest on what became firm there.
+pub record OneList {S : Type 0} (m : Meaning S) (w : World S) : Type 0 where
+  pub members : map (λ h. h.node.id) w.hosts ≡ w.view.members
+  pub hosts : Each (IsPrefix m w.view w.chosen) w.hosts
+  pub recovers : Each (Recovers m w) w.hosts
+  pub replied : AreRepliesRight m w
+  pub accepted : Each (IsRight m w) w.accepted
+  pub quorums : QuorumsReplied w
+  pub kept : Each (λ a. IsKept m w a.place) w.accepted
+  pub rising : Rises w.accepted
+  pub firm : SentFirm w
+
+-- a transcript line that tells of an accepted reply names the one place of its request in the list, and tells the service's answer there
+abbrev pub IsAnswered : {S : Type 0} → Meaning S → View → List Batch → OutLine → Type 0
+IsAnswered m view chosen (outs.Accepted client seq place index reply) =
+    (place_of m view chosen client seq ≡ Some (place, index)) × (answer m view chosen place index ≡ Some reply)
+IsAnswered m view chosen (outs.Group members faulty app) = Unit {0}
+IsAnswered m view chosen (outs.Sent number origin summary) = Unit {0}
+IsAnswered m view chosen (outs.Decided member place) = Unit {0}
+IsAnswered m view chosen (outs.Delivered member place executed) = Unit {0}
+IsAnswered m view chosen (outs.Promised member number regency) = Unit {0}
+IsAnswered m view chosen (outs.Synced member number regency base bound) = Unit {0}
+IsAnswered m view chosen (outs.Dropped member why) = Unit {0}
+IsAnswered m view chosen (outs.Counted client have need) = Unit {0}
+IsAnswered m view chosen (outs.Ignored client why) = Unit {0}
+IsAnswered m view chosen (outs.Busy client seq) = Unit {0}
+IsAnswered m view chosen (outs.Absent member) = Unit {0}
+IsAnswered m view chosen (outs.Crashed member) = Unit {0}
+IsAnswered m view chosen (outs.Restarted member place entries) = Unit {0}
+IsAnswered m view chosen (outs.Down member) = Unit {0}
+IsAnswered m view chosen (outs.Idle member) = Unit {0}
+IsAnswered m view chosen (outs.IdleClient client) = Unit {0}
+IsAnswered m view chosen (outs.Learned client place) = Unit {0}
+IsAnswered m view chosen (outs.Stands member place number regency) = Unit {0}
+IsAnswered m view chosen (outs.Seen client place) = Unit {0}
+IsAnswered m view chosen (outs.End lines messages) = Unit {0}
+
+-- a transcript line tells of an accepted reply
+abbrev pub is_acceptance : OutLine → Bool
+is_acceptance (outs.Accepted client seq place index reply) = true
+is_acceptance (outs.Group members faulty app) = false
+is_acceptance (outs.Sent number origin summary) = false
+is_acceptance (outs.Decided member place) = false
+is_acceptance (outs.Delivered member place executed) = false
+is_acceptance (outs.Promised member number regency) = false
+is_acceptance (outs.Synced member number regency base bound) = false
+is_acceptance (outs.Dropped member why) = false
+is_acceptance (outs.Counted client have need) = false
+is_acceptance (outs.Ignored client why) = false
+is_acceptance (outs.Busy client seq) = false
+is_acceptance (outs.Absent member) = false
+is_acceptance (outs.Crashed member) = false
+is_acceptance (outs.Restarted member place entries) = false
+is_acceptance (outs.Down member) = false
+is_acceptance (outs.Idle member) = false
+is_acceptance (outs.IdleClient client) = false
+is_acceptance (outs.Learned client place) = false
+is_acceptance (outs.Stands member place number regency) = false
+is_acceptance (outs.Seen client place) = false
+is_acceptance (outs.End lines messages) = false
+
+-- the line that tells of an accepted reply
+abbrev pub accepted_line : Acceptance → OutLine
+accepted_line a = outs.Accepted a.request.client a.request.seq a.place a.index a.reply
+
+-- a transcript line tells of a delivery at a member
+abbrev pub is_delivery : ℕ → OutLine → Bool
+is_delivery id (outs.Delivered member place executed) = member == id
+is_delivery id (outs.Group members faulty app) = false
+is_delivery id (outs.Sent number origin summary) = false
+is_delivery id (outs.Decided member place) = false
+is_delivery id (outs.Promised member number regency) = false
+is_delivery id (outs.Synced member number regency base bound) = false
+is_delivery id (outs.Dropped member why) = false
+is_delivery id (outs.Counted client have need) = false
+is_delivery id (outs.Accepted client seq place index reply) = false
+is_delivery id (outs.Ignored client why) = false
+is_delivery id (outs.Busy client seq) = false
+is_delivery id (outs.Absent member) = false
+is_delivery id (outs.Crashed member) = false
+is_delivery id (outs.Restarted member place entries) = false
+is_delivery id (outs.Down member) = false
+is_delivery id (outs.Idle member) = false
+is_delivery id (outs.IdleClient client) = false
+is_delivery id (outs.Learned client place) = false
+is_delivery id (outs.Stands member place number regency) = false
+is_delivery id (outs.Seen client place) = false
+is_delivery id (outs.End lines messages) = false
+
+-- the line that tells of a delivery at a member
+abbrev pub delivered_line : ℕ → Delivery → OutLine
+delivered_line id d = outs.Delivered id d.place d.executed
+
+-- a transcript tells of all that a host's node has delivered, in earlier lives and in this one, in order, and of no other delivery there
+abbrev pub HasTold : {S : Type 0} → List OutLine → Host S → Type 0
+HasTold told h = filter (is_delivery h.node.id) told ≡ map (delivered_line h.node.id) (h.earlier ++ h.delivered)
+
+-- a request was among those sent, or it states a place no less than each one that the transcript told its client
+abbrev pub IsPast : List Sent → List OutLine → Request → Type 0
+IsPast sent told q = HasAsked sent q ⊎ (known_by q.client told ≤ q.after)
+
+-- the world after the first lines of a script over a group
+abbrev pub world_at : {S : Type 0} → Meaning S → View → List Line → ℕ → World S
+world_at m view ls k = world_after (course_of m) (begun m view) (take k ls)
+
+-- One list holds after each line. The group's view stays, and the list only grows. Each transcript line that tells of an accepted reply tells its answer there,
+-- and the transcript tells of each reply that was accepted, of each once, in order, and of no other. So it does of the deliveries of each node, through all its
+-- lives. Each request whose reply is accepted, be it when it may, states what its client knew: of each line after which it had not been sent yet, a place no
+-- less than each one that the transcript had told the client by then, of a reply that it accepted or of one that it was told. The reply stands past them all,
+-- as its place is above the one that the request states (`above` of `IsRightReply`). After each line the diary of each member that is not faulty is lawful, rests on what has been stated, and shows each statement of the
+-- member that stands in what was sent. Each batch of the list has a decision among what has been stated. While a member runs, its diary is what is firm of
+-- its node's book. Where it has crashed, its diary is what its devices restore.
+pub record OneListThroughout {S : Type 0} (m : Meaning S) (view : View) (ls : List Line) : Type 0 where
+  pub one_list : (k : ℕ) → OneList m (world_at m view ls k)
+  pub viewed : (k : ℕ) → (world_at m view ls k).view ≡ view
+  pub grows : (j k : ℕ) → j ≤ k → take (length (world_at m view ls j).chosen) (world_at m view ls k).chosen ≡ (world_at m view ls j).chosen
+  pub told : (k : ℕ) → Each (IsAnswered m view (world_at m view ls k).chosen) (lines_told (course_of m) (begun m view) (take k ls))
+  pub told_all : (k : ℕ) → filter is_acceptance (lines_told (course_of m) (begun m view) (take k ls)) ≡ map accepted_line (world_at m view ls k).accepted
+  pub told_deliveries : (k : ℕ) → Each (HasTold (lines_told (course_of m) (begun m view) (take k ls))) (world_at m view ls k).hosts
+  pub past_known : (j k : ℕ) → Each (λ a. IsPast (world_at m view ls j).sent (lines_told (course_of m) (begun m view) (take j ls)) a.request) (world_at m view ls k).accepted
+  pub witnessed : (k : ℕ) → IsWitnessed (world_at m view ls k)

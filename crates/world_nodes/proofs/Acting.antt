@@ -1,0 +1,94 @@
+-- Hosts at which something may happen, and what is due there.
+use Rattle.std.proofs.Common.{◌≡◌, ℕ, ◌<◌, Bool, true, false, Option, Some, None, refl, ap, sym, subst, ◌∙◌, cond, length}
+use Rattle.std.specs.Prelude.{slice_get, is_some, ◌&&◌, not}
+use Rattle.std.proofs.lemmas.Option.{slice_get_within}
+use Rattle.smart_statements.specs.declared.entry.NodeEvent.{NodeEvent}
+use Rattle.smart_statements.specs.declared.entry.NodeEvent.TheVariants.{Deliver}
+use Rattle.durable_store.specs.Exact.{call_due}
+use Rattle.world_rules.specs.Worlds.{Course, Host, World, is_up, is_gone, takes_due, calls_disk, node_takes, settle_once, stepped, host_calls, host_takes, hears_firm, disk_called}
+use Rattle.world_nodes.specs.Acting.{acts}
+use Rattle.world_nodes.specs.Crashes.{runs}
+
+first : (a b : Bool) → (a && b) ≡ true → a ≡ true
+first true b both = refl
+first false b both = both
+
+second : (a b : Bool) → (a && b) ≡ true → b ≡ true
+second true b both = both
+second false b both = cc
+
+acts_inside : {S : Type 0} (i : ℕ) (w : World S) (found : Option (Host S)) → slice_get w.hosts i ≡ found → acts w found ≡ true → i < length w.hosts
+acts_inside i w None is holds = cc
+acts_inside i w (Some h) is holds = slice_get_within w.hosts i h is
+
+-- where something may happen there is a host
+pub acts_within : {S : Type 0} (i : ℕ) (w : World S) → acts w (slice_get w.hosts i) ≡ true → i < length w.hosts
+acts_within i w holds = acts_inside i w (slice_get w.hosts i) refl holds
+
+-- and its node runs
+pub acts_runs : {S : Type 0} (w : World S) (found : Option (Host S)) → acts w found ≡ true → runs found ≡ true
+acts_runs w None holds = holds
+acts_runs w (Some h) holds = first h.up (not (is_gone w h.node.id)) (second (not (is_some w.ending)) (is_up w h) holds)
+
+kept : {A : Type 0} (over up : Bool) (x w : A) → (not over && up) ≡ false → cond over w (cond (not up) w x) ≡ w
+kept true up x w fails = refl
+kept false true x w fails = cc
+kept false false x w fails = refl
+
+either : {A : Type 0} (a b : Bool) (x y w : A) → x ≡ w → y ≡ w → cond a x (cond b y w) ≡ w
+either true b x y w left right = left
+either false true x y w left right = right
+either false false x y w left right = refl
+
+not_called : {S : Type 0} (course : Course S) (i : ℕ) (w : World S) (h : Host S) → slice_get w.hosts i ≡ Some h → acts w (Some h) ≡ false → calls_disk course i w ≡ w
+unfolding calls_disk
+not_called course i w h there fails =
+    ap (λ found. cond (is_some w.ending) w (host_calls course i w found)) there
+    ∙ kept (is_some w.ending) (is_up w h) (cond (call_due h.store) (hears_firm course i w (disk_called course h)) w) w fails
+
+not_taken : {S : Type 0} (course : Course S) (i : ℕ) (event : NodeEvent) (w : World S) (h : Host S) → slice_get w.hosts i ≡ Some h → acts w (Some h) ≡ false → node_takes course i event w ≡ w
+unfolding node_takes
+not_taken course i event w h there fails =
+    ap (λ found. cond (is_some w.ending) w (host_takes course i event w found)) there
+    ∙ kept (is_some w.ending) (is_up w h) (stepped course w i h (course.step h.node event)) w fails
+
+none_due : {S : Type 0} (course : Course S) (i : ℕ) (w : World S) (found : Option (Host S)) → slice_get w.hosts i ≡ found → acts w found ≡ false → takes_due course i w found ≡ w
+none_due course i w None is fails = refl
+none_due course i w (Some h) is fails =
+    either (call_due h.store) (is_some h.node.waiting) (calls_disk course i w) (node_takes course i Deliver w) w (not_called course i w h is fails) (not_taken course i Deliver w h is fails)
+
+-- nothing is due where nothing may happen
+pub rests : {S : Type 0} (course : Course S) (i : ℕ) (w : World S) → acts w (slice_get w.hosts i) ≡ false → w ≡ settle_once course i w
+unfolding settle_once
+rests course i w fails = sym (none_due course i w (slice_get w.hosts i) refl fails)
+
+not_second : (a b : Bool) → a ≡ true → (a && b) ≡ false → b ≡ false
+not_second true b holds fails = fails
+not_second false b holds fails = cc
+
+-- a device call is due
+pub due_call : {S : Type 0} (course : Course S) (i : ℕ) (w w' : World S) (h : Host S) (due : Bool) → slice_get w.hosts i ≡ Some h → due ≡ (h.up && call_due h.store) → due ≡ true
+    → w' ≡ calls_disk course i w → w' ≡ takes_due course i w (slice_get w.hosts i)
+due_call course i w w' h due there due_is holds is =
+    is ∙ sym (ap (λ found. takes_due course i w found) there
+    ∙ ap (λ b. cond b (calls_disk course i w) (cond (is_some h.node.waiting) (node_takes course i Deliver w) w)) (second h.up (call_due h.store) (sym due_is ∙ holds)))
+
+without_call : {S : Type 0} (course : Course S) (i : ℕ) (w : World S) (h : Host S) (due waits : Bool) → slice_get w.hosts i ≡ Some h → runs (slice_get w.hosts i) ≡ true
+    → due ≡ (h.up && call_due h.store) → due ≡ false → waits ≡ is_some h.node.waiting → takes_due course i w (slice_get w.hosts i) ≡ cond waits (node_takes course i Deliver w) w
+without_call course i w h due waits there up due_is fails waits_is =
+    let runs_is : h.up ≡ true = subst (λ found. runs found ≡ true) there up in
+    ap (λ found. takes_due course i w found) there
+    ∙ (ap (λ b. cond b (calls_disk course i w) (cond (is_some h.node.waiting) (node_takes course i Deliver w) w)) (not_second h.up (call_due h.store) runs_is (sym due_is ∙ fails))
+    ∙ ap (λ b. cond b (node_takes course i Deliver w) w) (sym waits_is))
+
+-- a delivery is due
+pub due_delivery : {S : Type 0} (course : Course S) (i : ℕ) (w w' : World S) (h : Host S) (due waits : Bool) → slice_get w.hosts i ≡ Some h → runs (slice_get w.hosts i) ≡ true
+    → due ≡ (h.up && call_due h.store) → due ≡ false → waits ≡ is_some h.node.waiting → waits ≡ true → w' ≡ node_takes course i Deliver w → w' ≡ takes_due course i w (slice_get w.hosts i)
+due_delivery course i w w' h due waits there up due_is fails waits_is holds is =
+    is ∙ sym (without_call course i w h due waits there up due_is fails waits_is ∙ ap (λ b. cond b (node_takes course i Deliver w) w) holds)
+
+-- nothing is due
+pub due_none : {S : Type 0} (course : Course S) (i : ℕ) (w : World S) (h : Host S) (due waits : Bool) → slice_get w.hosts i ≡ Some h → runs (slice_get w.hosts i) ≡ true
+    → due ≡ (h.up && call_due h.store) → due ≡ false → waits ≡ is_some h.node.waiting → waits ≡ false → w ≡ takes_due course i w (slice_get w.hosts i)
+due_none course i w h due waits there up due_is fails waits_is none =
+    sym (without_call course i w h due waits there up due_is fails waits_is ∙ ap (λ b. cond b (node_takes course i Deliver w) w) none)
