@@ -3,10 +3,15 @@ use Rattle.std.proofs.Common.{◌≡◌, ◌+◌, ◌++◌, ◌∙◌, ℕ, true
 use Rattle.std.proofs.lemmas.List.{append-nil}
 use Rattle.std.specs.Io.KnownBytes.{Appends, Consumes, IsAtEnd, Keeps}
 use Rattle.faults.specs.Counts.{Rose}
-use Rattle.app_count.specs.Counts.{counting}
+use Rattle.app_count.specs.Counts.{counting, IsSum}
 use Rattle.app_count.specs.Replies.{brief_replies as brief_sums}
+use Rattle.app_count.specs.Sums.{first_sum, next_sum, valid_sum}
 use Rattle.app_kv.specs.Snapshots.{keeping}
 use Rattle.app_kv.specs.Replies.{brief_replies as brief_values}
+use Rattle.app_kv.specs.Stores.{IsStore}
+use Rattle.app_kv.specs.States.{first_store, next_store}
+use Rattle.app_kv.specs.Restored.{valid_store}
+use Rattle.replica_laws.proofs.FitNodes.{IsBrief, brief_where}
 use Rattle.world_rules.specs.Texts.{text_of}
 use Rattle.world_rules.specs.declared.line.OutLine.{OutLine}
 use Rattle.world_laws.proofs.OneListLaw.{one_list-throughout}
@@ -38,9 +43,20 @@ pub record Starts (bytes input : List ℕ) : Type 0 where
 pub begins : (bytes input : List ℕ) → Starts bytes input → Begins bytes input
 begins bytes input s = let front = lines-front bytes s.rest in record { more = front.0; split = s.same ∙ front.1 }
 
+-- the replies of both services are brief in each state that they come to
+sums_are_brief : IsBrief counting
+sums_are_brief = brief_where counting IsSum first_sum next_sum valid_sum brief_sums
+
+values_are_brief : IsBrief keeping
+values_are_brief = brief_where keeping IsStore first_store next_store valid_store brief_values
+
 -- lines that were read are played
 pub played : (ls : List (List ℕ)) → ArePlayed ls
-played ls = record { tell = tells-read ls; one_list = one_list_holds (λ view is lines. one_list-throughout counting brief_sums view is lines) (λ view is lines. one_list-throughout keeping brief_values view is lines) ls }
+played ls =
+    record {
+      tell = tells-read ls;
+      one_list = one_list_holds (λ view is lines. one_list-throughout counting sums_are_brief view is lines) (λ view is lines. one_list-throughout keeping values_are_brief view is lines) ls;
+    }
 
 -- the text that cores tell is the text that nodes tell
 pub same-text : (bytes : List ℕ) → text_after core_courses bytes ≡ text_after node_courses bytes
