@@ -128,7 +128,10 @@ marked_here table place digest member x is =
     let parts = and_true ((x.signer == member) && (x.statement.place == place)) (same_bytes x.statement.digest digest) is in
     let first = and_true (x.signer == member) (x.statement.place == place) parts.0 in
     record {
-      front = []; mark = x; back = table; split = refl;
+      front = [];
+      mark = x;
+      back = table;
+      split = refl;
       signer_is = eqb-true x.signer member first.0;
       place_is = eqb-true x.statement.place place first.1;
       digest_is = same_list-equal {A = ℕ} (λ a b. a == b) eqb-true x.statement.digest digest parts.1;

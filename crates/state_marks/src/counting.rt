@@ -29,9 +29,7 @@ pub fn is_at(member: u16, place: Place, mark: &Signed<Mark>) -> bool
 pub fn repeats(marks: &[Signed<Mark>], mark: &Signed<Mark>) -> bool
     ensures { result ≡ repeats marks.now mark.now }
 {
-    marks
-        .iter()
-        .any(|other| is_at(mark.signer(), mark.statement().place, other))
+    marks.iter().any(|other| is_at(mark.signer(), mark.statement().place, other))
 }
 
 /// How many of the marks are this member's.
