@@ -231,10 +231,6 @@ def any_message(data):
     return fault(data, lambda r: r.message(True), 2**20)
 
 
-def order(data):
-    return fault(data, lambda r: r.message(False), 2**20)
-
-
 def entry(data):
     return fault(data, Reader.entry)
 
@@ -392,7 +388,7 @@ def sync_words(table, reports):
 
 
 def messages():
-    table = Table("messages", "What decode_any makes of bytes: the offset of the first fault, or fine where encode_any "
+    table = Table("messages", "What decode makes of bytes: the offset of the first fault, or fine where encode "
                   "spells what was read as these bytes again.", any_message)
     give_parts(table)
     give_orders(table)
@@ -455,24 +451,6 @@ def messages():
         table.fronts(name)
     table.part("Each value of each byte of a message. Of a byte that may have any value, the least and the greatest.")
     for name in ("ask", "propose", "vote", "reply", "stop", "full", "little", "sync"):
-        table.changes(name)
-    return table
-
-
-def orders():
-    table = Table("orders", "What decode makes of bytes, which reads no message that changes the regency: the offset of the "
-                  "first fault, or fine where encode spells what was read as these bytes again.", order)
-    give_parts(table)
-    give_orders(table)
-    table.part("Four kinds are read, and the other three are not.")
-    for name in ("ask", "propose", "vote", "reply"):
-        table.spelled(name, FINE)
-    table.spelled("04 " + stated(table, 3, "04 00000002 00000004"), "0")
-    table.spelled(f"05 {report_words(table, 4, 2, False, 1)} 00", "0")
-    table.spelled(sync_words(table, []), "0")
-    table.part("Each front of a message, and each value of each byte of it.")
-    for name in ("ask", "propose", "vote", "reply"):
-        table.fronts(name)
         table.changes(name)
     return table
 
@@ -1092,7 +1070,7 @@ CHOICE_ROWS = """
 
 def main():
     stale = []
-    for make in (messages, orders, entries, views, admission, votes, collects, choices):
+    for make in (messages, entries, views, admission, votes, collects, choices):
         table = make()
         path, text = f"data/{table.name}.rows", table.text()
         if sys.argv[1:] == ["check"]:

@@ -9,7 +9,7 @@ use Rattle.smart_statements.specs.declared.report.LockCertificate.{LockCertifica
 use Rattle.smart_statements.specs.declared.report.Evidence.{Evidence}
 use Rattle.smart_statements.specs.declared.report.Evidence.TheVariants as evidence
 use Rattle.smart_statements.specs.declared.report.Report.{Report}
-use Rattle.smart_messages.specs.declared.any.AnyMessage.{AnyMessage}
+use Rattle.smart_messages.specs.declared.message.Message.{Message}
 use Rattle.vote_book.specs.Books.{Among}
 use Rattle.agreement_laws.specs.Statements.{Statement, Asked, Proposed, Voted, Stopped, Reported, Synced, Marked, Replied, Informed, verifies, parts_of_evidence, parts_of_lock, in_report, within, said, statements, IsClosed}
 use Rattle.agreement_laws.proofs.Lists.{among_either, given, within_one, among_flat, among_filtered, among_filter}
@@ -70,14 +70,14 @@ through (Marked m) statement part there inside = alone (Marked m) statement part
 through (Replied a) statement part there inside = alone (Replied a) statement part there inside
 through (Informed i) statement part there inside = alone (Informed i) statement part there inside
 
-in_message : (secret : List ℕ) (m : AnyMessage) (statement part : Statement) → Among statement (statements secret m) → Among part (within statement)
+in_message : (secret : List ℕ) (m : Message) (statement part : Statement) → Among statement (statements secret m) → Among part (within statement)
     → verifies secret part ≡ true → Among part (statements secret m)
 in_message secret m statement part there inside verified =
     let all = flat_map within (said m) in
     let found = within_one within (said m) statement (among_filtered (verifies secret) all statement there) in
     among_filter (verifies secret) all part (among_flat within (said m) found.value part found.there (through found.value statement part found.within inside)) verified
 
-pub closed : (secret : List ℕ) (messages : List AnyMessage) → IsClosed secret (flat_map (statements secret) messages)
+pub closed : (secret : List ℕ) (messages : List Message) → IsClosed secret (flat_map (statements secret) messages)
 closed secret messages statement part there inside verified =
     let found = within_one (statements secret) messages statement there in
     among_flat (statements secret) messages found.value part found.there (in_message secret found.value statement part found.within inside verified)

@@ -13,7 +13,7 @@ use Rattle.smart_statements.specs.Reports.{reports}
 use Rattle.smart_statements.specs.declared.statement.VoteKind.{VoteKind}
 use Rattle.smart_statements.specs.declared.statement.VoteKind.TheVariants.{Write, Accept}
 use Rattle.smart_statements.specs.declared.statement.Ballot.{Ballot}
-use Rattle.smart_messages.specs.declared.any.AnyMessage.{AnyMessage}
+use Rattle.smart_messages.specs.declared.message.Message.{Message}
 use Rattle.certificates.specs.Certificates.{is_verified, IsCertificate}
 use Rattle.certificates.specs.Collects.{slot_of, LockHolds}
 use Rattle.regency_sync.specs.Choices.{choice}
@@ -47,7 +47,7 @@ at (y ∷ ys) zero x is = let same : y ≡ x = cc in inl (sym same)
 at (y ∷ ys) (suc i) x is = inr (at ys i x is)
 
 -- what a message says and its signer has signed has been stated
-stated_by : (secret digest other : List ℕ) (batch : Batch) (i : ℕ) (m : AnyMessage) (statement : Statement) → slice_get (sent secret digest other batch) i ≡ Some m
+stated_by : (secret digest other : List ℕ) (batch : Batch) (i : ℕ) (m : Message) (statement : Statement) → slice_get (sent secret digest other batch) i ≡ Some m
     → Among statement (flat_map within (said m)) → verifies secret statement ≡ true → Among statement (all_stated secret digest other batch)
 stated_by secret digest other batch i m statement there inside is =
     among_flat (statements secret) (sent secret digest other batch) m statement (at (sent secret digest other batch) i m there)
@@ -245,7 +245,7 @@ module _ (secret : List ℕ) (digest_of : Batch → List ℕ) (other : List ℕ)
   wrote_by_second = first_wrote 2 (inr (inl refl))
 
   -- a message is fine where all that stands in it is
-  abbrev AreFine : AnyMessage → Type 0
+  abbrev AreFine : Message → Type 0
   AreFine m = Each IsFine (flat_map within (said m))
 
   first_fine : Each AreFine (first_messages secret digest other batch)

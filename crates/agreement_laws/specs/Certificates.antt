@@ -1,4 +1,4 @@
--- Certificates and choices that rest on what has been stated.
+-- Certificates and choices of statements that have been made.
 use Rattle.std.specs.Prelude.{◌≡◌, ℕ, ◌<◌, ◌≤◌, List, length, IfSome}
 use Rattle.smart_base.specs.Lists.{Each}
 use Rattle.smart_base.specs.Views.{View}
@@ -17,39 +17,39 @@ use Rattle.vote_book.specs.declared.entry.LogEntry.TheVariants as entries
 use Rattle.vote_book.specs.Books.{Among}
 use Rattle.agreement_laws.specs.Statements.{Statement, Voted, Reported}
 
--- the wanted vote by a quorum, each of whose votes has been stated
+-- a quorum's votes for one thing, each of which has been stated
 pub record IsDrawn (secret : List ℕ) (view : View) (stated : List Statement) (wanted : Ballot) (votes : List (SignedBy Ballot)) : Type 0 where
   pub holds : IsCertificate secret view wanted votes
   pub drawn : Each (λ b. Among (Voted b) stated) votes
 
--- a quorum of the view has written the digest at a place, in a regency
+-- a write certificate at a place in a regency: a quorum's WRITEs for a digest, each of them stated (Mod-SMaRt, EDCC 2012)
 abbrev pub IsWritten : List ℕ → View → List Statement → (place regency : ℕ) → List ℕ → List (SignedBy Ballot) → Type 0
 IsWritten secret view stated place regency digest writes = IsDrawn secret view stated (write_of (slot_of view place regency) digest) writes
 
--- a decision: a quorum of the view has accepted the digest
+-- a decision at a place in a regency: a quorum's ACCEPTs for a digest, each of them stated (Mod-SMaRt, EDCC 2012)
 abbrev pub IsDecision : List ℕ → View → List Statement → (place regency : ℕ) → List ℕ → List (SignedBy Ballot) → Type 0
 IsDecision secret view stated place regency digest accepts = IsDrawn secret view stated (accept_of (slot_of view place regency) digest) accepts
 
--- A report of a regency of a view, whose lock holds if it has one. That much of the reports of a collect agreement rests on, and not on their evidence.
+-- A report for a regency of a view, whose lock holds if it has one. Agreement rests on no more of a report; it needs no evidence.
 pub record IsLockedReport (secret : List ℕ) (view : View) (regency : ℕ) (s : Report) : Type 0 where
   pub of_view : s.view ≡ view.number
   pub of_regency : s.regency ≡ regency
   pub lock : IfSome s.lock (LockHolds secret view s.last s.regency)
 
--- such reports of as many members as answer for sure
+-- reports of n-f members with such locks
 pub record IsLockedCollect (secret : List ℕ) (view : View) (regency : ℕ) (items : List (SignedBy Report)) : Type 0 where
   pub signed : AreSigned Report secret reports view (IsLockedReport secret view regency) items
   pub enough : collect_size view ≤ length items
 
--- a regency begins as the choice of such a collect says, each of whose reports has been stated
+-- a beginning of a regency that is the choice of such a collect, each report of which has been stated
 pub record IsChosen (secret : List ℕ) (view : View) (stated : List Statement) (start : Start) : Type 0 where
   pub items : List (SignedBy Report)
   pub collect : IsLockedCollect secret view start.regency items
   pub drawn : Each (λ r. Among (Reported r) stated) items
   pub choice_is : choice items ≡ record { base = start.base; bound = start.bound }
 
--- What an entry of this view rests on has been stated: where it accepts, a certificate of writes; where it decides, a decision; where a regency after
--- the first begins, the choice of a collect. An entry of another view owes nothing here.
+-- An entry that rests on what has been stated. An accept has a write certificate. A decision has its ACCEPTs. A beginning after regency 0
+-- is the choice of a collect. Other entries, and those of another view, rest on nothing.
 abbrev pub IsBacked : List ℕ → (Batch → List ℕ) → View → List Statement → LogEntry → Type 0
 IsBacked secret digest_of view stated (entries.Accepted a) =
     a.slot.view ≡ view.number → IsWritten secret view stated a.slot.place a.slot.regency a.digest a.writes

@@ -1,4 +1,4 @@
-//! A place has one decision.
+//! Agreement: a place has one decision.
 ghost use Rattle.std.specs.Prelude.{◌≡◌, ◌≤◌, ℕ, List, Bool, true};
 ghost use Rattle.smart_base.specs.Views.{View, is_view};
 ghost use Rattle.smart_statements.specs.Forms.{SignedBy};
@@ -13,8 +13,8 @@ ghost use Rattle.agreement_laws.specs.Certificates.{IsWritten, IsDecision};
 ghost use Rattle.agreement_laws.specs.Law.{Witnessed};
 ghost use Rattle.agreement_laws.specs.Example.{four, is_fourth, vote, votes, first_voters, later_voters, all_stated, diary};
 
-/// Two decisions of one place have one digest, in whatever regencies of the view they are made, and
-/// whatever the faulty members state.
+/// Agreement (Mod-SMaRt, EDCC 2012): two decisions of one place have one digest, in whatever
+/// regencies of the view they are made. Faulty members may state anything.
 pub fn one_decision()
     ensures { (secret : List ℕ) (digest_of : Batch → List ℕ) (view : View) (faulty : ℕ → Bool) (diary : ℕ → List LogEntry) (stated : List Statement) →
         Witnessed secret digest_of view faulty diary stated →
@@ -22,7 +22,7 @@ pub fn one_decision()
         IsDecision secret view stated place regency first left → IsDecision secret view stated place later second right → first ≡ second }
 {}
 
-/// What a quorum has accepted, a quorum has written for.
+/// A decision has a write certificate: a quorum wrote for what a quorum accepted.
 pub fn a_decision_was_written()
     ensures { (secret : List ℕ) (digest_of : Batch → List ℕ) (view : View) (faulty : ℕ → Bool) (diary : ℕ → List LogEntry) (stated : List Statement) →
         Witnessed secret digest_of view faulty diary stated →
@@ -30,8 +30,8 @@ pub fn a_decision_was_written()
         (writes : List (SignedBy Ballot)) × IsWritten secret view stated place regency digest writes }
 {}
 
-/// What a regency decides at a place is all that a quorum can write there in that regency and in each
-/// later one.
+/// A decision binds later regencies: a quorum's WRITEs at its place, in that regency or a later one,
+/// are for its digest.
 pub fn a_decision_binds_later_regencies()
     ensures { (secret : List ℕ) (digest_of : Batch → List ℕ) (view : View) (faulty : ℕ → Bool) (diary : ℕ → List LogEntry) (stated : List Statement) →
         Witnessed secret digest_of view faulty diary stated →
@@ -39,10 +39,12 @@ pub fn a_decision_binds_later_regencies()
         IsDecision secret view stated place regency digest accepts → IsWritten secret view stated place later other writes → regency ≤ later → other ≡ digest }
 {}
 
-/// The laws speak of more than members that are all correct. In a group of four, one of which is
-/// faulty, whatever the secret of the group, what names the batches, a batch and a digest besides: the
-/// faulty member votes for both, and the batch is decided in the first regency, and in the next one
-/// again, which begins with the reports of the other three. Their diaries are tidy besides.
+/// The premises of agreement hold for a group in which one of four members is faulty. They hold for
+/// any secret, any naming of batches, any batch and any other digest.
+///
+/// The faulty member votes for both. The batch is decided in the first regency. It is decided again
+/// in the next one, which begins with the reports of the other three members. Their diaries are tidy
+/// besides.
 pub fn regencies_decide()
     ensures group { is_view four ≡ true }
     ensures witnessed { (secret : List ℕ) (digest_of : Batch → List ℕ) (other : List ℕ) (batch : Batch) →

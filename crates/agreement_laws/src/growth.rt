@@ -1,4 +1,4 @@
-//! What is witnessed stays so.
+//! The premises of agreement are kept, event by event.
 ghost use Rattle.std.specs.Prelude.{◌≡◌, ℕ, List, [], ◌++◌, Bool, true, false};
 ghost use Rattle.smart_base.specs.Lists.{Each};
 ghost use Rattle.smart_base.specs.Views.{View};
@@ -12,7 +12,7 @@ ghost use Rattle.agreement_laws.specs.Diaries.{IsShown};
 ghost use Rattle.agreement_laws.specs.Certificates.{IsBacked};
 ghost use Rattle.agreement_laws.specs.Law.{IsCorrect, FewFaulty, Witnessed};
 
-/// What a world has to keep, event by event: nothing else is asked of what it does.
+/// The premises of agreement are kept by whatever a world does, if it keeps what these clauses ask.
 pub fn what_is_witnessed_stays_so()
     // As long as nothing has been stated, lawful diaries that rest on nothing are witnessed.
     ensures begun { (secret : List ℕ) (digest_of : Batch → List ℕ) (view : View) (faulty : ℕ → Bool) (diary : ℕ → List LogEntry) →

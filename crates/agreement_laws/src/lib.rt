@@ -1,6 +1,5 @@
-//! The laws of agreement: whatever the faulty members of a view state, and in whatever regencies, a
-//! place has one decision. They speak of the definitions alone, and stand on functions with empty
-//! bodies.
+//! The laws of agreement: a place has one decision, whatever the faulty members of a view state, and
+//! in whatever regencies. Each law is a function with an empty body, and speaks of definitions alone.
 #![tactic(auto)]
 
 pub mod agreement;

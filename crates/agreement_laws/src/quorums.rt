@@ -4,8 +4,8 @@ ghost use Rattle.smart_base.specs.Views.{View, quorum};
 ghost use Rattle.smart_view.specs.Sizes.{collect_size};
 ghost use Rattle.agreement_laws.specs.Law.{IsCorrect, FewFaulty};
 
-/// Two quorums of a view share a member that is not faulty, where at most f members are; so do a
-/// quorum and as many members as answer for sure.
+/// Two quorums of a view share a correct member, if at most f members are faulty. A quorum and n-f
+/// members do too.
 pub fn quorums_meet()
     ensures quorums { (p q faulty : ℕ → Bool) (view : View) → length (filter faulty view.members) ≤ view.f →
         quorum view ≤ length (filter p view.members) → quorum view ≤ length (filter q view.members) →
@@ -15,7 +15,7 @@ pub fn quorums_meet()
         (member : ℕ) × IsCorrect view faulty member × (p member ≡ true) × (q member ≡ true) }
 {}
 
-/// A quorum of a view has a member that is not faulty, where at most f members are.
+/// A quorum of a view has a correct member, if at most f members are faulty.
 pub fn a_quorum_has_a_correct_member()
     ensures { (p faulty : ℕ → Bool) (view : View) → length (filter faulty view.members) ≤ view.f →
         quorum view ≤ length (filter p view.members) →

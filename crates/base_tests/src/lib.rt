@@ -9,6 +9,8 @@ mod marks;
 #[cfg(test)]
 mod services;
 #[cfg(test)]
+mod snapshots;
+#[cfg(test)]
 mod streams;
 #[cfg(test)]
 mod views;

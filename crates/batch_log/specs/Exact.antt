@@ -1,4 +1,4 @@
--- What a call of a log that goes well makes of it, and how a log is found when it is opened.
+-- The exact log after each call that goes well, and after it is opened over given bytes.
 use Rattle.std.specs.Prelude.{ℕ, ◌+◌, ◌<◌, ◌^◌, ◌==◌, cond, get_or, List, [], ◌∷◌, length, Some, None}
 use Rattle.disk_model.specs.Cells.{Cells, settled, written}
 use Rattle.batch_log.specs.Log.{log_bytes, restored}
@@ -7,7 +7,7 @@ use Rattle.batch_log.specs.declared.job.Job.TheVariants.{Rest, Torn, Close, Sync
 
 -- ---- the next call of a job, in a log whose groups end at `end`
 
--- what the device holds then
+-- the contents of the device after the next call of a job
 abbrev pub log_called : Job → ℕ → Cells → Cells
 log_called Rest end cells = cells
 log_called Torn end cells = cells
@@ -18,7 +18,7 @@ log_called (SyncBody next) end cells = settled cells.now
 log_called (Gate next) end cells = written end (1 ∷ []) cells
 log_called (SyncGate next) end cells = settled cells.now
 
--- the next call from then on
+-- the next call after that one
 abbrev pub job_called : Job → ℕ → Job
 job_called Rest end = Rest
 job_called Torn end = Torn
@@ -30,7 +30,7 @@ job_called (SyncBody next) end = Gate next
 job_called (Gate next) end = SyncGate next
 job_called (SyncGate next) end = Rest
 
--- where the groups end then
+-- the index at which the groups end after that call
 abbrev pub end_called : Job → ℕ → ℕ
 end_called Rest end = end
 end_called Torn end = end
@@ -41,7 +41,7 @@ end_called (SyncBody next) end = end
 end_called (Gate next) end = end
 end_called (SyncGate next) end = next
 
--- the groups still end below 2^63, as far as a device has bytes
+-- a job after which the groups still end below 2^63, as far as a device has bytes
 abbrev pub HasRoom : Job → ℕ → Type 0
 HasRoom (Body bytes) end = end + length bytes < 2 ^ 63
 HasRoom Rest end = Unit {0}
@@ -52,7 +52,7 @@ HasRoom (SyncBody next) end = Unit {0}
 HasRoom (Gate next) end = Unit {0}
 HasRoom (SyncGate next) end = Unit {0}
 
--- where they end once the running job is done, from the call on that makes it known
+-- the index at which the groups end after the running job, from the call on that fixes it
 abbrev pub end_then : Job → ℕ → ℕ
 end_then Rest end = end
 end_then Torn end = end
@@ -63,16 +63,16 @@ end_then (SyncBody next) end = next
 end_then (Gate next) end = next
 end_then (SyncGate next) end = next
 
--- they end below 2^63, now and once the running job is done
+-- groups that end below 2^63, now and after the running job
 abbrev pub IsNear : Job → ℕ → Type 0
 IsNear job end = (end < 2 ^ 63) × (end_then job end < 2 ^ 63)
 
 -- ---- a log that is opened over these bytes
 
--- where the groups end
+-- the index at which the groups end in given bytes
 abbrev pub end_opened : List ℕ → ℕ
 end_opened bytes = length (log_bytes (restored bytes))
 
--- the gate there is closed, or it is torn or not there
+-- the job of a log that is opened over given bytes: its gate is closed, or it is torn or absent
 abbrev pub job_opened : List ℕ → Job
 job_opened bytes = cond (get_or bytes (end_opened bytes) 1 == 0) Rest Torn

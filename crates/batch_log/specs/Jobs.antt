@@ -1,4 +1,4 @@
--- Where a log stands between two device calls.
+-- What a log stands for between two device calls.
 use Rattle.std.specs.Prelude.{◌≡◌, ◌≢◌, ◌⊎◌, ◌+◌, ℕ, Bool, true, false, get_or, List, [], ◌∷◌, ◌++◌, length, drop, Option, Some, None}
 use Rattle.disk_model.specs.Cells.{Cells, IsImage, settled, written}
 use Rattle.store_form.specs.Spelling.{Group, group_text, IsGroup}
@@ -6,8 +6,8 @@ use Rattle.batch_log.specs.Log.{log_bytes, AreGroups, first_group, restored}
 use Rattle.batch_log.specs.declared.job.Job.{Job}
 use Rattle.batch_log.specs.declared.job.Job.TheVariants.{Rest, Torn, Close, SyncClose, Body, SyncBody, Gate, SyncGate}
 
--- A log stands for a pair: what each crash now restores, `gs`, and what it may restore instead, `other`. `g` is the
--- group that the running job adds, if it adds one.
+-- A log stands for a pair: what each crash now restores (`gs`), and what it may restore instead (`other`). `g` is the group that the
+-- running job adds, if it adds one.
 
 -- whole groups and a closed gate, all of it sure
 pub record Clean (cells : Cells) (end : ℕ) (gs : List Group) : Type 0 where
@@ -16,12 +16,12 @@ pub record Clean (cells : Cells) (end : ℕ) (gs : List Group) : Type 0 where
   pub ends : end ≡ length (log_bytes gs)
   pub fit : AreGroups gs
 
--- these bytes stand behind the gate of the group, and close the next gate
+-- bytes that stand after the gate of a group, and close the next gate
 pub record IsBody (bytes : List ℕ) (g : Group) : Type 0 where
   pub are : bytes ≡ group_text g ++ 0 ∷ []
   pub fits : IsGroup g
 
--- the bytes behind the closed gate are written
+-- a log after the bytes past its closed gate were written
 pub record Behind (cells : Cells) (end next : ℕ) (g : Group) (gs : List Group) : Type 0 where
   pub tail : List ℕ
   pub are : cells ≡ written (end + 1) (group_text g ++ 0 ∷ []) (settled (log_bytes gs ++ 0 ∷ tail))
@@ -30,7 +30,7 @@ pub record Behind (cells : Cells) (end next : ℕ) (g : Group) (gs : List Group)
   pub fit : AreGroups gs
   pub fits : IsGroup g
 
--- they are sure
+-- a log after these bytes are sure
 pub record Staged (cells : Cells) (end next : ℕ) (g : Group) (gs : List Group) : Type 0 where
   pub tail : List ℕ
   pub are : cells ≡ settled (log_bytes gs ++ 0 ∷ (group_text g ++ 0 ∷ tail))
@@ -39,7 +39,7 @@ pub record Staged (cells : Cells) (end next : ℕ) (g : Group) (gs : List Group)
   pub fit : AreGroups gs
   pub fits : IsGroup g
 
--- the gate is opened
+-- a log after its gate was opened
 pub record Gated (cells : Cells) (end next : ℕ) (g : Group) (gs : List Group) : Type 0 where
   pub tail : List ℕ
   pub are : cells ≡ written end (1 ∷ []) (settled (log_bytes gs ++ 0 ∷ (group_text g ++ 0 ∷ tail)))
@@ -48,8 +48,7 @@ pub record Gated (cells : Cells) (end next : ℕ) (g : Group) (gs : List Group) 
   pub fit : AreGroups gs
   pub fits : IsGroup g
 
--- Behind the groups there is no gate, or one that is neither closed nor of a whole group. A gate of 1 in its place
--- would restore `other`.
+-- A log without a gate after its groups, or with one that is neither closed nor of a whole group. A gate of 1 there would restore `other`.
 pub record IsTorn (end : ℕ) (rest : List ℕ) (gs other : List Group) : Type 0 where
   pub ends : end ≡ length (log_bytes gs)
   pub fit : AreGroups gs
@@ -67,7 +66,7 @@ pub record Closing (cells : Cells) (end : ℕ) (gs other : List Group) : Type 0 
   pub are : cells ≡ written end (0 ∷ []) (settled (log_bytes gs ++ rest))
   pub torn : IsTorn end rest gs other
 
--- what waits to be written once the gate is closed
+-- the bytes that are written after the gate is closed, if there are any
 abbrev pub Waits : Option (List ℕ) → Group → Type 0
 Waits None g = Unit {0}
 Waits (Some bytes) g = IsBody bytes g
@@ -104,7 +103,7 @@ other_after (Close waiting) g gs other = other
 other_after (Body bytes) g gs other = other
 other_after (SyncBody next) g gs other = other
 
--- what a crash during that call may restore instead of `gs`
+-- what a crash during the next call may restore instead of `gs`
 abbrev pub at_stake : Job → Group → List Group → List Group → List Group
 at_stake (Gate next) g gs other = gs ++ g ∷ []
 at_stake (SyncGate next) g gs other = other
@@ -115,7 +114,7 @@ at_stake (Close waiting) g gs other = other
 at_stake (Body bytes) g gs other = other
 at_stake (SyncBody next) g gs other = other
 
--- what that call writes, if it does not fail
+-- the contents after the next call, if it does not fail
 abbrev pub called : Job → ℕ → Cells → Cells
 called Rest end cells = cells
 called Torn end cells = cells
@@ -126,7 +125,7 @@ called (SyncBody next) end cells = cells
 called (Gate next) end cells = written end (1 ∷ []) cells
 called (SyncGate next) end cells = cells
 
--- a crash now leaves the one or the other
+-- contents of which a crash now leaves one of two lists of groups
 abbrev pub LeavesEither : Cells → List Group → List Group → Type 0
 LeavesEither cells gs other = (image : List ℕ) → IsImage cells image → (restored image ≡ gs) ⊎ (restored image ≡ other)
 
@@ -136,7 +135,7 @@ pub record IsUnderWay (cells : Cells) (end : ℕ) (job : Job) : Type 0 where
   pub other : List Group
   pub stands : Stands cells end job group kept other
 
--- no job runs
+-- a log of which no job runs
 abbrev pub idle : Job → Bool
 idle Rest = true
 idle Torn = true
@@ -150,7 +149,7 @@ idle (SyncGate next) = false
 abbrev pub IsIdle : Job → Type 0
 IsIdle job = idle job ≡ true
 
--- the job with which a group is added, where no job runs
+-- the job that adds a group, after one in which none runs
 abbrev pub Begins : Job → List ℕ → Job → Type 0
 Begins Rest bytes next = next ≡ Body bytes
 Begins Torn bytes next = next ≡ Close (Some bytes)
@@ -221,10 +220,10 @@ Adds (SyncBody next) = Unit {0}
 Adds (Gate next) = Unit {0}
 Adds (SyncGate next) = Unit {0}
 
--- while the group is added, and once it is
+-- a log while the group is added, and after it is
 abbrev pub Runs : Cells → ℕ → Job → Group → List Group → List Group → Type 0
 Runs cells end job g gs other = Adds job × Stands cells end job g (kept_now job g gs) (other_now job g gs other)
 
--- one of the three
+-- one of three lists of groups
 abbrev pub OneOf : List Group → List Group → List Group → List Group → Type 0
 OneOf gs a b c = (gs ≡ a) ⊎ ((gs ≡ b) ⊎ (gs ≡ c))

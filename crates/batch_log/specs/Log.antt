@@ -1,4 +1,4 @@
--- What the bytes of a log stand for: groups one after the other, each behind a gate of 1, up to the first that is not.
+-- What the bytes of a log stand for: groups in order, each after a gate of 1, up to the first that is not whole or has another gate.
 use Rattle.std.specs.Prelude.{ℕ, zero, suc, cond, ◌==◌, List, [], ◌∷◌, ◌++◌, length, Option, Some, None, Result, Ok, Err}
 use Rattle.smart_base.specs.Cuts.{Cut}
 use Rattle.smart_base.specs.Lists.{Each}
@@ -9,16 +9,16 @@ abbrev pub log_bytes : List Group → List ℕ
 log_bytes [] = []
 log_bytes (g ∷ gs) = 1 ∷ (group_text g ++ log_bytes gs)
 
--- what has a spelling
+-- groups that have bytes
 abbrev pub AreGroups : List Group → Type 0
 AreGroups gs = Each IsGroup gs
 
--- a group and the bytes behind it
+-- a group, and the bytes after it
 abbrev pub found : Result (Group × Cut) ℕ → Option (Group × List ℕ)
 found (Ok x) = Some (x.0, x.1.left)
 found (Err at) = None
 
--- the group at the front, and the bytes behind it, where its gate is 1 and it is whole
+-- the first group and the bytes after it, if its gate is 1 and it is whole
 abbrev pub first_group : List ℕ → Option (Group × List ℕ)
 first_group [] = None
 first_group (gate ∷ rest) = cond (gate == 1) (found (group_at (all_of rest))) None

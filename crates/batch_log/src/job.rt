@@ -15,18 +15,19 @@ use smart_base::sequence::Bytes;
 use std::alloc::{AllocError, Global};
 use store_form::group::put_group;
 
-/// The next call of a job. A number is where the log ends once the group has been added.
+/// The next call of a job. A number is the index at which the log ends after the group has been
+/// added.
 #[derive(Drop)]
 pub enum Job {
-    /// No job runs, and the gate behind the groups is closed.
+    /// No job runs, and the gate after the groups is closed.
     Rest,
-    /// No job runs. There is no gate behind the groups, or one that a crash left open or torn: it has
+    /// No job runs. There is no gate after the groups, or one that a crash left open or torn. It has
     /// to be closed before a group is added.
     Torn,
-    /// Close that gate. Then these bytes are written behind it, if there are any.
+    /// Close that gate. Then these bytes are written after it, if there are any.
     Close(Option<Bytes>),
     SyncClose(Option<Bytes>),
-    /// Write these bytes behind the gate.
+    /// Write these bytes after the gate.
     Body(Bytes),
     SyncBody(u64),
     /// Open the gate.
@@ -34,8 +35,9 @@ pub enum Job {
     SyncGate(u64),
 }
 
-/// Makes the next device call of a job, and answers where the log then ends and what the next call
-/// is. Where no job runs it asks for the length of the device, and changes nothing.
+/// Makes the next device call of a job. Gives the index at which the log ends after it, and the call
+/// after it. If no job runs, it asks for the device's length and changes nothing. Errors: a failure
+/// of the device; want of memory.
 pub fn step<D: Disk>(device: &mut D, end: u64, job: Job) -> Result<(u64, Job), Fault>
     requires stands { D.told → IsUnderWay (D.cells device.old) end job }
     requires near { IsNear job end }
@@ -59,7 +61,7 @@ pub fn step<D: Disk>(device: &mut D, end: u64, job: Job) -> Result<(u64, Job), F
     Ok((next_end, next))
 }
 
-/// Makes the next device call of a job. Where no job runs it asks for the length of the device.
+/// Makes the next device call of a job. If no job runs, it asks for the device's length.
 fn make_call<D: Disk>(device: &mut D, end: u64, job: &Job) -> Result<(), Fault>
     requires stands { D.told → IsUnderWay (D.cells device.old) end job.now }
     requires near { IsNear job.now end }
@@ -88,7 +90,7 @@ fn make_call<D: Disk>(device: &mut D, end: u64, job: &Job) -> Result<(), Fault>
     }
 }
 
-/// Where the log ends behind the next device call of a job.
+/// The index at which the log ends after the next device call of a job.
 fn end_behind(end: u64, job: &Job) -> u64
     ensures { result ≡ end_called job.now end }
 {
@@ -98,7 +100,7 @@ fn end_behind(end: u64, job: &Job) -> u64
     }
 }
 
-/// The next call behind that of a job.
+/// The call after the next one of a job.
 fn job_behind(end: u64, job: Job) -> Job
     requires { HasRoom job end }
     ensures { result ≡ job_called job end }
@@ -123,7 +125,7 @@ pub fn is_idle(job: &Job) -> bool
     matches!(job, Job::Rest | Job::Torn)
 }
 
-/// The job that adds a group whose bytes these are, where no job runs.
+/// The job that adds a group with these bytes, if no job runs.
 pub fn begun(job: &Job, bytes: Bytes) -> Job
     requires { IsIdle job.now }
     ensures { Begins job.now bytes result }
@@ -134,7 +136,7 @@ pub fn begun(job: &Job, bytes: Bytes) -> Job
     }
 }
 
-/// What stands behind the gate of a group, and the next gate.
+/// The bytes after the gate of a group, and the next gate. Error: want of memory.
 pub fn body_of(alloc: Global, entries: &[Bytes]) -> Result<Bytes, AllocError>
     requires { Each IsEntry entries.now }
     ensures { IfOk result (λ bytes. IsBody bytes entries.now) }

@@ -11,15 +11,14 @@ use smart_base::sequence::Bytes;
 use std::alloc::{AllocError, Global};
 use store_form::ends::{LogFault, State};
 
-/// A log that is open until its disk fails, or memory runs out inside a device call. Then it is to be
-/// opened again over what the device holds.
+/// A log. It closes when its device fails or wants memory, and is then to be opened again over what
+/// the device holds.
 ///
-/// No job runs in a log that is closed. What it says of jobs then, and of its end, says nothing of the
-/// device.
+/// No job runs in a closed log. What it says of jobs and of its end then says nothing of the device.
 #[derive(Drop)]
 pub struct BatchLog<D: Disk> {
     pub device: D,
-    /// Where the gate behind the groups stands.
+    /// The index of the gate after the groups.
     pub end: u64,
     pub job: Job,
     pub state: State,
@@ -40,8 +39,8 @@ impl<D: Disk> BatchLog<D> {
     ghost use Rattle.batch_log.specs.Wires.{Wired, LeavesWire};
     ghost use Rattle.store_form.specs.Ends.{Closes};
 
-    /// Adds a group of entries, and closes a torn gate first. After `Ok` each crash leaves the log
-    /// with the group.
+    /// Adds a group of entries, after it has closed a torn gate. After `Ok` each crash leaves the log
+    /// with the group. Errors: a failure of the device; want of memory.
     pub fn append_group(&mut self, alloc: Global, entries: &[Bytes]) -> Result<(), LogFault>
         requires fit { Each IsEntry entries.now }
         requires idle { IsIdle self.old.job }
@@ -74,7 +73,8 @@ impl<D: Disk> BatchLog<D> {
         Ok(())
     }
 
-    /// Begins the job that adds a group, and closes a torn gate first. It makes no device call.
+    /// Begins the job that adds a group, and closes a torn gate first; no device call is made.
+    /// Errors: want of memory; or the log is closed.
     pub fn append_start(&mut self, alloc: Global, entries: &[Bytes]) -> Result<(), LogFault>
         requires fit { Each IsEntry entries.now }
         requires idle { IsIdle self.old.job }
@@ -96,7 +96,7 @@ impl<D: Disk> BatchLog<D> {
         Ok(())
     }
 
-    /// Begins the job that closes a torn gate and adds nothing. It makes no device call.
+    /// Begins the job that closes a torn gate and adds nothing; no device call is made.
     pub fn repair_start(&mut self) -> Result<(), LogFault>
         requires { self.old.job ≡ Job.Torn }
         ensures ok { OnOk result (D.told → (g : Group) (gs other : List Group) → Stands (D.cells self.old.device) self.old.end self.old.job g gs other
@@ -115,7 +115,8 @@ impl<D: Disk> BatchLog<D> {
         Ok(())
     }
 
-    /// Makes the next device call of the job, and tells whether no job runs then.
+    /// Makes the next device call of the job, and tells whether no job runs after it. Errors: a
+    /// failure of the device; want of memory.
     pub fn next_call(&mut self) -> Result<bool, LogFault>
         requires { self.old.state ≡ State.Open → D.told → IsUnderWay (D.cells self.old.device) self.old.end self.old.job }
         ensures goes { OnOk result (D.told → (g : Group) (gs other : List Group) → Stands (D.cells self.old.device) self.old.end self.old.job g gs other
@@ -179,7 +180,7 @@ impl<D: Disk> BatchLog<D> {
         matches!(self.job, Job::Torn)
     }
 
-    /// Gives the device back.
+    /// The device, taken out of the log.
     pub fn into_device(self) -> D
         ensures { result ≡ self.device }
     {

@@ -1,4 +1,4 @@
-//! Reading the groups of a log.
+//! The reading of a log's groups.
 ghost use Rattle.std.specs.Prelude.{◌≡◌, ◌++◌, ◌∷◌, List, ℕ, length, IfOk, IfSome, IsNone, None};
 ghost use Rattle.store_form.specs.Spelling.{group_text, IsGroup};
 ghost use Rattle.batch_log.specs.Log.{log_bytes, AreGroups, first_group};
@@ -9,10 +9,10 @@ use smart_base::sequence::{Bytes, Sequence};
 use std::alloc::{AllocError, Global};
 use store_form::group::take_group;
 
-/// The entries of the groups of a log, in their order.
+/// The entries of a log's groups, in order.
 pub type Groups = Sequence<Sequence<Bytes>>;
 
-/// The group at the front, and the bytes behind it, where its gate is 1 and it is whole.
+/// The first group and the bytes after it, if its gate is 1 and it is whole. Error: want of memory.
 fn first_group(alloc: Global, bytes: &[u8]) -> Result<Option<(Sequence<Bytes>, &[u8])>, AllocError>
     ensures some { IfOk result (λ o. IfSome o (λ x. (bytes.now ≡ 1 ∷ (group_text x.0 ++ x.1.now)) × IsGroup x.0)) }
     ensures none { IfOk result (λ o. IsNone o → first_group bytes.now ≡ None) }
@@ -30,7 +30,7 @@ fn first_group(alloc: Global, bytes: &[u8]) -> Result<Option<(Sequence<Bytes>, &
     }
 }
 
-/// The groups of a log, and the bytes behind them.
+/// The groups of a log, and the bytes after them. Error: want of memory.
 pub fn groups_of(alloc: Global, bytes: &[u8]) -> Result<(Groups, &[u8]), AllocError>
     ensures parts { IfOk result (λ x. (bytes.now ≡ log_bytes x.0 ++ x.1.now) × AreGroups x.0 × (first_group x.1.now ≡ None)) }
 {

@@ -1,4 +1,4 @@
-//! A log is opened again over what a crash has left.
+//! The opening of a log over what a crash has left.
 ghost use Rattle.std.specs.Prelude.{◌≡◌, ◌≤◌, List, ℕ, IfOk, IfErr, IsErrOf, OnOk, false, true};
 ghost use Rattle.faults.specs.Counts.{Rose, HasCause};
 ghost use Rattle.disk_model.specs.Cells.{IsImage, settled};
@@ -16,7 +16,7 @@ use faults::Fault;
 use std::alloc::Global;
 use store_form::ends::{LogFault, State};
 
-/// The groups, where they end, and whether the gate there is closed.
+/// The groups, the index at which they end, and whether the gate there is closed.
 fn read_log<D: Disk>(alloc: Global, device: &mut D) -> Result<(Groups, u64, Job), Fault>
     // Nothing is pending.
     requires { D.told → D.cells device.old ≡ settled (D.cells device.old).now }
@@ -42,8 +42,8 @@ fn read_log<D: Disk>(alloc: Global, device: &mut D) -> Result<(Groups, u64, Job)
     Ok((groups, end, Job::Rest))
 }
 
-/// Opens a log over a device on which nothing is pending, and gives its groups. A refused opening
-/// gives the device back.
+/// Opens a log over a device on which nothing is pending, and gives its groups. Errors: a failure of
+/// the device; want of memory. The device comes back with the error.
 pub fn reopen<D: Disk>(alloc: Global, device: D) -> Result<(BatchLog<D>, Groups), (LogFault, D)>
     requires { D.told → D.cells device ≡ settled (D.cells device).now }
     ensures groups { IfOk result (λ r. D.told → r.1 ≡ restored (D.cells device).now) }

@@ -1,4 +1,4 @@
--- Certificates: equal statements signed by enough distinct members of a view. What is wrong with signed statements that are none.
+-- Certificates: equal statements signed by enough distinct members of a view. Also the faults of signed statements that are none.
 use Rattle.std.specs.Prelude.{◌≡◌, ℕ, ◌+◌, ◌==◌, ◌≤◌, nat_le, Bool, true, false, not, ◌&&◌, List, [], ◌∷◌, ◌++◌, map, length, slice_index_or, Option, Some, None, Result, Ok, Err, if◌then◌else◌}
 use Rattle.std.specs.List.{list_any}
 use Rattle.smart_base.specs.Lists.{or_else, same_bytes, Each, Distinct}
@@ -18,51 +18,51 @@ use Rattle.certificates.specs.declared.fault.CertFault.TheVariants.{TooFew, Stra
 
 -- ---- signed statements of members
 
--- the tag is the one that the signer makes
+-- a statement whose tag is the one that its signer makes
 abbrev pub is_verified : {S : Type 0} → List ℕ → Form S → SignedBy S → Bool
 is_verified secret form item = is_tag secret (party_of form.kind item.signer) (form.spell item.statement) item.tag
 
 abbrev pub signers : {S : Type 0} → List (SignedBy S) → List ℕ
 signers items = map (λ item. item.signer) items
 
--- statements that are as they have to be, signed by distinct members of a view
+-- statements that are as wanted, verify, and are signed by distinct members of a view
 pub record AreSigned (S : Type 0) (secret : List ℕ) (form : Form S) (v : View) (Wanted : S → Type 0) (items : List (SignedBy S)) : Type 0 where
   pub members : Each (λ item. is_member v item.signer ≡ true) items
   pub distinct : Distinct (signers items)
   pub stated : Each (λ item. Wanted item.statement) items
   pub verified : Each (λ item. is_verified secret form item ≡ true) items
 
--- what is wrong with a signer behind earlier ones
+-- the fault of a signer after earlier ones, if it has one
 abbrev pub signer_fault : View → List ℕ → ℕ → Option CertFault
 signer_fault v earlier signer =
     if not (is_member v signer) then Some Stranger
     else (if list_any (λ m. m == signer) earlier then Some Twice
     else None)
 
--- what is wrong with a statement, whoever signed it
+-- the fault of a statement, whoever signed it, if it has one
 abbrev pub item_fault : {S : Type 0} → List ℕ → Form S → (S → Bool) → SignedBy S → Option CertFault
 item_fault secret form is_wanted item =
     if not (is_wanted item.statement) then Some Unequal
     else (if not (is_verified secret form item) then Some BadTag
     else None)
 
--- the first fault of statements behind those of earlier signers
+-- the first fault of statements after those of earlier signers
 abbrev pub fault_behind : {S : Type 0} → View → (SignedBy S → Option CertFault) → List ℕ → List (SignedBy S) → Option CertFault
 fault_behind v fault_of earlier [] = None
 fault_behind v fault_of earlier (item ∷ items) =
     or_else (signer_fault v earlier item.signer) (or_else (fault_of item)
     (fault_behind v fault_of (earlier ++ item.signer ∷ []) items))
 
--- the first fault of signed statements; that they are not enough is told last
+-- the first fault of signed statements; that they are too few is told last
 unfoldable pub first_fault : {S : Type 0} → View → (SignedBy S → Option CertFault) → Bool → List (SignedBy S) → Option CertFault
 first_fault v fault_of are_enough items = or_else (fault_behind v fault_of [] items) (if are_enough then None else Some TooFew)
 
--- what a check answers
+-- the answer of a check
 abbrev pub passed : Option CertFault → Result (Unit {0}) CertFault
 passed None = Ok tt
 passed (Some fault) = Err fault
 
--- a fault's number
+-- the number of a fault
 abbrev pub code_of : CertFault → ℕ
 code_of TooFew = 1
 code_of Stranger = 2
@@ -70,21 +70,21 @@ code_of Twice = 3
 code_of Unequal = 4
 code_of BadTag = 5
 
--- a mark at the index of each member that is among earlier signers, and at no other member's
+-- marks at the indices of earlier signers, and at no other member's
 pub record Marks (v : View) (earlier : List ℕ) (marks : List Bool) : Type 0 where
   pub at : (m i : ℕ) → index_of v m ≡ Some i → slice_index_or marks i false ≡ list_any (λ x. x == m) earlier
 
 -- ---- votes
 
--- votes of one kind for one digest at one slot
+-- votes of one kind for one digest in one slot
 abbrev pub same_ballot : Ballot → Ballot → Bool
 same_ballot a b = same_kind a.kind b.kind && same_slot a.slot b.slot && same_bytes a.digest b.digest
 
--- the wanted vote, signed by members that weigh as much as a quorum
+-- a certificate: the wanted vote, signed by a quorum
 abbrev pub IsCertificate : List ℕ → View → Ballot → List (SignedBy Ballot) → Type 0
 IsCertificate secret v wanted votes = AreSigned Ballot secret ballots v (λ b. b ≡ wanted) votes × (quorum v ≤ weight_of v (signers votes))
 
--- the first fault of votes that are wanted to be a certificate
+-- the first fault of votes that are no certificate of the wanted vote
 abbrev pub votes_fault : List ℕ → View → Ballot → List (SignedBy Ballot) → Option CertFault
 votes_fault secret v wanted votes =
     first_fault v (item_fault secret ballots (λ b. same_ballot b wanted)) (nat_le (quorum v) (weight_of v (signers votes))) votes
@@ -95,11 +95,11 @@ write_of slot digest = record { kind = Write; slot = slot; digest = digest }
 abbrev pub accept_of : Slot → List ℕ → Ballot
 accept_of slot digest = record { kind = Accept; slot = slot; digest = digest }
 
--- a quorum wrote the digest at the slot
+-- a write certificate: a quorum's WRITEs for a digest in a slot (Mod-SMaRt, EDCC 2012)
 abbrev pub IsWriteCertificate : List ℕ → View → Slot → List ℕ → List (SignedBy Ballot) → Type 0
 IsWriteCertificate secret v slot digest votes = IsCertificate secret v (write_of slot digest) votes
 
--- a quorum accepted the digest at the slot
+-- a decision proof: a quorum's ACCEPTs for a digest in a slot (Mod-SMaRt, EDCC 2012)
 abbrev pub IsDecisionProof : List ℕ → View → Slot → List ℕ → List (SignedBy Ballot) → Type 0
 IsDecisionProof secret v slot digest votes = IsCertificate secret v (accept_of slot digest) votes
 
@@ -112,12 +112,12 @@ same_mark a b = (a.place == b.place) && same_bytes a.digest b.digest
 abbrev pub mark_of : ℕ → List ℕ → Mark
 mark_of place digest = record { place = place; digest = digest }
 
--- more members than may be faulty marked the digest at the place
+-- a certificate of marks: more than f members marked a digest at a place
 abbrev pub IsMarkCertificate : List ℕ → View → ℕ → List ℕ → List (SignedBy Mark) → Type 0
 IsMarkCertificate secret v place digest items =
     AreSigned Mark secret marks v (λ m. m ≡ mark_of place digest) items × (v.f + 1 ≤ length items)
 
--- the first fault of marks that are wanted to be a certificate
+-- the first fault of marks that are no certificate of a digest at a place
 abbrev pub marks_fault : List ℕ → View → ℕ → List ℕ → List (SignedBy Mark) → Option CertFault
 marks_fault secret v place digest items =
     first_fault v (item_fault secret marks (λ m. same_mark m (mark_of place digest))) (nat_le (v.f + 1) (length items)) items

@@ -1,4 +1,4 @@
--- Collects: reports of as many members as answer for sure, whose evidence and locks hold. This project's profile of Mod-SMaRt (EDCC 2012).
+-- Collects: reports of n-f members, whose evidence and locks hold (this project's profile of Mod-SMaRt, EDCC 2012).
 use Rattle.std.specs.Prelude.{◌≡◌, ℕ, ◌+◌, ◌^◌, ◌<◌, ◌≤◌, ◌==◌, nat_le, nat_lt, Bool, true, false, ◌&&◌, ◌||◌, List, [], ◌∷◌, length, ◌⊎◌, Option, Some, None, is_none, IsSomeAnd, IfSome, if◌then◌else◌}
 use Rattle.smart_base.specs.Lists.{or_else}
 use Rattle.smart_base.specs.Views.{View, present}
@@ -17,7 +17,7 @@ use Rattle.certificates.specs.declared.fault.CertFault.{CertFault}
 
 -- ---- views of a list
 
--- the view that holds a place: the last that starts there or before
+-- the view that holds a place: the last of a list that starts there or earlier
 abbrev pub view_holding : List View → ℕ → Option View
 view_holding [] place = None
 view_holding (v ∷ views) place = or_else (view_holding views place) (if nat_le v.start place then Some v else None)
@@ -32,12 +32,12 @@ slot_of v place regency = record { view = v.number; place = place; regency = reg
 
 -- ---- evidence of the last place
 
--- the view that holds the place has decided it
+-- a decision proof of a last place, in the view that holds the place
 abbrev pub IsDecided : List ℕ → List View → ℕ → DecisionProof → Type 0
 IsDecided secret views last p =
     IsSomeAnd (view_holding views last) (λ v. (p.view ≡ v.number) × IsDecisionProof secret v (slot_of v last p.regency) p.digest p.accepts)
 
--- members of a view that is known have marked it
+-- a certificate of marks at a last place, of a view that is known
 abbrev pub IsMarked : List ℕ → List View → ℕ → MarkCertificate → Type 0
 IsMarked secret views last m = IsSomeAnd (view_numbered views m.view) (λ v. IsMarkCertificate secret v last m.digest m.marks)
 
@@ -46,7 +46,7 @@ IsShown secret views last Nothing = ⊥
 IsShown secret views last (Decided p) = IsDecided secret views last p
 IsShown secret views last (Marked m) = IsMarked secret views last m
 
--- before the first place none is needed, and what is there is not looked at
+-- evidence that holds: it shows the last place, or that place is 0; in that case nothing is looked at
 abbrev pub EvidenceHolds : List ℕ → List View → ℕ → Evidence → Type 0
 EvidenceHolds secret views last evidence = (last ≡ 0) ⊎ IsShown secret views last evidence
 
@@ -73,7 +73,7 @@ evidence_holds secret views last evidence = (last == 0) || is_shown secret views
 
 -- ---- locks
 
--- a quorum of the view wrote for the place behind the last, if there is one, in an earlier regency
+-- a lock that holds: a quorum's WRITEs at the place after the last one, which is below 2^63, in an earlier regency
 pub record LockHolds (secret : List ℕ) (v : View) (last regency : ℕ) (l : LockCertificate) : Type 0 where
   pub place : last + 1 < 2 ^ 63
   pub earlier : l.regency < regency
@@ -86,14 +86,14 @@ lock_holds secret v last regency l =
 
 -- ---- collects
 
--- a report of a regency of a view, with evidence that holds among views, and with no lock that does not
+-- a report for a regency of a view, whose evidence holds, and whose lock does if it has one
 pub record IsReportOf (secret : List ℕ) (v : View) (views : List View) (regency : ℕ) (s : Report) : Type 0 where
   pub of_view : s.view ≡ v.number
   pub of_regency : s.regency ≡ regency
   pub evidence : EvidenceHolds secret views s.last s.evidence
   pub lock : IfSome s.lock (LockHolds secret v s.last s.regency)
 
--- such reports of as many members of the present view as answer for sure
+-- a collect: such reports of n-f members of the present view
 abbrev pub IsCollect : List ℕ → List View → ℕ → List (SignedBy Report) → Type 0
 IsCollect secret views regency items =
     AreSigned Report secret reports (present views) (IsReportOf secret (present views) views regency) items
@@ -108,7 +108,7 @@ is_report_of secret v views regency s =
     (s.view == v.number) && (s.regency == regency)
     && evidence_holds secret views s.last s.evidence && has_no_false_lock secret v s.last s.regency s.lock
 
--- the first fault of reports that are wanted to be a collect
+-- the first fault of reports that are no collect
 abbrev pub collect_fault : List ℕ → List View → ℕ → List (SignedBy Report) → Option CertFault
 collect_fault secret views regency items =
     first_fault (present views) (item_fault secret reports (is_report_of secret (present views) views regency))

@@ -1,4 +1,4 @@
-//! Checks of certificates and proofs.
+//! The checks of certificates and proofs.
 ghost use Rattle.std.specs.Prelude.{◌≡◌, ◌↔◌};
 ghost use Rattle.certificates.specs.Certificates.{IsWriteCertificate, IsDecisionProof, IsMarkCertificate, same_ballot, same_mark, votes_fault, marks_fault, passed, write_of, accept_of};
 
@@ -44,7 +44,8 @@ impl Wanted<Mark> for Mark {
     }
 }
 
-/// Whether votes are a write certificate, or their first fault. It takes no memory.
+/// Whether votes are a write certificate, or else their first fault (Mod-SMaRt, EDCC 2012). It needs
+/// no memory.
 pub fn check_write_cert(
     ring: &Ring,
     view: &View,
@@ -63,7 +64,8 @@ pub fn check_write_cert(
     check_list(ring, view, &wanted, view.quorum(), votes)
 }
 
-/// Whether votes are a decision proof, or their first fault. It takes no memory.
+/// Whether votes are a decision proof, or else their first fault (Mod-SMaRt, EDCC 2012). It needs no
+/// memory.
 pub fn check_proof(
     ring: &Ring,
     view: &View,
@@ -82,8 +84,8 @@ pub fn check_proof(
     check_list(ring, view, &wanted, view.quorum(), votes)
 }
 
-/// Whether marks are those of more members of a view than may be faulty, each of this digest at
-/// this place, or their first fault (Dura-SMaRt, USENIX ATC 2013). It takes no memory.
+/// Whether more than f members of a view marked this digest at this place, or else the first fault
+/// (Dura-SMaRt, USENIX ATC 2013). It needs no memory.
 pub fn check_marks(
     ring: &Ring,
     view: &View,

@@ -1,4 +1,4 @@
-//! Checks of reports: of the evidence and the lock in each, and of collects.
+//! The checks of reports: of the evidence and the lock in each, and of collects.
 ghost use Rattle.std.specs.Prelude.{◌≡◌, ◌↔◌, ◌<◌, true, length};
 ghost use Rattle.std.specs.Option.{option_copied};
 ghost use Rattle.smart_base.specs.Views.{present};
@@ -19,7 +19,7 @@ use smart_view::size::collect_size;
 /// The greatest place.
 const LAST_PLACE: u64 = (1 << 63) - 1;
 
-/// The view that holds a place: the last that starts there or before.
+/// The view that holds a place: the last that starts there or earlier.
 fn view_holding(views: &[View], place: Place) -> Option<&View>
     ensures { option_copied result ≡ view_holding views.now place }
 {
@@ -85,10 +85,9 @@ fn is_marked(ring: &Ring, views: &[View], last: Place, certificate: &MarkCertifi
     }
 }
 
-/// Whether evidence shows that a place is decided (this project's own rule). The place before the
-/// first needs none, and what comes with it is not looked at. A decision proof is one of the view
-/// that holds the place among `views`, the last that starts there or before; marks are a
-/// certificate of any of them. It takes no memory.
+/// Whether evidence shows that a place is decided (this project's own rule). Place 0 needs none, and
+/// what comes with it is not looked at. A decision proof is of the view that holds the place. Marks
+/// are a certificate of any of `views`. It needs no memory.
 #[tactic(auto, unfolding(crate::specs::Collects::evidence_holds))]
 pub fn check_evidence(ring: &Ring, views: &[View], last: Place, evidence: &Evidence) -> bool
     ensures value { result ≡ evidence_holds ring.now views.now last evidence.now }
@@ -104,9 +103,9 @@ pub fn check_evidence(ring: &Ring, views: &[View], last: Place, evidence: &Evide
     }
 }
 
-/// Whether a lock is a write certificate of a view for the place behind the last decided one, in
-/// a regency below the one that it is reported for (Mod-SMaRt, EDCC 2012). Behind the greatest
-/// place there is none. It takes no memory.
+/// Whether a lock is a write certificate of a view, at the place after the last decided one
+/// (Mod-SMaRt, EDCC 2012). Its regency is earlier than the one that it is reported for. There is none
+/// after the greatest place. It needs no memory.
 #[tactic(auto, unfolding(crate::specs::Collects::lock_holds))]
 pub fn check_lock(
     ring: &Ring,
@@ -130,7 +129,7 @@ pub fn check_lock(
         && check_write_cert(ring, view, slot, lock.digest, lock.writes.as_slice()).is_ok()
 }
 
-/// Whether a lock, if there is one, holds. It takes no memory.
+/// Whether a lock holds, if there is one. It needs no memory.
 pub fn has_no_false_lock(
     ring: &Ring,
     view: &View,
@@ -146,7 +145,7 @@ pub fn has_no_false_lock(
     }
 }
 
-/// What a report of a regency of a view has to be, where the evidence may be of any of `views`.
+/// What a report for a regency of a view has to be; its evidence may be of any of `views`.
 #[derive(Drop)]
 struct Reporting<'a> {
     view: &'a View,
@@ -166,11 +165,10 @@ impl Wanted<Report> for Reporting<'_> {
     }
 }
 
-/// Whether reports are a collect: of as many distinct members of the present view as answer for
-/// sure, the last of `views`, each of this view and this regency, with evidence and a lock that
-/// hold; or their first fault (this project's profile of Mod-SMaRt, EDCC 2012). A report of
-/// another view or regency is `Unequal`, and so is one whose evidence or lock does not hold. It
-/// takes no memory.
+/// Whether reports are a collect, or else their first fault (this project's profile of Mod-SMaRt,
+/// EDCC 2012). The reports are of n-f distinct members of the present view, the last of `views`. Each
+/// is of this view and regency, and its evidence and its lock hold. If one of these fails, the fault
+/// is `Unequal`. It needs no memory.
 pub fn check_collect(
     ring: &Ring,
     views: &[View],

@@ -1,6 +1,6 @@
 //! Certificates: what enough members of a view have signed. Write certificates and decision proofs
-//! are votes of a quorum (Mod-SMaRt, EDCC 2012), mark certificates are marks of more members than
-//! may be faulty, and collects are reports of as many members as answer for sure.
+//! are votes of a quorum (Mod-SMaRt, EDCC 2012). Mark certificates are marks of more than f members,
+//! and collects are reports of n-f members.
 #![tactic(auto)]
 
 pub mod check;

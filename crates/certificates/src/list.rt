@@ -12,12 +12,12 @@ use smart_statements::signed::{Signed, Statement};
 pub trait Wanted<S: Statement> {
     ghost is_wanted: { List ℕ → Self → S → Bool };
 
-    /// Whether a statement is so, whoever signed it.
+    /// Whether a statement is that, whoever signed it.
     fn is_met(&self, ring: &Ring, statement: &S) -> bool
         ensures { result ≡ is_wanted ring.now self.now statement.now };
 }
 
-/// Where a signer stands among the members.
+/// The index of a signer among the members, if it is one.
 fn index_of(view: &View, signer: u16) -> Option<usize>
     ensures index { result ≡ index_of view.now signer }
     ensures few { IfSome result (λ i. i < 31) }
@@ -56,8 +56,8 @@ fn check_item<S: Statement, W: Wanted<S>>(
     }
 }
 
-/// Whether at least `enough` distinct members of a view signed what is wanted, or the first fault
-/// of what they signed. It takes no memory.
+/// Whether at least `enough` distinct members of a view signed what is wanted, or else the first
+/// fault. It needs no memory.
 pub fn check_list<S: Statement, W: Wanted<S>>(
     ring: &Ring,
     view: &View,

@@ -1,4 +1,4 @@
--- What a call of a slot that goes well makes of it, and how a slot is found when it is opened.
+-- The exact slot after each call that goes well, and after it is opened over given bytes.
 use Rattle.std.specs.Prelude.{ℕ, Bool, ◌==◌, cond, List, [], ◌∷◌, Option, Some, None}
 use Rattle.disk_model.specs.Cells.{Cells, settled, written}
 use Rattle.store_form.specs.declared.checkpoint.Checkpoint.{Checkpoint}
@@ -6,7 +6,7 @@ use Rattle.checkpoint_store.specs.Slots.{slot_of}
 use Rattle.checkpoint_store.specs.declared.job.SlotJob.{SlotJob}
 use Rattle.checkpoint_store.specs.declared.job.SlotJob.TheVariants.{Empty, Torn, Shut, Close, SyncClose, Fill, SyncFill, Full, Gate, SyncGate, Counts}
 
--- what the device holds after the next call of a job
+-- the contents of the device after the next call of a job
 abbrev pub cells_called : SlotJob → Cells → Cells
 cells_called Close cells = written 0 (0 ∷ []) cells
 cells_called SyncClose cells = settled cells.now
@@ -25,7 +25,7 @@ abbrev pub counts_or_torn : Option Checkpoint → SlotJob
 counts_or_torn None = Torn
 counts_or_torn (Some x) = Counts
 
--- how a slot that is opened over these bytes stands
+-- a slot that is opened over these bytes
 abbrev pub slot_opened : Bool → List ℕ → SlotJob
 slot_opened odd [] = Empty
 slot_opened odd (gate ∷ rest) = cond (gate == 0) Shut (counts_or_torn (slot_of odd (gate ∷ rest)))

@@ -1,4 +1,4 @@
--- Where a slot stands between two device calls.
+-- What a slot stands for between two device calls.
 use Rattle.std.specs.Prelude.{◌≡◌, ◌≢◌, ◌⊎◌, ℕ, Bool, true, false, List, [], ◌∷◌, ◌++◌, Option, Some, None}
 use Rattle.disk_model.specs.Cells.{Cells, settled, written}
 use Rattle.store_form.specs.Spelling.{checkpoint_text}
@@ -7,20 +7,20 @@ use Rattle.checkpoint_store.specs.Slots.{is_odd, slot_of, by_gate, instead_of, I
 use Rattle.checkpoint_store.specs.declared.job.SlotJob.{SlotJob}
 use Rattle.checkpoint_store.specs.declared.job.SlotJob.TheVariants.{Empty, Torn, Shut, Close, SyncClose, Fill, SyncFill, Full, Gate, SyncGate, Counts}
 
--- A slot stands for a pair: what it has after each crash now, `has`, and what it may have instead, `other`. `next` is the
--- checkpoint that the running job puts there, if it puts one.
+-- A slot stands for a pair: what it has after each crash now (`has`), and what it may have instead (`other`). `next` is the checkpoint that
+-- the running job puts there, if it puts one.
 
--- what may stand in the slot of the odd, or of the even generations
+-- a checkpoint that may stand in the slot of the odd or of the even generations
 pub record IsFor (odd : Bool) (p : Checkpoint) : Type 0 where
   pub fits : Fits p
   pub uses : is_odd p.generation ≡ odd
 
--- a closed gate, all of it sure
+-- contents with a closed gate, all of it sure
 pub record IsShut (cells : Cells) : Type 0 where
   pub rest : List ℕ
   pub are : cells ≡ settled (0 ∷ rest)
 
--- a gate that is neither closed nor of a whole checkpoint
+-- contents with a gate that is neither closed nor of a whole checkpoint
 pub record IsTorn (odd : Bool) (cells : Cells) (other : Option Checkpoint) : Type 0 where
   pub gate : ℕ
   pub rest : List ℕ
@@ -29,7 +29,7 @@ pub record IsTorn (odd : Bool) (cells : Cells) (other : Option Checkpoint) : Typ
   pub nothing : slot_of odd (gate ∷ rest) ≡ None
   pub is : other ≡ slot_of odd (1 ∷ rest)
 
--- an open gate, and behind it a whole checkpoint
+-- contents with an open gate, and after it a whole checkpoint
 pub record IsCounted (odd : Bool) (cells : Cells) (has : Option Checkpoint) : Type 0 where
   pub rest : List ℕ
   pub are : cells ≡ settled (1 ∷ rest)
@@ -37,7 +37,7 @@ pub record IsCounted (odd : Bool) (cells : Cells) (has : Option Checkpoint) : Ty
   pub counts : slot_of odd (1 ∷ rest) ≡ Some checkpoint
   pub is : has ≡ Some checkpoint
 
--- whatever stands there
+-- any contents of a slot that is to be closed
 pub record ToClose (odd : Bool) (cells : Cells) (other : Option Checkpoint) : Type 0 where
   pub bytes : List ℕ
   pub are : cells ≡ settled bytes
@@ -59,7 +59,7 @@ pub record Filling (odd : Bool) (cells : Cells) (next : Checkpoint) : Type 0 whe
   pub are : cells ≡ written 1 (checkpoint_text next) (settled (0 ∷ rest))
   pub is_for : IsFor odd next
 
--- behind the closed gate it is whole and sure
+-- contents with a closed gate, and after it a whole checkpoint that is sure
 pub record IsFull (odd : Bool) (cells : Cells) (next : Checkpoint) : Type 0 where
   pub rest : List ℕ
   pub are : cells ≡ settled (0 ∷ (checkpoint_text next ++ rest))
@@ -70,7 +70,7 @@ pub record Opening (odd : Bool) (cells : Cells) (next : Checkpoint) : Type 0 whe
   pub are : cells ≡ written 0 (1 ∷ []) (settled (0 ∷ (checkpoint_text next ++ rest)))
   pub is_for : IsFor odd next
 
--- nothing is there
+-- a slot that has nothing, and may have nothing instead
 abbrev pub Nothing : Option Checkpoint → Option Checkpoint → Type 0
 Nothing has other = (has ≡ None) × (other ≡ None)
 
@@ -93,7 +93,7 @@ pub record IsSlotUnderWay (odd : Bool) (cells : Cells) (job : SlotJob) : Type 0 
   pub other : Option Checkpoint
   pub stands : SlotStands odd cells job next has other
 
--- What a crash leaves has the one or the other, and by another value of its gate no third.
+-- Bytes that have one of two checkpoints. With another value of their gate they have no third.
 abbrev pub Leaves : Bool → Option Checkpoint → Option Checkpoint → List ℕ → Type 0
 Leaves odd has other image =
     ((slot_of odd image ≡ has) × (instead_of odd image ≡ has))
@@ -130,7 +130,7 @@ other_after SyncFill next has other = other
 other_after Full next has other = other
 other_after Counts next has other = other
 
--- what a crash during that call, or the rest of the job, may leave instead of `has`
+-- what a crash during the next call, or the rest of the job, may leave instead of `has`
 abbrev pub slot_stake : SlotJob → Checkpoint → Option Checkpoint → Option Checkpoint
 slot_stake Gate next other = Some next
 slot_stake SyncGate next other = Some next
@@ -172,7 +172,7 @@ other_then SyncFill next has other = other
 other_then Full next has other = other
 other_then Counts next has other = other
 
--- what this call writes, if it does not fail
+-- the contents after the next call, if it does not fail
 abbrev pub slot_called : SlotJob → Cells → Cells
 slot_called Close cells = written 0 (0 ∷ []) cells
 slot_called (Fill bytes) cells = written 1 bytes cells
@@ -188,7 +188,7 @@ slot_called Counts cells = cells
 
 -- ---- the order of the calls
 
--- no job runs
+-- a slot on which no job runs
 abbrev pub idle : SlotJob → Bool
 idle Empty = true
 idle Torn = true
@@ -205,7 +205,7 @@ idle SyncGate = false
 abbrev pub IsIdle : SlotJob → Type 0
 IsIdle job = idle job ≡ true
 
--- where a job ends
+-- the last state of a job
 abbrev pub end_of : SlotJob → SlotJob
 end_of Close = Shut
 end_of SyncClose = Shut
@@ -232,7 +232,7 @@ job_after Shut = Shut
 job_after Full = Full
 job_after Counts = Counts
 
--- how many calls it still makes
+-- the number of calls that a job still makes
 abbrev pub calls_left : SlotJob → ℕ
 calls_left Close = 2
 calls_left SyncClose = 1
@@ -246,7 +246,7 @@ calls_left Shut = 0
 calls_left Full = 0
 calls_left Counts = 0
 
--- the gate is sure to be closed
+-- a slot whose gate is sure to be closed
 abbrev pub shut : SlotJob → Bool
 shut Shut = true
 shut Full = true

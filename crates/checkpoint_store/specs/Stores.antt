@@ -11,11 +11,11 @@ use Rattle.checkpoint_store.specs.declared.store.Slot.{Slot}
 abbrev pub slot : {D : Type 0} → ℕ → CheckpointStore D → Slot D
 slot generation store = cond (is_odd generation) store.odd store.even
 
--- and the other
+-- the slot that a generation does not use
 abbrev pub beside : {D : Type 0} → ℕ → CheckpointStore D → Slot D
 beside generation store = cond (is_odd generation) store.even store.odd
 
--- how that slot stands, where `cells` says what a device holds
+-- what that slot stands for, if `cells` tells what a device holds
 abbrev pub StandsAt : {D : Type 0} → (D → Cells) → ℕ → CheckpointStore D → Checkpoint → Option Checkpoint → Option Checkpoint → Type 0
 StandsAt cells generation store next has other = SlotStands (is_odd generation) (cells (slot generation store).device) (slot generation store).job next has other
 
@@ -28,6 +28,6 @@ LeavesAt cells generation store has other = SlotLeaves (is_odd generation) (cell
 abbrev pub IsFullAt : {D : Type 0} → (D → Cells) → ℕ → CheckpointStore D → Checkpoint → Type 0
 IsFullAt cells generation store next = IsFull (is_odd generation) (cells (slot generation store).device) next
 
--- what it would have with a gate of 1
+-- the checkpoint that it would have with a gate of 1
 abbrev pub gate_gives : {D : Type 0} → (D → Cells) → ℕ → CheckpointStore D → Option Checkpoint
 gate_gives cells generation store = by_gate (is_odd generation) (cells (slot generation store).device).now

@@ -14,9 +14,9 @@ use smart_base::sequence::Bytes;
 /// The next call of a job on a slot.
 #[derive(Drop)]
 pub enum SlotJob {
-    /// No job runs, and no byte is there.
+    /// No job runs, and the slot has no byte.
     Empty,
-    /// No job runs. The gate is neither closed nor of a whole checkpoint: it has to be closed before
+    /// No job runs. The gate is neither closed nor of a whole checkpoint. It has to be closed before
     /// anything else is done.
     Torn,
     /// No job runs, and the gate is closed.
@@ -24,10 +24,10 @@ pub enum SlotJob {
     /// Close the gate.
     Close,
     SyncClose,
-    /// Write these bytes behind the closed gate.
+    /// Write these bytes after the closed gate.
     Fill(Bytes),
     SyncFill,
-    /// No job runs. The gate is closed, and behind it stands a whole checkpoint.
+    /// No job runs. The gate is closed, and after it stands a whole checkpoint.
     Full,
     /// Open the gate.
     Gate,
@@ -36,8 +36,8 @@ pub enum SlotJob {
     Counts,
 }
 
-/// Makes the next device call of a job, and answers what the next call is. Where no job runs it
-/// changes nothing.
+/// Makes the next device call of a job, and gives the call after it. If no job runs, it changes
+/// nothing. Errors: a failure of the device; want of memory.
 pub fn slot_step<D: Disk>(device: &mut D, job: SlotJob) -> Result<SlotJob, Fault>
     requires { D.told → (odd : Bool) × IsSlotUnderWay odd (D.cells device.old) job }
     ensures goes { IfOk result (λ then. D.told → (odd : Bool) (next : Checkpoint) (has other : Option Checkpoint) → SlotStands odd (D.cells device.old) job next has other
@@ -54,7 +54,7 @@ pub fn slot_step<D: Disk>(device: &mut D, job: SlotJob) -> Result<SlotJob, Fault
     Ok(next)
 }
 
-/// Makes the next device call of a job. Where no job runs it asks for the length of the device.
+/// Makes the next device call of a job. If no job runs, it asks for the device's length.
 fn make_call<D: Disk>(device: &mut D, job: &SlotJob) -> Result<(), Fault>
     requires { D.told → (odd : Bool) × IsSlotUnderWay odd (D.cells device.old) job.now }
     ensures cells { OnOk result (D.told → D.cells device.new ≡ cells_called job.now (D.cells device.old)) }
@@ -77,7 +77,7 @@ fn make_call<D: Disk>(device: &mut D, job: &SlotJob) -> Result<(), Fault>
     }
 }
 
-/// The next call behind that of a job.
+/// The call after the next one of a job.
 fn job_behind(job: SlotJob) -> SlotJob
     ensures { result ≡ job_after job }
 {

@@ -1,4 +1,4 @@
-//! Two slots for checkpoints, the odd generations in one and the even in the other. The newest that
+//! Two slots for checkpoints: the odd generations use one, the even ones the other. The newest that
 //! counts is restored.
 #![tactic(auto)]
 

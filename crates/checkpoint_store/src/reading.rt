@@ -1,4 +1,4 @@
-//! Reading what a slot holds.
+//! The reading of what a slot holds.
 ghost use Rattle.std.specs.Prelude.{◌≡◌, ◌≤◌, ◌⊎◌, IfOk, IsErrOf};
 ghost use Rattle.faults.specs.Counts.{Rose};
 ghost use Rattle.disk_model.specs.Cells.{IsImage};
@@ -13,14 +13,14 @@ use smart_base::sequence::Bytes;
 use std::alloc::{AllocError, Global};
 use store_form::checkpoint::{Checkpoint, take_checkpoint};
 
-/// Whether it is an odd generation.
+/// Whether a generation is odd.
 pub fn is_odd(generation: u64) -> bool
     ensures { result ≡ is_odd generation }
 {
     generation % 2 == 1
 }
 
-/// The checkpoint of the slot of the odd, or of the even generations, where it counts.
+/// The checkpoint of a slot, if it counts. Error: want of memory.
 pub fn slot_of(alloc: Global, odd: bool, bytes: &[u8]) -> Result<Option<Checkpoint>, AllocError>
     ensures { IfOk result (λ found. found ≡ slot_of odd bytes.now) }
 {
@@ -37,7 +37,7 @@ pub fn slot_of(alloc: Global, odd: bool, bytes: &[u8]) -> Result<Option<Checkpoi
     }
 }
 
-/// A checkpoint, where its generation uses this slot.
+/// A checkpoint, if its generation uses this slot.
 fn counted(odd: bool, found: Checkpoint) -> Option<Checkpoint>
     ensures { result ≡ uses odd found }
 {
@@ -48,7 +48,7 @@ fn counted(odd: bool, found: Checkpoint) -> Option<Checkpoint>
     }
 }
 
-/// The generation of a checkpoint, 0 where there is none.
+/// The generation of a checkpoint; 0 if there is none.
 pub fn generation_of(found: &Option<Checkpoint>) -> u64
     ensures { result ≡ generation_of found.now }
 {
@@ -58,7 +58,7 @@ pub fn generation_of(found: &Option<Checkpoint>) -> u64
     }
 }
 
-/// Of two checkpoints that of the greater generation.
+/// The checkpoint of the greater generation.
 pub fn newer(one: Option<Checkpoint>, other: Option<Checkpoint>) -> Option<Checkpoint>
     ensures { result ≡ newer one other }
 {
@@ -75,7 +75,7 @@ pub fn newer(one: Option<Checkpoint>, other: Option<Checkpoint>) -> Option<Check
     }
 }
 
-/// What two devices hold.
+/// The bytes of two devices. Errors: a failure of a device; want of memory.
 pub fn read_pair<D: Disk>(alloc: Global, even: &mut D, odd: &mut D) -> Result<(Bytes, Bytes), Fault>
     ensures bytes { IfOk result (λ r. D.told → (r.0 ≡ (D.cells even.old).now) × (r.1 ≡ (D.cells odd.old).now)) }
     ensures even { D.told → D.cells even.new ≡ D.cells even.old }
@@ -94,7 +94,8 @@ pub fn read_pair<D: Disk>(alloc: Global, even: &mut D, odd: &mut D) -> Result<(B
     Ok((of_even, of_odd))
 }
 
-/// The newest checkpoint that counts, of the bytes of both slots.
+/// The newest checkpoint that counts in the bytes of both slots, if there is one. Error: want of
+/// memory.
 pub fn newest_of(alloc: Global, even: &[u8], odd: &[u8]) -> Result<Option<Checkpoint>, AllocError>
     ensures { IfOk result (λ found. found ≡ newest even.now odd.now) }
 {

@@ -1,4 +1,4 @@
-//! A store is opened again over what a crash has left.
+//! The opening of slots over what a crash has left.
 ghost use Rattle.std.specs.Prelude.{◌≡◌, ◌≤◌, ◌⊎◌, Bool, true, false, IfOk, IfErr, IsErrOf};
 ghost use Rattle.faults.specs.Counts.{Rose, HasCause};
 ghost use Rattle.disk_model.specs.Cells.{IsImage, settled};
@@ -17,7 +17,7 @@ use std::alloc::Global;
 use store_form::checkpoint::Checkpoint;
 use store_form::ends::{LogFault, State};
 
-/// What a device of the odd, or of the even generations holds, and how its slot stands.
+/// The bytes of a slot's device, and the job on the slot.
 fn open_slot<D: Disk>(
     alloc: Global,
     odd: bool,
@@ -51,7 +51,7 @@ fn open_slot<D: Disk>(
     Ok((SlotJob::Counts, found))
 }
 
-/// How the two slots stand, that of the even generations first, and the newest checkpoint.
+/// The jobs on the two slots, the even one first, and the newest checkpoint.
 fn open_both<D: Disk>(
     alloc: Global,
     even: &mut D,
@@ -79,9 +79,9 @@ fn open_both<D: Disk>(
     Ok((even_job, odd_job, newer(one, other)))
 }
 
-/// Opens the slots over two devices on which nothing is pending, that of the even generations first,
-/// and gives the newest checkpoint that counts. `None` exactly where no slot counts. A refused opening
-/// gives the devices back.
+/// Opens the slots over two devices on which nothing is pending, the even one first. Gives the newest
+/// checkpoint that counts; `None` if and only if no slot counts. Errors: a failure of a device; want
+/// of memory. The devices come back with the error.
 pub fn reopen<D: Disk>(
     alloc: Global,
     even: D,

@@ -24,11 +24,11 @@ pub struct Slot<D> {
     pub job: SlotJob,
 }
 
-/// The slot of the even generations and that of the odd ones. They are open until a disk fails, or
-/// memory runs out inside a device call. Then they are to be opened again over what the devices hold.
+/// The slot of the even generations and that of the odd ones. They close when a device fails or wants
+/// memory, and are then to be opened again over what the devices hold.
 ///
-/// A call names the generation whose slot it is on. No job runs in a store that is closed. What it says
-/// of jobs then says nothing of the devices: also not that a gate is shut.
+/// A call names the generation whose slot it is on. No job runs in a closed store. What it says of
+/// jobs then says nothing of the devices, nor that a gate is shut.
 #[derive(Drop)]
 pub struct CheckpointStore<D> {
     pub even: Slot<D>,
@@ -51,7 +51,8 @@ impl<D: Disk> CheckpointStore<D> {
     ghost use Rattle.checkpoint_store.specs.Exact.{cells_called};
     ghost use Rattle.checkpoint_store.specs.SlotJobs.{IsIdle, idle, shut, Leaves, has_after, other_after, slot_stake, slot_called, has_then, other_then, job_after, end_of};
 
-    /// Closes the gate of a slot. After `Ok` the slot does not count, whatever crash comes.
+    /// Closes the gate of a slot. After `Ok` the slot does not count after any crash. Errors: a
+    /// failure of the device; want of memory.
     pub fn close_slot(&mut self, generation: u64) -> Result<(), LogFault>
         requires some { 0 < generation }
         requires idle { IsIdle (slot generation self.old).job }
@@ -84,7 +85,8 @@ impl<D: Disk> CheckpointStore<D> {
         Ok(())
     }
 
-    /// Writes a snapshot behind the closed gate of a slot, where it does not count yet.
+    /// Writes a snapshot after the closed gate of a slot, which does not count yet. Errors: a failure
+    /// of the device; want of memory.
     pub fn fill_slot(
         &mut self,
         alloc: Global,
@@ -122,8 +124,8 @@ impl<D: Disk> CheckpointStore<D> {
         Ok(())
     }
 
-    /// Opens the gate of a slot, behind which a whole checkpoint of this generation stands. After
-    /// `Ok` that checkpoint is the newest, whatever crash comes.
+    /// Opens the gate of a slot that has a whole checkpoint of this generation. After `Ok` that
+    /// checkpoint is the newest after any crash. Errors: a failure of the device; want of memory.
     pub fn gate_slot(&mut self, generation: u64) -> Result<(), LogFault>
         requires some { 0 < generation }
         requires ready { self.old.state ≡ State.Open → D.told → InEachImage (D.cells (slot generation self.old).device) (IsReady generation) }
@@ -159,7 +161,7 @@ impl<D: Disk> CheckpointStore<D> {
         Ok(())
     }
 
-    /// Begins the job that closes the gate of a slot. It makes no device call.
+    /// Begins the job that closes the gate of a slot; no device call is made.
     pub fn close_start(&mut self, generation: u64) -> Result<(), LogFault>
         requires some { 0 < generation }
         requires idle { IsIdle (slot generation self.old).job }
@@ -179,7 +181,8 @@ impl<D: Disk> CheckpointStore<D> {
         Ok(())
     }
 
-    /// Begins the job that writes a snapshot behind the closed gate of a slot. It makes no device call.
+    /// Begins the job that writes a snapshot after the closed gate of a slot; no device call is made.
+    /// Errors: want of memory; or the store is closed.
     pub fn fill_start(
         &mut self,
         alloc: Global,
@@ -208,8 +211,8 @@ impl<D: Disk> CheckpointStore<D> {
         Ok(())
     }
 
-    /// Begins the job that opens the gate of a slot, behind which a whole checkpoint of this
-    /// generation stands. It makes no device call.
+    /// Begins the job that opens the gate of a slot that has a whole checkpoint of this generation;
+    /// no device call is made.
     pub fn gate_start(&mut self, generation: u64) -> Result<(), LogFault>
         requires some { 0 < generation }
         requires ready { self.old.state ≡ State.Open → D.told → InEachImage (D.cells (slot generation self.old).device) (IsReady generation) }
@@ -231,7 +234,8 @@ impl<D: Disk> CheckpointStore<D> {
         Ok(())
     }
 
-    /// Makes the next device call of the job on a slot, and tells whether no job runs on it then.
+    /// Makes the next device call of the job on a slot, and tells whether no job runs on it after
+    /// that. Errors: a failure of the device; want of memory.
     pub fn next_call(&mut self, generation: u64) -> Result<bool, LogFault>
         requires stands { self.old.state ≡ State.Open → D.told → UnderWayAt D.cells generation self.old }
         ensures goes { OnOk result (D.told → (next : Checkpoint) (has other : Option Checkpoint) → StandsAt D.cells generation self.old next has other
@@ -294,8 +298,8 @@ impl<D: Disk> CheckpointStore<D> {
         Ok(())
     }
 
-    /// The newest checkpoint that counts, of what the devices hold. `None` exactly where no slot counts.
-    /// Without memory for the checkpoint itself the store stays open.
+    /// The newest checkpoint that counts; `None` if and only if no slot counts. Errors: a failure of
+    /// a device; want of memory. Want of memory for the checkpoint itself leaves the store open.
     pub fn newest(&mut self, alloc: Global) -> Result<Option<Checkpoint>, LogFault>
         ensures found { IfOk result (λ found. D.told → found ≡ newest (D.cells self.old.even.device).now (D.cells self.old.odd.device).now) }
         ensures even { D.told → D.cells self.new.even.device ≡ D.cells self.old.even.device }
@@ -331,23 +335,22 @@ impl<D: Disk> CheckpointStore<D> {
         is_idle(self.job(generation))
     }
 
-    /// Whether a slot has to be closed before anything else is done, that of the even generations
-    /// first.
+    /// Whether a slot has to be closed before anything else is done, the even one first.
     pub fn is_torn(&self, generation: u64) -> bool
         ensures { IsTrue result ↔ ((slot generation self.now).job ≡ SlotJob.Torn) }
     {
         matches!(self.job(generation), SlotJob::Torn)
     }
 
-    /// Whether the gate of a slot of an open store is closed. Where it is not, it is to be closed before
-    /// the slot is filled.
+    /// Whether the gate of a slot of an open store is closed. If it is not, it has to be closed
+    /// before the slot is filled.
     pub fn is_shut(&self, generation: u64) -> bool
         ensures { result ≡ shut (slot generation self.now).job }
     {
         matches!(self.job(generation), SlotJob::Shut | SlotJob::Full)
     }
 
-    /// Gives the devices back, that of the even generations first.
+    /// The devices, taken out of the store, the even one first.
     pub fn into_disks(self) -> (D, D)
         ensures even { result.0 ≡ self.even.device }
         ensures odd { result.1 ≡ self.odd.device }
@@ -384,8 +387,8 @@ impl<D: Disk> CheckpointStore<D> {
         }
     }
 
-    /// Makes the next device call of the job on a slot of an open store, and tells whether no job runs
-    /// on it then.
+    /// Makes the next device call of the job on a slot of an open store, and tells whether no job
+    /// runs on it after that.
     fn call(&mut self, generation: u64) -> Result<bool, Fault>
         requires open { self.old.state ≡ State.Open }
         requires stands { D.told → UnderWayAt D.cells generation self.old }
@@ -411,7 +414,7 @@ impl<D: Disk> CheckpointStore<D> {
         }
     }
 
-    /// A device call has failed: the store is closed.
+    /// Closes the store after a device call that failed.
     fn closed_by(&mut self, fault: Fault) -> LogFault
         requires { self.old.state ≡ State.Open }
         ensures even { self.new.even.device ≡ self.old.even.device }
@@ -436,7 +439,7 @@ impl<D: Disk> CheckpointStore<D> {
         }
     }
 
-    /// What the devices of an open store hold, that of the even generations first.
+    /// The bytes of both devices of an open store, the even one first.
     fn read_both(&mut self, alloc: Global) -> Result<(Bytes, Bytes), LogFault>
         requires { self.old.state ≡ State.Open }
         ensures bytes { IfOk result (λ r. D.told → (r.0 ≡ (D.cells self.old.even.device).now) × (r.1 ≡ (D.cells self.old.odd.device).now)) }
@@ -466,7 +469,7 @@ impl<D: Disk> CheckpointStore<D> {
     }
 }
 
-/// Makes the next device call of the job on a slot, and tells whether no job runs on it then.
+/// Makes the next device call of the job on a slot, and tells whether no job runs on it after that.
 fn call<D: Disk>(slot: &mut Slot<D>) -> Result<bool, Fault>
     requires { D.told → (odd : Bool) × IsSlotUnderWay odd (D.cells slot.old.device) slot.old.job }
     ensures goes { OnOk result (D.told → (odd : Bool) (next : Checkpoint) (has other : Option Checkpoint)

@@ -1,4 +1,4 @@
--- Of the replies that a client hears, the first with which a quorum of a view has given the same reply to its request.
+-- The first of the replies that a client hears with which a quorum of a view has given the same reply to its request.
 use Rattle.std.specs.Prelude.{ℕ, ◌==◌, Bool, false, ◌&&◌, List, [], ◌∷◌, ◌++◌, if◌then◌else◌, Option, Some, None}
 use Rattle.smart_base.specs.Lists.{or_else}
 use Rattle.smart_base.specs.Views.{View, is_quorum, is_member}
@@ -13,7 +13,7 @@ use Rattle.client_quorum.specs.declared.client.Acceptance.{Acceptance}
 use Rattle.client_quorum.specs.declared.client.Heard.{Heard}
 use Rattle.client_quorum.specs.declared.client.Heard.TheVariants as hears
 
--- a reply counts: it bears its signer's tag, is to the request, states the view, and its signer is a member of the view
+-- a reply that counts: it bears its signer's tag, is to the request, states the view, and its signer is a member of the view
 abbrev pub counts_for : List ℕ → View → Request → SignedBy Answer → Bool
 counts_for secret v q a = is_verified answers secret a && is_waited_for (Some q) a.statement && (a.statement.view == v.number) && is_member v a.signer
 
@@ -22,31 +22,32 @@ abbrev pub first_of : (SignedBy Answer → Bool) → List (SignedBy Answer) → 
 first_of test [] member = None
 first_of test (a ∷ replies) member = if (a.signer == member) && test a then Some a.statement else first_of test replies member
 
+-- an optional reply that is there, and the same as another
 abbrev pub is_same : Option Answer → Answer → Bool
 is_same None a = false
 is_same (Some b) a = same_answer b a
 
--- a member gave a reply: its first that counts is equal to it
+-- a member that gave a reply: its first one that counts is the same
 abbrev pub gave : List ℕ → View → Request → List (SignedBy Answer) → Answer → ℕ → Bool
 gave secret v q replies a member = is_same (first_of (counts_for secret v q) replies member) a
 
--- a quorum of the view's members gave it
+-- a reply that a quorum of the view's members gave
 abbrev pub quorum_gave : List ℕ → View → Request → List (SignedBy Answer) → Answer → Bool
 quorum_gave secret v q replies a = is_quorum v (gave secret v q replies a)
 
--- of replies that come behind others, the first with which a quorum gave it
+-- the first of later replies with which a quorum gave the same reply
 abbrev pub first_given : List ℕ → View → Request → List (SignedBy Answer) → List (SignedBy Answer) → Option Acceptance
 first_given secret v q past [] = None
 first_given secret v q past (a ∷ replies) =
     if quorum_gave secret v q (past ++ a ∷ []) a.statement then Some (acceptance q a.statement) else first_given secret v q (past ++ a ∷ []) replies
 
--- what was accepted, if it was
+-- the acceptance in what a client made of a reply, if there is one
 abbrev pub accepted_in : Heard → Option Acceptance
 accepted_in (hears.Counted count need) = None
 accepted_in (hears.Accepted a) = Some a
 accepted_in (hears.Ignored why) = None
 
--- what a client accepts first of replies that it hears one after the other, if it accepts one
+-- the first acceptance of a client that hears replies in order, if there is one
 abbrev pub accepted_of : List ℕ → View → Client → List (SignedBy Answer) → Option Acceptance
 accepted_of secret v c [] = None
 accepted_of secret v c (a ∷ replies) =

@@ -1,4 +1,4 @@
-//! What a client asks.
+//! The requests of a client.
 ghost use Rattle.std.specs.Prelude.{◌≡◌, ◌+◌, ◌^◌, ◌<◌, None, IfOk, IfErr, OnOk, OnErr, option_map};
 ghost use Rattle.smart_statements.specs.Kinds.{requests};
 ghost use Rattle.replica_rules.specs.Seals.{signed};
@@ -16,12 +16,12 @@ use smart_statements::signed::Signed;
 use smart_statements::statement::Request;
 use std::alloc::{AllocError, Global};
 
-/// Why a client asked nothing.
+/// The reason for which a client did not ask.
 #[derive(Clone, Copy, Debug, PartialEq, Eq)]
 pub enum AskError {
-    /// A request still waits for its reply: its number.
+    /// A request still waits for its reply; `seq` is its number.
     Busy { seq: u64 },
-    /// Memory ran out.
+    /// Want of memory.
     NoMemory,
 }
 
@@ -33,7 +33,7 @@ impl From<AllocError> for AskError {
     }
 }
 
-/// A request that a client signs.
+/// A request with the client's signature. Error: want of memory.
 #[tactic(auto, unfolding(smart_keys::specs::Keys::tag_of))]
 fn sealed(
     alloc: Global,
@@ -52,7 +52,7 @@ fn sealed(
 }
 
 impl Client {
-    /// The next request, which waits from then on.
+    /// The next request, which waits for its reply from then on. Error: want of memory.
     fn put_next(
         &mut self,
         alloc: Global,
@@ -78,9 +78,9 @@ impl Client {
         Ok(signed)
     }
 
-    /// The next request, signed: it has the number behind the last and names the greatest place
-    /// that the client has seen. It waits from then on. Where one waits already it is refused, and
-    /// the number of the one that waits is told. After any error the client is unchanged.
+    /// The next request, signed. Its number is one above the last, and it states the greatest place
+    /// that the client knows. It waits for its reply from then on. Errors: `Busy` if a request waits;
+    /// want of memory. After an error the client is unchanged.
     pub fn ask(
         &mut self,
         alloc: Global,
@@ -100,7 +100,7 @@ impl Client {
         Ok(self.put_next(alloc, ring, op)?)
     }
 
-    /// The request that waits, signed once more, where one waits.
+    /// The waiting request, signed once more, if one waits. Error: want of memory.
     pub fn again(&self, alloc: Global, ring: &Ring) -> Result<Option<Signed<Request>>, AllocError>
         ensures { IfOk result (λ found. found ≡ option_map (λ q. signed requests ring.now self.now.id q) self.now.waiting) }
     {

@@ -1,4 +1,4 @@
-//! What a client keeps and hears.
+//! The client: what it keeps and hears.
 ghost use Rattle.std.specs.Prelude.{◌≡◌, option_copied};
 ghost use Rattle.client_quorum.specs.Clients.{fresh, learning};
 
@@ -10,8 +10,8 @@ use smart_statements::signed::Signed;
 use smart_statements::statement::{Answer, Request};
 use std::alloc::Global;
 
-/// A client: the number of its last request, the request that waits for its reply, the greatest
-/// place that it has seen, and the replies to the waiting request, one of each member.
+/// A client. It has the number of its last request, the request that waits for its reply, and the
+/// greatest place that it knows. It has the replies to that request, at most one of each member.
 pub struct Client {
     pub id: ClientId,
     pub last: u64,
@@ -33,8 +33,8 @@ impl Drop for Client {
     }
 }
 
-/// A reply that a client accepted for its request: where the request stands in the list, the view
-/// in force there, and what the service answered.
+/// The acceptance of a reply to a client's request. It has the request's place in the list, the view
+/// in force there, and the service's answer.
 pub struct Acceptance {
     pub request: Request,
     pub view: ViewNo,
@@ -57,12 +57,12 @@ impl Drop for Acceptance {
     }
 }
 
-/// Why a client ignores a message: the first reason that applies.
+/// The first reason for which a client ignores a message.
 #[derive(Clone, Copy, Debug, PartialEq, Eq)]
 pub enum Ignored {
     /// The bytes are no reply.
     Unread,
-    /// The tag is not the signer's.
+    /// The tag is not the one that the signer makes.
     BadTag,
     /// The client does not wait for a reply to this request.
     Settled,
@@ -70,21 +70,21 @@ pub enum Ignored {
     UnknownView,
     /// The signer is no member of that view.
     Stranger,
-    /// A reply of this member was counted.
+    /// A reply of this member was counted already.
     Repeated,
 }
 
 /// What a client makes of a message.
 #[derive(Drop)]
 pub enum Heard {
-    /// So many members gave this reply, of the so many that are needed.
+    /// `have` members gave this reply, and `need` are needed.
     Counted { have: u64, need: u64 },
     Accepted(Acceptance),
     Ignored(Ignored),
 }
 
 impl Client {
-    /// A client that has not asked. It takes no memory.
+    /// A client that has not asked. It needs no memory.
     pub fn new(alloc: Global, id: ClientId) -> Self
         ensures { result ≡ fresh id }
     {
@@ -97,29 +97,29 @@ impl Client {
         }
     }
 
-    /// The number of its last request, 0 where it has not asked.
+    /// The number of its last request; 0 if it has not asked.
     pub fn last(&self) -> u64
         ensures { result ≡ self.now.last }
     {
         self.last
     }
 
-    /// The request that waits for its reply.
+    /// The request that waits for its reply, if there is one.
     pub fn waiting(&self) -> Option<&Request>
         ensures { option_copied result ≡ self.now.waiting }
     {
         self.waiting.as_ref()
     }
 
-    /// The greatest place that it has seen, 0 where it has seen none.
+    /// The greatest place that it knows; 0 if it knows none.
     pub fn seen(&self) -> Place
         ensures { result ≡ self.now.seen }
     {
         self.seen
     }
 
-    /// It learns of a place: it has seen that place too.
-    pub fn tell(&mut self, place: Place)
+    /// Tells the client of a place, which it knows from then on.
+    pub fn told(&mut self, place: Place)
         ensures { self.new ≡ learning self.old place }
     {
         self.seen = self.seen.max(place);

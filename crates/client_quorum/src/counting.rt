@@ -1,4 +1,4 @@
-//! How many members gave a reply.
+//! The counting of members that gave a reply.
 ghost use Rattle.std.specs.Prelude.{◌≡◌, ◌==◌, ◌&&◌};
 ghost use Rattle.std.specs.List.{list_any};
 ghost use Rattle.client_quorum.specs.Clients.{same_answer, has_answer, have};
@@ -32,7 +32,7 @@ fn has_answer(replies: &[Signed<Answer>], answer: &Answer, member: MemberId) -> 
         .any(|reply| is_answer_of(reply, answer, member))
 }
 
-/// How many members of a view gave this answer.
+/// The number of members of a view that gave this reply.
 pub fn have(view: &View, replies: &[Signed<Answer>], answer: &Answer) -> usize
     ensures { result ≡ have view.now replies.now answer.now }
 {

@@ -3,7 +3,7 @@ ghost use Rattle.std.specs.Prelude.{◌≡◌, ◌++◌, ◌∷◌, [], List, If
 ghost use Rattle.smart_statements.specs.Forms.{SignedBy};
 ghost use Rattle.smart_messages.specs.Messages.{decoded};
 ghost use Rattle.smart_statements.specs.declared.statement.Answer.{Answer};
-ghost use Rattle.client_quorum.specs.Clients.{is_waited_for, why_ignored, count_heard, heard, after_heard, reply_in, heard_bytes, after_bytes};
+ghost use Rattle.client_quorum.specs.Clients.{is_waited_for, why_ignored, count_heard, heard, after_heard, reply_read, heard_bytes, after_bytes};
 
 use crate::client::{Acceptance, Client, Heard, Ignored};
 use crate::counting::{has_signer, have};
@@ -29,7 +29,7 @@ fn is_waited_for(waiting: &Option<Request>, answer: &Answer) -> bool
     }
 }
 
-/// The first reason to ignore a reply.
+/// The first reason for which a client ignores a reply.
 #[tactic(auto, unfolding(crate::specs::Clients::why_ignored))]
 fn why_ignored(view: &View, ring: &Ring, client: &Client, reply: &Signed<Answer>) -> Option<Ignored>
     ensures { result ≡ why_ignored ring.now view.now client.now reply.now }
@@ -50,9 +50,9 @@ fn why_ignored(view: &View, ring: &Ring, client: &Client, reply: &Signed<Answer>
     }
 }
 
-/// The reply that these bytes are, if they are one.
+/// The reply that bytes are, if they are one. Error: want of memory.
 pub fn read_reply(alloc: Global, bytes: &[u8]) -> Result<Option<Signed<Answer>>, AllocError>
-    ensures { IfOk result (λ reply. reply ≡ reply_in (decoded bytes.now)) }
+    ensures { IfOk result (λ reply. reply ≡ reply_read (decoded bytes.now)) }
 {
     match decode(alloc, bytes) {
         Ok(Message::Reply(reply)) => Ok(Some(reply)),
@@ -62,8 +62,7 @@ pub fn read_reply(alloc: Global, bytes: &[u8]) -> Result<Option<Signed<Answer>>,
 }
 
 impl Client {
-    /// Counts the last reply to the request that waited, and accepts it where a quorum has given
-    /// it.
+    /// Counts the last reply to the waiting request, and accepts it if a quorum has given it.
     fn count(
         &mut self,
         alloc: Global,
@@ -80,7 +79,7 @@ impl Client {
         let count = have(view, self.replies.as_slice(), answer);
         let need = view.quorum();
         if need <= count {
-            self.tell(answer.place);
+            self.told(answer.place);
             self.replies = Sequence::new(alloc);
             self.waiting = None;
             Heard::Accepted(Acceptance {
@@ -99,7 +98,7 @@ impl Client {
         }
     }
 
-    /// The client hears a reply. Without memory it has not heard it.
+    /// Hears a reply. Error: want of memory; the client has not heard it then.
     #[tactic(auto, unfolding(crate::specs::Clients::heard))]
     pub fn hear_reply(
         &mut self,
@@ -129,8 +128,8 @@ impl Client {
         }
     }
 
-    /// The client hears the bytes of a message. Those that are no reply it ignores, unread. Without
-    /// memory it has not heard them.
+    /// Hears the bytes of a message; it ignores bytes that are no reply. Error: want of memory; the
+    /// client has not heard them then.
     pub fn hear(
         &mut self,
         alloc: Global,

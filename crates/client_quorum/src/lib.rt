@@ -1,4 +1,5 @@
-//! What a client asks, and when it accepts a reply: where a quorum of a view has given it.
+//! The client: what it asks, and when it accepts a reply, which is after a quorum of the view has
+//! given it.
 #![tactic(auto)]
 
 pub mod asking;

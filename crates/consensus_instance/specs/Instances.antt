@@ -14,25 +14,26 @@ use Rattle.consensus_instance.specs.declared.rule.Rule.{Rule}
 use Rattle.consensus_instance.specs.declared.rule.Rule.TheVariants.{Write, Accept}
 use Rattle.consensus_instance.specs.declared.start.Start.{Start}
 
+-- the instance of the next place, as a member takes part in it
 pub record Instance : Type 0 where
-  -- the member that takes part
+  -- the member's number
   pub id : ℕ
-  -- the last place that was delivered
+  -- the last delivered place
   pub place : ℕ
-  -- the batch of the next place is decided
+  -- whether the batch of the next place is decided
   pub decided : Bool
   -- the regency in force
   pub regency : ℕ
-  -- where it starts, once it is synced. Regency 0 always is
+  -- the beginning of the regency in force, after it is adopted; regency 0 has one at once
   pub start : Option Start
-  -- the proposals and votes that were kept, of the next place and later ones
+  -- proposals and votes that were kept, for the next place and later ones
   pub arrivals : List Message
-  -- the member has written in the open slot
+  -- whether the member has a WRITE in the open slot
   pub wrote : Bool
-  -- the member has accepted in the open slot
+  -- whether the member has an ACCEPT in the open slot
   pub accepted : Bool
 
--- the instance of the first place of a group that begins with a view: in regency 0, which starts with the view
+-- the instance of the first place of a group, in regency 0, which begins with the group's first view
 abbrev pub first_of : ℕ → View → List Message → Instance
 first_of id view arrivals = record {
   id = id;
@@ -49,7 +50,7 @@ first_of id view arrivals = record {
 abbrev pub regency_of : Instance → ℕ
 regency_of i = i.regency
 
--- the instance of a member that goes on behind a place, in a regency that starts there, if it is synced, and in whose slot the member has voted so
+-- the instance of a restarted member at the next place, with the beginning of its regency, if it has one, and its votes there
 abbrev pub resuming : ℕ → ℕ → ℕ → Option Start → OwnVotes → Instance
 resuming id place regency start votes = record {
   id = id;
@@ -62,20 +63,20 @@ resuming id place regency start votes = record {
   accepted = votes.accepted;
 }
 
--- the last place that is delivered or decided
+-- the last place that is decided, delivered or not
 abbrev pub decided_place : Instance → ℕ
 decided_place i = if i.decided then i.place + 1 else i.place
 
--- no decided batch waits for its delivery, and there is a next place
+-- a free instance: no decided batch waits for delivery, and there is a next place
 abbrev pub is_free : Instance → Bool
 is_free i = not i.decided && nat_lt (i.place + 1) (2 ^ 63)
 
--- members vote at a place: not below the base of a regency that is synced
+-- a place at which members vote: the regency has begun, and its base is this place or an earlier one
 abbrev pub has_begun : ℕ → Option Start → Bool
 has_begun place None = false
 has_begun place (Some start) = nat_le start.base place
 
--- the digest to which the regency in force binds the votes at a place, if there is one: that of its start, at its base
+-- the bound of a place, if it has one: the only digest that may get votes there in the regency in force
 abbrev pub bound_at : ℕ → Option Start → Option (List ℕ)
 bound_at place None = None
 bound_at place (Some start) = if start.base == place then start.bound else None
@@ -83,7 +84,7 @@ bound_at place (Some start) = if start.base == place then start.bound else None
 abbrev pub is_bound_to : ℕ → Instance → Option (List ℕ)
 is_bound_to place i = bound_at place i.start
 
--- a proposal of the regency in force for a batch to which its base is not bound
+-- a proposal in the regency in force whose digest is not the one that binds at its place
 abbrev pub is_unbound : Proposed → Instance → Bool
 is_unbound p i = (p.head.statement.slot.regency == i.regency) && not (is_within (is_bound_to p.head.statement.slot.place i) p.head.statement.digest)
 
@@ -91,22 +92,22 @@ is_unbound p i = (p.head.statement.slot.regency == i.regency) && not (is_within 
 abbrev pub open_slot : View → Instance → Slot
 open_slot view i = record { view = view.number; place = i.place + 1; regency = regency_of i }
 
--- a vote of the member is open there
+-- an open slot: the member is of the view, the instance is free, and its regency has begun at the next place
 abbrev pub is_open : View → Instance → Bool
 is_open view i = is_member view i.id && is_free i && has_begun (i.place + 1) i.start
 
--- a proposal for whose batch the member may vote in the open slot
+-- a proposal whose digest may get votes in the open slot
 abbrev pub votable : Instance → Option Proposed → Option Proposed
 votable i None = None
 votable i (Some p) = if is_within (is_bound_to (i.place + 1) i) p.head.statement.digest then Some p else None
 
--- a proposal for whose batch a quorum wrote in the open slot
+-- a proposal for whose digest a quorum's WRITEs in the open slot were kept
 abbrev pub written : View → Instance → Option Proposed → Option Proposed
 written view i None = None
 written view i (Some p) = if has_quorum i.arrivals view kinds.Write (open_slot view i) p.head.statement.digest then Some p else None
 
--- the proposal for which a rule is due: that for the open slot, for whose batch the member writes once, where it may vote for it; and which it
--- accepts once, where a quorum wrote for it
+-- the proposal for which a vote is due, if there is one. A WRITE is due for the first proposal in the open slot, if it may get votes. An
+-- ACCEPT is due after a quorum wrote for it. Each is due once.
 unfoldable pub due_by : Rule → View → Instance → Option Proposed
 due_by Write view i = if is_open view i && not i.wrote then votable i (proposed_for i.arrivals (open_slot view i)) else None
 due_by Accept view i =
@@ -114,26 +115,23 @@ due_by Accept view i =
     then written view i (votable i (proposed_for i.arrivals (open_slot view i)))
     else None
 
--- what a proposal names
-abbrev pub name_of : Proposed → Named
-name_of p = record { digest = p.head.statement.digest; batch = p.batch }
-
--- the first proposal's, of those for a slot's place in its view, in the regency in force or a later one, whose batch a quorum accepted in the slot
+-- the batch of the first proposal that a quorum accepted in a slot; the proposal is for the slot's place and view, in the regency in force
+-- or a later one
 abbrev pub accepted_named : View → Slot → Instance → Option Named
 accepted_named view slot i = accepted_in view slot i.arrivals (filter_map (named_in slot.view slot.place i.regency) i.arrivals)
 
--- the instance that keeps only what is still needed in a view of a number
+-- the instance without what is no longer needed
 unfoldable pub trimmed : ℕ → Instance → Instance
 trimmed view i = record i { arrivals = filter (is_needed view (decided_place i) (regency_of i)) i.arrivals }
 
--- the instance of the next place, in the same view and regency, in whose slot the member has voted so
+-- the instance of the next place, in the same regency, with the member's votes there
 abbrev pub moved_on : OwnVotes → Instance → Instance
 moved_on votes i = record i { place = i.place + 1; decided = false; wrote = votes.wrote; accepted = votes.accepted }
 
--- the instance in a later regency, which starts there, if it is synced, and in whose slot the member has voted so
+-- the instance in a later regency, with its beginning, if it has one, and the member's votes there
 abbrev pub promising : ℕ → Option Start → OwnVotes → Instance → Instance
 promising regency start votes i = record i { regency = regency; start = start; wrote = votes.wrote; accepted = votes.accepted }
 
--- the instance whose regency is synced. Where it was before, its first start stays
+-- the instance after its regency has begun; the first beginning stays
 abbrev pub syncing : Start → Instance → Instance
 syncing start i = record i { start = or_else i.start (Some start) }

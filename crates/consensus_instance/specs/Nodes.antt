@@ -1,4 +1,4 @@
--- Which instance a node takes part in.
+-- The instance in which a node takes part.
 use Rattle.std.specs.Prelude.{ℕ, ◌≡◌, ◌+◌, List, Option, is_some, option_map}
 use Rattle.std.specs.List.{list_any}
 use Rattle.smart_base.specs.Views.{View}
@@ -16,34 +16,34 @@ use Rattle.consensus_instance.specs.declared.rule.Rule.TheVariants.{Write, Accep
 use Rattle.consensus_instance.specs.declared.start.Start.{Start}
 use Rattle.consensus_instance.specs.Instances.{Instance}
 
--- the slot behind a place
+-- the slot of the place after another
 abbrev pub slot_behind : ℕ → ℕ → ℕ → Slot
 slot_behind view place regency = record { view = view; place = place + 1; regency = regency }
 
--- where a regency starts, by the entry that says so
+-- the beginning that an entry states
 abbrev pub start_by : Beginning → Start
 start_by s = record { base = s.base; bound = s.bound }
 
--- An instance is that of a member whose last delivered place, batch that waits, kept messages and book these are, in a view.
+-- The instance of a member, by its last delivered place, its waiting batch, its kept messages and its book, in a view.
 pub record IsInstance (id : ℕ) (view : View) (place : ℕ) (waiting : Option Batch) (arrivals : List Message) (entries : List LogEntry) (i : Instance) : Type 0 where
   pub id_same : i.id ≡ id
   pub place_same : i.place ≡ place
   pub decided_same : i.decided ≡ is_some waiting
-  -- the regency in force is the greatest that the book promises in the view
+  -- its regency is the greatest that the book promises in the view
   pub regency_same : i.regency ≡ greatest_regency view.number entries
-  -- it starts where the book says
+  -- its beginning is the one that the book states
   pub start_same : i.start ≡ option_map start_by (start_at view i.regency entries)
   pub arrivals_same : i.arrivals ≡ arrivals
-  -- the book has a write for the open slot
+  -- it has a WRITE if the book has one in the open slot
   pub wrote_same : i.wrote ≡ list_any (writes_in (slot_behind view.number place i.regency)) entries
-  -- the book has an accept for the open slot
+  -- it has an ACCEPT if the book has one in the open slot
   pub accepted_same : i.accepted ≡ list_any (accepts_in (slot_behind view.number place i.regency)) entries
 
--- A node has an instance.
+-- the instance of a node
 abbrev pub HasInstance : {S : Type 0} → Node S → Instance → Type 0
 HasInstance n i = IsInstance n.id (view_of n) n.replica.place n.waiting n.arrivals n.entries i
 
--- the proposal for which a rule is due at a node
+-- the proposal for which a vote is due at a node, if there is one
 abbrev pub due_at : {S : Type 0} → Rule → Node S → Option Proposed
 due_at Write n = writing n
 due_at Accept n = accepting n

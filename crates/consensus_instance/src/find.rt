@@ -2,10 +2,9 @@
 ghost use Rattle.std.specs.Prelude.{◌≡◌, ◌<◌, ◌^◌, IfOk, filter, filter_map, length, option_map};
 ghost use Rattle.std.specs.List.{list_any};
 ghost use Rattle.std.specs.Option.{option_copied};
-ghost use Rattle.node_rules.specs.Votes.{is_vote, has_vote, has_quorum, certificate};
+ghost use Rattle.node_rules.specs.Votes.{casts, is_vote, has_vote, has_quorum, certificate, is_named, name_of};
 ghost use Rattle.node_rules.specs.Arrivals.{is_same_proposal, is_same_vote};
-ghost use Rattle.node_rules.specs.Votes.{vote_in, first_vote, certificate_votes, proposed_in, proposed_for, named_in, accepted_in};
-ghost use Rattle.consensus_instance.specs.Instances.{name_of};
+ghost use Rattle.node_rules.specs.Votes.{vote_for, first_vote, certificate_votes, proposed_in, proposed_for, named_in, accepted_in};
 
 use smart_base::bytes::Digest32;
 use smart_base::duplicate::Duplicate;
@@ -14,12 +13,29 @@ use smart_base::name::MemberId;
 use smart_base::number::Regency;
 use smart_base::sequence::Sequence;
 use smart_base::view::View;
-use smart_messages::message::{Message, Proposed};
+use smart_messages::message::{Message, Proposed, proposal_in, vote_in};
 use smart_statements::equality::{same_kind, same_slot};
 use smart_statements::signed::Signed;
 use smart_statements::signed_list::SignedList;
 use smart_statements::statement::{Ballot, Slot, VoteKind};
 use std::alloc::{AllocError, Global};
+
+/// Whether a ballot is a member's vote of a kind for a slot and a digest.
+fn casts(
+    kind: VoteKind,
+    member: MemberId,
+    slot: &Slot,
+    digest: &Digest32,
+    ballot: &Signed<Ballot>,
+) -> bool
+    ensures { result ≡ casts kind member slot.now digest.now ballot.now }
+{
+    let statement = ballot.statement();
+    same_kind(statement.kind, kind)
+        && ballot.signer() == member.get()
+        && same_slot(statement.slot, *slot)
+        && same_bytes(statement.digest.as_slice(), digest.as_slice())
+}
 
 fn is_vote(
     kind: VoteKind,
@@ -30,15 +46,9 @@ fn is_vote(
 ) -> bool
     ensures { result ≡ is_vote kind member slot.now digest.now message.now }
 {
-    match message {
-        Message::Vote(ballot) => {
-            let statement = ballot.statement();
-            same_kind(statement.kind, kind)
-                && ballot.signer() == member.get()
-                && same_slot(statement.slot, *slot)
-                && same_bytes(statement.digest.as_slice(), digest.as_slice())
-        }
-        Message::Ask(_) | Message::Propose(_) | Message::Reply(_) => false,
+    match vote_in(message) {
+        None => false,
+        Some(ballot) => casts(kind, member, slot, digest, ballot),
     }
 }
 
@@ -74,7 +84,7 @@ fn count_voters(
     count
 }
 
-/// Whether a quorum's votes were kept.
+/// Whether a quorum's votes of a kind for a slot and a digest were kept.
 pub fn has_quorum(
     arrivals: &[Message],
     view: &View,
@@ -106,7 +116,7 @@ fn voters(
     Ok(found)
 }
 
-/// The first members, ascending, whose votes make a quorum.
+/// The first members by number that make a quorum of kept votes.
 fn certificate(
     alloc: Global,
     arrivals: &[Message],
@@ -124,23 +134,29 @@ fn certificate(
     Ok(members)
 }
 
-/// A message as a member's vote of a kind for a slot and a digest.
-fn vote_in<'a>(
+/// The vote of a member, of a kind for a slot and a digest, that a message is, if it is one.
+fn vote_for<'a>(
     kind: VoteKind,
     slot: &Slot,
     digest: &Digest32,
     member: MemberId,
     message: &'a Message,
 ) -> Option<&'a Signed<Ballot>>
-    ensures { option_copied result ≡ vote_in kind slot.now digest.now member message.now }
+    ensures { option_copied result ≡ vote_for kind slot.now digest.now member message.now }
 {
-    match message {
-        Message::Vote(ballot) if is_vote(kind, member, slot, digest, message) => Some(ballot),
-        Message::Ask(_) | Message::Propose(_) | Message::Vote(_) | Message::Reply(_) => None,
+    match vote_in(message) {
+        None => None,
+        Some(ballot) => {
+            if casts(kind, member, slot, digest, ballot) {
+                Some(ballot)
+            } else {
+                None
+            }
+        }
     }
 }
 
-/// The first vote of a member.
+/// The first kept vote of a member.
 fn first_vote<'a>(
     arrivals: &'a [Message],
     kind: VoteKind,
@@ -151,7 +167,7 @@ fn first_vote<'a>(
     ensures { option_copied result ≡ first_vote arrivals.now kind slot.now digest.now member }
 {
     for message in arrivals {
-        let found = vote_in(kind, slot, digest, member, message);
+        let found = vote_for(kind, slot, digest, member, message);
         if found.is_some() {
             return found;
         }
@@ -159,7 +175,7 @@ fn first_vote<'a>(
     None
 }
 
-/// Copies of the first votes of some members.
+/// Copies of the first votes of some members. Error: want of memory.
 fn votes_by(
     alloc: Global,
     arrivals: &[Message],
@@ -181,8 +197,8 @@ fn votes_by(
     Ok(votes)
 }
 
-/// Copies of the votes of the first members, ascending, that make a quorum: of all that voted so
-/// where they are fewer.
+/// A certificate: copies of the votes of the first members by number that make a quorum; of all that
+/// voted so if they are fewer. Error: want of memory.
 pub fn certificate_votes(
     alloc: Global,
     arrivals: &[Message],
@@ -197,19 +213,23 @@ pub fn certificate_votes(
     votes_by(alloc, arrivals, members.as_slice(), kind, slot, digest)
 }
 
-/// A message as a proposal for a slot.
+/// The proposal for a slot that a message is, if it is one.
 fn proposed_in<'a>(slot: &Slot, message: &'a Message) -> Option<&'a Proposed>
     ensures { option_copied result ≡ proposed_in slot.now message.now }
 {
-    match message {
-        Message::Propose(proposed) if same_slot(proposed.head.statement().slot, *slot) => {
-            Some(proposed)
+    match proposal_in(message) {
+        None => None,
+        Some(proposed) => {
+            if same_slot(proposed.head.statement().slot, *slot) {
+                Some(proposed)
+            } else {
+                None
+            }
         }
-        Message::Ask(_) | Message::Propose(_) | Message::Vote(_) | Message::Reply(_) => None,
     }
 }
 
-/// The first proposal for a slot.
+/// The first kept proposal for a slot.
 pub fn proposed_for<'a>(arrivals: &'a [Message], slot: &Slot) -> Option<&'a Proposed>
     ensures { option_copied result ≡ proposed_for arrivals.now slot.now }
 {
@@ -222,25 +242,33 @@ pub fn proposed_for<'a>(arrivals: &'a [Message], slot: &Slot) -> Option<&'a Prop
     None
 }
 
-/// A message as a proposal for a slot's place in its view, in a regency or a later one.
+/// Whether a proposal is for a slot's place in its view, in a given regency or a later one.
+fn is_named(slot: &Slot, regency: Regency, proposed: &Proposed) -> bool
+    ensures { result ≡ is_named slot.now.view slot.now.place regency proposed.now }
+{
+    let other = proposed.head.statement().slot;
+    other.view == slot.view && other.place == slot.place && regency <= other.regency
+}
+
+/// The proposal for a slot's place in its view, in a given regency or a later one, that a message is,
+/// if it is one.
 fn named_in<'a>(slot: &Slot, regency: Regency, message: &'a Message) -> Option<&'a Proposed>
     ensures { option_map name_of (option_copied result) ≡ named_in slot.now.view slot.now.place regency message.now }
 {
-    match message {
-        Message::Propose(proposed) => {
-            let other = proposed.head.statement().slot;
-            if other.view == slot.view && other.place == slot.place && regency <= other.regency {
+    match proposal_in(message) {
+        None => None,
+        Some(proposed) => {
+            if is_named(slot, regency, proposed) {
                 Some(proposed)
             } else {
                 None
             }
         }
-        Message::Ask(_) | Message::Vote(_) | Message::Reply(_) => None,
     }
 }
 
-/// The first proposal for a slot's place in its view, in a regency or a later one, whose batch a
-/// quorum accepted in the slot.
+/// The first proposal whose batch a quorum accepted in a slot. It is for the slot's place in its
+/// view, in a given regency or a later one.
 pub fn accepted_proposal<'a>(
     arrivals: &'a [Message],
     view: &View,
@@ -263,12 +291,12 @@ pub fn accepted_proposal<'a>(
 fn is_same_proposal(proposed: &Proposed, message: &Message) -> bool
     ensures { result ≡ is_same_proposal proposed.now message.now }
 {
-    match message {
-        Message::Propose(other) => {
+    match proposal_in(message) {
+        None => false,
+        Some(other) => {
             other.head.signer() == proposed.head.signer()
                 && same_slot(other.head.statement().slot, proposed.head.statement().slot)
         }
-        Message::Ask(_) | Message::Vote(_) | Message::Reply(_) => false,
     }
 }
 
@@ -284,13 +312,13 @@ pub fn repeats_proposal(arrivals: &[Message], proposed: &Proposed) -> bool
 fn is_same_vote(ballot: &Signed<Ballot>, message: &Message) -> bool
     ensures { result ≡ is_same_vote ballot.now message.now }
 {
-    match message {
-        Message::Vote(other) => {
+    match vote_in(message) {
+        None => false,
+        Some(other) => {
             same_kind(other.statement().kind, ballot.statement().kind)
                 && other.signer() == ballot.signer()
                 && same_slot(other.statement().slot, ballot.statement().slot)
         }
-        Message::Ask(_) | Message::Propose(_) | Message::Reply(_) => false,
     }
 }
 

@@ -4,11 +4,11 @@ ghost use Rattle.std.specs.List.{list_any};
 ghost use Rattle.std.specs.Option.{option_copied};
 ghost use Rattle.smart_messages.specs.declared.message.Message.TheVariants as messages;
 ghost use Rattle.smart_statements.specs.declared.statement.VoteKind.TheVariants as kinds;
-ghost use Rattle.node_rules.specs.Votes.{has_quorum};
+ghost use Rattle.node_rules.specs.Votes.{has_quorum, name_of};
 ghost use Rattle.node_rules.specs.Arrivals.{is_same_proposal, is_same_vote};
 ghost use Rattle.node_rules.specs.Nodes.{is_within};
 ghost use Rattle.node_rules.specs.Votes.{certificate_votes, proposed_for};
-ghost use Rattle.consensus_instance.specs.Instances.{Instance, first_of, regency_of, decided_place, is_free, has_begun, is_bound_to, is_unbound, is_open, open_slot, votable, written, due_by, name_of, accepted_named, trimmed, moved_on, promising, syncing, resuming};
+ghost use Rattle.consensus_instance.specs.Instances.{Instance, first_of, regency_of, decided_place, is_free, has_begun, is_bound_to, is_unbound, is_open, open_slot, votable, written, due_by, accepted_named, trimmed, moved_on, promising, syncing, resuming};
 
 use crate::find::{
     accepted_proposal, certificate_votes, has_quorum, proposed_for, repeats_proposal, repeats_vote,
@@ -30,23 +30,23 @@ use std::alloc::{AllocError, Global};
 use std::marker::Model;
 use vote_book::votes::OwnVotes;
 
-/// The instance of consensus in which a member takes part, that of its next place (Mod-SMaRt, EDCC
+/// The instance of consensus in which a member takes part: that of its next place (Mod-SMaRt, EDCC
 /// 2012). The view in force is lent to each call that needs it. A batch goes by the digest that its
-/// proposal states: none is digested here. Regency 0 is synced from the first.
+/// proposal states; none is digested here. Regency 0 has begun from the first.
 pub struct Instance {
     id: MemberId,
-    /// The last place that was delivered.
+    /// The last delivered place.
     place: Place,
     /// Whether the batch of the next place is decided.
     decided: bool,
     regency: Regency,
-    /// Where the regency in force starts, once it is synced.
+    /// The beginning of the regency in force, after the member has adopted it.
     start: Option<Start>,
-    /// Proposals and votes in the order in which they came.
+    /// Proposals and votes, in the order in which they came.
     arrivals: Vec<Message>,
-    /// Whether the member has written in the open slot.
+    /// Whether the member has a WRITE in the open slot.
     wrote: bool,
-    /// Whether the member has accepted in the open slot.
+    /// Whether the member has an ACCEPT in the open slot.
     accepted: bool,
 }
 
@@ -87,8 +87,8 @@ impl Model for Instance {
 }
 
 impl Instance {
-    /// The instance of the first place of a group that begins with a view, in regency 0, which starts
-    /// with the view. It takes no memory.
+    /// The instance of the first place of a group, in regency 0, which begins with the group's first
+    /// view. It needs no memory.
     pub fn begin(alloc: Global, id: MemberId, view: &View) -> Self
         ensures { result ≡ first_of id view.now [] }
     {
@@ -107,8 +107,8 @@ impl Instance {
         }
     }
 
-    /// The instance of a member that goes on behind a place, in a regency that starts there, if it is
-    /// synced, and in whose slot the member has voted so. It takes no memory.
+    /// The instance of a restarted member at the next place, with the beginning of its regency, if it
+    /// has one, and its votes there. It needs no memory.
     pub fn resume(
         alloc: Global,
         id: MemberId,
@@ -132,7 +132,7 @@ impl Instance {
         }
     }
 
-    /// The last place that was delivered.
+    /// The last delivered place.
     pub fn place(&self) -> Place
         ensures { result ≡ self.now.place }
     {
@@ -146,7 +146,7 @@ impl Instance {
         self.regency
     }
 
-    /// Where the regency in force starts, if it is synced. Regency 0 always is.
+    /// The beginning of the regency in force, if it has begun; regency 0 always has.
     pub fn start(&self) -> Option<Start>
         ensures start { result ≡ self.now.start }
         ensures first { self.now.regency ≡ 0 → IsSome result }
@@ -154,7 +154,7 @@ impl Instance {
         self.start
     }
 
-    /// The last place that is delivered or decided.
+    /// The last place that is decided, delivered or not.
     pub fn decided_place(&self) -> Place
         ensures { result ≡ decided_place self.now }
     {
@@ -165,23 +165,23 @@ impl Instance {
         }
     }
 
-    /// Whether no decided batch waits for its delivery, and there is a next place.
+    /// Whether no decided batch waits for delivery, and there is a next place.
     pub fn is_free(&self) -> bool
         ensures { result ≡ is_free self.now }
     {
         !self.decided && self.place.get() + 1 < 1 << 63
     }
 
-    /// Whether a vote of the member is open at the next place: no decided batch waits, the regency in
-    /// force is synced, and the place is not below its base.
+    /// Whether the slot is open at the next place: no decided batch waits, the regency in force has
+    /// begun, and its base is this place or an earlier one.
     pub fn is_open(&self, view: &View) -> bool
         ensures { result ≡ is_open view.now self.now }
     {
         view.is_member(self.id) && self.is_free() && self.has_begun()
     }
 
-    /// The digest of the batch for which alone members vote at a place in the regency in force, if
-    /// there is one. A leader proposes no other batch there.
+    /// The bound of a place, if it has one: members vote there for this digest alone in the regency
+    /// in force. A leader proposes no other batch there.
     pub fn is_bound_to(&self, place: Place) -> Option<&Digest32>
         ensures { option_copied result ≡ is_bound_to place self.now }
     {
@@ -191,8 +191,8 @@ impl Instance {
         }
     }
 
-    /// Whether a proposal, of the view in force, is of the regency in force and for another batch than
-    /// the one to which its place is bound.
+    /// Whether a proposal in the regency in force is for another batch than the bound one at its
+    /// place.
     pub fn is_unbound(&self, proposed: &Proposed) -> bool
         ensures { result ≡ is_unbound proposed.now self.now }
     {
@@ -213,7 +213,7 @@ impl Instance {
         }
     }
 
-    /// Keeps a proposal. Without memory nothing is kept.
+    /// Keeps a proposal. Error: want of memory; nothing is kept then.
     pub fn on_propose(&mut self, propose: Signed<Proposal>, batch: Batch) -> Result<(), AllocError>
         ensures ok { OnOk result (self.new ≡ record self.old { arrivals = self.old.arrivals ++ messages.Propose (record { head = propose; batch = batch }) ∷ [] }) }
         ensures err { OnErr result (self.new ≡ self.old) }
@@ -226,7 +226,7 @@ impl Instance {
         Ok(())
     }
 
-    /// Keeps a vote. Without memory nothing is kept.
+    /// Keeps a vote. Error: want of memory; nothing is kept then.
     pub fn on_vote(&mut self, vote: Signed<Ballot>) -> Result<(), AllocError>
         ensures ok { OnOk result (self.new ≡ record self.old { arrivals = self.old.arrivals ++ messages.Vote vote ∷ [] }) }
         ensures err { OnErr result (self.new ≡ self.old) }
@@ -249,7 +249,7 @@ impl Instance {
         repeats_vote(self.arrivals.as_slice(), ballot)
     }
 
-    /// The proposal for which a rule is due now, if it is.
+    /// The proposal for which a vote is due now, if there is one.
     #[tactic(auto, unfolding(crate::specs::Instances::due_by))]
     pub fn due(&self, view: &View, rule: Rule) -> Option<&Proposed>
         ensures proposal { option_copied result ≡ due_by rule view.now self.now }
@@ -264,8 +264,8 @@ impl Instance {
         }
     }
 
-    /// Copies of the votes of the first members, ascending, whose votes for a digest in a slot make a
-    /// quorum: of all that voted so where they are fewer.
+    /// A certificate for a digest in a slot: copies of the votes of the first members by number that
+    /// make a quorum; of all that voted so if they are fewer. Error: want of memory.
     pub fn votes(
         &self,
         alloc: Global,
@@ -279,7 +279,7 @@ impl Instance {
         certificate_votes(alloc, self.arrivals.as_slice(), view, kind, slot, digest)
     }
 
-    /// Whether a quorum accepted the batch of a digest in a slot.
+    /// Whether a quorum accepted a digest in a slot.
     pub fn is_accepted(&self, view: &View, slot: &Slot, digest: &Digest32) -> bool
         ensures { result ≡ has_quorum self.now.arrivals view.now kinds.Accept slot.now digest.now }
     {
@@ -292,29 +292,29 @@ impl Instance {
         )
     }
 
-    /// The first proposal for a slot's place in its view, in the regency in force or a later one,
-    /// whose batch a quorum accepted in the slot. The slot may be of another regency.
+    /// The first proposal whose batch a quorum accepted in a slot. It is for the slot's place in its
+    /// view, in the regency in force or a later one. The slot may be of another regency.
     pub fn accepted_proposal(&self, view: &View, slot: &Slot) -> Option<&Proposed>
         ensures { option_map name_of (option_copied result) ≡ accepted_named view.now slot.now self.now }
     {
         accepted_proposal(self.arrivals.as_slice(), view, self.regency, slot)
     }
 
-    /// The member has written in the open slot.
+    /// Notes that the member has a WRITE in the open slot.
     pub fn wrote(&mut self)
         ensures { self.new ≡ record self.old { wrote = true } }
     {
         self.wrote = true;
     }
 
-    /// The member has accepted in the open slot.
+    /// Notes that the member has an ACCEPT in the open slot.
     pub fn accepted(&mut self)
         ensures { self.new ≡ record self.old { accepted = true } }
     {
         self.accepted = true;
     }
 
-    /// The batch of the next place is decided.
+    /// Notes that the batch of the next place is decided.
     pub fn decided(&mut self)
         requires { is_free self.old ≡ true }
         ensures { self.new ≡ record self.old { decided = true } }
@@ -322,8 +322,8 @@ impl Instance {
         self.decided = true;
     }
 
-    /// The batch that was decided is delivered: the instance is that of the place behind it, in whose
-    /// slot the member has voted so.
+    /// Moves to the next place, after the decided batch was delivered; the member has these votes
+    /// there.
     pub fn delivered(&mut self, votes: OwnVotes)
         requires { self.old.decided ≡ true }
         ensures { self.new ≡ moved_on votes self.old }
@@ -334,8 +334,9 @@ impl Instance {
         self.accepted = votes.accepted;
     }
 
-    /// The member has promised a later regency. It starts there, if it is synced already, and the
-    /// member has voted so in its slot: a book that is not tidy may have both before the promise.
+    /// Moves to a later regency, which the member has promised. If the regency has begun, this is its
+    /// beginning; the member has these votes in its slot. A book that is not tidy may have both
+    /// before the promise.
     pub fn promised(&mut self, regency: Regency, start: Option<Start>, votes: OwnVotes)
         requires { self.old.regency < regency }
         ensures { self.new ≡ promising regency start votes self.old }
@@ -346,7 +347,7 @@ impl Instance {
         self.accepted = votes.accepted;
     }
 
-    /// The regency in force is synced: it starts there, unless it was synced before.
+    /// Notes the beginning of the regency in force, unless it has one already.
     pub fn synced(&mut self, start: Start)
         ensures { self.new ≡ syncing start self.old }
     {
@@ -355,7 +356,7 @@ impl Instance {
         }
     }
 
-    /// Drops the proposals and votes that are not needed any more in a view.
+    /// Drops the proposals and votes that are no longer needed in a view.
     #[tactic(auto, unfolding(crate::specs::Instances::trimmed))]
     pub fn trim(&mut self, view: ViewNo)
         ensures { self.new ≡ trimmed view self.old }
@@ -365,8 +366,8 @@ impl Instance {
         keep_needed(&mut self.arrivals, view, place, regency);
     }
 
-    /// Whether members vote at the next place: it is not below the base of the regency in force, which
-    /// is synced.
+    /// Whether members vote at the next place: the regency in force has begun, and its base is this
+    /// place or an earlier one.
     fn has_begun(&self) -> bool
         ensures { result ≡ has_begun (self.now.place + 1) self.now.start }
     {
@@ -376,7 +377,7 @@ impl Instance {
         }
     }
 
-    /// Whether a batch of a digest may get votes at a place.
+    /// Whether a digest may get votes at a place.
     fn may_have(&self, place: Place, digest: &Digest32) -> bool
         ensures { result ≡ is_within (is_bound_to place self.now) digest.now }
     {
@@ -386,7 +387,7 @@ impl Instance {
         }
     }
 
-    /// The first proposal for the open slot, if the member may vote for it.
+    /// The first proposal for the open slot, if its digest may get votes.
     fn votable(&self, view: &View) -> Option<&Proposed>
         requires { is_free self.now ≡ true }
         ensures { option_copied result ≡ votable self.now (proposed_for self.now.arrivals (open_slot view.now self.now)) }

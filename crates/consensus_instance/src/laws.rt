@@ -11,13 +11,13 @@ ghost use Rattle.consensus_instance.specs.Nodes.{HasInstance, start_by};
 
 use smart_service::service::Service;
 
-/// What is due in an instance is what is due at each node that has it.
+/// The vote that is due in an instance is the one that is due at each node that has it.
 pub fn due_in_an_instance_is_due_at_its_node<S: Service>()
     ensures write { (n : Node S) (i : Instance) → HasInstance n i → due_by Write (view_of n) i ≡ writing n }
     ensures accept { (n : Node S) (i : Instance) → HasInstance n i → due_by Accept (view_of n) i ≡ accepting n }
 {}
 
-/// An instance stands where each node stands that has it.
+/// The place, regency and open slot of an instance are those of each node that has it.
 pub fn an_instance_stands_where_its_node_does<S: Service>()
     ensures regency { (n : Node S) (i : Instance) → HasInstance n i → i.regency ≡ nodes.regency_of n }
     ensures start { (n : Node S) (i : Instance) → HasInstance n i → i.start ≡ option_map start_by (start_of n) }

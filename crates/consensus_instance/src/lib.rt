@@ -1,5 +1,5 @@
-//! The instance of consensus in which a member takes part: the regency in force and where it starts,
-//! what the member has heard, whether it has written and accepted, and what is due.
+//! The instance of consensus in which a member takes part: the regency in force and its beginning,
+//! what the member has heard, its votes, and what is due.
 #![tactic(auto)]
 
 mod find;

@@ -3,10 +3,10 @@ ghost use Rattle.std.specs.Prelude.{◌≡◌, filter};
 ghost use Rattle.node_rules.specs.Kept.{is_ahead, is_needed};
 
 use smart_base::number::{Place, Regency, ViewNo};
-use smart_messages::message::Message;
+use smart_messages::message::{Message, slot_of};
 use smart_statements::statement::Slot;
 
-/// Whether a slot is past a place, and of this view and regency or later ones.
+/// Whether a slot is past a place, of this view and regency or of later ones.
 pub fn is_ahead(view: ViewNo, place: Place, regency: Regency, slot: &Slot) -> bool
     ensures { result ≡ is_ahead view place regency slot.now }
 {
@@ -16,16 +16,13 @@ pub fn is_ahead(view: ViewNo, place: Place, regency: Regency, slot: &Slot) -> bo
 fn is_needed(view: ViewNo, place: Place, regency: Regency, message: &Message) -> bool
     ensures { result ≡ is_needed view place regency message.now }
 {
-    match message {
-        Message::Propose(proposed) => {
-            is_ahead(view, place, regency, &proposed.head.statement().slot)
-        }
-        Message::Vote(ballot) => is_ahead(view, place, regency, &ballot.statement().slot),
-        Message::Ask(_) | Message::Reply(_) => false,
+    match slot_of(message) {
+        None => false,
+        Some(slot) => is_ahead(view, place, regency, &slot),
     }
 }
 
-/// Keeps the messages that are still needed past a place.
+/// Keeps only the messages that are still needed past a place.
 pub fn keep_needed(arrivals: &mut Vec<Message>, view: ViewNo, place: Place, regency: Regency)
     ensures { arrivals.new.items ≡ filter (is_needed view place regency) arrivals.old.items }
 {

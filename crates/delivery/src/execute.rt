@@ -1,4 +1,4 @@
-//! Requests executed on a replica.
+//! The execution of requests on a replica.
 ghost use Rattle.std.specs.Prelude.{◌≡◌, IfOk, OnOk};
 ghost use Rattle.replica_rules.specs.Replicas.{line_made, execute, execute_all, lines_of};
 
@@ -11,8 +11,8 @@ use smart_statements::batch::Batch;
 use smart_statements::statement::Request;
 use std::alloc::{AllocError, Global};
 
-/// Executes a request where it is its client's next, and gives the line that it made. Any other is
-/// passed over.
+/// Executes a request if it is its client's next, and gives the line that it made. Any other request
+/// is passed over. Error: want of memory.
 #[tactic(auto, unfolding(replica_rules::specs::Replicas::execute))]
 fn execute<S: Service>(
     alloc: Global,
@@ -43,8 +43,8 @@ fn execute<S: Service>(
     Ok(Some(line))
 }
 
-/// Executes a batch's requests in order, and gives the lines that they made. After want of memory
-/// some of them may have been executed. A valid state of the service stays valid, also then.
+/// Executes a batch's requests, in order, and gives the lines that they made. Error: want of memory;
+/// some of them may have been executed then. A valid state of the service stays valid in any case.
 pub fn execute_all<S: Service>(
     alloc: Global,
     replica: &mut Replica<S>,

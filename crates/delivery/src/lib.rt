@@ -1,4 +1,4 @@
-//! Delivery: a batch executed on a member's copy of what is replicated.
+//! Delivery: the execution of a batch on a member's replica (state machine replication).
 #![tactic(auto)]
 
 mod execute;

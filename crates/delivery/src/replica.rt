@@ -13,9 +13,9 @@ use smart_service::table::{ClientTable, TableLine};
 use smart_statements::batch::Batch;
 use std::alloc::{AllocError, Global};
 
-/// A replica, and whether want of memory stopped a delivery half-way. Then the replica is spent:
-/// some requests of the batch may have been executed, so no batch is delivered to it again, and no
-/// call makes it whole.
+/// A replica, and whether want of memory stopped a delivery half-way. Then the replica is spent: some
+/// requests of the batch may have been executed. No batch is delivered to it any more, and no call
+/// makes it whole.
 pub struct KeptReplica<S> {
     replica: Replica<S>,
     spent: bool,
@@ -48,8 +48,8 @@ impl<S> KeptReplica<S> {
         self.spent
     }
 
-    /// The replica. Where it is spent, it is at the place of the batch of which some requests may
-    /// have been executed.
+    /// The replica. If it is spent, it is at the place of the batch of which some requests may have
+    /// been executed.
     pub fn replica(&self) -> &Replica<S>
         ensures { result.now ≡ self.now.replica }
     {
@@ -58,7 +58,7 @@ impl<S> KeptReplica<S> {
 }
 
 impl<S: Service> KeptReplica<S> {
-    /// The replica before any batch, in a first view.
+    /// The replica before any batch, in a first view. Error: want of memory.
     pub fn empty(alloc: Global, view: View) -> Result<Self, AllocError>
         ensures { IfOk result (λ kept. kept ≡ record { replica = empty S.meaning view; spent = false }) }
     {
@@ -73,10 +73,10 @@ impl<S: Service> KeptReplica<S> {
     }
 }
 
-/// Executes a batch at the next place, and gives the lines of the requests that were executed, in
-/// order: those whose number is their client's next; any other is passed over. Each line has the
-/// reply that goes to its client. After want of memory the replica is spent. A valid state of the
-/// service stays valid, also then.
+/// Executes a batch at the next place, and gives the lines of the executed requests, in order. A
+/// request is executed if its number is its client's next; any other is passed over. Each line has
+/// the reply for its client. Error: want of memory; the replica is spent then. A valid state of the
+/// service stays valid in any case.
 #[tactic(auto, unfolding(replica_rules::specs::Replicas::delivered, replica_rules::specs::Replicas::executed_lines))]
 pub fn deliver<S: Service>(
     alloc: Global,

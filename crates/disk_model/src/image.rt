@@ -1,23 +1,23 @@
-//! Why bytes make no disk.
+//! The reasons for which bytes make no disk.
 ghost use Rattle.std.specs.Prelude.{◌≡◌};
 ghost use Rattle.disk_model.specs.declared.image.ImageFault.TheVariants.{NoMemory};
 
 use std::alloc::AllocError;
 
-/// No crash now leaves these bytes. `at` is the first byte that is wrong, or their length where only
-/// that is wrong.
+/// Bytes that no crash now leaves. `at` is the first wrong byte, or their length if only that is
+/// wrong.
 #[derive(Clone, Copy, Debug, PartialEq, Eq)]
 pub struct NotAnImage {
     pub at: u64,
 }
 
-/// Why bytes make no disk.
+/// The reason for which bytes make no disk.
 #[derive(Clone, Copy, Debug, PartialEq, Eq)]
 pub enum ImageFault {
-    /// No crash now leaves these bytes. `at` is the first byte that is wrong, or their length where
-    /// only that is wrong.
+    /// No crash now leaves these bytes. `at` is the first wrong byte, or their length if only that is
+    /// wrong.
     NotAnImage { at: u64 },
-    /// Memory ran out.
+    /// Want of memory.
     NoMemory,
 }
 

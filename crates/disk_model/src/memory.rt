@@ -1,5 +1,5 @@
-//! A disk in memory that remembers. It keeps its first contents and each change, so that what a
-//! crash at any moment might have left is known, and it fails where it is told to.
+//! A disk in memory that remembers its first contents and each change. What a crash at any moment
+//! might have left is therefore known. The disk fails when it is told to.
 ghost use Rattle.std.specs.Prelude.{◌≡◌, ◌≤◌, ◌<◌, ◌+◌, ◌^◌, ℕ, length, IfOk, IfErr, OnOk, OnErr};
 ghost use Rattle.disk_model.specs.Cells.{settled};
 ghost use Rattle.disk_model.specs.Replay.{replay};
@@ -46,8 +46,8 @@ impl MemDisk {
     ghost use Rattle.disk_model.specs.Replay.{change_cells, Begins};
     ghost use Rattle.disk_model.specs.Memory.{disk_cells, disk_moment, disk_left, next_number, is_due, Refuses};
 
-    /// A disk with these bytes, all of them sure. Its calls `write_at`, `cut` and `sync` of these
-    /// numbers, counted from 1, fail.
+    /// A disk with these bytes, all of them sure. Of its calls `write_at`, `cut` and `sync` those of
+    /// the numbers in `failing`, from 1, fail. Error: want of memory.
     pub fn new(alloc: Global, bytes: Bytes, failing: Vec<u64>) -> Result<Self, AllocError>
         ensures cells { IfOk result (λ d. disk_cells d ≡ settled bytes) }
         ensures failing { IfOk result (λ d. (d.failing ≡ failing) × (d.made ≡ 0)) }
@@ -66,7 +66,8 @@ impl MemDisk {
         })
     }
 
-    /// The disk that a crash now leaves, where these bytes are an image of this one. It never fails.
+    /// The disk that a crash now leaves with these bytes; it never fails. Errors: the bytes are no
+    /// image of this disk; want of memory.
     pub fn image(&self, alloc: Global, bytes: Bytes) -> Result<MemDisk, ImageFault>
         ensures ok { IfOk result (λ d. IsImage (disk_cells self.now) bytes × (disk_cells d ≡ settled bytes)) }
         ensures never { IfOk result (λ d. d.failing.items ≡ []) }
@@ -89,28 +90,28 @@ impl MemDisk {
         }
     }
 
-    /// What a read gives.
+    /// The bytes that a read gives.
     pub fn as_read(&self) -> &[u8]
         ensures { result.now ≡ (disk_cells self.now).now }
     {
         &self.platter.contents
     }
 
-    /// What a read gave at the last sync.
+    /// The bytes that a read gave at the last sync. Error: want of memory.
     pub fn as_synced(&self, alloc: Global) -> Result<Bytes, AllocError>
         ensures { IfOk result (λ bytes. bytes ≡ (disk_cells self.now).sure) }
     {
         self.platter.as_synced(alloc)
     }
 
-    /// How often it has failed.
+    /// The number of failures so far.
     pub fn faults(&self) -> u64
         ensures { result ≡ self.now.faults }
     {
         self.faults
     }
 
-    /// Makes a change and notes it. Without memory nothing is done.
+    /// Makes a change and notes it. Error: want of memory; nothing has changed then.
     fn make(&mut self, change: Change) -> Result<(), AllocError>
         requires { Begins change (disk_cells self.old) }
         ensures ok { OnOk result (disk_cells self.new ≡ change_cells change (disk_cells self.old)) }
@@ -142,7 +143,7 @@ impl MemDisk {
         self.failing.contains(&self.made)
     }
 
-    /// Counts a fault.
+    /// Counts a failure.
     fn fault(&mut self) -> Fault
         ensures platter { self.new.platter ≡ self.old.platter }
         ensures changes { self.new.changes ≡ self.old.changes }
@@ -175,8 +176,8 @@ impl MemDisk {
     }
 }
 
-/// Its changing calls fail exactly where they were told to. Then a read gives what it did before, and a
-/// crash may leave any part of the call.
+/// A disk whose changing calls fail if and only if they were told to. After a failure a read gives
+/// what it did before, and a crash may leave any part of the call.
 impl Disk for MemDisk {
     ghost use Rattle.std.specs.Prelude.{IsErrOf, true, false};
     ghost use Rattle.faults.specs.Counts.{HasCause, HasWant};

@@ -1,5 +1,5 @@
-//! A disk in memory that writes in place and does not remember: it needs no more memory than what it
-//! holds, and what undoes the changes since its last sync. It never fails.
+//! A disk in memory that writes in place and does not remember. It needs memory for what it holds,
+//! and for what undoes the changes since its last sync. It never fails.
 ghost use Rattle.std.specs.Prelude.{◌≡◌, ◌≤◌, ◌<◌, ◌+◌, ◌^◌, ℕ, length, IfOk, IfErr};
 ghost use Rattle.disk_model.specs.Cells.{IsImage, IsWrong, settled};
 ghost use Rattle.disk_model.specs.Memory.{plain_cells};
@@ -13,7 +13,7 @@ use std::alloc::{AllocError, Global};
 
 pub struct PlainDisk {
     platter: Platter,
-    /// How often it has wanted memory.
+    /// The number of wants of memory so far.
     wants: u64,
 }
 
@@ -40,7 +40,7 @@ impl PlainDisk {
         }
     }
 
-    /// The disk that a crash now leaves, where these bytes are an image of this one.
+    /// The disk that a crash now leaves with these bytes. Error: the bytes are no image of this disk.
     pub fn image(&self, alloc: Global, bytes: Bytes) -> Result<PlainDisk, NotAnImage>
         ensures ok { IfOk result (λ d. IsImage (plain_cells self.now) bytes × (plain_cells d ≡ settled bytes)) }
         ensures not { IfErr result (λ e. IsWrong (plain_cells self.now) bytes e.at) }
@@ -51,21 +51,21 @@ impl PlainDisk {
         }
     }
 
-    /// The greatest length since the last sync.
+    /// The greatest length since the last sync, in bytes.
     pub fn greatest(&self) -> u64
         ensures { result ≡ (plain_cells self.now).greatest }
     {
         self.platter.greatest
     }
 
-    /// What a read gives.
+    /// The bytes that a read gives.
     pub fn as_read(&self) -> &[u8]
         ensures { result.now ≡ (plain_cells self.now).now }
     {
         &self.platter.contents
     }
 
-    /// What a read gave at the last sync.
+    /// The bytes that a read gave at the last sync. Error: want of memory.
     pub fn as_synced(&self, alloc: Global) -> Result<Bytes, AllocError>
         ensures { IfOk result (λ bytes. bytes ≡ (plain_cells self.now).sure) }
     {

@@ -1,5 +1,5 @@
-//! What a disk in memory holds. It is changed in place, and keeps what undoes the changes since the
-//! last sync.
+//! The contents of a disk in memory. They are changed in place, and what undoes the changes since the
+//! last sync is kept.
 ghost use Rattle.std.specs.Prelude.{◌≡◌, ◌≤◌, ◌<◌, ◌+◌, ◌++◌, ◌∷◌, ◌^◌, [], ℕ, length, take, drop, min, max, IfOk, IfErr, OnOk, OnErr, IfSome, IsNone, IsTrue, ◌↔◌};
 ghost use Rattle.disk_model.specs.Cells.{IsSound, put, covers};
 ghost use Rattle.disk_model.specs.Undo.{undone, all_undone};
@@ -8,32 +8,32 @@ use crate::image::NotAnImage;
 use smart_base::sequence::Bytes;
 use std::alloc::{AllocError, Global};
 
-/// No disk has as many bytes.
+/// More bytes than any disk has.
 const LIMIT: u64 = 1 << 63;
 
-/// The places from one up to another.
+/// The indices from one up to another.
 #[derive(Clone, Copy, Debug, PartialEq, Eq)]
 pub struct Range {
     pub from: u64,
     pub upto: u64,
 }
 
-/// What becomes of a disk in memory by a call that changes it.
+/// A change of a disk in memory by a call.
 #[derive(Drop)]
 pub enum Change {
-    /// These bytes are written from a place on.
+    /// These bytes were written from an index on.
     Wrote(u64, Bytes),
-    /// It is cut to a length.
+    /// The contents were cut to a length.
     Cut(u64),
-    /// All of it is made sure.
+    /// All of the contents were made sure.
     Synced,
-    /// A write into a range fails.
+    /// A write into a range failed.
     TornWrite(Range),
-    /// A cut to a length fails.
+    /// A cut to a length failed.
     TornCut(u64),
 }
 
-/// What undoes a change: the length from before, and the bytes that stood at a place.
+/// What undoes a change: the earlier length, and the bytes that were at an index.
 #[derive(Drop)]
 pub struct Undo {
     pub at: u64,
@@ -41,7 +41,7 @@ pub struct Undo {
     pub length: u64,
 }
 
-/// What a read gives, and what is not yet sure.
+/// The contents: what a read gives, and what is not yet sure.
 pub struct Platter {
     pub contents: Vec<u8>,
     pub undo: Vec<Undo>,
@@ -69,7 +69,7 @@ impl Platter {
     ghost use Rattle.disk_model.specs.Replay.{torn_write, torn_cut, change_cells, Begins};
     ghost use Rattle.disk_model.specs.Platters.{cells_of};
 
-    /// These bytes, all of them sure.
+    /// Contents with these bytes, all of them sure.
     pub fn new(alloc: Global, bytes: Bytes) -> Self
         ensures { cells_of result ≡ settled bytes }
     {
@@ -84,14 +84,15 @@ impl Platter {
         }
     }
 
-    /// The bytes from a place on, as many as asked for or all where there are fewer.
+    /// The bytes from an index on: `count` bytes, or fewer if the contents end before. Error: want of
+    /// memory.
     pub fn read(&self, alloc: Global, at: u64, count: u64) -> Result<Bytes, AllocError>
         ensures { IfOk result (λ bytes. bytes ≡ take count (drop at self.now.contents.items)) }
     {
         part(alloc, &self.contents, at, count)
     }
 
-    /// Makes a change. Without memory nothing is done.
+    /// Makes a change. Error: want of memory; nothing has changed then.
     pub fn apply(&mut self, change: &Change) -> Result<(), AllocError>
         requires { Begins change.now (cells_of self.old) }
         ensures ok { OnOk result (cells_of self.new ≡ change_cells change.now (cells_of self.old)) }
@@ -107,7 +108,7 @@ impl Platter {
         Ok(())
     }
 
-    /// Writes over what is there, and past the end. Without memory nothing is done.
+    /// Writes over the contents, and past their end. Error: want of memory; nothing has changed then.
     pub fn write(&mut self, at: u64, bytes: &[u8]) -> Result<(), AllocError>
         requires { at ≤ length self.old.contents.items }
         ensures ok { OnOk result (cells_of self.new ≡ written at bytes.now (cells_of self.old)) }
@@ -130,7 +131,7 @@ impl Platter {
         Ok(())
     }
 
-    /// Cuts to a length. Without memory nothing is done.
+    /// Cuts to a length. Error: want of memory; nothing has changed then.
     pub fn cut(&mut self, to: u64) -> Result<(), AllocError>
         ensures ok { OnOk result (cells_of self.new ≡ cut_to to (cells_of self.old)) }
         ensures err { OnErr result (cells_of self.new ≡ cells_of self.old) }
@@ -149,7 +150,7 @@ impl Platter {
         Ok(())
     }
 
-    /// A write into this range fails, and does nothing yet.
+    /// Notes that a write into this range failed, of which nothing is done yet.
     fn touch(&mut self, range: Range) -> Result<(), AllocError>
         ensures ok { OnOk result (cells_of self.new ≡ torn_write range (cells_of self.old)) }
         ensures err { OnErr result (cells_of self.new ≡ cells_of self.old) }
@@ -160,14 +161,14 @@ impl Platter {
         Ok(())
     }
 
-    /// A cut to this length fails, and does nothing yet.
+    /// Notes that a cut to this length failed, of which nothing is done yet.
     fn shorten(&mut self, to: u64)
         ensures { cells_of self.new ≡ torn_cut to (cells_of self.old) }
     {
         self.shortest = self.shortest.min(to);
     }
 
-    /// Makes all of it sure.
+    /// Makes all of the contents sure.
     pub fn settle(&mut self)
         ensures { cells_of self.new ≡ settled (cells_of self.old).now }
     {
@@ -177,7 +178,7 @@ impl Platter {
         self.greatest = self.shortest;
     }
 
-    /// What was there at the last sync.
+    /// The bytes at the last sync. Error: want of memory.
     pub fn as_synced(&self, alloc: Global) -> Result<Bytes, AllocError>
         ensures { IfOk result (λ bytes. bytes ≡ (cells_of self.now).sure) }
     {
@@ -190,7 +191,7 @@ impl Platter {
         Ok(Bytes::from_vec(bytes))
     }
 
-    /// What a crash now leaves, where these bytes are an image.
+    /// The contents that a crash now leaves with these bytes. Error: the bytes are no image.
     pub fn image(&self, alloc: Global, bytes: Bytes) -> Result<Platter, NotAnImage>
         ensures ok { IfOk result (λ p. IsImage (cells_of self.now) bytes × (cells_of p ≡ settled bytes)) }
         ensures not { IfErr result (λ e. IsWrong (cells_of self.now) bytes e.at) }
@@ -207,7 +208,8 @@ impl Platter {
 
     ghost use Rattle.disk_model.specs.Cells.{IsWrongAt, NoneWrong};
 
-    /// The first byte below the shortest length that is neither as it was nor in a range.
+    /// The first byte below the least length that is neither as it was nor in a range, if there is
+    /// one.
     fn first_wrong(&self, bytes: &[u8]) -> Option<u64>
         ensures some { IfSome result (λ i. IsWrongAt (cells_of self.now) bytes.now i × NoneWrong (cells_of self.now) bytes.now i) }
         ensures none { IsNone result → NoneWrong (cells_of self.now) bytes.now (length bytes.now) }
@@ -236,7 +238,7 @@ fn is_touched(ranges: &[Range], place: u64) -> bool
     false
 }
 
-/// The bytes from a place on, as many as asked for or all where there are fewer.
+/// The bytes from an index on: `count` bytes, or fewer if there are no more. Error: want of memory.
 fn part(alloc: Global, bytes: &[u8], at: u64, count: u64) -> Result<Bytes, AllocError>
     ensures { IfOk result (λ part. part ≡ take count (drop at bytes.now)) }
 {
@@ -246,7 +248,8 @@ fn part(alloc: Global, bytes: &[u8], at: u64, count: u64) -> Result<Bytes, Alloc
     Bytes::from_slice(alloc, part)
 }
 
-/// Puts bytes over what is there from a place on, and past the end. Without memory nothing is done.
+/// Writes bytes over others from an index on, and past their end. Error: want of memory; nothing has
+/// changed then.
 fn overwrite(contents: &mut Vec<u8>, at: usize, bytes: &[u8]) -> Result<(), AllocError>
     ensures ok { OnOk result (contents.new.items ≡ put at bytes.now contents.old.items) }
     ensures err { OnErr result (contents.new.items ≡ contents.old.items) }
@@ -259,7 +262,7 @@ fn overwrite(contents: &mut Vec<u8>, at: usize, bytes: &[u8]) -> Result<(), Allo
     Ok(())
 }
 
-/// Undoes a change.
+/// Undoes a change. Error: want of memory.
 fn undo_one(contents: &mut Vec<u8>, undo: &Undo) -> Result<(), AllocError>
     ensures { OnOk result (contents.new.items ≡ undone undo.now contents.old.items) }
 {
@@ -267,7 +270,7 @@ fn undo_one(contents: &mut Vec<u8>, undo: &Undo) -> Result<(), AllocError>
     overwrite(contents, undo.at as usize, undo.bytes.as_slice())
 }
 
-/// Whether that many bytes from a place on end below 2^63.
+/// Whether so many bytes from an index on end below 2^63.
 pub fn has_room(at: u64, count: u64) -> bool
     ensures { IsTrue result ↔ (at + count < 2 ^ 63) }
 {

@@ -1,4 +1,4 @@
-//! Rooms, which keep the disks of all members by name.
+//! Rooms, which keep the disks of all members by address.
 ghost use Rattle.std.specs.Prelude.{◌≡◌, ◌≤◌, ℕ, Option, Some, None, IfOk, OnOk, OnErr, IsErrOf, IsSome, [], true};
 ghost use Rattle.std.specs.List.{position};
 ghost use Rattle.faults.specs.Counts.{HasCause, Rose};
@@ -13,20 +13,21 @@ use smart_base::name::MemberId;
 use smart_base::sequence::Bytes;
 use std::alloc::{AllocError, Global};
 
-/// Where disks are kept: by a directory, a member and the number of one of its devices.
+/// A room of disks. An address is a directory, a member and the number of one of its devices.
 pub trait DiskRoom {
     type Disk: Disk;
 
-    /// What the disk that is kept there holds. Of a room of files nothing is told.
+    /// The contents of the disk at an address. Nothing is told of a room of files.
     ghost cells: { Self → Address → Cells };
 
-    /// Of a disk that is taken: how often it had failed by then.
+    /// The number of a disk's failures when it was taken, if it is taken.
     ghost taken: { Self → Address → Option ℕ };
 
-    /// How often it has failed, or a disk that it gave.
+    /// The number of failures of the room and of the disks that it gave.
     ghost faults: { Self → ℕ };
 
-    /// Takes a disk. One that was never there holds nothing. A disk that is taken already is refused.
+    /// Takes the disk of an address; one that was never there holds nothing. Errors: `Failed` if the
+    /// disk is taken already or the room fails; want of memory.
     fn get(
         &mut self,
         alloc: Global,
@@ -44,8 +45,8 @@ pub trait DiskRoom {
         ensures others_taken { KeepsOthers (address dir.now member device) (taken self.old) (taken self.new) }
         ensures cause { HasCause (faults self.old) (faults self.new) result };
 
-    /// Takes a disk back into its place. If the disk has failed since it was taken, the room counts
-    /// that, and nothing else. It takes no memory.
+    /// Puts a taken disk back at its address. If the disk has failed since it was taken, the room
+    /// counts that, and nothing else. It needs no memory.
     fn keep(&mut self, dir: &[u8], member: MemberId, device: u8, disk: Self::Disk)
         requires { IsSome (taken self.old (address dir.now member device)) }
         ensures disk { Self.Disk.told → cells self.new (address dir.now member device) ≡ Self.Disk.cells disk }
@@ -57,7 +58,7 @@ pub trait DiskRoom {
         ensures steady { (before : ℕ) → taken self.old (address dir.now member device) ≡ Some before → (Rose before (Self.Disk.faults disk) → ⊥) → faults self.new ≡ faults self.old };
 }
 
-/// The place of one disk.
+/// The shelf of one disk.
 #[derive(Drop)]
 pub struct Shelf {
     pub dir: Bytes,
@@ -77,7 +78,7 @@ impl Shelf {
     }
 }
 
-/// Where the shelf of an address stands.
+/// The index of an address's shelf, if there is one.
 fn index_at(shelves: &[Shelf], dir: &[u8], member: MemberId, device: u8) -> Option<usize>
     ensures { result ≡ position (is_at (address dir.now member device)) shelves.now }
 {
@@ -120,7 +121,7 @@ impl MemRoom {
     ghost use Rattle.std.specs.Prelude.{◌++◌, ◌∷◌};
     ghost use Rattle.disk_model.specs.Memory.{disk_cells};
 
-    /// A room in which no disk was ever.
+    /// A room without disks.
     pub fn new(alloc: Global) -> Self
         ensures shelves { result.shelves.items ≡ [] }
         ensures faults { result.faults ≡ 0 }
@@ -131,7 +132,7 @@ impl MemRoom {
         }
     }
 
-    /// How often it has refused a disk, or taken one back that had failed.
+    /// The number of disks that were refused, and of those that came back after a failure.
     pub fn faults(&self) -> u64
         ensures { result ≡ self.now.faults }
     {
@@ -164,7 +165,7 @@ impl MemRoom {
         Ok(disk)
     }
 
-    /// Counts a fault.
+    /// Counts a failure.
     fn fault(&mut self) -> Fault
         ensures shelves { self.new.shelves ≡ self.old.shelves }
         ensures result { result ≡ Fault.Failed }

@@ -1,4 +1,4 @@
--- What each call of a store that goes well makes of its state, exactly, and what opening one makes of the bytes.
+-- The exact state after each call of a store that goes well, and after it is opened over given bytes.
 use Rattle.std.specs.Prelude.{◌+◌, ◌-◌, ◌^◌, ℕ, min, Bool, true, false, not, cond, ◌||◌, List, [], ◌∷◌, ◌++◌, length, None}
 use Rattle.disk_model.specs.Cells.{settled}
 use Rattle.store_form.specs.Spelling.{group_text}
@@ -14,19 +14,19 @@ use Rattle.durable_store.specs.Standing.{some, group_begins}
 
 -- ---- the next call
 
--- the next call that closes a slot
+-- a slot after the next call that closes it
 abbrev pub slot_closed : SlotState → SlotState
 slot_closed s = record { cells = cells_called (job_begun s.job) s.cells; job = job_closed s.job }
 
--- the next call of the job on a log
+-- a log after the next call of its job
 abbrev pub log_goes : LogState → LogState
 log_goes l = record { cells = log_called l.job l.end l.cells; end = end_called l.job l.end; job = job_called l.job l.end }
 
--- what is written behind the gate of a group: its spelling, and the next gate, closed
+-- the bytes that are written after the gate of a group: its spelling, and the next gate, closed
 abbrev pub body_text : List (List ℕ) → List ℕ
 body_text entries = group_text entries ++ 0 ∷ []
 
--- the first job of the log that applies, where none runs: its repair, or the group of all entries that wait
+-- the job of a log, after one has begun if none ran: its repair, or the group of all that waits
 abbrev pub log_begins : List (List ℕ) → Job → Job
 log_begins waiting Rest = cond (some waiting) (Body (body_text waiting)) Rest
 log_begins waiting Torn = Close None
@@ -37,13 +37,15 @@ log_begins waiting (SyncBody next) = SyncBody next
 log_begins waiting (Gate next) = Gate next
 log_begins waiting (SyncGate next) = SyncGate next
 
+-- the store after the next call that closes the even slot
 abbrev pub even_called : StoreState → StoreState
 even_called s = record { even = slot_closed s.even; odd = s.odd; log = s.log; other_log = s.other_log; generation = s.generation; firm = s.firm; adding = s.adding; waiting = s.waiting }
 
+-- the store after the next call that closes the odd slot
 abbrev pub odd_called : StoreState → StoreState
 odd_called s = record { even = s.even; odd = slot_closed s.odd; log = s.log; other_log = s.other_log; generation = s.generation; firm = s.firm; adding = s.adding; waiting = s.waiting }
 
--- no device is called
+-- the store after its log's job has begun; no device is called
 abbrev pub job_begins : StoreState → StoreState
 job_begins s = record {
   even = s.even;
@@ -56,6 +58,7 @@ job_begins s = record {
   waiting = cond (group_begins s) [] s.waiting;
 }
 
+-- the store after the next call of its log's job; the end of a group makes that group firm
 abbrev pub own_log_called : StoreState → StoreState
 own_log_called s = record {
   even = s.even;
@@ -68,16 +71,17 @@ own_log_called s = record {
   waiting = s.waiting;
 }
 
--- one device call, of the job that comes first
+-- the store after its next device call, of the job that comes first
 abbrev pub store_called : StoreState → StoreState
 store_called s = cond (closing s.even.job) (even_called s) (cond (closing s.odd.job) (odd_called s) (own_log_called (job_begins s)))
 
--- there is a call to make
+-- a store with a device call to make
 abbrev pub call_due : StoreState → Bool
 call_due s = closing s.even.job || (closing s.odd.job || (not (rests s.log.job) || some s.waiting))
 
 -- ---- entries are given
 
+-- the store after it was given entries, which wait
 abbrev pub started : StoreState → List (List ℕ) → StoreState
 started s entries = record { even = s.even; odd = s.odd; log = s.log; other_log = s.other_log; generation = s.generation; firm = s.firm; adding = s.adding; waiting = s.waiting ++ entries }
 
@@ -89,7 +93,7 @@ slot_found odd bytes = record { cells = settled bytes; job = slot_opened odd byt
 abbrev pub log_found : List ℕ → LogState
 log_found bytes = record { cells = settled bytes; end = end_opened bytes; job = job_opened bytes }
 
--- over these bytes
+-- the store that is opened over these bytes
 abbrev pub store_opened : Images → StoreState
 store_opened images = record {
   even = slot_found false images.even_slot;

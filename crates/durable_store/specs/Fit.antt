@@ -1,4 +1,4 @@
--- What a log takes.
+-- The entries that a log takes.
 use Rattle.std.proofs.Common.{List, [], ◌∷◌, ℕ, ◌<◌, ◌^◌, length}
 use Rattle.std.proofs.Props.{props}
 use Rattle.smart_base.specs.Lists.{Each}

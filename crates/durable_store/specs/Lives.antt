@@ -1,7 +1,5 @@
--- What one life of a store leaves to the next.
---
--- This is said of stores that have switched to no generation: no life of them has opened the gate of a slot, so that of
--- all gates only that of the log may be torn.
+-- What one life of a store leaves to the next. All of this speaks of stores that have switched to no generation. No life of theirs has
+-- opened the gate of a slot. Of all gates only that of the log may then be torn.
 use Rattle.std.specs.Prelude.{◌≡◌, ◌⊎◌, true, false, not, List, [], None}
 use Rattle.store_form.specs.Spelling.{Group}
 use Rattle.batch_log.specs.Log.{restored}
@@ -15,19 +13,20 @@ use Rattle.durable_store.specs.Standing.{first, kept_by, log_is_called, StateSta
 use Rattle.durable_store.specs.Wholes.{Grows}
 use Rattle.durable_store.specs.declared.kept.Kept.{Kept}
 
--- what empty devices hold, and restore
+-- the bytes of empty devices
 abbrev pub no_bytes : Images
 no_bytes = record { even_log = []; odd_log = []; even_slot = []; odd_slot = [] }
 
+-- what empty devices restore
 abbrev pub nothing : Kept
 nothing = record { present = None; entries = [] }
 
--- what is restored where the log of the present generation has these groups
+-- what is restored if the log of the present generation has these groups
 abbrev pub kept_from : Images → List Group → Kept
 kept_from images own = kept_by (side_of images) own (restored (log_image (not (side_of images)) images)) (slot_of false images.even_slot) (slot_of true images.odd_slot)
 
--- The bytes of the four devices between two lives: they restore `kept`, and what a crash may make of the gate of the log
--- restores `other`. No gate of a slot is torn.
+-- The bytes of the four devices between two lives. They restore `kept`. With what a crash may make of the log's gate they restore `other`.
+-- No gate of a slot is torn.
 pub record UnswitchedWire (images : Images) (kept other : Kept) : Type 0 where
   pub even_slot : closing (slot_opened false images.even_slot) ≡ false
   pub odd_slot : closing (slot_opened true images.odd_slot) ≡ false
@@ -37,11 +36,11 @@ pub record UnswitchedWire (images : Images) (kept other : Kept) : Type 0 where
   pub kept_is : kept ≡ kept_from images own
   pub other_is : other ≡ kept_from images own_other
 
--- what the next life begins with: what this one had, with or without what the gate of its log may bring back, or that
+-- what the next life keeps, and what it may restore instead: `kept` alone, `kept` and `other`, or `other` alone
 abbrev pub UnswitchedNext : Images → Kept → Kept → Type 0
 UnswitchedNext images kept other = UnswitchedWire images kept kept ⊎ (UnswitchedWire images kept other ⊎ UnswitchedWire images other other)
 
--- two such lives, of what a run of calls makes of a store
+-- what the next life keeps after a run of calls, and what it may restore instead
 pub record UnswitchedGrowth (kept : Kept) (others : List Kept) (ran all : Group) (images : Images) : Type 0 where
   pub now : Kept
   pub instead : Kept
@@ -49,17 +48,17 @@ pub record UnswitchedGrowth (kept : Kept) (others : List Kept) (ran all : Group)
   pub now_is : Grows kept others ran all now
   pub instead_is : Grows kept others ran all instead
 
--- A store that only crashes of its own lives have changed: no slot has to be closed, and what was sure last on the
--- present log is a log of its own lives.
+-- A store that only crashes of its own lives have changed. No slot has to be closed. What its log had at the last sync is a log of its own
+-- lives.
 pub record IsUnswitched (s : StoreState) : Type 0 where
   pub slots : log_is_called s ≡ true
   pub log : Wired s.log.cells (restored s.log.cells.sure)
 
--- each crash now leaves bytes with which the next life begins
+-- a store of which each crash now leaves bytes that the next life begins with
 abbrev pub LeavesUnswitched : StoreState → Kept → Kept → Type 0
 LeavesUnswitched s kept other = (images : Images) → MayLeave s images → UnswitchedNext images kept other
 
--- it stands for this very pair, where no job runs yet
+-- a store that stands for this very pair, before any job runs
 pub record OpensAs (s : StoreState) (kept other : Kept) : Type 0 where
   pub others : List Kept
   pub stands : StateStands s [] kept others

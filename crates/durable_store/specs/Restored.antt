@@ -7,7 +7,7 @@ use Rattle.batch_log.specs.Log.{restored}
 use Rattle.checkpoint_store.specs.Slots.{is_odd, slot_of, newer, newest, generation_of}
 use Rattle.durable_store.specs.declared.kept.Kept.{Kept}
 
--- the bytes of the logs and of the slots, of the even and of the odd generations
+-- the bytes of the four devices: the logs and the slots, of the even and of the odd generations
 pub record Images : Type 0 where
   pub even_log : List ℕ
   pub odd_log : List ℕ

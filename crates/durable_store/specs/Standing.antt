@@ -1,4 +1,4 @@
--- Where a store stands between two device calls.
+-- What a store stands for between two device calls.
 use Rattle.std.specs.Prelude.{◌≡◌, ◌⊎◌, ◌+◌, ◌-◌, ◌^◌, ℕ, min, Bool, true, false, not, cond, ◌&&◌, ◌||◌, List, [], ◌∷◌, ◌++◌, length, drop, Option}
 use Rattle.disk_model.specs.Cells.{IsImage, settled}
 use Rattle.disk_model.specs.declared.disk.Disk.{Ghosts}
@@ -18,21 +18,21 @@ use Rattle.durable_store.specs.States.{StoreState, state_of}
 use Rattle.durable_store.specs.declared.kept.Kept.{Kept}
 use Rattle.durable_store.specs.declared.store.Store.{Store}
 
--- A store stands for what each crash now restores, `kept`, and for what it may restore instead. That is the first of
--- `others`, which has one for each gate that is torn or just opened, in the order in which they are closed. So it has
--- one at most, unless more gates were torn when the store was opened. `added` is the group that the running job adds, if
--- it adds one.
+-- A store stands for what each crash now restores (`kept`), and for what a crash may restore instead: the first of `others`. These have one
+-- for each gate that is torn or just opened, in the order in which they are closed. There is at most one, unless more gates were torn when
+-- the store was opened. `added` is the group that the running job adds, if it adds one.
 
--- the first of them, or else `kept`
+-- what a crash may restore instead: the first of `others`, or `kept` if there is none
 abbrev pub first : Kept → List Kept → Kept
 first kept [] = kept
 first kept (other ∷ others) = other
 
--- what is restored where the present log, of the odd or of the even generations, has `own`, and the other log `beside`
+-- what is restored if the present log has the groups `own` and the other log `beside`; the Boolean tells an odd generation
 abbrev pub kept_by : Bool → List Group → List Group → Option Checkpoint → Option Checkpoint → Kept
 kept_by false own beside even odd = kept_of own beside even odd
 kept_by true own beside even odd = kept_of beside own even odd
 
+-- what is kept, with more entries
 abbrev pub with : Kept → Group → Kept
 with kept added = record { present = kept.present; entries = kept.entries ++ added }
 
@@ -79,7 +79,7 @@ log_others (Close waiting) added kept others = others
 log_others (Body bytes) added kept others = others
 log_others (SyncBody next) added kept others = others
 
--- what a crash during that call may restore instead of `kept`
+-- what a crash during the next call of the log may restore instead of `kept`
 abbrev pub log_stake : Job → Group → Kept → List Kept → Kept
 log_stake (Gate next) added kept others = with kept added
 log_stake (SyncGate next) added kept others = first kept others
@@ -112,7 +112,7 @@ pub record StateStands (s : StoreState) (added : Group) (kept : Kept) (others : 
   pub firm : s.firm ≡ min (length kept.entries) (2 ^ 64 - 1)
   pub counted : adds s.log.job ≡ true → s.adding ≡ length added
 
--- a crash now may leave these bytes
+-- bytes that a crash now may leave
 pub record MayLeave (s : StoreState) (images : Images) : Type 0 where
   pub even_slot : IsImage s.even.cells images.even_slot
   pub odd_slot : IsImage s.odd.cells images.odd_slot
@@ -121,11 +121,11 @@ pub record MayLeave (s : StoreState) (images : Images) : Type 0 where
 
 -- ---- what the next call makes of them
 
--- it is one of the log
+-- a store whose next call is one of its log
 abbrev pub log_is_called : StoreState → Bool
 log_is_called s = not (closing s.even.job || closing s.odd.job)
 
--- where no job runs on the log it begins the group of all entries that wait
+-- a store that begins the group of all that waits, as no job runs on its log
 abbrev pub group_begins : StoreState → Bool
 group_begins s = rests s.log.job && some s.waiting
 
@@ -138,7 +138,7 @@ kept_in s added kept = cond (log_is_called s) (log_kept s.log.job added kept) ke
 abbrev pub others_in : StoreState → Group → Kept → List Kept → List Kept
 others_in s added kept others = cond (closing s.even.job) (slot_others s.even.job others) (cond (closing s.odd.job) (slot_others s.odd.job others) (log_others s.log.job added kept others))
 
--- what a crash during it may restore instead of `kept`
+-- what a crash during the next call may restore instead of `kept`
 abbrev pub stake_in : StoreState → Group → Kept → List Kept → Kept
 stake_in s added kept others = cond (log_is_called s) (log_stake s.log.job added kept others) (first kept others)
 
@@ -161,29 +161,29 @@ module _ {D : Type 0} {g : Ghosts D} where
     pub others : List Kept
     pub stands : StoreStands s added kept others
 
-  -- a crash now may leave these bytes
+  -- bytes that a crash now may leave
   abbrev pub AreImages : Store D g → Images → Type 0
   AreImages s images = MayLeave (state_of s) images
 
-  -- a crash now restores the one or the other
+  -- a store of which a crash now restores one of two things
   abbrev pub LeavesEither : Store D g → Kept → Kept → Type 0
   LeavesEither s kept other = (images : Images) → AreImages s images → (restores images ≡ kept) ⊎ (restores images ≡ other)
 
   -- ---- the next call
 
-  -- it is one of the even slot
+  -- a store whose next call is one of its even slot
   abbrev pub calls_even : Store D g → Bool
   calls_even s = closing s.slots.even.job
 
-  -- it is one of the odd slot
+  -- a store whose next call is one of its odd slot
   abbrev pub calls_odd : Store D g → Bool
   calls_odd s = not (closing s.slots.even.job) && closing s.slots.odd.job
 
-  -- it is one of the log
+  -- a store whose next call is one of its log
   abbrev pub calls_log : Store D g → Bool
   calls_log s = log_is_called (state_of s)
 
-  -- it begins the group of all entries that wait
+  -- a store whose next call begins the group of all that waits
   abbrev pub begins_group : Store D g → Bool
   begins_group s = log_is_called (state_of s) && group_begins (state_of s)
 
@@ -205,32 +205,32 @@ module _ {D : Type 0} {g : Ghosts D} where
   abbrev pub others_after : Store D g → Group → Kept → List Kept → List Kept
   others_after s added kept others = others_in (state_of s) added kept others
 
-  -- what a crash during it may restore instead of `kept`
+  -- what a crash during the next call may restore instead of `kept`
   abbrev pub at_stake : Store D g → Group → Kept → List Kept → Kept
   at_stake s added kept others = stake_in (state_of s) added kept others
 
-  -- no job runs
+  -- a store of which no job runs
   abbrev pub is_idle : Store D g → Bool
   is_idle s = slot_idle s.slots.even.job && (slot_idle s.slots.odd.job && idle s.log.job)
 
-  -- there is a call to make
+  -- a store with a device call to make
   abbrev pub is_due : Store D g → Bool
   is_due s = closing s.slots.even.job || (closing s.slots.odd.job || (not (rests s.log.job) || some s.waiting))
 
   -- ---- what was given to it
 
-  -- the group that the running job adds
+  -- the entries of the group that the running job adds
   abbrev pub running : Store D g → Group → Group
   running s added = cond (adds s.log.job) added []
 
-  -- what is kept, what the running job adds, and what waits
+  -- the entries that are kept, that the running job adds, and that wait
   abbrev pub together : Store D g → Group → Kept → List (List ℕ)
   together s added kept = kept.entries ++ (running s added ++ s.waiting)
 
-  -- how many entries the running job adds
+  -- the number of entries that the running job adds
   abbrev pub being_added : Store D g → ℕ
   being_added s = cond (adds s.log.job) s.adding 0
 
-  -- how many are not firm yet
+  -- the number of entries that are not firm yet
   abbrev pub to_come : Store D g → ℕ
   to_come s = cond (adds s.log.job) s.adding 0 + length s.waiting

@@ -1,4 +1,4 @@
--- Which job of a store comes next.
+-- The order of a store's jobs.
 use Rattle.std.specs.Prelude.{◌≡◌, ℕ, Bool, true, false, cond, Option, Some, None}
 use Rattle.store_form.specs.declared.checkpoint.Checkpoint.{Checkpoint}
 use Rattle.batch_log.specs.Jobs.{idle, code, code_after}
@@ -8,7 +8,7 @@ use Rattle.checkpoint_store.specs.SlotJobs.{idle as slot_idle}
 use Rattle.checkpoint_store.specs.declared.job.SlotJob.{SlotJob}
 use Rattle.checkpoint_store.specs.declared.job.SlotJob.TheVariants.{Empty, Torn, Shut, Close, SyncClose, Fill, SyncFill, Full, Gate, SyncGate, Counts}
 
--- the gate of this slot has to be closed, or is being closed
+-- a slot whose gate has to be closed, or is being closed
 abbrev pub closing : SlotJob → Bool
 closing Torn = true
 closing Close = true
@@ -22,7 +22,7 @@ closing Gate = false
 closing SyncGate = false
 closing Counts = false
 
--- its close begins
+-- the job of a slot after its close has begun
 abbrev pub job_begun : SlotJob → SlotJob
 job_begun Torn = Close
 job_begun Close = Close
@@ -36,7 +36,7 @@ job_begun Gate = Gate
 job_begun SyncGate = SyncGate
 job_begun Counts = Counts
 
--- the next job of the close, and what the slot may have instead then
+-- the job of a slot after the next call of its close
 abbrev pub job_closed : SlotJob → SlotJob
 job_closed Torn = SyncClose
 job_closed Close = SyncClose
@@ -50,6 +50,7 @@ job_closed Gate = Gate
 job_closed SyncGate = SyncGate
 job_closed Counts = Counts
 
+-- what the slot may have instead after that call
 abbrev pub other_closed : SlotJob → Option Checkpoint → Option Checkpoint → Option Checkpoint
 other_closed SyncClose has other = has
 other_closed Torn has other = other
@@ -63,7 +64,7 @@ other_closed Gate has other = other
 other_closed SyncGate has other = other
 other_closed Counts has other = other
 
--- nothing is put into a slot
+-- a job that puts nothing into a slot
 abbrev pub OnlyCloses : SlotJob → Type 0
 OnlyCloses Empty = Unit {0}
 OnlyCloses Torn = Unit {0}
@@ -77,7 +78,7 @@ OnlyCloses Full = ⊥
 OnlyCloses Gate = ⊥
 OnlyCloses SyncGate = ⊥
 
--- the gate behind the groups of the log is not sure to be closed
+-- a log whose gate after its groups is not sure to be closed
 abbrev pub unsure : Job → Bool
 unsure Rest = false
 unsure TornLog = true
@@ -101,7 +102,7 @@ adds (SyncBody next) = true
 adds (GateLog next) = true
 adds (SyncGateLog next) = true
 
--- no job runs, and the log's gate is closed
+-- a log on which no job runs, and whose gate is closed
 abbrev pub rests : Job → Bool
 rests Rest = true
 rests TornLog = false
@@ -112,7 +113,7 @@ rests (SyncBody next) = false
 rests (GateLog next) = false
 rests (SyncGateLog next) = false
 
--- the code of the job of the log, once the first that applies is started where none ran
+-- the code of the log's job, after the first one that applies has begun if none ran
 abbrev pub job_started : Bool → Job → ℕ
 job_started waits Rest = cond waits 4 0
 job_started waits TornLog = 8
@@ -123,8 +124,7 @@ job_started waits (SyncBody next) = 3
 job_started waits (GateLog next) = 2
 job_started waits (SyncGateLog next) = 1
 
--- the code of the job of the log after its next call: where none ran, that call is the first of the repair, or else of
--- the group of all that waits
+-- the code of the log's job after its next call; if none ran, that call is the first one of the repair, or of the group of all that waits
 abbrev pub code_next : Bool → Job → ℕ
 code_next waits Rest = cond waits 3 0
 code_next waits TornLog = 7
@@ -135,7 +135,7 @@ code_next waits (SyncBody next) = 2
 code_next waits (GateLog next) = 1
 code_next waits (SyncGateLog next) = 0
 
--- its next call makes a group firm
+-- a job whose next call makes a group firm
 abbrev pub ends_group : Job → Bool
 ends_group (SyncGateLog next) = true
 ends_group Rest = false
@@ -146,7 +146,7 @@ ends_group (Body bytes) = false
 ends_group (SyncBody next) = false
 ends_group (GateLog next) = false
 
--- the even slot is closed first, then the odd one, and then a job of the log runs
+-- jobs in order: the even slot is closed first, then the odd one, and then a job of the log runs
 pub record InTurn (even odd : SlotJob) (log : Job) : Type 0 where
   pub even_closes : OnlyCloses even
   pub odd_closes : OnlyCloses odd

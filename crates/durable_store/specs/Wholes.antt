@@ -8,7 +8,7 @@ use Rattle.durable_store.specs.Calls.{LeftSince}
 use Rattle.durable_store.specs.declared.kept.Kept.{Kept}
 use Rattle.durable_store.specs.declared.store.Store.{Store}
 
--- the one list begins with the other
+-- a list that is a prefix of another
 abbrev pub IsFront : {A : Type 0} → List A → List A → Type 0
 IsFront front whole = (more : List _) × (whole ≡ front ++ more)
 
@@ -16,19 +16,19 @@ abbrev pub IsOneOf : Kept → List Kept → Type 0
 IsOneOf x [] = ⊥
 IsOneOf x (y ∷ ys) = (x ≡ y) ⊎ IsOneOf x ys
 
--- What was kept, or might have been restored instead; that with the group that ran already, `ran`; or with `all`: that
--- group and the group of all that waited.
+-- What a crash during a run may restore. It is what was kept, or might have been restored instead. Or it has, too, the group `ran` that was
+-- running, or `all`: that group and all that waited.
 abbrev pub Grows : Kept → List Kept → Group → List (List ℕ) → Kept → Type 0
 Grows kept others ran all x = (x ≡ kept) ⊎ (IsOneOf x others ⊎ ((x ≡ with kept ran) ⊎ (x ≡ with kept all)))
 
--- The moment of a device does not fall, and what a crash might have left before might have been left since.
+-- a device whose moment does not fall, and of which a crash since may leave what it might have left before
 pub record Lasts {D : Type 0} (g : Ghosts D) (old new : D) : Type 0 where
   pub later : g.moment old ≤ g.moment new
   pub keeps : (t : ℕ) (c : List ℕ) → t ≤ g.moment old → g.left_since old t c → g.left_since new t c
 
 module _ {D : Type 0} {g : Ghosts D} where
-  -- No job runs, and no slot has to be closed. It stands for what was kept with the group that ran already, `ran`, and for
-  -- nothing instead that it did not stand for before.
+  -- A store after a run. No job runs, and no slot has to be closed. It stands for what was kept with the group `ran`. It may restore
+  -- nothing instead that it might not have restored before.
   pub record HasRun (s : Store D g) (kept : Kept) (others : List Kept) (ran : Group) : Type 0 where
     pub left : List Kept
     pub stands : StoreStands s [] (with kept ran) left
@@ -42,9 +42,8 @@ module _ {D : Type 0} {g : Ghosts D} where
     pub log : Lasts g old.log.device new.log.device
     pub other_log : Lasts g old.other_log new.other_log
 
-  -- The moments of a run of calls. Up to `middle` the log is not called, and from then on no slot is. What a crash might have
-  -- left up to then restores what was kept, or might have been restored instead; and what it might have left since, what
-  -- Grows says.
+  -- The moments of a run of calls. Up to `middle` the log is not called, and from then on no slot is. Up to `middle` a crash restores what
+  -- was kept, or might have been restored instead. Since then it restores what `Grows` says.
   pub record Passes (old new : Store D g) (kept : Kept) (others : List Kept) (ran all : Group) : Type 0 where
     pub middle : Store D g
     pub generation : middle.generation ≡ old.generation

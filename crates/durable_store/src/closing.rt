@@ -1,4 +1,4 @@
-//! The close of a slot that a crash left torn.
+//! The close of a slot whose gate a crash left torn.
 ghost use Rattle.std.specs.Prelude.{◌≡◌, ◌≤◌, ◌<◌, ℕ, Bool, true, false, Option, OnOk, OnErr, IfOk, IsErrOf};
 ghost use Rattle.faults.specs.Counts.{Rose};
 ghost use Rattle.disk_model.specs.Cells.{IsImage};
@@ -22,7 +22,7 @@ pub fn is_closing(job: &SlotJob) -> bool
     matches!(job, SlotJob::Torn | SlotJob::Close | SlotJob::SyncClose)
 }
 
-/// Makes the next device call that closes a slot, and tells whether it is closed then.
+/// Makes the next device call of a slot's close, and tells whether the slot is closed after it.
 pub fn close_call<D: Disk>(
     slots: &mut CheckpointStore<D>,
     generation: u64,
@@ -52,7 +52,7 @@ pub fn close_call<D: Disk>(
     slots.next_call(generation)
 }
 
-/// Begins the close of a torn slot. It makes no device call.
+/// Begins the close of a torn slot, without a device call.
 #[tactic(auto, using(crate::proofs::Closings::is_begun))]
 fn begin<D: Disk>(slots: &mut CheckpointStore<D>, generation: u64) -> Result<(), LogFault>
     requires some { 0 < generation }

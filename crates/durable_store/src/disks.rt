@@ -1,9 +1,8 @@
 //! The devices of a store.
 use disk_model::disk::Disk;
 
-/// The four devices of a store, in the order of their numbers, 0 to 3. A generation has its log and
-/// its slot among the even or among the odd ones, as its number is: generation g has the log g mod 2
-/// and the slot 2 + g mod 2. Generation 0 has no slot.
+/// The four devices of a store, in the order of their numbers 0 to 3. Generation g has the log g mod
+/// 2 and the slot 2 + g mod 2. Generation 0 has no slot.
 #[derive(Drop)]
 pub struct Disks<D: Disk> {
     /// Device 0.

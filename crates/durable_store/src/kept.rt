@@ -6,15 +6,15 @@ use std::alloc::{AllocError, Global};
 use std::mem;
 use store_form::checkpoint::Checkpoint;
 
-/// What a store restores: the newest checkpoint that counts, and the entries of the log of its
-/// generation, in their order. Without a checkpoint the generation is 0.
+/// What a store restores: the newest checkpoint that counts, and the entries of its generation's log,
+/// in order. Without a checkpoint the generation is 0.
 #[derive(Drop)]
 pub struct Kept {
     pub present: Option<Checkpoint>,
     pub entries: Sequence<Bytes>,
 }
 
-/// Adds entries to others. Without memory nothing is added.
+/// Adds entries to others. Error: want of memory; nothing is added then.
 pub fn push_all(
     alloc: Global,
     entries: &mut Sequence<Bytes>,

@@ -1,4 +1,4 @@
-//! What holds of a store between two calls.
+//! The laws of a store between two calls.
 ghost use Rattle.std.specs.Prelude.{◌≡◌, ◌≤◌, ℕ, List, [], length, take, false, true};
 ghost use Rattle.store_form.specs.Spelling.{Group, IsGroup};
 ghost use Rattle.checkpoint_store.specs.Slots.{generation_of};
@@ -20,16 +20,16 @@ pub fn a_crash_leaves_either<D: Disk>(store: &Store<D>)
     let _ = store;
 }
 
-/// After a crash between two calls of a store that only crashes of its own lives have changed, and
-/// that has switched to no generation, it is such a store again. The next life keeps what this one
-/// kept, or what it might have restored instead, and may restore no third instead of that.
+/// A crash leaves a store of its own lives again. The premises are that only crashes of its own lives
+/// have changed the store, and that it has switched to no generation. The next life keeps what this
+/// one kept, or what this one might have restored instead. It may restore no third thing.
 pub fn a_crash_leaves_a_store<D: Disk>(store: &Store<D>)
     ensures { (added : Group) (kept : Kept) (others : List Kept) → StoreStands store.now added kept others → IsUnswitched (state_of store.now) → LeavesUnswitched (state_of store.now) kept (first kept others) }
 {
     let _ = store;
 }
 
-/// The bytes of such a store restore what they are said to.
+/// The bytes of such a store restore what is claimed of them.
 pub fn a_store_restores()
     ensures { (images : Images) (kept other : Kept) → UnswitchedWire images kept other → restores images ≡ kept }
 {}
@@ -39,9 +39,9 @@ pub fn an_empty_store()
     ensures { UnswitchedWire no_bytes nothing nothing }
 {}
 
-/// Each crash that restores the present generation restores all that is firm, and at the front. Where
-/// no slot has to be closed each crash restores that generation. During the next call it does so too:
-/// `next_call` says that it restores what is kept, or what is at stake.
+/// What is firm stays: each crash that restores the present generation restores all firm entries, and
+/// as the first ones. If no slot has to be closed, each crash restores that generation. This holds
+/// during the next call too, as that restores what is kept or what is at stake.
 pub fn what_is_firm_stays<D: Disk>(store: &Store<D>)
     ensures fits { (added : Group) (kept : Kept) (others : List Kept) → StoreStands store.now added kept others → store.now.firm ≤ length kept.entries }
     ensures firm { (added : Group) (kept : Kept) (others : List Kept) → StoreStands store.now added kept others
@@ -56,14 +56,14 @@ pub fn what_is_firm_stays<D: Disk>(store: &Store<D>)
     let _ = store;
 }
 
-/// Where no call is due no job runs, and each crash restores what is kept.
+/// A store without a due call has no running job, and each crash restores what it keeps.
 pub fn nothing_is_due<D: Disk>(store: &Store<D>)
     ensures { (added : Group) (kept : Kept) (others : List Kept) → StoreStands store.now added kept others → is_due store.now ≡ false → (is_idle store.now ≡ true) × (others ≡ []) }
 {
     let _ = store;
 }
 
-/// What a crash may leave, and whether a call is due, is by the state of the store alone.
+/// The state of a store alone tells what a crash may leave, and whether a call is due.
 pub fn what_a_state_says<D: Disk>(store: &Store<D>)
     ensures leaves { (images : Images) → AreImages store.now images → MayLeave (state_of store.now) images }
     ensures left { (images : Images) → MayLeave (state_of store.now) images → AreImages store.now images }
@@ -72,8 +72,9 @@ pub fn what_a_state_says<D: Disk>(store: &Store<D>)
     let _ = store;
 }
 
-/// What a state stands for after its next call, where the entries of a group that begins then have a
-/// spelling together. Entries that are given change nothing of it.
+/// The state after the next call stands for what these clauses say. The premise is that the entries
+/// of a group that begins in it have a spelling together. Entries that are given change nothing of
+/// it.
 pub fn a_state_goes_on()
     ensures called { (s : StoreState) (added : Group) (kept : Kept) (others : List Kept) → StateStands s added kept others → (group_begins s ≡ true → IsGroup s.waiting)
         → StateStands (store_called s) (added_in s added) (kept_in s added kept) (others_in s added kept others) }
@@ -82,8 +83,8 @@ pub fn a_state_goes_on()
     ensures started { (s : StoreState) (added : Group) (kept : Kept) (others : List Kept) (entries : List (List ℕ)) → StateStands s added kept others → StateStands (started s entries) added kept others }
 {}
 
-/// What a crash leaves of a state that only crashes of its own lives have changed: bytes that open as
-/// such a state again, which stands for the very pair that is said of them.
+/// The bytes that a crash leaves open as a store of its own lives again, if only crashes of its own
+/// lives have changed it. That store stands for the very pair that is claimed of the bytes.
 pub fn a_state_lives_on()
     ensures crash { (s : StoreState) (added : Group) (kept : Kept) (others : List Kept) → StateStands s added kept others → IsUnswitched s → LeavesUnswitched s kept (first kept others) }
     ensures opened { (images : Images) (kept other : Kept) → UnswitchedWire images kept other → OpensAs (store_opened images) kept other }

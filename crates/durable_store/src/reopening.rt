@@ -1,4 +1,4 @@
-//! A store is opened again over what a crash has left.
+//! The opening of a store over what a crash has left.
 ghost use Rattle.std.specs.Prelude.{◌≡◌, ◌≤◌, List, [], cond, length, IfOk, IfErr, false, true};
 ghost use Rattle.faults.specs.Counts.{Rose};
 ghost use Rattle.disk_model.specs.Cells.{IsImage, settled};
@@ -27,8 +27,8 @@ use smart_base::sequence::{Bytes, Sequence};
 use std::alloc::{AllocError, Global};
 use store_form::ends::{LogFault, State};
 
-/// Opens a store over four devices on which nothing is pending, and gives what it restores. A refused
-/// opening gives the devices back.
+/// Opens a store over four devices on which nothing is pending. Gives the store and what it restores.
+/// Errors: a failure of a device; want of memory. The devices come back with the error.
 pub fn reopen<D: Disk>(
     alloc: Global,
     disks: Disks<D>,

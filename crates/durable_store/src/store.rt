@@ -1,4 +1,4 @@
-//! The store over its four devices.
+//! A store over its four devices.
 ghost use Rattle.std.specs.Prelude.{◌≡◌, Bool, Err};
 ghost use Rattle.store_form.specs.Ends.{Closes};
 ghost use Rattle.store_form.specs.declared.ends.State.TheVariants.{Open};
@@ -18,10 +18,11 @@ use smart_base::sequence::{Bytes, Sequence};
 use std::alloc::Global;
 use store_form::ends::{LogFault, State};
 
-/// Why a call of a store did not do its work.
+/// The reason for which a call of a store did not do its work: a failure of a device, or want of
+/// memory.
 pub type StoreFault = LogFault;
 
-/// Names the slot of the even generations, and that of the odd ones.
+/// The names of the slots of the even and of the odd generations.
 const EVEN: u64 = 2;
 
 const ODD: u64 = 1;
@@ -29,35 +30,35 @@ const ODD: u64 = 1;
 /// The entries with which the log of a new generation begins.
 #[derive(Drop)]
 pub struct Tail {
-    /// The number of the last one among the entries made in this life, from 1. It is 0 where that
-    /// entry was restored, or none is there.
+    /// The number, from 1, of the last of these entries that was made in this life. It is 0 if that
+    /// entry was restored, or there is none.
     pub made: u64,
     pub entries: Sequence<Bytes>,
 }
 
-/// What a store is asked to do.
+/// A task for a store.
 #[derive(Drop)]
 pub enum Job {
-    /// Make these entries firm, in one group with all that wait.
+    /// These entries are to become firm, in one group with all that wait.
     Append(Sequence<Bytes>),
 }
 
-/// A store that is open until a disk fails, or memory runs out inside a device call. Then it is to be
-/// opened again over what the devices hold.
+/// A store. It closes when a device fails or wants memory, and is then to be opened again over what
+/// the devices hold.
 #[derive(Drop)]
 pub struct Store<D: Disk> {
     /// The two slots.
     pub slots: CheckpointStore<D>,
-    /// The log of the present generation, and that of the other generations.
+    /// The log of the present generation, and the device of the other log.
     pub log: BatchLog<D>,
     pub other_log: D,
-    /// The present generation.
+    /// The number of the present generation.
     pub generation: u64,
-    /// How many entries are firm.
+    /// The number of firm entries.
     pub firm: u64,
-    /// How many entries the running job adds.
+    /// The number of entries that the running job adds.
     pub adding: u64,
-    /// The entries that wait.
+    /// The entries that wait for the next group.
     pub waiting: Sequence<Bytes>,
     pub state: State,
     ghost fit: { AreEntries waiting } by { entries_prop waiting },
@@ -89,9 +90,10 @@ impl<D: Disk> Store<D> {
     ghost use Rattle.durable_store.specs.Lives.{UnswitchedNext, IsUnswitched, LeavesUnswitched, UnswitchedGrowth};
     ghost use Rattle.batch_log.specs.Wires.{Wired, LeavesWire};
 
-    /// Makes entries firm, in one group with all that wait, and makes every call that is due before.
-    /// After `Ok` each crash restores what was kept with all of them. Where memory runs out and the
-    /// store stays open, these entries are not taken.
+    /// Makes entries firm, in one group with all that wait, after it has made every call that is due
+    /// before. After `Ok` each crash restores what was kept with all of them. Errors: a failure of a
+    /// device; want of memory. If memory is wanted and the store stays open, it has not taken the
+    /// entries.
     pub fn append(&mut self, alloc: Global, entries: Sequence<Bytes>) -> Result<(), StoreFault>
         requires fit { AreEntries entries }
         requires stands { self.old.state ≡ State.Open → D.told → IsUnderWay self.old }
@@ -149,9 +151,9 @@ impl<D: Disk> Store<D> {
         answer
     }
 
-    /// Makes the next device call, and tells whether no job runs then. Where none runs before, it
-    /// starts the first that applies: the close of a slot, the repair of the log, the group of all
-    /// entries that wait. Where none applies it does nothing.
+    /// Makes the next device call, and tells whether no job runs after it. If none ran, it begins the
+    /// first that applies: the close of a slot, the repair of the log, the group of all that waits.
+    /// If none applies, it does nothing. Errors: a failure of a device; want of memory.
     pub fn next_call(&mut self, alloc: Global, tail: &Tail) -> Result<bool, StoreFault>
         requires empty { (tail.now.made ≡ 0) × (tail.now.entries ≡ []) }
         requires stands { self.old.state ≡ State.Open → D.told → IsUnderWay self.old }
@@ -207,7 +209,8 @@ impl<D: Disk> Store<D> {
         self.call_log()
     }
 
-    /// Gives entries to the store. They wait for the next group.
+    /// Gives entries to the store, which wait for the next group. Errors: want of memory; or the
+    /// store is closed.
     pub fn start(&mut self, alloc: Global, job: Job) -> Result<(), StoreFault>
         requires { AreEntries (given job) }
         ensures started { OnOk result (state_of self.new ≡ started (state_of self.old) (given job)) }
@@ -232,7 +235,7 @@ impl<D: Disk> Store<D> {
         Ok(())
     }
 
-    /// Whether the next call needs a tail. No job of this store does.
+    /// Whether the next call needs a tail: never, in this store.
     pub fn wants_tail(&self) -> bool
         ensures { result ≡ false }
     {
@@ -240,21 +243,21 @@ impl<D: Disk> Store<D> {
         false
     }
 
-    /// How many entries are firm: those restored, and those made firm since. At 2^64-1 it stays.
+    /// The number of firm entries: those restored, and those made firm since. It stays at 2^64 - 1.
     pub fn firm(&self) -> u64
         ensures { result ≡ self.now.firm }
     {
         self.firm
     }
 
-    /// The present generation, 0 where no slot counts.
+    /// The number of the present generation; 0 if no slot counts.
     pub fn generation(&self) -> u64
         ensures { result ≡ self.now.generation }
     {
         self.generation
     }
 
-    /// Whether no job runs. One may be due all the same, where a gate is torn or entries wait.
+    /// Whether no job runs. A job may be due all the same, if a gate is torn or entries wait.
     pub fn is_idle(&self) -> bool
         ensures { result ≡ is_idle self.now }
     {
@@ -263,7 +266,8 @@ impl<D: Disk> Store<D> {
             && is_log_idle(&self.log.job)
     }
 
-    /// Whether there is a call to make: a job runs, or one begins. Where none is due no job runs.
+    /// Whether there is a device call to make: a job runs, or one is to begin. If none is due, no job
+    /// runs.
     pub fn is_due(&self) -> bool
         ensures { result ≡ is_due self.now }
     {
@@ -273,7 +277,7 @@ impl<D: Disk> Store<D> {
             || !self.waiting.is_empty()
     }
 
-    /// Gives the devices back.
+    /// The devices, taken out of the store.
     pub fn into_disks(self) -> Disks<D>
         ensures even_slot { result.even_slot ≡ self.slots.even.device }
         ensures odd_slot { result.odd_slot ≡ self.slots.odd.device }
@@ -352,7 +356,7 @@ impl<D: Disk> Store<D> {
         Ok(())
     }
 
-    /// Lets only the first of the entries wait, as many as `count`.
+    /// Lets only the first `count` entries wait.
     fn take_back(&mut self, count: usize)
         ensures waiting { self.new.waiting ≡ take count self.old.waiting }
         ensures slots { self.new.slots ≡ self.old.slots }
@@ -406,7 +410,7 @@ impl<D: Disk> Store<D> {
         }
     }
 
-    /// Starts the first job of the log that applies, where none runs. It makes no device call.
+    /// Begins the first job of the log that applies, if none runs, without a device call.
     fn begin(&mut self, alloc: Global) -> Result<(), StoreFault>
         requires open { self.old.state ≡ State.Open }
         ensures stands { OnOk result (D.told → (added : Group) (gs other : List Group) → Stands (D.cells self.old.log.device) self.old.log.end self.old.log.job added gs other
@@ -436,7 +440,7 @@ impl<D: Disk> Store<D> {
         }
     }
 
-    /// Starts the group of all entries that wait, if there are any.
+    /// Begins the group of all entries that wait, if there are any.
     fn begin_group(&mut self, alloc: Global) -> Result<(), StoreFault>
         requires open { self.old.state ≡ State.Open }
         requires rests { self.old.log.job ≡ LogJob.Rest }

@@ -16,19 +16,17 @@ use Rattle.smart_statements.specs.declared.statement.Answer.{Answer}
 use Rattle.smart_messages.specs.declared.regency.Stop.{Stop}
 use Rattle.smart_messages.specs.declared.regency.Sync.{Sync}
 use Rattle.smart_messages.specs.declared.regency.Reported.{Reported}
-use Rattle.smart_messages.specs.declared.regency.RegencyMessage.TheVariants as changes
+use Rattle.smart_messages.specs.declared.message.Message.TheVariants as changes
 use Rattle.smart_messages.specs.declared.message.Message.{Message}
 use Rattle.smart_messages.specs.declared.message.Message.TheVariants.{Ask, Propose, Vote, Reply}
 use Rattle.smart_messages.specs.declared.message.Proposed.{Proposed}
-use Rattle.smart_messages.specs.declared.any.AnyMessage.{AnyMessage}
-use Rattle.smart_messages.specs.declared.any.AnyMessage.TheVariants.{Plain, Change}
 use Rattle.regency_sync.specs.Choices.{choice}
 use Rattle.regency_sync.specs.Synchronizers.{is_needed, needs_stop, needs_report, needs_sync, repeats_stop, repeats_report, repeats_sync}
 use Rattle.regency_sync.proofs.Lists.{any_filter, filter_end}
 use Rattle.regency_sync.proofs.Needs.{stop_repeats, report_repeats, sync_repeats}
 use Rattle.replica_rules.specs.Replicas.{is_next}
 use Rattle.replica_rules.specs.Seals.{is_verified}
-use Rattle.node_rules.specs.Arrivals.{is_same_proposal, is_same_vote, signer_why, view_why, place_why, regency_why, wish_why, slot_why, why_ask, is_batch_for, is_unbound, why_propose, why_vote, why_reply, why_stop, is_proven, why_report, is_collect, why_sync, why_dropped, noted, kept_plain, kept_change, kept}
+use Rattle.node_rules.specs.Arrivals.{is_same_proposal, is_same_vote, signer_why, view_why, place_why, regency_why, wish_why, slot_why, why_ask, is_batch_for, is_unbound, why_propose, why_vote, why_reply, why_stop, is_proven, why_report, is_collect, why_sync, why_dropped, noted, kept}
 use Rattle.replica_rules.specs.Pools.{offered}
 use Rattle.node_rules.specs.Nodes.{Node, view_of, regency_of, start_of, is_begun, decided_place, synchronizer_of}
 use Rattle.node_rules.specs.declared.node.Why.{Why}
@@ -160,26 +158,26 @@ why_sync_same n s =
     (cond (not (is_collect n s.statement)) (Some BadProof) (cond (is_begun n s.statement.regency || again) (Some Repeated) None)))
     (sync_repeats_same n s (needed_here n s.statement.view s.statement.regency (view_is n s.statement.view here) (ltb-false s.statement.regency (regency_of n) later))))))
 
-pub why_same : {S : Type 0} (n : Node S) (message : AnyMessage) → why_dropped (trimmed n) message ≡ why_dropped n message
-why_same n (Plain (Ask q)) = why_ask_same n q
-why_same n (Plain (Propose p)) = why_propose_same n p
-why_same n (Plain (Vote b)) = why_vote_same n b
-why_same n (Plain (Reply a)) = why_reply_same n a
-why_same n (Change (changes.Stop s)) = why_stop_same n s
-why_same n (Change (changes.StopData r)) = why_report_same n r
-why_same n (Change (changes.Sync s)) = why_sync_same n s
+pub why_same : {S : Type 0} (n : Node S) (message : Message) → why_dropped (trimmed n) message ≡ why_dropped n message
+why_same n (Ask q) = why_ask_same n q
+why_same n (Propose p) = why_propose_same n p
+why_same n (Vote b) = why_vote_same n b
+why_same n (Reply a) = why_reply_same n a
+why_same n (changes.Stop s) = why_stop_same n s
+why_same n (changes.StopData r) = why_report_same n r
+why_same n (changes.Sync s) = why_sync_same n s
 
 -- ---- what an arrival tells
 
-pub noted_same : {S : Type 0} (n : Node S) (message : AnyMessage) → noted (trimmed n) message ≡ trimmed (noted n message)
+pub noted_same : {S : Type 0} (n : Node S) (message : Message) → noted (trimmed n) message ≡ trimmed (noted n message)
 unfolding noted signer_why trimmed regency_of
-noted_same n (Plain (Ask q)) = refl
-noted_same n (Plain (Propose p)) = refl
-noted_same n (Plain (Vote b)) = refl
-noted_same n (Plain (Reply a)) = refl
-noted_same n (Change (changes.Stop s)) = refl
-noted_same n (Change (changes.StopData r)) = refl
-noted_same n (Change (changes.Sync s)) = refl
+noted_same n (Ask q) = refl
+noted_same n (Propose p) = refl
+noted_same n (Vote b) = refl
+noted_same n (Reply a) = refl
+noted_same n (changes.Stop s) = refl
+noted_same n (changes.StopData r) = refl
+noted_same n (changes.Sync s) = refl
 
 -- ---- what is kept
 
@@ -221,46 +219,46 @@ added : {S : Type 0} (n : Node S) (message : Message) → needed_by n message �
 unfolding trimmed regency_of
 added n message needed = ap (λ (ms : List Message). record (trimmed n) { arrivals = ms }) (filter_end (needed_by n) n.arrivals message needed)
 
-kept_ask : {S : Type 0} (n : Node S) (q : SignedBy Request) → kept_plain (trimmed n) (Ask q) ≡ trimmed (kept_plain n (Ask q))
-unfolding kept_plain trimmed regency_of
+kept_ask : {S : Type 0} (n : Node S) (q : SignedBy Request) → kept (trimmed n) (Ask q) ≡ trimmed (kept n (Ask q))
+unfolding kept trimmed regency_of
 kept_ask n q = trimmed-if (is_next n.replica.table q.statement) (record n { pool = offered n.pool q }) n
 
-kept_propose : {S : Type 0} (n : Node S) (p : Proposed) → ahead_of n p.head.statement.slot ≡ true → kept_plain (trimmed n) (Propose p) ≡ trimmed (kept_plain n (Propose p))
-unfolding kept_plain trimmed
+kept_propose : {S : Type 0} (n : Node S) (p : Proposed) → ahead_of n p.head.statement.slot ≡ true → kept (trimmed n) (Propose p) ≡ trimmed (kept n (Propose p))
+unfolding kept trimmed
 kept_propose n p ahead = added n (Propose p) ahead
 
-kept_vote : {S : Type 0} (n : Node S) (b : SignedBy Ballot) → ahead_of n b.statement.slot ≡ true → kept_plain (trimmed n) (Vote b) ≡ trimmed (kept_plain n (Vote b))
-unfolding kept_plain trimmed
+kept_vote : {S : Type 0} (n : Node S) (b : SignedBy Ballot) → ahead_of n b.statement.slot ≡ true → kept (trimmed n) (Vote b) ≡ trimmed (kept n (Vote b))
+unfolding kept trimmed
 kept_vote n b ahead = added n (Vote b) ahead
 
-kept_reply : {S : Type 0} (n : Node S) (a : SignedBy Answer) → kept_plain (trimmed n) (Reply a) ≡ trimmed (kept_plain n (Reply a))
-unfolding kept_plain trimmed
+kept_reply : {S : Type 0} (n : Node S) (a : SignedBy Answer) → kept (trimmed n) (Reply a) ≡ trimmed (kept n (Reply a))
+unfolding kept trimmed
 kept_reply n a = refl
 
 kept_stop : {S : Type 0} (n : Node S) (s : SignedBy Stop) → needs_stop (view_of n).number (regency_of n) s ≡ true
-    → kept_change (trimmed n) (changes.Stop s) ≡ trimmed (kept_change n (changes.Stop s))
-unfolding kept_change trimmed regency_of
+    → kept (trimmed n) (changes.Stop s) ≡ trimmed (kept n (changes.Stop s))
+unfolding kept trimmed regency_of
 kept_stop n s needed =
     ap (λ (kept_ones : List (SignedBy Stop)). record (trimmed n) { stops = kept_ones }) (filter_end (needs_stop (view_of n).number (regency_of n)) n.stops s needed)
 
 kept_report : {S : Type 0} (n : Node S) (r : Reported) → needs_report (view_of n).number (regency_of n) r ≡ true
-    → kept_change (trimmed n) (changes.StopData r) ≡ trimmed (kept_change n (changes.StopData r))
-unfolding kept_change trimmed regency_of
+    → kept (trimmed n) (changes.StopData r) ≡ trimmed (kept n (changes.StopData r))
+unfolding kept trimmed regency_of
 kept_report n r needed =
     ap (λ (kept_ones : List Reported). record (trimmed n) { reports = kept_ones }) (filter_end (needs_report (view_of n).number (regency_of n)) n.reports r needed)
 
 kept_sync : {S : Type 0} (n : Node S) (s : SignedBy Sync) → needs_sync (view_of n).number (regency_of n) s ≡ true
-    → kept_change (trimmed n) (changes.Sync s) ≡ trimmed (kept_change n (changes.Sync s))
-unfolding kept_change trimmed regency_of
+    → kept (trimmed n) (changes.Sync s) ≡ trimmed (kept n (changes.Sync s))
+unfolding kept trimmed regency_of
 kept_sync n s needed =
     ap (λ (kept_ones : List (SignedBy Sync)). record (trimmed n) { syncs = kept_ones; behind = n.behind || nat_lt (decided_place n + 1) (choice s.statement.collect).base })
     (filter_end (needs_sync (view_of n).number (regency_of n)) n.syncs s needed)
 
-pub kept_same : {S : Type 0} (n : Node S) (message : AnyMessage) → why_dropped n message ≡ None → kept (trimmed n) message ≡ trimmed (kept n message)
-kept_same n (Plain (Ask q)) none = kept_ask n q
-kept_same n (Plain (Propose p)) none = kept_propose n p (propose_ahead n p none)
-kept_same n (Plain (Vote b)) none = kept_vote n b (vote_ahead n b none)
-kept_same n (Plain (Reply a)) none = kept_reply n a
-kept_same n (Change (changes.Stop s)) none = kept_stop n s (stop_needed n s none)
-kept_same n (Change (changes.StopData r)) none = kept_report n r (report_needed n r none)
-kept_same n (Change (changes.Sync s)) none = kept_sync n s (sync_needed n s none)
+pub kept_same : {S : Type 0} (n : Node S) (message : Message) → why_dropped n message ≡ None → kept (trimmed n) message ≡ trimmed (kept n message)
+kept_same n (Ask q) none = kept_ask n q
+kept_same n (Propose p) none = kept_propose n p (propose_ahead n p none)
+kept_same n (Vote b) none = kept_vote n b (vote_ahead n b none)
+kept_same n (Reply a) none = kept_reply n a
+kept_same n (changes.Stop s) none = kept_stop n s (stop_needed n s none)
+kept_same n (changes.StopData r) none = kept_report n r (report_needed n r none)
+kept_same n (changes.Sync s) none = kept_sync n s (sync_needed n s none)

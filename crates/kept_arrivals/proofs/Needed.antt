@@ -16,13 +16,13 @@ use Rattle.smart_messages.specs.declared.regency.Reported.{Reported}
 use Rattle.smart_statements.specs.declared.statement.VoteKind.{VoteKind}
 use Rattle.smart_statements.specs.declared.statement.VoteKind.TheVariants as kinds
 use Rattle.smart_messages.specs.declared.message.Message.{Message}
-use Rattle.smart_messages.specs.declared.message.Message.TheVariants.{Ask, Propose, Vote, Reply}
+use Rattle.smart_messages.specs.declared.message.Message.TheVariants.{Propose, Vote}
 use Rattle.vote_book.specs.declared.entry.LogEntry.{LogEntry}
 use Rattle.node_rules.specs.Kept.{is_ahead, is_needed, ahead_of, trimmed}
 use Rattle.regency_sync.specs.Synchronizers.{needs_stop, needs_report, needs_sync}
 use Rattle.regency_sync.proofs.Lists.{any_filter, filter_filter, find_alike, filter_alike, filter_map_alike}
 use Rattle.regency_sync.proofs.Needs.{needed_earlier}
-use Rattle.node_rules.specs.Votes.{is_vote, has_vote, has_quorum, certificate, vote_in, first_vote, certificate_votes, proposed_in, proposed_for, Named, named_in, named_by, known, decision_by, accepted_in}
+use Rattle.node_rules.specs.Votes.{is_vote, has_vote, has_quorum, certificate, vote_for, first_vote, certificate_votes, proposed_in, proposed_for, Named, named_in, named_by, known, decision_by, accepted_in}
 use Rattle.node_rules.specs.Arrivals.{is_same_proposal, is_same_vote}
 use Rattle.node_rules.specs.Nodes.{Node, view_of, regency_of, next_place, decided_place, open_slot, is_free, is_open, has_begun, start_of, greatest_regency}
 use Rattle.kept_arrivals.proofs.Filters.{filter_map_kept}
@@ -43,47 +43,35 @@ proposed_needed v c r slot ahead s same = ap (λ t. is_ahead v c r t) (sym (slot
 
 vote_needed : (v c r : ℕ) (kind : VoteKind) (member : ℕ) (slot : Slot) (digest : List ℕ) → is_ahead v c r slot ≡ true
     → (m : Message) → is_vote kind member slot digest m ≡ true → is_needed v c r m ≡ true
-vote_needed v c r kind member slot digest ahead (Ask q) is = absurd (cc)
-vote_needed v c r kind member slot digest ahead (Propose p) is = absurd (cc)
 vote_needed v c r kind member slot digest ahead (Vote b) is =
     as_ahead v c r b.statement.slot slot ahead (and_true _ (same_slot b.statement.slot slot) (and_true _ (same_bytes b.statement.digest digest) is).0).1
-vote_needed v c r kind member slot digest ahead (Reply a) is = absurd (cc)
+vote_needed v c r kind member slot digest ahead _ is = absurd (cc)
 
-vote_in_needed : (v c r : ℕ) (kind : VoteKind) (slot : Slot) (digest : List ℕ) (member : ℕ) → is_ahead v c r slot ≡ true
-    → (m : Message) → is_some (vote_in kind slot digest member m) ≡ true → is_needed v c r m ≡ true
-vote_in_needed v c r kind slot digest member ahead (Ask q) some = absurd (cc)
-vote_in_needed v c r kind slot digest member ahead (Propose p) some = absurd (cc)
-vote_in_needed v c r kind slot digest member ahead (Vote b) some =
+vote_for_needed : (v c r : ℕ) (kind : VoteKind) (slot : Slot) (digest : List ℕ) (member : ℕ) → is_ahead v c r slot ≡ true
+    → (m : Message) → is_some (vote_for kind slot digest member m) ≡ true → is_needed v c r m ≡ true
+vote_for_needed v c r kind slot digest member ahead (Vote b) some =
     vote_needed v c r kind member slot digest ahead (Vote b) (guard_passed (is_vote kind member slot digest (Vote b)) (Some b) some)
-vote_in_needed v c r kind slot digest member ahead (Reply a) some = absurd (cc)
+vote_for_needed v c r kind slot digest member ahead _ some = absurd (cc)
 
 proposal_needed : (v c r : ℕ) (slot : Slot) → is_ahead v c r slot ≡ true → (m : Message) → is_some (proposed_in slot m) ≡ true → is_needed v c r m ≡ true
-proposal_needed v c r slot ahead (Ask q) some = absurd (cc)
 proposal_needed v c r slot ahead (Propose p) some = as_ahead v c r p.head.statement.slot slot ahead (guard_passed (same_slot p.head.statement.slot slot) (Some p) some)
-proposal_needed v c r slot ahead (Vote b) some = absurd (cc)
-proposal_needed v c r slot ahead (Reply a) some = absurd (cc)
+proposal_needed v c r slot ahead _ some = absurd (cc)
 
 named_needed : (v c r place : ℕ) → c < place → (m : Message) → is_some (named_in v place r m) ≡ true → is_needed v c r m ≡ true
-named_needed v c r place past (Ask q) some = absurd (cc)
 named_needed v c r place past (Propose p) some =
     let slot : Slot = p.head.statement.slot in
     let outer = and_true ((slot.view == v) && (slot.place == place)) (nat_le r slot.regency) (guard_passed _ _ some) in
     let inner = and_true (slot.view == v) (slot.place == place) outer.0 in
     ahead_from v c r slot (omega (arith, eqb-true slot.view v inner.0)) (omega (arith, past, eqb-true slot.place place inner.1)) (leb-true r slot.regency outer.1)
-named_needed v c r place past (Vote b) some = absurd (cc)
-named_needed v c r place past (Reply a) some = absurd (cc)
+named_needed v c r place past _ some = absurd (cc)
 
 pub same_vote_needed : (v c r : ℕ) (b : SignedBy Ballot) → is_ahead v c r b.statement.slot ≡ true → (m : Message) → is_same_vote b m ≡ true → is_needed v c r m ≡ true
-same_vote_needed v c r b ahead (Ask q) is = absurd (cc)
-same_vote_needed v c r b ahead (Propose p) is = absurd (cc)
 same_vote_needed v c r b ahead (Vote o) is = as_ahead v c r o.statement.slot b.statement.slot ahead (and_true _ (same_slot o.statement.slot b.statement.slot) is).1
-same_vote_needed v c r b ahead (Reply a) is = absurd (cc)
+same_vote_needed v c r b ahead _ is = absurd (cc)
 
 pub same_proposal_needed : (v c r : ℕ) (p : Proposed) → is_ahead v c r p.head.statement.slot ≡ true → (m : Message) → is_same_proposal p m ≡ true → is_needed v c r m ≡ true
-same_proposal_needed v c r p ahead (Ask q) is = absurd (cc)
 same_proposal_needed v c r p ahead (Propose o) is = as_ahead v c r o.head.statement.slot p.head.statement.slot ahead (and_true _ (same_slot o.head.statement.slot p.head.statement.slot) is).1
-same_proposal_needed v c r p ahead (Vote b) is = absurd (cc)
-same_proposal_needed v c r p ahead (Reply a) is = absurd (cc)
+same_proposal_needed v c r p ahead _ is = absurd (cc)
 
 -- ---- searches
 
@@ -101,7 +89,7 @@ proposal_kept v c r slot ahead (m ∷ ms) =
     proposal_more slot m (filter (is_needed v c r) ms) ms (proposed_in slot m) (is_needed v c r m) refl (proposal_needed v c r slot ahead m) (proposal_kept v c r slot ahead ms)
 
 vote_more : (kind : VoteKind) (slot : Slot) (digest : List ℕ) (member : ℕ) (m : Message) (few all : List Message) (found : Option (SignedBy Ballot)) (b : Bool)
-    → vote_in kind slot digest member m ≡ found → (is_some found ≡ true → b ≡ true) → first_vote few kind slot digest member ≡ first_vote all kind slot digest member
+    → vote_for kind slot digest member m ≡ found → (is_some found ≡ true → b ≡ true) → first_vote few kind slot digest member ≡ first_vote all kind slot digest member
     → first_vote (cond b (m ∷ few) few) kind slot digest member ≡ or_else found (first_vote all kind slot digest member)
 vote_more kind slot digest member m few all None true is implies same = rw is same
 vote_more kind slot digest member m few all None false is implies same = same
@@ -112,8 +100,8 @@ first_kept : (v c r : ℕ) (kind : VoteKind) (slot : Slot) (digest : List ℕ) �
     → first_vote (filter (is_needed v c r) ms) kind slot digest member ≡ first_vote ms kind slot digest member
 first_kept v c r kind slot digest ahead [] member = refl
 first_kept v c r kind slot digest ahead (m ∷ ms) member =
-    vote_more kind slot digest member m (filter (is_needed v c r) ms) ms (vote_in kind slot digest member m) (is_needed v c r m) refl
-    (vote_in_needed v c r kind slot digest member ahead m) (first_kept v c r kind slot digest ahead ms member)
+    vote_more kind slot digest member m (filter (is_needed v c r) ms) ms (vote_for kind slot digest member m) (is_needed v c r m) refl
+    (vote_for_needed v c r kind slot digest member ahead m) (first_kept v c r kind slot digest ahead ms member)
 
 voters_kept : (v c r : ℕ) (view : View) (kind : VoteKind) (slot : Slot) (digest : List ℕ) → is_ahead v c r slot ≡ true → (ms : List Message)
     → filter (has_vote (filter (is_needed v c r) ms) kind slot digest) view.members ≡ filter (has_vote ms kind slot digest) view.members
@@ -189,10 +177,9 @@ ahead_later v c r d q places regencies s is =
     ahead_from v c r s (leb-true v s.view inner.1) (omega (arith, places, ltb-true d s.place inner.0)) (omega (arith, regencies, leb-true q s.regency outer.1))
 
 needed_later : (v c r d q : ℕ) → c ≤ d → r ≤ q → (m : Message) → is_needed v d q m ≡ true → is_needed v c r m ≡ true
-needed_later v c r d q places regencies (Ask a) is = is
 needed_later v c r d q places regencies (Propose p) is = ahead_later v c r d q places regencies p.head.statement.slot is
 needed_later v c r d q places regencies (Vote b) is = ahead_later v c r d q places regencies b.statement.slot is
-needed_later v c r d q places regencies (Reply a) is = is
+needed_later v c r d q places regencies _ is = is
 
 -- what is needed in a view, from a place and a regency on
 abbrev pub trim : {S : Type 0} → ℕ → ℕ → ℕ → Node S → Node S

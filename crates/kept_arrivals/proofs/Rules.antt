@@ -12,10 +12,8 @@ use Rattle.smart_statements.specs.Equality.{same_slot}
 use Rattle.smart_statements.specs.declared.statement.Ballot.{Ballot}
 use Rattle.smart_statements.specs.declared.statement.Slot.{Slot}
 use Rattle.smart_statements.specs.declared.statement.VoteKind.TheVariants.{Write, Accept}
-use Rattle.smart_messages.specs.declared.message.Message.TheVariants.{Ask, Propose, Vote, Reply}
+use Rattle.smart_messages.specs.declared.message.Message.TheVariants.{Propose}
 use Rattle.smart_messages.specs.declared.message.Proposed.{Proposed}
-use Rattle.smart_messages.specs.declared.any.AnyMessage.{AnyMessage}
-use Rattle.smart_messages.specs.declared.any.AnyMessage.TheVariants.{Plain, Change}
 use Rattle.smart_service.specs.Services.{Meaning}
 use Rattle.smart_service.specs.declared.table.TableLine.{TableLine}
 use Rattle.vote_book.specs.declared.entry.Decision.{Decision}
@@ -35,6 +33,7 @@ use Rattle.kept_arrivals.proofs.Filters.{where_true, and_where}
 use Rattle.kept_arrivals.proofs.Needed.{proposed_needed, proposal_kept, quorum_kept, certificate_kept, decision_kept, free_free, open_free, next_past, slot_ahead, open_ahead, trim, trimmed_behind, trimmed_twice, regency_grows}
 use Rattle.replica_rules.proofs.Places.{place_delivered, views_delivered}
 use Rattle.node_rules.proofs.Options.{guard_passed}
+use Rattle.node_rules.specs.declared.node.Asked.{Asked}
 
 -- a rule that goes on over what is needed as over all
 abbrev pub Keeps : {S : Type 0} → (Node S → Node S) → Type 0
@@ -79,7 +78,7 @@ unfolding propose_batch trimmed regency_of
 propose_same n None free = refl
 propose_same n (Some batch) free =
     ap (λ (slots : List Slot). holding (record (trim (view_of n).number (decided_place n) (regency_of n) n) { proposed = slots }) targets.View
-    (Plain (Propose (record { head = signed proposals n.secret n.id (record { slot = open_slot n; digest = digest_of batch }); batch = batch }))))
+    (Propose (record { head = signed proposals n.secret n.id (record { slot = open_slot n; digest = digest_of batch }); batch = batch })))
     (filter_end (ahead_of n) n.proposed (open_slot n) (open_ahead n (free refl)))
 
 proposes_exact : {S : Type 0} (n : Node S) → proposes (trimmed n) ≡ trimmed (proposes n)
@@ -199,37 +198,34 @@ decides_same n = ap (λ found. trimmed (decide_batch (trimmed n) found)) (decidi
 
 -- ANSWER
 
-pub answering_same : {S : Type 0} (n : Node S) (message : AnyMessage) → answering (trimmed n) message ≡ answering n message
+pub answering_same : {S : Type 0} (n : Node S) (asked : Option Asked) → answering (trimmed n) asked ≡ answering n asked
 unfolding answering trimmed
-answering_same n (Plain (Ask q)) = refl
-answering_same n (Plain (Propose p)) = refl
-answering_same n (Plain (Vote b)) = refl
-answering_same n (Plain (Reply a)) = refl
-answering_same n (Change m) = refl
+answering_same n None = refl
+answering_same n (Some asked) = refl
 
 answer_same : {S : Type 0} (n : Node S) (line : Option TableLine) → answer_line (trimmed n) line ≡ trimmed (answer_line n line)
 unfolding answer_line trimmed regency_of
 answer_same n None = refl
 answer_same n (Some line) = refl
 
-answers_exact : {S : Type 0} (message : AnyMessage) (n : Node S) → answers_again (trimmed n) message ≡ trimmed (answers_again n message)
+answers_exact : {S : Type 0} (asked : Option Asked) (n : Node S) → answers_again (trimmed n) asked ≡ trimmed (answers_again n asked)
 unfolding answers_again
-answers_exact message n = ap (λ line. answer_line (trimmed n) line) (answering_same n message) ∙ answer_same n (answering n message)
+answers_exact asked n = ap (λ line. answer_line (trimmed n) line) (answering_same n asked) ∙ answer_same n (answering n asked)
 
-pub answers_same : {S : Type 0} (n : Node S) (message : AnyMessage) → trimmed (answers_again (trimmed n) message) ≡ trimmed (answers_again n message)
-answers_same n message = exactly (λ x. answers_again x message) (answers_exact message) n
+pub answers_same : {S : Type 0} (n : Node S) (asked : Option Asked) → trimmed (answers_again (trimmed n) asked) ≡ trimmed (answers_again n asked)
+answers_same n asked = exactly (λ x. answers_again x asked) (answers_exact asked) n
 
 -- DELIVER
 
 holding_same : {S : Type 0} (n : Node S) (l : TableLine)
-    → holding (trimmed n) (targets.Client l.client) (Plain (reply_of n.secret n.id l)) ≡ trimmed (holding n (targets.Client l.client) (Plain (reply_of n.secret n.id l)))
+    → holding (trimmed n) (targets.Client l.client) (reply_of n.secret n.id l) ≡ trimmed (holding n (targets.Client l.client) (reply_of n.secret n.id l))
 unfolding trimmed regency_of
 holding_same n l = refl
 
 replying_same : {S : Type 0} (n : Node S) (lines : List TableLine) → replying (trimmed n) lines ≡ trimmed (replying n lines)
 unfolding trimmed
 replying_same n [] = refl
-replying_same n (l ∷ ls) = ap (λ x. replying x ls) (holding_same n l) ∙ replying_same (holding n (targets.Client l.client) (Plain (reply_of n.secret n.id l))) ls
+replying_same n (l ∷ ls) = ap (λ x. replying x ls) (holding_same n l) ∙ replying_same (holding n (targets.Client l.client) (reply_of n.secret n.id l)) ls
 
 decided-delivered : {S : Type 0} (m : Meaning S) (n : Node S) (batch : Batch) → n.waiting ≡ Some batch → decided_place n ≡ (delivered m n.replica batch).place
 decided-delivered m n batch is = rw is (sym (place_delivered m n.replica batch))

@@ -2,17 +2,17 @@
 use Rattle.std.proofs.Common.{◌≡◌, ℕ, ◌++◌, Bool, List, [], ◌∷◌, refl, ap, sym, ◌∙◌, Option, Some, None, Result, Ok, Err}
 use Rattle.smart_base.specs.Views.{View}
 use Rattle.smart_statements.specs.Forms.{SignedBy}
-use Rattle.smart_messages.specs.RegencyMessages.{any_decoded}
+use Rattle.smart_messages.specs.Messages.{decoded}
 use Rattle.smart_statements.specs.declared.report.Report.{Report}
 use Rattle.smart_messages.specs.declared.regency.Sync.{Sync}
-use Rattle.smart_messages.specs.declared.any.AnyMessage.{AnyMessage}
+use Rattle.smart_messages.specs.declared.message.Message.{Message}
 use Rattle.smart_statements.specs.declared.entry.NodeEvent.{NodeEvent}
 use Rattle.smart_statements.specs.declared.entry.NodeEvent.TheVariants.{Arrive, Tick, Deliver, Firm}
 use Rattle.smart_service.specs.Services.{Meaning}
 use Rattle.vote_book.specs.declared.entry.Promise.{Promise}
 use Rattle.node_rules.specs.Nodes.{Node, regency_of, next_place}
 use Rattle.node_rules.specs.Arrivals.{why_dropped, noted, kept}
-use Rattle.node_rules.specs.Rules.{fired_if, delivers, delivery, proposing, proposes, writing, writes, accepting, accepts, deciding, decides, answering, answers_again}
+use Rattle.node_rules.specs.Rules.{fired_if, delivers, delivery, proposing, proposes, writing, writes, accepting, accepts, deciding, decides, answering, answers_again, asked_in}
 use Rattle.node_rules.specs.Changes.{fired_when, fired_adopt, adoption, adopts, joining, joins, next_promise, promising, promises, leading, leads, timing, times}
 use Rattle.node_rules.specs.Steps.{made_firm, Outcome, turns, fired_turns, votes, fired_votes, passes, fired_pass, outcome_from, answered, timed, arrival_outcome, reading_outcome, step_of, opened}
 use Rattle.node_rules.specs.declared.node.Why.{Why}
@@ -122,10 +122,12 @@ both_told first second = rw (first, second) refl
 alike_from : {S : Type 0} (few all : Node S) (f g : List Fired) → Agree few all → f ≡ g → Alike (outcome_from few f) (outcome_from all g)
 alike_from few all f g agree same = record { node = behind_passes few all agree; fired = both_told same (fired_pass_same few all agree); dropped = refl }
 
-alike_answered : {S : Type 0} (few all : Outcome S) (message : AnyMessage) → Alike few all → Alike (answered few message) (answered all message)
+alike_answered : {S : Type 0} (few all : Outcome S) (message : Message) → Alike few all → Alike (answered few message) (answered all message)
 alike_answered few all message alike = record {
-  node = goes_on (λ x. answers_again x message) (λ x. answers_same x message) few.node all.node alike.node;
-  fired = both_told alike.fired (ap (λ line. fired_if fires.Answered line) (told (λ x. answering x message) (λ x. answering_same x message) few.node all.node alike.node));
+  node = goes_on (λ x. answers_again x (asked_in message)) (λ x. answers_same x (asked_in message)) few.node all.node alike.node;
+  fired =
+      both_told alike.fired
+      (ap (λ line. fired_if fires.Answered line) (told (λ x. answering x (asked_in message)) (λ x. answering_same x (asked_in message)) few.node all.node alike.node));
   dropped = refl;
 }
 
@@ -140,11 +142,11 @@ alike_timed few all alike = record {
 agree_with : {S : Type 0} (few all : Node S) → few ≡ trimmed all → Agree few all
 agree_with few all same = ap (λ x. trimmed x) same ∙ trimmed_twice all
 
-kept_noted : {S : Type 0} (n : Node S) (message : AnyMessage) → why_dropped n message ≡ None → kept (noted (trimmed n) message) message ≡ trimmed (kept (noted n message) message)
+kept_noted : {S : Type 0} (n : Node S) (message : Message) → why_dropped n message ≡ None → kept (noted (trimmed n) message) message ≡ trimmed (kept (noted n message) message)
 unfolding noted
 kept_noted n message is = ap (λ x. kept x message) (noted_same n message) ∙ kept_same (noted n message) message (why_noted n (noted n message).behind message ∙ is)
 
-alike_arrival : {S : Type 0} (n : Node S) (message : AnyMessage) (why : Option Why) → why_dropped n message ≡ why
+alike_arrival : {S : Type 0} (n : Node S) (message : Message) (why : Option Why) → why_dropped n message ≡ why
     → Alike (arrival_outcome (trimmed n) message why) (arrival_outcome n message why)
 alike_arrival n message None is =
     alike_answered (outcome_from (kept (noted (trimmed n) message) message) []) (outcome_from (kept (noted n message) message) []) message
@@ -152,7 +154,7 @@ alike_arrival n message None is =
     (agree_with (kept (noted (trimmed n) message) message) (kept (noted n message) message) (kept_noted n message is)) refl)
 alike_arrival n message (Some why) is = record { node = agree_with (noted (trimmed n) message) (noted n message) (noted_same n message); fired = refl; dropped = refl }
 
-alike_reading : {S : Type 0} (n : Node S) (read : Result AnyMessage ℕ) → Alike (reading_outcome (trimmed n) read) (reading_outcome n read)
+alike_reading : {S : Type 0} (n : Node S) (read : Result Message ℕ) → Alike (reading_outcome (trimmed n) read) (reading_outcome n read)
 alike_reading n (Ok message) = rw (why_same n message) (alike_arrival n message (why_dropped n message) refl)
 alike_reading n (Err at) = record { node = trimmed_twice n; fired = refl; dropped = refl }
 
@@ -163,7 +165,7 @@ firm_same n count = refl
 -- a step from what is needed and a step from all
 pub steps_alike : {S : Type 0} (m : Meaning S) (n : Node S) (event : NodeEvent) → Alike (step_of m (trimmed n) event) (step_of m n event)
 unfolding step_of
-steps_alike m n (Arrive bytes) = alike_reading n (any_decoded bytes)
+steps_alike m n (Arrive bytes) = alike_reading n (decoded bytes)
 steps_alike m n Tick = alike_timed (outcome_from (trimmed n) []) (outcome_from n []) (alike_from (trimmed n) n [] [] (trimmed_twice n) refl)
 steps_alike m n Deliver = alike_from (delivers m (trimmed n)) (delivers m n) (delivery m (trimmed n) (trimmed n).waiting) (delivery m n n.waiting) (delivers_same m n) (delivery_same m n)
 steps_alike m n (Firm count) =

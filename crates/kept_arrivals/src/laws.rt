@@ -13,7 +13,7 @@ pub fn a_core_steps_as_its_node<S: Service>()
     ensures { (core n : Node S) (event : NodeEvent) → Stands core n → StepStands S.meaning core n event }
 {}
 
-/// Whatever comes, a core that began with an empty book stands for the node that keeps all.
+/// A core that began with an empty book stands for the node that keeps everything, whatever comes.
 pub fn a_core_stands_for_its_node<S: Service>()
     ensures { (secret : List ℕ) (id : ℕ) (view : View) (period : ℕ) (events : List NodeEvent) →
         Stands (core_after S.meaning (opened S.meaning secret id view period) events) (node_after S.meaning (opened S.meaning secret id view period) events) }

@@ -1,4 +1,4 @@
-//! A node that keeps only what its rules still need, with changes of the regency.
+//! A core: a node that keeps only what its rules still need, those of leader changes among them.
 #![tactic(auto)]
 
 pub mod laws;

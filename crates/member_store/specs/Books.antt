@@ -10,17 +10,18 @@ use Rattle.durable_store.specs.Exact.{store_opened}
 use Rattle.durable_store.specs.declared.kept.Kept.{Kept}
 use Rattle.world_rules.specs.Crashes.{is_unclosed, written_book, still_aside}
 
--- entries are the first of a book
+-- entries that are the first ones of a book
 abbrev pub Begins : List (List ℕ) → List (List ℕ) → Type 0
 Begins entries book = entries ≡ take (length entries) book
 
--- Where a gate is torn, what the store keeps and what a crash may bring back are the first entries of one book: that of the life that wrote behind it.
+-- A torn gate: what the store keeps, and what a crash may bring back, are first entries of one book. That is the book of the life that
+-- wrote past the gate.
 abbrev pub BringsBack : Bool → List (List ℕ) → Kept → Kept → Type 0
 BringsBack false aside kept other = Unit {0}
 BringsBack true aside kept other = Begins kept.entries aside × (Begins other.entries aside × (length kept.entries ≤ length other.entries))
 
--- What a store keeps, what its running job adds and what waits are the book of this life, spelled. `aside` is the book of the life that wrote behind a gate
--- that a crash has left torn.
+-- A store that holds the book of this life: what it keeps, then what its running job adds, then what waits. `aside` is the book of the life
+-- that wrote past a gate which a crash left torn.
 pub record Holds (s : StoreState) (book aside : List (List ℕ)) : Type 0 where
   pub added : Group
   pub kept : Kept
@@ -30,7 +31,7 @@ pub record Holds (s : StoreState) (book aside : List (List ℕ)) : Type 0 where
   pub all : kept.entries ++ (cond (adds s.log.job) added [] ++ s.waiting) ≡ book
   pub back : BringsBack (is_unclosed s.log.job) aside kept (first kept others)
 
--- what bytes that a crash leaves restore: first entries of a book, with all that is firm, and a store that holds them
+-- Bytes that a crash leaves of a store. They restore first entries of one book, with all that is firm, and open as a store that holds them.
 pub record Leaves (s : StoreState) (book aside : List (List ℕ)) (left : Images) : Type 0 where
   pub begins : Begins (restores left).entries (written_book s book aside)
   pub firm : s.firm ≤ length (restores left).entries

@@ -2,7 +2,7 @@
 use Rattle.std.specs.Prelude.{Bool}
 use Rattle.durable_store.specs.States.{StoreState}
 
--- it runs, or its member has crashed and it is what the devices hold
+-- the state of a member's store; if its member has crashed, that of a store opened over what the devices hold
 pub record MemberState : Type 0 where
   pub runs : Bool
   pub state : StoreState

@@ -1,12 +1,12 @@
-//! Why a member's store was not crashed.
+//! The reasons for which a member's store was not crashed.
 use std::alloc::AllocError;
 use world_rules::crash::NotAnImage;
 
-/// Why a store was not crashed.
+/// The reason for which a store was not crashed.
 #[derive(Clone, Copy, Debug, PartialEq, Eq)]
 pub enum CrashFault {
     NotAnImage(NotAnImage),
-    /// Memory ran out.
+    /// Want of memory.
     NoMemory,
 }
 

@@ -1,4 +1,4 @@
-//! What a member's store has of its node's book, through all its lives.
+//! What a member's store has of its node's book, over all its lives.
 ghost use Rattle.std.specs.Prelude.{◌≡◌, ◌++◌, ◌≤◌, ℕ, List, [], true, None};
 ghost use Rattle.store_form.specs.Spelling.{IsGroup};
 ghost use Rattle.durable_store.specs.Restored.{Images};
@@ -10,9 +10,9 @@ ghost use Rattle.world_rules.specs.Crashes.{images_left, wrong_images, still_asi
 ghost use Rattle.world_rules.specs.declared.crash.Image.{Image};
 ghost use Rattle.member_store.specs.Books.{Holds, Leaves};
 
-/// Empty devices hold an empty book. What is given is behind the book, and a device call changes
-/// nothing of it, where the entries of a group that begins then have a spelling together. Only more
-/// becomes firm.
+/// A store holds the book of its life. Empty devices hold an empty book. What is given comes after
+/// the book. A device call changes nothing of the book, if the entries of a group that begins in it
+/// have a spelling together. The number of firm entries does not fall.
 pub fn a_store_holds_a_book()
     ensures empty { Holds (store_opened no_bytes) [] [] }
     ensures given { (s : StoreState) (book aside entries : List (List ℕ)) → Holds s book aside → Holds (started s entries) (book ++ entries) aside }
@@ -20,21 +20,23 @@ pub fn a_store_holds_a_book()
     ensures firm { (s : StoreState) (book aside : List (List ℕ)) → Holds s book aside → (group_begins s ≡ true → IsGroup s.waiting) → s.firm ≤ (store_called s).firm }
 {}
 
-/// What a crash between two calls leaves of a store restores the first entries of one book, all that
-/// is firm among them, and opens as a store that holds them: of the book of this life or, while a gate
-/// that an earlier crash left torn is not closed, of the life that wrote behind it.
+/// A crash between two calls leaves the first entries of one book, all that is firm among them. What
+/// it leaves opens as a store that holds them. The book is that of this life, or an earlier one's
+/// until a torn gate is closed.
 pub fn a_crash_leaves_a_book()
     ensures { (s : StoreState) (book aside : List (List ℕ)) (left : Images) → Holds s book aside → MayLeave s left → Leaves s book aside left }
 {}
 
-/// What a script says that a crash leaves is what a crash may leave, exactly where no byte is wrong.
+/// The bytes that a script names are bytes that a crash may leave if and only if no byte of them is
+/// wrong.
 pub fn no_byte_is_wrong()
     ensures may { (s : StoreState) (left : Images) → wrong_images s left ≡ None → MayLeave s left }
     ensures none { (s : StoreState) (left : Images) → MayLeave s left → wrong_images s left ≡ None }
 {}
 
-/// Of a store that holds a book a crash may always leave each device as it was at its last sync, and
-/// each as it reads: what is said of all that a crash may leave is never said of nothing.
+/// A crash may always leave each device as it was at its last sync, or as it reads now, if the store
+/// holds a book. What is claimed of everything that a crash may leave is therefore never claimed of
+/// nothing.
 pub fn a_crash_leaves_something()
     ensures { (s : StoreState) (book aside : List (List ℕ)) (image : Image) → Holds s book aside → wrong_images s (images_left image [] s) ≡ None }
 {}

@@ -1,4 +1,4 @@
-//! What a script says that a crash leaves of a device, and the disk that it makes.
+//! What a script says that a crash leaves of a device, and the disk that this makes.
 ghost use Rattle.std.specs.Prelude.{◌≡◌, ◌<◌, ◌+◌, ◌-◌, ◌^◌, ◌++◌, ℕ, List, None, Some, length, replicate, IfOk, IfErr, OnOk};
 ghost use Rattle.disk_model.specs.Cells.{put, settled};
 ghost use Rattle.disk_model.specs.Memory.{plain_cells};
@@ -12,17 +12,17 @@ use smart_base::sequence::Bytes;
 use std::alloc::{AllocError, Global};
 use world_rules::crash::{Image, NotAnImage, Patch};
 
-/// What is left of a device. It may be longer than any memory, so only its first bytes are here, as
+/// What is left of a device. It may be longer than any memory. Its first bytes are here, at most as
 /// many as the device may have had.
 #[derive(Drop)]
 struct Left {
     bytes: Vec<u8>,
-    /// How long all of it is.
+    /// The length of all that is left, in bytes.
     length: u128,
 }
 
 impl Left {
-    /// Puts a patch over what is there, where a device may have had so many bytes.
+    /// Puts a patch over what is there, for a device that may have had so many bytes.
     fn patch(&mut self, patch: &Patch, greatest: u64) -> Result<(), AllocError>
         ensures { OnOk result ((whole : List ℕ) → IsLeft greatest whole self.old → IsLeft greatest (patched patch.now whole) self.new) }
     {
@@ -36,7 +36,7 @@ impl Left {
     }
 }
 
-/// Writes over what is there, and past the end, with zeros in a gap.
+/// Writes bytes over what is there, and past its end, with zeros in a gap.
 fn write(contents: &mut Vec<u8>, at: u64, bytes: &[u8]) -> Result<(), AllocError>
     requires { at + length bytes.now < 2 ^ 64 }
     ensures { OnOk result (contents.new.items ≡ put at bytes.now (contents.old.items ++ replicate (at - length contents.old.items) 0)) }
@@ -59,7 +59,7 @@ fn bytes_left(alloc: Global, disk: &PlainDisk, image: Image) -> Result<Bytes, Al
     }
 }
 
-/// What is left of a device with all its patches.
+/// What is left of a device, with all its patches.
 fn with_patches(
     alloc: Global,
     device: u64,
@@ -80,7 +80,7 @@ fn with_patches(
     Ok(left)
 }
 
-/// The disk with what is left, or the first byte that is wrong.
+/// The disk with what is left, or else the first wrong byte.
 fn disk_with(alloc: Global, disk: &PlainDisk, left: Left) -> Result<PlainDisk, u128>
     ensures ok { IfOk result (λ d. (whole : List ℕ) → IsLeft (plain_cells disk.now).greatest whole left → (wrong_in (plain_cells disk.now) whole ≡ None) × (plain_cells d ≡ settled whole)) }
     ensures not { IfErr result (λ at. (whole : List ℕ) → IsLeft (plain_cells disk.now).greatest whole left → wrong_in (plain_cells disk.now) whole ≡ Some at) }
@@ -96,7 +96,7 @@ fn disk_with(alloc: Global, disk: &PlainDisk, left: Left) -> Result<PlainDisk, u
     Ok(next)
 }
 
-/// The disk that a crash leaves of one, as a script says.
+/// The disk that a crash leaves of another, as a script says.
 pub fn disk_left(
     alloc: Global,
     device: u64,

@@ -1,5 +1,5 @@
-//! A member's store in a world: its devices are in memory, what is written down goes into it, and
-//! crashes leave of it what a script says.
+//! A member's store in a world. Its devices are in memory. Entries go into it, and a crash leaves of
+//! it what a script says.
 #![tactic(auto)]
 
 pub mod crash;

@@ -29,27 +29,27 @@ use vote_book::codec::encode_entry;
 use vote_book::entry::LogEntry;
 use world_rules::crash::{Image, Patch};
 
-/// The most bytes that an entry of a store has.
+/// The greatest length of an entry, in bytes.
 const ENTRY_BYTES: usize = 0xffff_ffff;
 
 #[derive(Drop)]
 enum Devices {
-    /// A store has them.
+    /// The devices of a store that runs.
     Running(Store<PlainDisk>),
-    /// A crash has left them.
+    /// The devices that a crash has left.
     Stopped(Disks<PlainDisk>),
 }
 
 impl Devices {
     ghost use Rattle.member_store.specs.Devices.{state_in, AreSound};
 
-    /// What a crash has left is what they read as.
+    /// What a crash has left is what the devices read as.
     fn what_is_left(&self)
         ensures { (state_in self.now).runs ≡ false → store_opened (bytes_held (state_in self.now).state) ≡ (state_in self.now).state }
     {}
 
-    /// The devices under a store that runs, and the entries that it restores where it is opened. A
-    /// refused opening gives them back.
+    /// Opens a store over the devices, and gives the entries that it restores. Error: want of memory;
+    /// the devices come back then.
     fn opened(self, alloc: Global) -> (Devices, Result<Sequence<Bytes>, AllocError>)
         requires { AreSound self }
         ensures sound { AreSound result.0 }
@@ -68,8 +68,8 @@ impl Devices {
     }
 }
 
-/// A store over four disks in memory, which a crash stops and a restart opens again. Want of memory
-/// inside a device call closes it: from then on it answers that memory ran out.
+/// A store over four disks in memory. A crash stops it, and a restart opens it again. Want of memory
+/// inside a device call closes it; from then on it answers want of memory.
 pub struct MemberStore {
     alloc: Global,
     devices: Devices,
@@ -116,7 +116,7 @@ fn empty_disks(alloc: Global) -> Disks<PlainDisk>
     }
 }
 
-/// How an entry is spelled. One that is too long for a store counts as want of memory.
+/// The bytes of an entry. Error: want of memory, also for an entry that is too long for a store.
 fn text(alloc: Global, entry: &LogEntry) -> Result<Bytes, AllocError>
     ensures fit { IfOk result (λ text. IsEntry text) }
     ensures is { IfOk result (λ text. text ≡ entry_text entry.now) }
@@ -139,7 +139,7 @@ fn texts(alloc: Global, entries: &[LogEntry]) -> Result<Sequence<Bytes>, AllocEr
     Ok(texts)
 }
 
-/// The devices of the logs, of the even and of the odd generations.
+/// The devices of the two logs, of the even and of the odd generations.
 fn logs(store: &Store<PlainDisk>) -> (&PlainDisk, &PlainDisk)
     ensures even { plain_cells result.0.now ≡ even_log (state_of store.now) }
     ensures odd { plain_cells result.1.now ≡ odd_log (state_of store.now) }
@@ -152,7 +152,7 @@ fn logs(store: &Store<PlainDisk>) -> (&PlainDisk, &PlainDisk)
     }
 }
 
-/// What a crash leaves of the devices of a store, as a script says.
+/// The devices that a crash leaves of a store, as a script says.
 #[tactic(auto, unfolding(world_rules::specs::Crashes::wrong_images))]
 fn disks_left(
     alloc: Global,
@@ -191,7 +191,7 @@ impl MemberStore {
         }
     }
 
-    /// Whether it runs.
+    /// Whether the store runs.
     pub fn runs(&self) -> bool
         ensures { result ≡ self.now.runs }
     {
@@ -201,7 +201,7 @@ impl MemberStore {
         }
     }
 
-    /// What a crash has left is what its devices read as.
+    /// What a crash has left is what the devices read as.
     pub fn what_is_left(&self)
         ensures { self.now.runs ≡ false → store_opened (bytes_held self.now.state) ≡ self.now.state }
     {
@@ -221,7 +221,7 @@ impl MemberStore {
         }
     }
 
-    /// Makes the next device call, if there is one.
+    /// Makes the next device call, if there is one. Error: want of memory.
     pub fn call(&mut self) -> Result<(), AllocError>
         ensures runs { OnOk result (self.old.runs ≡ true → self.new ≡ record { runs = true; state = store_called self.old.state }) }
         ensures stopped { self.old.runs ≡ false → (result ≡ Ok tt) × (self.new ≡ self.old) }
@@ -240,7 +240,8 @@ impl MemberStore {
         }
     }
 
-    /// Entries wait for the next group. To a store that does not run none are given.
+    /// Gives entries to the store, which wait for the next group. A store that does not run takes
+    /// none. Error: want of memory.
     pub fn write_down(&mut self, entries: &[LogEntry]) -> Result<(), AllocError>
         ensures runs { OnOk result (self.old.runs ≡ true → self.new ≡ record { runs = true; state = started self.old.state (map entry_text entries.now) }) }
         ensures stopped { self.old.runs ≡ false → (result ≡ Ok tt) × (self.new ≡ self.old) }
@@ -256,7 +257,7 @@ impl MemberStore {
         }
     }
 
-    /// How many entries are firm, 0 where it does not run.
+    /// The number of firm entries; 0 if the store does not run.
     pub fn firm(&self) -> u64
         ensures { result ≡ (if self.now.runs then self.now.state.firm else 0) }
     {
@@ -266,8 +267,9 @@ impl MemberStore {
         }
     }
 
-    /// A crash stops it, and leaves its devices as they were or as they read, with patches. What no
-    /// crash leaves there is refused, and changes nothing.
+    /// Stops the store by a crash, which leaves its devices as they were at the last sync or as they
+    /// read, with patches. Errors: the first byte that no crash leaves; want of memory. Nothing has
+    /// changed then.
     pub fn crash(&mut self, image: Image, patches: &[Patch]) -> Result<(), CrashFault>
         ensures right { OnOk result (self.old.runs ≡ true → wrong_images self.old.state (images_left image patches.now self.old.state) ≡ None) }
         ensures left { OnOk result (self.old.runs ≡ true → self.new ≡ record { runs = false; state = store_opened (images_left image patches.now self.old.state) }) }
@@ -284,8 +286,8 @@ impl MemberStore {
         Ok(())
     }
 
-    /// Opens it again over what the crash has left, and gives the entries that it restores. Where it
-    /// runs it stays as it is.
+    /// Restarts the store over what the crash has left, and gives the entries that it restores. A
+    /// store that runs stays as it is. Error: want of memory.
     pub fn restart(&mut self) -> Result<Sequence<Bytes>, AllocError>
         ensures opened { OnOk result (self.old.runs ≡ false → self.new ≡ record { runs = true; state = self.old.state }) }
         ensures restores { IfOk result (λ entries. self.old.runs ≡ false → entries ≡ (restores (bytes_held self.old.state)).entries) }

@@ -1,4 +1,4 @@
--- What a delivery makes of a node, before it is told, and what it gives.
+-- What a delivery makes of a node before it is told, and what it gives.
 use Rattle.std.specs.Prelude.{false, length, Option, Some, None}
 use Rattle.smart_service.specs.Services.{Meaning}
 use Rattle.smart_statements.specs.Batches.{Batch}
@@ -7,14 +7,14 @@ use Rattle.replica_rules.specs.Pools.{settled}
 use Rattle.node_rules.specs.Nodes.{Node, next_place}
 use Rattle.node_core.specs.declared.delivers.Executed.{Executed}
 
--- the node by which a batch that waits was executed
+-- the node after its waiting batch was executed, before the delivery is told
 unfoldable pub executed : {S : Type 0} → Meaning S → Node S → Option Batch → Node S
 executed m n None = n
 executed m n (Some batch) =
     let replica = delivered m n.replica batch in
     record n { replica = replica; waiting = None; pool = settled replica.table n.pool; impatient = false }
 
--- what is told of it, and the lines of its requests
+-- the event of a delivery, and the lines of the executed requests
 abbrev pub execution : {S : Type 0} → Meaning S → Node S → Option Batch → Option Executed
 execution m n None = None
 execution m n (Some batch) =

@@ -1,9 +1,9 @@
--- What a node is that goes on from a book.
+-- The node after a restart from a book.
 use Rattle.std.specs.Prelude.{ℕ, false, true, List, [], length, None}
 use Rattle.node_rules.specs.Nodes.{Node}
 use Rattle.node_restart.specs.Restarts.{Restart}
 
--- the node that goes on from what its entries gave back: all of them are firm
+-- the node after a restart from what its entries gave back; all of them are firm
 abbrev pub going_on : {S : Type 0} → List ℕ → ℕ → Restart S → Node S
 going_on secret id back = record {
   id = id;

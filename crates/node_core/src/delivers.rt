@@ -1,24 +1,22 @@
-//! What a node delivers, and the replies to what it executed.
+//! Deliveries of a node, and the replies to executed requests.
 ghost use Rattle.std.specs.Prelude.{◌≡◌, ◌++◌, ◌∷◌, [], if◌then◌else◌, IfOk, OnOk, OnErr};
 ghost use Rattle.node_rules.specs.Rules.{reply_of, replying, delivers, delivery, answer_line, fired_if};
 ghost use Rattle.node_core.specs.Delivering.{executed, execution};
-ghost use Rattle.smart_messages.specs.declared.any.AnyMessage.TheVariants as messages;
 ghost use Rattle.node_rules.specs.declared.node.Fired.TheVariants as fires;
 
 use delivery::replica::deliver;
 use node_rules::node::{Delivery, Fired, Target};
 use node_state::state::NodeState;
 use smart_base::sequence::Sequence;
-use smart_messages::any::AnyMessage;
 use smart_messages::message::Message;
 use smart_service::service::Service;
 use smart_service::table::TableLine;
 use smart_statements::statement::Answer;
 use std::alloc::AllocError;
 
-/// The node's reply to a request that was executed.
-fn reply_of<S: Service>(node: &NodeState<S>, line: TableLine) -> Result<AnyMessage, AllocError>
-    ensures { IfOk result (λ reply. reply ≡ messages.Plain (reply_of node.now.secret node.now.id line)) }
+/// The node's reply to an executed request. Error: want of memory.
+fn reply_of<S: Service>(node: &NodeState<S>, line: TableLine) -> Result<Message, AllocError>
+    ensures { IfOk result (λ reply. reply ≡ reply_of node.now.secret node.now.id line) }
 {
     let answer = Answer {
         view: line.view,
@@ -28,10 +26,10 @@ fn reply_of<S: Service>(node: &NodeState<S>, line: TableLine) -> Result<AnyMessa
         seq: line.seq,
         reply: line.reply,
     };
-    Ok(AnyMessage::Plain(Message::Reply(node.keys.sealed(node.alloc, answer)?)))
+    Ok(Message::Reply(node.keys.sealed(node.alloc, answer)?))
 }
 
-/// Holds the replies to the requests that were executed.
+/// Puts the replies to executed requests into the outbox. Error: want of memory.
 fn replying<S: Service>(
     node: &mut NodeState<S>,
     lines: Sequence<TableLine>,
@@ -47,14 +45,15 @@ fn replying<S: Service>(
     Ok(())
 }
 
-/// What a delivery gives: what is told of it, and the lines of the requests that were executed.
+/// What a delivery gives: its event, and the lines of the executed requests.
 #[derive(Drop)]
 struct Executed {
     delivery: Delivery,
     lines: Sequence<TableLine>,
 }
 
-/// Executes the batch that waits, if one does, and keeps the requests that are still to be proposed.
+/// Executes the waiting batch, if there is one, and keeps the requests that are still to be proposed.
+/// Error: want of memory.
 #[tactic(auto, unfolding(crate::specs::Delivering::executed))]
 fn execute_waiting<S: Service>(node: &mut NodeState<S>) -> Result<Option<Executed>, AllocError>
     ensures node { OnOk result (node.new ≡ executed S.meaning node.old node.old.waiting) }
@@ -82,7 +81,7 @@ fn execute_waiting<S: Service>(node: &mut NodeState<S>) -> Result<Option<Execute
     }
 }
 
-/// Tells of a delivery, and holds the replies where the node answers.
+/// Tells a delivery, and puts the replies into the outbox if the node answers. Error: want of memory.
 fn tell<S: Service>(
     node: &mut NodeState<S>,
     answers: bool,
@@ -101,7 +100,9 @@ fn tell<S: Service>(
     Ok(fired)
 }
 
-/// Delivers the batch that waits, and tells of it.
+/// The rule that delivers: the waiting batch, if there is one, is executed, and each client whose
+/// request was executed gets its reply (state machine replication). A reply leaves after the decision
+/// is firm (Dura-SMaRt, USENIX ATC 2013). Error: want of memory.
 pub fn delivers<S: Service>(node: &mut NodeState<S>) -> Result<Sequence<Fired>, AllocError>
     ensures node { OnOk result (node.new ≡ delivers S.meaning node.old) }
     ensures fired { IfOk result (λ fired. fired ≡ delivery S.meaning node.old node.old.waiting) }
@@ -118,7 +119,7 @@ pub fn delivers<S: Service>(node: &mut NodeState<S>) -> Result<Sequence<Fired>, 
     }
 }
 
-/// Holds the reply of a line, where there is one. Adds what this tells.
+/// Puts the reply of a line into the outbox, if there is a line, and tells it. Error: want of memory.
 #[tactic(auto, unfolding(node_rules::specs::Rules::answer_line))]
 pub fn answer_line<S: Service>(
     node: &mut NodeState<S>,

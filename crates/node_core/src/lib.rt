@@ -1,4 +1,4 @@
-//! A member's node: one event after another, and the messages that leave.
+//! The node of a member: one event after another, and the messages that leave.
 #![tactic(auto)]
 
 mod arrivals;

@@ -1,4 +1,4 @@
-//! The node of a member, and what leaves it.
+//! The node of a member, and the messages that leave it.
 ghost use Rattle.std.specs.Prelude.{◌≡◌, [], ℕ, false, length, IfOk, OnOk, OnErr, IsErrOf, Some, None, is_some};
 ghost use Rattle.std.specs.Option.{option_copied};
 ghost use Rattle.std.specs.Result.{is_err};
@@ -26,8 +26,9 @@ use smart_statements::entry::NodeEvent;
 use std::alloc::{AllocError, Global};
 use vote_book::entry::LogEntry;
 
-/// A member's node, and whether want of memory stopped a step half-way. Then the node is broken: no
-/// event happens to it again, and no call makes it whole.
+/// The node of a member, as a core: it keeps only what its rules still need. If want of memory
+/// stopped a step half-way, the node is broken: it takes no event any more, and no call makes it
+/// whole.
 pub struct NodeCore<S> {
     node: NodeState<S>,
     broken: bool,
@@ -40,7 +41,8 @@ impl<S: Drop> Drop for NodeCore<S> {
     }
 }
 
-/// What a step tells: the rules that fired, in order, and why an arrival was dropped.
+/// The outcome of a step: the rules that fired, in order, and the reason for which an arrival was
+/// dropped.
 #[derive(Drop)]
 pub struct Outcome {
     pub fired: Sequence<Fired>,
@@ -48,7 +50,8 @@ pub struct Outcome {
 }
 
 impl<S: Service> NodeCore<S> {
-    /// A node with an empty book, of a group that begins with a view and marks a place every so many.
+    /// A new node, whose book has the opening alone. `view` is the group's first view, and `period`
+    /// the number of places from one mark to the next. Error: want of memory.
     pub fn begin(
         alloc: Global,
         id: MemberId,
@@ -66,10 +69,13 @@ impl<S: Service> NodeCore<S> {
         })
     }
 
-    /// A node that goes on after a crash from the entries that its disks restored, of a group that
-    /// began with a view and marks a place every so many. All of them are firm, and nothing else of the
-    /// life before is left: the node knows that it may be behind. Without an entry it opens its book
-    /// anew. The book need not be tidy. The cost is linear in what was restored.
+    /// The node after a restart from the entries that its disks restored (recovery: Dura-SMaRt,
+    /// USENIX ATC 2013). `view` is the group's first view, and `period` the number of places from one
+    /// mark to the next.
+    ///
+    /// All these entries are firm, and nothing else of the earlier life is left. The node notes that
+    /// it may lag. With no entry it opens a new book. The book need not be tidy. The cost is linear
+    /// in what was restored. Errors: the number, from 1, of the first damaged entry; want of memory.
     pub fn reopen(
         alloc: Global,
         id: MemberId,
@@ -100,14 +106,14 @@ impl<S: Service> NodeCore<S> {
         self.broken
     }
 
-    /// The member that the node is.
+    /// The member's number.
     pub fn id(&self) -> MemberId
         ensures { result ≡ self.now.node.id }
     {
         self.node.id()
     }
 
-    /// The last place that was delivered.
+    /// The last delivered place; 0 before the first.
     pub fn place(&self) -> Place
         ensures { result ≡ self.now.node.replica.place }
     {
@@ -128,21 +134,21 @@ impl<S: Service> NodeCore<S> {
         self.node.regency()
     }
 
-    /// How many entries were restored when this life began.
+    /// The number of entries that were restored when this life began.
     pub fn restored(&self) -> u64
         ensures { result ≡ self.now.node.restored }
     {
         self.node.restored
     }
 
-    /// How many entries are firm, those that were restored among them.
+    /// The number of firm entries, the restored ones among them.
     pub fn firm(&self) -> u64
         ensures { result ≡ self.now.node.firm }
     {
         self.node.firm
     }
 
-    /// How many entries the book has.
+    /// The number of entries in the book.
     pub fn made(&self) -> u64
         ensures { result ≡ length self.now.node.entries }
     {
@@ -156,23 +162,25 @@ impl<S: Service> NodeCore<S> {
         self.node.waiting.is_some()
     }
 
-    /// The batch that is decided and not yet delivered.
+    /// The batch that is decided and not yet delivered, if there is one.
     pub fn waiting(&self) -> Option<&Batch>
         ensures { option_copied result ≡ self.now.node.waiting }
     {
         self.node.waiting.as_ref()
     }
 
-    /// The node's entries in the order in which they were made.
+    /// The book: the entries in the order in which they were written.
     pub fn book(&self) -> &[LogEntry]
         ensures { result.now ≡ self.now.node.entries }
     {
         self.node.book.pushed()
     }
 
-    /// Takes one event: what happens to the node, and then one pass of its rules. Of what was kept
-    /// before, only what is still needed remains. After want of memory the node is broken, and holds
-    /// nothing: nothing leaves it any more. What counts as firm is then what did before the event.
+    /// Takes one event, and then makes one pass of the rules. Of what was kept before, only what is
+    /// still needed remains. Error: want of memory.
+    ///
+    /// After want of memory the node is broken. It holds no message, and none leaves it any more. The
+    /// number of firm entries is the one before the event.
     pub fn step(&mut self, event: &NodeEvent) -> Result<Outcome, AllocError>
         requires { self.old.broken ≡ false }
         ensures node { OnOk result (self.new.node ≡ (core_step S.meaning self.old.node event.now).node) }
@@ -197,7 +205,7 @@ impl<S: Service> NodeCore<S> {
         }
     }
 
-    /// The first held message leaves, if its entries are firm.
+    /// Takes the first held message out, if its entries are firm.
     pub fn release(&mut self) -> Option<Held>
         ensures held { result ≡ first_leaving self.old.node.firm self.old.node.held }
         ensures node { self.new.node ≡ record self.old.node { held = after_first self.old.node.firm self.old.node.held } }
@@ -206,8 +214,8 @@ impl<S: Service> NodeCore<S> {
         self.node.release()
     }
 
-    /// The held messages leave in order, up to the first whose entries are not firm. Without memory
-    /// none leaves. The cost is linear in the held messages.
+    /// Takes the held messages out, in order, up to the first whose entries are not firm. Error: want
+    /// of memory; none is taken out then. The cost is linear in the held messages.
     pub fn release_all(&mut self) -> Result<Sequence<Held>, AllocError>
         ensures held { IfOk result (λ left. left ≡ leaving self.old.node.firm self.old.node.held) }
         ensures node { OnOk result (self.new.node ≡ released self.old.node) }

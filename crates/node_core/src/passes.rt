@@ -14,7 +14,8 @@ use smart_base::sequence::Sequence;
 use smart_service::service::Service;
 use std::alloc::AllocError;
 
-/// One pass of all rules behind delivery. Adds what they tell.
+/// One pass of the rules that follow a delivery, with the events that they report. Error: want of
+/// memory.
 #[tactic(auto, unfolding(node_rules::specs::Steps::passes, node_rules::specs::Steps::fired_pass))]
 fn passes<S: Service>(
     node: &mut NodeState<S>,
@@ -30,7 +31,7 @@ fn passes<S: Service>(
     Ok(())
 }
 
-/// One pass of the rules behind an event.
+/// One pass of the rules after an event. Error: want of memory.
 pub fn outcome_from<S: Service>(
     node: &mut NodeState<S>,
     fired: Sequence<Fired>,
@@ -48,7 +49,7 @@ pub fn outcome_from<S: Service>(
     })
 }
 
-/// Passes the rules behind an arrival that is not dropped.
+/// Passes the rules after an arrival that is not dropped. Error: want of memory.
 pub fn passed<S: Service>(
     node: &mut NodeState<S>,
     dropped: Option<Why>,

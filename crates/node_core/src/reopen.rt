@@ -1,4 +1,4 @@
-//! A node that begins, and one that goes on after a crash.
+//! New nodes, and nodes that restart.
 ghost use Rattle.std.specs.Prelude.{◌≡◌, ℕ, [], false, None, Some, IfOk, OnOk, IsErrOf};
 ghost use Rattle.vote_book.specs.Books.{last_made};
 ghost use Rattle.node_rules.specs.Reopening.{damaged, entries_in, reopened};
@@ -28,7 +28,7 @@ use std::alloc::{AllocError, Global};
 use vote_book::book::Book;
 use vote_book::entry::{LogEntry, Opening};
 
-/// A node with an empty book.
+/// A new node, whose book has the opening alone.
 pub fn begin<S: Service>(
     alloc: Global,
     id: MemberId,
@@ -66,15 +66,15 @@ pub fn begin<S: Service>(
     })
 }
 
-/// The instance of a member that goes on behind a place, and its part in changing the regency, as its
-/// book says.
+/// A restarted member's instance at the next place, and its part in a leader change, as its book
+/// says.
 #[derive(Drop)]
 struct Summaries {
     instance: Instance,
     synchronizer: Synchronizer,
 }
 
-/// What a member that goes on from a book keeps beside it.
+/// What a restarted member keeps beside its book.
 fn summarize(alloc: Global, id: MemberId, view: &View, place: Place, book: &Book) -> Summaries
     requires { last_made book.now.entries ≡ place }
     ensures follows { Follows id view.now place None book.now.entries result.instance result.synchronizer }
@@ -96,7 +96,8 @@ fn summarize(alloc: Global, id: MemberId, view: &View, place: Place, book: &Book
     }
 }
 
-/// A node that goes on from restored entries, or the number of the first that is damaged.
+/// The node after a restart from entries. Errors: the number of the first damaged entry; want of
+/// memory.
 pub fn reopen<S: Service>(
     alloc: Global,
     id: MemberId,
@@ -119,7 +120,7 @@ pub fn reopen<S: Service>(
     }
 }
 
-/// A node of which nothing was restored: it opens its book anew.
+/// The node after a restart of which nothing was restored: it opens a new book.
 #[tactic(auto, unfolding(node_rules::specs::Reopening::reopened))]
 fn reopen_empty<S: Service>(
     alloc: Global,
@@ -135,7 +136,7 @@ fn reopen_empty<S: Service>(
     Ok(node)
 }
 
-/// A node that goes on from what its entries gave back.
+/// The node after a restart from what its entries gave back.
 fn go_on<S: Service>(alloc: Global, id: MemberId, ring: Ring, back: Restart<S>) -> NodeState<S>
     ensures { result ≡ going_on ring id back }
 {

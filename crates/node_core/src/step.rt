@@ -1,6 +1,6 @@
-//! What happens to a node at an event.
+//! The step of a node at an event.
 ghost use Rattle.std.specs.Prelude.{◌≡◌, [], IfOk, OnOk, OnErr};
-ghost use Rattle.smart_messages.specs.RegencyMessages.{any_decoded};
+ghost use Rattle.smart_messages.specs.Messages.{decoded};
 ghost use Rattle.node_rules.specs.Kept.{trimmed, core_step};
 ghost use Rattle.node_rules.specs.Steps.{step_of, outcome_from, reading_outcome, timed};
 ghost use Rattle.node_state.specs.Broken.{IsPartly};
@@ -15,7 +15,7 @@ use node_state::state::NodeState;
 use node_turns::times::times;
 use smart_base::fault::ReadError;
 use smart_base::sequence::Sequence;
-use smart_messages::any::decode_any;
+use smart_messages::codec::decode;
 use smart_service::service::Service;
 use smart_statements::entry::NodeEvent;
 use std::alloc::AllocError;
@@ -33,7 +33,7 @@ pub fn step<S: Service>(node: &mut NodeState<S>, event: &NodeEvent) -> Result<Ou
     Ok(outcome)
 }
 
-/// The step of a node that keeps all.
+/// The step of a node that keeps everything.
 #[tactic(auto, unfolding(node_rules::specs::Steps::step_of))]
 fn step_of<S: Service>(node: &mut NodeState<S>, event: &NodeEvent) -> Result<Outcome, AllocError>
     ensures node { OnOk result (node.new ≡ (step_of S.meaning node.old event.now).node) }
@@ -73,12 +73,12 @@ fn trim<S: Service>(node: &mut NodeState<S>)
 
 /// Drops bytes that are no message, and passes a message on.
 fn reading_outcome<S: Service>(node: &mut NodeState<S>, bytes: &[u8]) -> Result<Outcome, AllocError>
-    ensures node { OnOk result (node.new ≡ (reading_outcome node.old (any_decoded bytes.now)).node) }
-    ensures fired { IfOk result (λ o. o.fired ≡ (reading_outcome node.old (any_decoded bytes.now)).fired) }
-    ensures dropped { IfOk result (λ o. o.dropped ≡ (reading_outcome node.old (any_decoded bytes.now)).dropped) }
-    ensures err { OnErr result (IsPartly node.old.entries node.new.entries (reading_outcome node.old (any_decoded bytes.now)).node.entries) }
+    ensures node { OnOk result (node.new ≡ (reading_outcome node.old (decoded bytes.now)).node) }
+    ensures fired { IfOk result (λ o. o.fired ≡ (reading_outcome node.old (decoded bytes.now)).fired) }
+    ensures dropped { IfOk result (λ o. o.dropped ≡ (reading_outcome node.old (decoded bytes.now)).dropped) }
+    ensures err { OnErr result (IsPartly node.old.entries node.new.entries (reading_outcome node.old (decoded bytes.now)).node.entries) }
 {
-    match decode_any(node.alloc, bytes) {
+    match decode(node.alloc, bytes) {
         Ok(message) => arrival_outcome(node, message),
         Err(ReadError::NoMemory) => Err(AllocError),
         Err(ReadError::Unread { .. }) => Ok(Outcome {
@@ -88,7 +88,7 @@ fn reading_outcome<S: Service>(node: &mut NodeState<S>, bytes: &[u8]) -> Result<
     }
 }
 
-/// One pass of the rules, and then what time does.
+/// One pass of the rules, and then the rule of time.
 fn tick_outcome<S: Service>(node: &mut NodeState<S>) -> Result<Outcome, AllocError>
     ensures node { OnOk result (node.new ≡ (timed (outcome_from node.old [])).node) }
     ensures fired { IfOk result (λ o. o.fired ≡ (timed (outcome_from node.old [])).fired) }

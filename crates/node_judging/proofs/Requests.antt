@@ -9,8 +9,7 @@ use Rattle.smart_statements.specs.Batches.{Batch}
 use Rattle.smart_messages.specs.Messages.{Fits}
 use Rattle.smart_statements.specs.declared.statement.Request.{Request}
 use Rattle.smart_statements.specs.declared.statement.Answer.{Answer}
-use Rattle.smart_messages.specs.declared.any.AnyMessage.{AnyMessage}
-use Rattle.smart_messages.specs.declared.any.AnyMessage.TheVariants.{Plain, Change}
+use Rattle.smart_messages.specs.declared.message.Message.{Message}
 use Rattle.smart_messages.specs.declared.message.Message.TheVariants.{Ask, Propose, Vote, Reply}
 use Rattle.smart_service.specs.Tables.{last_seq}
 use Rattle.smart_service.specs.declared.replica.Replica.{Replica}
@@ -20,40 +19,29 @@ use Rattle.request_pool.specs.declared.pool.Offer.TheVariants as offers
 use Rattle.replica_rules.specs.Seals.{is_verified}
 use Rattle.replica_rules.specs.Replicas.{is_next}
 use Rattle.node_rules.specs.Nodes.{Node, view_of}
-use Rattle.node_rules.specs.Arrivals.{why_ask, noted, kept, kept_plain}
+use Rattle.node_rules.specs.Arrivals.{why_ask, noted, kept}
 use Rattle.node_rules.specs.declared.node.Why.{Why}
 use Rattle.node_rules.specs.declared.node.Why.TheVariants.{BadTag, Stranger, OldSeq, FarSeq}
-use Rattle.node_rules.specs.Rules.{answering}
 use Rattle.node_judging.specs.Arriving.{why_offered, kept_unless}
-use Rattle.node_judging.specs.Asking.{asked_by, line_asked}
 
 -- a request that was read is its signer's
 pub own_request : (q : SignedBy Request) → Fits (Ask q) → q.signer ≡ q.statement.client
 own_request q fits = sym fits.content_fits.statement_fits.client_is
 
 -- a request does not tell a node that it is behind
-pub ask_noted : {S : Type 0} (n : Node S) (q : SignedBy Request) → noted n (Plain (Ask q)) ≡ n
+pub ask_noted : {S : Type 0} (n : Node S) (q : SignedBy Request) → noted n (Ask q) ≡ n
 unfolding noted
 ask_noted {S = S} n q = ap (λ (b : Bool). record n { behind = b }) (or-false n.behind)
 
 -- no reply is kept, and none tells a node that it is behind
-pub reply_noted : {S : Type 0} (n : Node S) (a : SignedBy Answer) → noted n (Plain (Reply a)) ≡ n
+pub reply_noted : {S : Type 0} (n : Node S) (a : SignedBy Answer) → noted n (Reply a) ≡ n
 unfolding noted
 reply_noted {S = S} n a = ap (λ (b : Bool). record n { behind = b }) (or-false n.behind)
 
-pub reply_kept : {S : Type 0} (n : Node S) (a : SignedBy Answer) (why : Option Why) → kept_unless why (noted n (Plain (Reply a))) (Plain (Reply a)) ≡ n
-unfolding kept_plain
+pub reply_kept : {S : Type 0} (n : Node S) (a : SignedBy Answer) (why : Option Why) → kept_unless why (noted n (Reply a)) (Reply a) ≡ n
+unfolding kept
 reply_kept n a None = reply_noted n a
 reply_kept n a (Some why) = reply_noted n a
-
--- the line of what was asked is that by which a node answers
-pub asked_answering : {S : Type 0} (n : Node S) (m : AnyMessage) → line_asked n (asked_by m) ≡ answering n m
-unfolding answering
-asked_answering n (Plain (Ask q)) = refl
-asked_answering n (Plain (Propose p)) = refl
-asked_answering n (Plain (Vote b)) = refl
-asked_answering n (Plain (Reply a)) = refl
-asked_answering n (Change m) = refl
 
 -- the answer to a request, and why it is dropped, by what is found of it
 
@@ -77,17 +65,17 @@ same_why true false false false true had new near = refl
 same_why true false false false false true new near = refl
 same_why true false false false false false new near = refl
 
-kept_next : {S : Type 0} (n : Node S) (q : SignedBy Request) → is_next n.replica.table q.statement ≡ true → record n { pool = pool_after offers.Kept n.pool q } ≡ kept n (Plain (Ask q))
-unfolding kept_plain
+kept_next : {S : Type 0} (n : Node S) (q : SignedBy Request) → is_next n.replica.table q.statement ≡ true → record n { pool = pool_after offers.Kept n.pool q } ≡ kept n (Ask q)
+unfolding kept
 kept_next n q next = rw next refl
 
-kept_last : {S : Type 0} (n : Node S) (q : SignedBy Request) → is_next n.replica.table q.statement ≡ false → n ≡ kept n (Plain (Ask q))
-unfolding kept_plain
+kept_last : {S : Type 0} (n : Node S) (q : SignedBy Request) → is_next n.replica.table q.statement ≡ false → n ≡ kept n (Ask q)
+unfolding kept
 kept_last n q next = rw next refl
 
 same_kept : {S : Type 0} (n : Node S) (q : SignedBy Request) (verified stranger old older ahead had : Bool)
     → (old ≡ true → is_next n.replica.table q.statement ≡ false) → (old ≡ false → ahead ≡ false → is_next n.replica.table q.statement ≡ true)
-    → record n { pool = pool_after (answer_by verified stranger old ahead had) n.pool q } ≡ kept_unless (why_offered (answer_by verified stranger old ahead had) older) n (Plain (Ask q))
+    → record n { pool = pool_after (answer_by verified stranger old ahead had) n.pool q } ≡ kept_unless (why_offered (answer_by verified stranger old ahead had) older) n (Ask q)
 same_kept n q false stranger old older ahead had last next = refl
 same_kept n q true true old older ahead had last next = refl
 same_kept n q true false true true ahead had last next = refl
@@ -122,7 +110,7 @@ offered_why n q member own known =
 
 offered_kept : {S : Type 0} (n : Node S) (q : SignedBy Request)
     → record n { pool = pool_after (offer_of n.secret n.pool q (last_seq n.replica.table q.statement.client)) n.pool q }
-    ≡ kept_unless (why_offered (offer_of n.secret n.pool q (last_seq n.replica.table q.statement.client)) (nat_lt q.statement.seq (last_seq n.replica.table q.statement.client))) n (Plain (Ask q))
+    ≡ kept_unless (why_offered (offer_of n.secret n.pool q (last_seq n.replica.table q.statement.client)) (nat_lt q.statement.seq (last_seq n.replica.table q.statement.client))) n (Ask q)
 offered_kept n q =
     let last = last_seq n.replica.table q.statement.client in
     let seq = q.statement.seq in
@@ -139,6 +127,6 @@ why_where n inside q asked r secret last answer why same member own known is rep
 
 pub kept_where : {S : Type 0} (n inside : Node S) (q : SignedBy Request) (asked : Request) (r : Replica S) (secret : List ℕ) (last : ℕ) (answer : Offer) (why : Option Why) (pool : Batch) → inside ≡ n
     → asked ≡ q.statement → r ≡ inside.replica → secret ≡ inside.secret → last ≡ last_seq r.table asked.client → answer ≡ offer_of secret inside.pool q last
-    → why ≡ why_offered answer (nat_lt asked.seq last) → pool ≡ pool_after answer inside.pool q → record inside { pool = pool } ≡ kept_unless why n (Plain (Ask q))
+    → why ≡ why_offered answer (nat_lt asked.seq last) → pool ≡ pool_after answer inside.pool q → record inside { pool = pool } ≡ kept_unless why n (Ask q)
 kept_where n inside q asked r secret last answer why pool same is replica key found offer due after =
     rw (after, due, offer, found, is, replica, key, same) (offered_kept n q)

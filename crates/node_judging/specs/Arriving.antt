@@ -1,6 +1,6 @@
 -- What becomes of an arrival before the rules pass.
 use Rattle.std.specs.Prelude.{Bool, if◌then◌else◌, Option, Some, None}
-use Rattle.smart_messages.specs.declared.any.AnyMessage.{AnyMessage}
+use Rattle.smart_messages.specs.declared.message.Message.{Message}
 use Rattle.request_pool.specs.declared.pool.Offer.{Offer}
 use Rattle.request_pool.specs.declared.pool.Offer.TheVariants as offers
 use Rattle.node_rules.specs.Nodes.{Node}
@@ -8,7 +8,8 @@ use Rattle.node_rules.specs.Arrivals.{kept}
 use Rattle.node_rules.specs.declared.node.Why.{Why}
 use Rattle.node_rules.specs.declared.node.Why.TheVariants.{BadTag, Stranger, OldSeq, FarSeq}
 
--- why a request is dropped that a pool answers so. The one that its client had executed last is not: its reply is sent again
+-- the reason for which a request is dropped that a pool answers so; the last executed request of a client is not dropped, as its reply is
+-- sent again
 abbrev pub why_offered : Offer → Bool → Option Why
 why_offered offers.Kept older = None
 why_offered offers.Replaced older = None
@@ -17,7 +18,7 @@ why_offered offers.Ahead older = Some FarSeq
 why_offered offers.BadTag older = Some BadTag
 why_offered offers.Stranger older = Some Stranger
 
--- the node that keeps an arrival, unless it is dropped
-abbrev pub kept_unless : {S : Type 0} → Option Why → Node S → AnyMessage → Node S
+-- the node that keeps an arrival, unless the arrival is dropped
+abbrev pub kept_unless : {S : Type 0} → Option Why → Node S → Message → Node S
 kept_unless None n message = kept n message
 kept_unless (Some why) n message = n

@@ -1,9 +1,8 @@
-//! Which of the messages that order requests a node drops, and what it keeps of the others.
+//! The judging of proposals and votes.
 ghost use Rattle.std.specs.Prelude.{◌≡◌, ◌||◌, ◌&&◌, is_none, IfOk, OnErr};
 ghost use Rattle.replica_rules.specs.Seals.{is_verified};
 ghost use Rattle.node_rules.specs.Arrivals.{signer_why, is_unbound, why_propose, why_vote, why_reply, is_beyond, noted};
 ghost use Rattle.node_judging.specs.Arriving.{kept_unless};
-ghost use Rattle.smart_messages.specs.declared.any.AnyMessage.TheVariants as messages;
 ghost use Rattle.smart_messages.specs.declared.message.Message.TheVariants as plain;
 
 use crate::reasons::{is_beyond, signer_why, slot_why};
@@ -16,14 +15,14 @@ use smart_statements::signed::{Signed, Statement};
 use smart_statements::statement::{Answer, Ballot, Slot};
 use std::alloc::AllocError;
 
-/// Keeps a proposal, or tells why it is dropped.
-#[tactic(auto, unfolding(node_rules::specs::Arrivals::noted, node_rules::specs::Arrivals::kept_plain))]
+/// Keeps a PROPOSE, or tells why it is dropped. Error: want of memory.
+#[tactic(auto, unfolding(node_rules::specs::Arrivals::noted, node_rules::specs::Arrivals::kept))]
 pub fn take_proposal<S: Service>(
     node: &mut NodeState<S>,
     proposed: Proposed,
 ) -> Result<Option<Why>, AllocError>
     ensures why { IfOk result (λ why. why ≡ why_propose node.old proposed) }
-    ensures node { IfOk result (λ why. node.new ≡ kept_unless why (noted node.old (messages.Plain (plain.Propose proposed))) (messages.Plain (plain.Propose proposed))) }
+    ensures node { IfOk result (λ why. node.new ≡ kept_unless why (noted node.old (plain.Propose proposed)) (plain.Propose proposed)) }
     ensures err { OnErr result (node.new.entries ≡ node.old.entries) }
 {
     let dropped = why_propose(node, &proposed)?;
@@ -35,14 +34,14 @@ pub fn take_proposal<S: Service>(
     Ok(dropped)
 }
 
-/// Keeps a vote, or tells why it is dropped.
-#[tactic(auto, unfolding(node_rules::specs::Arrivals::noted, node_rules::specs::Arrivals::kept_plain))]
+/// Keeps a vote, or tells why it is dropped. Error: want of memory.
+#[tactic(auto, unfolding(node_rules::specs::Arrivals::noted, node_rules::specs::Arrivals::kept))]
 pub fn take_vote<S: Service>(
     node: &mut NodeState<S>,
     ballot: Signed<Ballot>,
 ) -> Result<Option<Why>, AllocError>
     ensures why { IfOk result (λ why. why ≡ why_vote node.old ballot) }
-    ensures node { IfOk result (λ why. node.new ≡ kept_unless why (noted node.old (messages.Plain (plain.Vote ballot))) (messages.Plain (plain.Vote ballot))) }
+    ensures node { IfOk result (λ why. node.new ≡ kept_unless why (noted node.old (plain.Vote ballot)) (plain.Vote ballot)) }
     ensures err { OnErr result (node.new.entries ≡ node.old.entries) }
 {
     let dropped = why_vote(node, &ballot);
@@ -53,15 +52,14 @@ pub fn take_vote<S: Service>(
     Ok(dropped)
 }
 
-/// Notes whether a member's message for a slot tells the node that it is behind.
+/// Notes that the node lags, if a member's message for a slot shows it.
 fn note<S: Service, T: Statement>(node: &mut NodeState<S>, signed: &Signed<T>, slot: Slot)
     ensures { node.new ≡ record node.old { behind = node.old.behind || (is_none (signer_why node.old (is_verified T.form node.old.secret signed.now) signed.now.signer) && is_beyond node.old slot) } }
 {
     node.behind = node.behind || is_beyond(node, slot) && signer_why(node, signed).is_none();
 }
 
-/// Whether a proposal of the regency in force is for another batch than the one that binds at its
-/// place.
+/// Whether a proposal in the regency in force is for another batch than the bound one at its place.
 fn is_unbound<S: Service>(node: &NodeState<S>, proposed: &Proposed) -> bool
     ensures { result ≡ is_unbound node.now proposed.now }
 {

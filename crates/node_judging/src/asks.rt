@@ -1,29 +1,26 @@
-//! What becomes of a client's request that arrives.
+//! The judging of clients' requests.
 ghost use Rattle.std.specs.Prelude.{◌≡◌, ◌==◌, true, false, IfOk, OnErr};
 ghost use Rattle.smart_base.specs.Views.{is_member};
-ghost use Rattle.node_judging.specs.Asking.{asked_by, line_asked};
+ghost use Rattle.node_rules.specs.Rules.{asked_in, answering};
 ghost use Rattle.node_rules.specs.Nodes.{view_of};
 ghost use Rattle.node_rules.specs.Arrivals.{why_ask};
 ghost use Rattle.node_judging.specs.Arriving.{why_offered, kept_unless};
-ghost use Rattle.smart_messages.specs.declared.any.AnyMessage.TheVariants as messages;
 ghost use Rattle.smart_messages.specs.declared.message.Message.TheVariants as plain;
 
-use node_rules::node::Why;
+use node_rules::node::{Asked, Why};
 use node_state::seal::is_verified;
 use node_state::state::NodeState;
 use request_pool::pool::Offer;
 use smart_base::duplicate::Duplicate;
-use smart_base::name::ClientId;
-use smart_messages::any::AnyMessage;
-use smart_messages::message::Message;
+use smart_messages::message::{Message, request_in};
 use smart_service::service::Service;
 use smart_service::table::TableLine;
 use smart_statements::signed::Signed;
 use smart_statements::statement::Request;
 use std::alloc::AllocError;
 
-/// Why a request is dropped that the pool answers so, where its number is less than that of its
-/// client's last executed request, or not.
+/// The reason for which a request is dropped that the pool answers so. `older` tells whether its
+/// number is less than that of its client's last executed request.
 fn why_offered(offer: Offer, older: bool) -> Option<Why>
     ensures { result ≡ why_offered offer older }
 {
@@ -36,8 +33,8 @@ fn why_offered(offer: Offer, older: bool) -> Option<Why>
     }
 }
 
-/// Keeps a request that is its client's next, or tells why it is dropped. Until views change,
-/// the view manager is a stranger.
+/// Keeps a request that is its client's next, or tells why it is dropped. INTERIM(views): the view
+/// manager is a stranger. Error: want of memory.
 #[tactic(auto, unfolding(node_rules::specs::Arrivals::why_ask))]
 pub fn take_request<S: Service>(
     node: &mut NodeState<S>,
@@ -45,7 +42,7 @@ pub fn take_request<S: Service>(
 ) -> Result<Option<Why>, AllocError>
     requires { request.signer ≡ request.statement.client }
     ensures why { IfOk result (λ why. why ≡ why_ask node.old request) }
-    ensures node { IfOk result (λ why. node.new ≡ kept_unless why node.old (messages.Plain (plain.Ask request))) }
+    ensures node { IfOk result (λ why. node.new ≡ kept_unless why node.old (plain.Ask request)) }
     ensures err { OnErr result (node.new.entries ≡ node.old.entries) }
 {
     if !node.view().is_member(node.id()) {
@@ -61,7 +58,7 @@ pub fn take_request<S: Service>(
     }
 }
 
-/// Offers a request to the pool, which verifies its tag.
+/// Offers a request to the pool, which verifies its tag. Error: want of memory.
 fn offer<S: Service>(
     node: &mut NodeState<S>,
     request: Signed<Request>,
@@ -70,7 +67,7 @@ fn offer<S: Service>(
     requires client { request.signer ≡ request.statement.client }
     requires known { (request.signer == 0) ≡ false }
     ensures why { IfOk result (λ why. why ≡ why_ask node.old request) }
-    ensures node { IfOk result (λ why. node.new ≡ kept_unless why node.old (messages.Plain (plain.Ask request))) }
+    ensures node { IfOk result (λ why. node.new ≡ kept_unless why node.old (plain.Ask request)) }
     ensures err { OnErr result (node.new.entries ≡ node.old.entries) }
 {
     let asked = request.statement();
@@ -80,35 +77,30 @@ fn offer<S: Service>(
     Ok(why_offered(offer, older))
 }
 
-/// What a client asked: who it is, and the number of its request.
-#[derive(Clone, Copy, Debug)]
-pub struct Asked {
-    pub client: ClientId,
-    pub seq: u64,
-}
-
-/// What an arrival asks, if it is a request.
-pub fn asked_by(message: &AnyMessage) -> Option<Asked>
-    ensures { result ≡ asked_by message.now }
+/// The client and number that a message asks for, if it is a request.
+pub fn asked_in(message: &Message) -> Option<Asked>
+    ensures { result ≡ asked_in message.now }
 {
-    match message {
-        AnyMessage::Plain(Message::Ask(request)) => {
+    match request_in(message) {
+        None => None,
+        Some(request) => {
             let asked = request.statement();
             Some(Asked {
                 client: asked.client,
                 seq: asked.seq,
             })
         }
-        AnyMessage::Plain(_) | AnyMessage::Change(_) => None,
     }
 }
 
-/// A copy of a client's line, where the number that it asked is that of its last executed request.
+/// A copy of a client's line, if the number is that of the client's last executed request. Error:
+/// want of memory.
+#[tactic(auto, unfolding(node_rules::specs::Rules::answering))]
 fn asked_again<S: Service>(
     node: &NodeState<S>,
     asked: Asked,
 ) -> Result<Option<TableLine>, AllocError>
-    ensures { IfOk result (λ line. line ≡ line_asked node.now (Some asked)) }
+    ensures { IfOk result (λ line. line ≡ answering node.now (Some asked)) }
 {
     let table = &node.replica.replica().table;
     if asked.seq != table.last_seq(asked.client) {
@@ -120,12 +112,13 @@ fn asked_again<S: Service>(
     }
 }
 
-/// The line by which an arrival is answered, if it asks again.
-pub fn line_asked<S: Service>(
+/// The line with which a repeated request is answered, if there is one. Error: want of memory.
+#[tactic(auto, unfolding(node_rules::specs::Rules::answering))]
+pub fn answering<S: Service>(
     node: &NodeState<S>,
     asked: Option<Asked>,
 ) -> Result<Option<TableLine>, AllocError>
-    ensures { IfOk result (λ line. line ≡ line_asked node.now asked) }
+    ensures { IfOk result (λ line. line ≡ answering node.now asked) }
 {
     match asked {
         None => Ok(None),

@@ -1,4 +1,5 @@
-//! How a member's node judges what arrives: why it drops a message, and what it keeps of the others.
+//! The judging of what arrives at a member's node: why a message is dropped, and what is kept of the
+//! others.
 #![tactic(auto)]
 
 mod arrivals;

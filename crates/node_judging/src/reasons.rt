@@ -12,7 +12,7 @@ use smart_service::service::Service;
 use smart_statements::signed::{Signed, Statement};
 use smart_statements::statement::Slot;
 
-/// Whether a view is not yet in force.
+/// Whether a view is later than the one in force.
 pub fn is_newer<S: Service>(node: &NodeState<S>, view: ViewNo) -> bool
     ensures { result ≡ is_newer node.now view }
 {

@@ -1,13 +1,12 @@
-//! Which of the messages that change the regency a node drops, and what it keeps of the others.
+//! The judging of the messages of a leader change.
 ghost use Rattle.std.specs.Prelude.{◌≡◌, ◌||◌, ◌&&◌, is_none, IfOk, OnErr};
 ghost use Rattle.std.specs.List.{list_any};
 ghost use Rattle.smart_statements.specs.Forms.{SignedBy};
 ghost use Rattle.smart_statements.specs.declared.report.Report.{Report};
 ghost use Rattle.replica_rules.specs.Seals.{is_verified};
-ghost use Rattle.node_rules.specs.Arrivals.{signer_why, why_stop, is_marks, rests_on_marks, bears_lock, is_proven, why_report, is_collect, why_sync, why_dropped, is_newer, noted};
+ghost use Rattle.node_rules.specs.Arrivals.{signer_why, why_stop, is_marks, rests_on_marks, bears_lock, is_proven, why_report, is_collect, why_sync, is_newer, noted};
 ghost use Rattle.node_judging.specs.Arriving.{kept_unless};
-ghost use Rattle.smart_messages.specs.declared.any.AnyMessage.TheVariants as messages;
-ghost use Rattle.smart_messages.specs.declared.regency.RegencyMessage.TheVariants as changes;
+ghost use Rattle.smart_messages.specs.declared.message.Message.TheVariants as changes;
 
 use crate::reasons::{is_newer, regency_why, signer_why, view_why, wish_why};
 use certificates::collect::{check_collect, check_evidence, has_no_false_lock};
@@ -16,7 +15,7 @@ use node_rules::node::Why;
 use node_state::state::NodeState;
 use regency_sync::choosing::choice;
 use smart_base::number::{Place, ViewNo};
-use smart_messages::regency::{RegencyMessage, Reported, Stop, Sync};
+use smart_messages::regency::{Reported, Stop, Sync};
 use smart_service::service::Service;
 use smart_statements::batch::Batch;
 use smart_statements::report::{Evidence, LockCertificate, Report};
@@ -32,14 +31,14 @@ fn is_marks(evidence: &Evidence) -> bool
     }
 }
 
-/// Whether marks are what shows a report's last place.
+/// Whether a report's last place rests on marks.
 fn rests_on_marks(report: &Report) -> bool
     ensures { result ≡ rests_on_marks report.now }
 {
     report.last != Place::zero() && is_marks(&report.evidence)
 }
 
-/// Whether marks are what shows the last place of one of some reports.
+/// Whether the last place of one of some reports rests on marks.
 fn rest_on_marks(reports: &[Signed<Report>]) -> bool
     ensures { result ≡ list_any (λ (r : SignedBy Report). rests_on_marks r.statement) reports.now }
 {
@@ -48,37 +47,21 @@ fn rest_on_marks(reports: &[Signed<Report>]) -> bool
         .any(|report| rests_on_marks(report.statement()))
 }
 
-/// Keeps a message that changes the regency, or tells why it is dropped.
-pub fn take_change<S: Service>(
-    node: &mut NodeState<S>,
-    message: RegencyMessage,
-) -> Result<Option<Why>, AllocError>
-    ensures why { IfOk result (λ why. why ≡ why_dropped node.old (messages.Change message)) }
-    ensures node { IfOk result (λ why. node.new ≡ kept_unless why (noted node.old (messages.Change message)) (messages.Change message)) }
-    ensures err { OnErr result (node.new.entries ≡ node.old.entries) }
-{
-    match message {
-        RegencyMessage::Stop(stop) => take_stop(node, stop),
-        RegencyMessage::StopData(reported) => take_report(node, reported),
-        RegencyMessage::Sync(sync) => take_sync(node, sync),
-    }
-}
-
-/// Notes whether a member's message of a view tells the node that it is behind.
+/// Notes that the node lags, if a member's message of a view shows it.
 fn note_view<S: Service, T: Statement>(node: &mut NodeState<S>, signed: &Signed<T>, view: ViewNo)
     ensures { node.new ≡ record node.old { behind = node.old.behind || (is_none (signer_why node.old (is_verified T.form node.old.secret signed.now) signed.now.signer) && is_newer node.old view) } }
 {
     node.behind = node.behind || is_newer(node, view) && signer_why(node, signed).is_none();
 }
 
-/// Keeps a member's wish, or tells why it is dropped.
-#[tactic(auto, unfolding(node_rules::specs::Arrivals::noted, node_rules::specs::Arrivals::kept_change))]
-fn take_stop<S: Service>(
+/// Keeps a STOP, or tells why it is dropped. Error: want of memory.
+#[tactic(auto, unfolding(node_rules::specs::Arrivals::noted, node_rules::specs::Arrivals::kept))]
+pub fn take_stop<S: Service>(
     node: &mut NodeState<S>,
     stop: Signed<Stop>,
 ) -> Result<Option<Why>, AllocError>
     ensures why { IfOk result (λ why. why ≡ why_stop node.old stop) }
-    ensures node { IfOk result (λ why. node.new ≡ kept_unless why (noted node.old (messages.Change (changes.Stop stop))) (messages.Change (changes.Stop stop))) }
+    ensures node { IfOk result (λ why. node.new ≡ kept_unless why (noted node.old (changes.Stop stop)) (changes.Stop stop)) }
     ensures err { OnErr result (node.new.entries ≡ node.old.entries) }
 {
     let dropped = why_stop(node, &stop);
@@ -89,14 +72,14 @@ fn take_stop<S: Service>(
     Ok(dropped)
 }
 
-/// Keeps a member's report, or tells why it is dropped.
-#[tactic(auto, unfolding(node_rules::specs::Arrivals::noted, node_rules::specs::Arrivals::kept_change))]
-fn take_report<S: Service>(
+/// Keeps a STOPDATA, or tells why it is dropped. Error: want of memory.
+#[tactic(auto, unfolding(node_rules::specs::Arrivals::noted, node_rules::specs::Arrivals::kept))]
+pub fn take_report<S: Service>(
     node: &mut NodeState<S>,
     reported: Reported,
 ) -> Result<Option<Why>, AllocError>
     ensures why { IfOk result (λ why. why ≡ why_report node.old reported) }
-    ensures node { IfOk result (λ why. node.new ≡ kept_unless why (noted node.old (messages.Change (changes.StopData reported))) (messages.Change (changes.StopData reported))) }
+    ensures node { IfOk result (λ why. node.new ≡ kept_unless why (noted node.old (changes.StopData reported)) (changes.StopData reported)) }
     ensures err { OnErr result (node.new.entries ≡ node.old.entries) }
 {
     let dropped = why_report(node, &reported)?;
@@ -108,14 +91,14 @@ fn take_report<S: Service>(
     Ok(dropped)
 }
 
-/// Keeps the beginning of a regency, or tells why it is dropped.
-#[tactic(auto, unfolding(node_rules::specs::Arrivals::noted, node_rules::specs::Arrivals::kept_change))]
-fn take_sync<S: Service>(
+/// Keeps a SYNC, or tells why it is dropped. Error: want of memory.
+#[tactic(auto, unfolding(node_rules::specs::Arrivals::noted, node_rules::specs::Arrivals::kept))]
+pub fn take_sync<S: Service>(
     node: &mut NodeState<S>,
     sync: Signed<Sync>,
 ) -> Result<Option<Why>, AllocError>
     ensures why { IfOk result (λ why. why ≡ why_sync node.old sync) }
-    ensures node { IfOk result (λ why. node.new ≡ kept_unless why (noted node.old (messages.Change (changes.Sync sync))) (messages.Change (changes.Sync sync))) }
+    ensures node { IfOk result (λ why. node.new ≡ kept_unless why (noted node.old (changes.Sync sync)) (changes.Sync sync)) }
     ensures err { OnErr result (node.new.entries ≡ node.old.entries) }
 {
     let dropped = why_sync(node, &sync);
@@ -148,7 +131,8 @@ fn why_stop<S: Service>(node: &NodeState<S>, stop: &Signed<Stop>) -> Option<Why>
     }
 }
 
-/// Whether the batch on which a report's signer is locked comes with it, and may stand at a place.
+/// Whether a report brings the batch of its lock, if it has a lock, and the batch may stand at a
+/// place. Error: want of memory.
 fn bears_lock<S: Service>(
     node: &NodeState<S>,
     place: u64,
@@ -168,7 +152,7 @@ fn bears_lock<S: Service>(
     }
 }
 
-/// Whether what a report rests on holds.
+/// Whether the evidence, the lock and the batch of a report hold. Error: want of memory.
 #[tactic(auto, unfolding(node_rules::specs::Arrivals::is_proven))]
 fn is_proven<S: Service>(node: &NodeState<S>, reported: &Reported) -> Result<bool, AllocError>
     ensures { IfOk result (λ proven. proven ≡ is_proven node.now reported.now) }
@@ -213,7 +197,7 @@ fn why_report<S: Service>(
     }
 }
 
-/// Whether the reports with which a regency begins are a collect.
+/// Whether the reports of a SYNC are a collect.
 #[tactic(auto, unfolding(node_rules::specs::Arrivals::is_collect))]
 fn is_collect<S: Service>(node: &NodeState<S>, sync: &Sync) -> bool
     ensures { result ≡ is_collect node.now sync.now }

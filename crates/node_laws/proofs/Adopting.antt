@@ -18,7 +18,6 @@ use Rattle.smart_base.specs.Lists.{Each}
 use Rattle.smart_base.specs.Views.{View, present}
 use Rattle.smart_statements.specs.Forms.{SignedBy}
 use Rattle.smart_statements.specs.Reports.{reports}
-use Rattle.smart_messages.specs.declared.any.AnyMessage.TheVariants.{Change}
 use Rattle.smart_messages.specs.declared.regency.Sync.{Sync}
 use Rattle.smart_statements.specs.declared.report.Report.{Report}
 use Rattle.vote_book.specs.Books.{Among}
@@ -33,7 +32,7 @@ use Rattle.node_laws.proofs.Promised.{records_promise, records_start, regency_th
 use Rattle.node_laws.proofs.Stated.{covers}
 use Rattle.node_laws.proofs.Votes.{in_force}
 use Rattle.node_laws.specs.Sound.{IsSound, IsStated, IsWithin}
-use Rattle.smart_messages.specs.declared.regency.RegencyMessage.TheVariants as changes
+use Rattle.smart_messages.specs.declared.message.Message.TheVariants as changes
 use Rattle.agreement_laws.specs.Statements as says
 use Rattle.agreement_laws.proofs.Lists.{among_either, among_left, each_among, each_from, not_true, among_flat}
 use Rattle.smart_base.proofs.SameLists.{and_true}
@@ -53,12 +52,12 @@ locked_of secret v views regency items is = record {
 }
 
 -- a report stands in the beginning that collects it
-report_within : (s : SignedBy Sync) (r : SignedBy Report) → Among r s.statement.collect → Among (says.Reported r) (flat_map says.within (says.said (Change (changes.Sync s))))
+report_within : (s : SignedBy Sync) (r : SignedBy Report) → Among r s.statement.collect → Among (says.Reported r) (flat_map says.within (says.said (changes.Sync s)))
 report_within s r there =
     inr (among_left (says.Reported r) (flat_map says.in_report s.statement.collect) []
     (among_flat says.in_report s.statement.collect r (says.Reported r) there (inl refl)))
 
-chosen_by : (secret : List ℕ) (stated : List Statement) (view : View) (views : List View) (s : SignedBy Sync) → present views ≡ view → IsStated secret stated (Change (changes.Sync s))
+chosen_by : (secret : List ℕ) (stated : List Statement) (view : View) (views : List View) (s : SignedBy Sync) → present views ≡ view → IsStated secret stated (changes.Sync s)
     → IsCollect secret views s.statement.regency s.statement.collect → IsChosen secret view stated (start_by_sync s.statement)
 unfolding choice
 chosen_by secret stated view views s same was collect =
@@ -71,7 +70,7 @@ chosen_by secret stated view views s same was collect =
       items = items;
       collect = subst (λ (v : View). IsLockedCollect secret v s.statement.regency items) same locked;
       drawn = each_from (λ r. Among (says.Reported r) stated) items
-          (λ r there. covers secret stated (Change (changes.Sync s)) was (says.Reported r) (report_within s r there)
+          (λ r there. covers secret stated (changes.Sync s) was (says.Reported r) (report_within s r there)
           (each_among (λ r. is_verified reports secret r ≡ true) items r collect.0.verified there));
       choice_is = refl;
     }

@@ -5,7 +5,7 @@ use Rattle.replica_rules.specs.Pools.{offered}
 use Rattle.replica_rules.specs.Replicas.{is_next}
 use Rattle.replica_rules.specs.Seals.{is_verified}
 use Rattle.agreement_laws.specs.Statements.{Statement}
-use Rattle.node_rules.specs.Arrivals.{is_batch_for, is_collect, is_proven, kept, kept_change, kept_plain, noted, place_why, regency_why, signer_why, slot_why, tells_behind, view_why, why_ask, why_change, why_dropped, why_plain, why_propose, why_report, why_stop, why_sync, why_vote}
+use Rattle.node_rules.specs.Arrivals.{is_batch_for, is_collect, is_proven, kept, noted, place_why, regency_why, signer_why, slot_why, tells_behind, view_why, why_ask, why_dropped, why_propose, why_report, why_stop, why_sync, why_vote}
 use Rattle.node_rules.specs.Nodes.{Node, decided_place, regency_of, view_of}
 use Rattle.node_rules.specs.declared.node.Why.TheVariants.{BadProof, BadTag, InvalidBatch, NewView, NotLeader, NotMember, OldRegency, OldView, Stranger}
 use Rattle.regency_sync.specs.Choices.{choice}
@@ -15,12 +15,9 @@ use Rattle.smart_statements.specs.Forms.{SignedBy}
 use Rattle.smart_statements.specs.Kinds.{ballots, proposals, requests}
 use Rattle.smart_messages.specs.Regencies.{stops, syncs}
 use Rattle.smart_statements.specs.Reports.{reports}
-use Rattle.smart_messages.specs.declared.any.AnyMessage.{AnyMessage}
-use Rattle.smart_messages.specs.declared.any.AnyMessage.TheVariants.{Change, Plain}
 use Rattle.smart_messages.specs.declared.message.Message.{Message}
 use Rattle.smart_messages.specs.declared.message.Message.TheVariants.{Ask, Propose, Reply, Vote}
 use Rattle.smart_messages.specs.declared.message.Proposed.{Proposed}
-use Rattle.smart_messages.specs.declared.regency.RegencyMessage.{RegencyMessage}
 use Rattle.smart_messages.specs.declared.regency.Reported.{Reported}
 use Rattle.smart_messages.specs.declared.regency.Stop.{Stop}
 use Rattle.smart_messages.specs.declared.regency.Sync.{Sync}
@@ -30,7 +27,7 @@ use Rattle.smart_statements.specs.declared.statement.Slot.{Slot}
 use Rattle.node_laws.proofs.Nodes.{Arrived, ReportKept, StopKept, SyncKept, aside, keeps}
 use Rattle.node_laws.proofs.Votes.{in_force}
 use Rattle.node_laws.specs.Sound.{IsMembers, IsProposal, IsSound, IsStated}
-use Rattle.smart_messages.specs.declared.regency.RegencyMessage.TheVariants as changes
+use Rattle.smart_messages.specs.declared.message.Message.TheVariants as changes
 use Rattle.agreement_laws.proofs.Lists.{not_false, each_end, either}
 use Rattle.node_rules.proofs.Options.{else_none, no_reason}
 
@@ -107,23 +104,6 @@ vote_kept stated view n b is none =
     let second = else_none (slot_why n b.statement.slot) _ first.1 in
     members_of n view (is_verified ballots n.secret b) b.signer b.statement.slot.view (in_force stated view n is) (signs n (is_verified ballots n.secret b) b.signer first.0) (slot_view n b.statement.slot second.0)
 
-sound_plain : {S : Type 0} (stated : List Statement) (view : View) (n : Node S) (message : Message) (behind : Bool) → IsSound stated view n → why_plain n message ≡ None
-    → IsStated n.secret stated (Plain message) → IsSound stated view (kept_plain (record n { behind = behind }) message)
-unfolding kept_plain
-sound_plain {S = S} stated view n (Ask q) behind is none was =
-    let tagged = ask_tagged n q none in
-    let IsAsked : SignedBy Request → Type 0 = λ r. (is_verified requests n.secret r ≡ true) × IsStated n.secret stated (Plain (Ask r)) in
-    either (λ (m : Node S). IsSound stated view m) (is_next n.replica.table q.statement) (record n { pool = offered n.pool q; behind = behind }) (record n { behind = behind })
-    (keeps stated view n (offered n.pool q) n.arrivals n.stops n.reports n.syncs behind is (each_offered IsAsked n.pool q is.pool (tagged, was)) is.arrivals is.stops is.reports is.syncs)
-    (aside stated view n n.firm n.held n.proposed n.stop_made n.sync_made n.impatient behind is is.held)
-sound_plain stated view n (Propose p) behind is none was =
-    keeps stated view n n.pool (n.arrivals ++ Propose p ∷ []) n.stops n.reports n.syncs behind is is.pool
-    (each_end (Arrived n.secret stated view) n.arrivals (Propose p) is.arrivals (propose_kept stated view n p is none, was)) is.stops is.reports is.syncs
-sound_plain stated view n (Vote b) behind is none was =
-    keeps stated view n n.pool (n.arrivals ++ Vote b ∷ []) n.stops n.reports n.syncs behind is is.pool
-    (each_end (Arrived n.secret stated view) n.arrivals (Vote b) is.arrivals (vote_kept stated view n b is none, was)) is.stops is.reports is.syncs
-sound_plain stated view n (Reply a) behind is none was = aside stated view n n.firm n.held n.proposed n.stop_made n.sync_made n.impatient behind is is.held
-
 -- ---- what changes the regency
 
 stop_kept : {S : Type 0} (stated : List Statement) (view : View) (n : Node S) (s : SignedBy Stop) → IsSound stated view n → why_stop n s ≡ None
@@ -164,29 +144,41 @@ sync_kept stated view n s is none =
       not_false (is_collect n s.statement) fifth.0,
     )
 
-sound_change : {S : Type 0} (stated : List Statement) (view : View) (n : Node S) (message : RegencyMessage) (behind : Bool) → IsSound stated view n → why_change n message ≡ None
-    → IsStated n.secret stated (Change message) → IsSound stated view (kept_change (record n { behind = behind }) message)
-unfolding kept_change
-sound_change stated view n (changes.Stop s) behind is none was =
+-- ---- what comes
+
+sound_arrived : {S : Type 0} (stated : List Statement) (view : View) (n : Node S) (message : Message) (behind : Bool) → IsSound stated view n → why_dropped n message ≡ None
+    → IsStated n.secret stated message → IsSound stated view (kept (record n { behind = behind }) message)
+unfolding kept
+sound_arrived {S = S} stated view n (Ask q) behind is none was =
+    let tagged = ask_tagged n q none in
+    let IsAsked : SignedBy Request → Type 0 = λ r. (is_verified requests n.secret r ≡ true) × IsStated n.secret stated (Ask r) in
+    either (λ (m : Node S). IsSound stated view m) (is_next n.replica.table q.statement) (record n { pool = offered n.pool q; behind = behind }) (record n { behind = behind })
+    (keeps stated view n (offered n.pool q) n.arrivals n.stops n.reports n.syncs behind is (each_offered IsAsked n.pool q is.pool (tagged, was)) is.arrivals is.stops is.reports is.syncs)
+    (aside stated view n n.firm n.held n.proposed n.stop_made n.sync_made n.impatient behind is is.held)
+sound_arrived stated view n (Propose p) behind is none was =
+    keeps stated view n n.pool (n.arrivals ++ Propose p ∷ []) n.stops n.reports n.syncs behind is is.pool
+    (each_end (Arrived n.secret stated view) n.arrivals (Propose p) is.arrivals (propose_kept stated view n p is none, was)) is.stops is.reports is.syncs
+sound_arrived stated view n (Vote b) behind is none was =
+    keeps stated view n n.pool (n.arrivals ++ Vote b ∷ []) n.stops n.reports n.syncs behind is is.pool
+    (each_end (Arrived n.secret stated view) n.arrivals (Vote b) is.arrivals (vote_kept stated view n b is none, was)) is.stops is.reports is.syncs
+sound_arrived stated view n (changes.Stop s) behind is none was =
     keeps stated view n n.pool n.arrivals (n.stops ++ s ∷ []) n.reports n.syncs behind is is.pool is.arrivals
     (each_end (StopKept n.secret stated view) n.stops s is.stops (stop_kept stated view n s is none, was)) is.reports is.syncs
-sound_change stated view n (changes.StopData r) behind is none was =
+sound_arrived stated view n (changes.StopData r) behind is none was =
     let k = report_kept stated view n r is none in
     keeps stated view n n.pool n.arrivals n.stops (n.reports ++ r ∷ []) n.syncs behind is is.pool is.arrivals is.stops
     (each_end (ReportKept n stated view) n.reports r is.reports (k.0, k.1, was)) is.syncs
-sound_change stated view n (changes.Sync s) behind is none was =
+sound_arrived stated view n (changes.Sync s) behind is none was =
     let k = sync_kept stated view n s is none in
     keeps stated view n n.pool n.arrivals n.stops n.reports (n.syncs ++ s ∷ []) (behind || nat_lt (decided_place n + 1) (choice s.statement.collect).base) is is.pool is.arrivals is.stops is.reports
     (each_end (SyncKept n stated view) n.syncs s is.syncs (k.0, k.1, was))
+sound_arrived stated view n (Reply a) behind is none was = aside stated view n n.firm n.held n.proposed n.stop_made n.sync_made n.impatient behind is is.held
 
--- ---- what comes
-
-pub sound_noted : {S : Type 0} (stated : List Statement) (view : View) (n : Node S) (message : AnyMessage) → IsSound stated view n → IsSound stated view (noted n message)
+pub sound_noted : {S : Type 0} (stated : List Statement) (view : View) (n : Node S) (message : Message) → IsSound stated view n → IsSound stated view (noted n message)
 unfolding noted
 sound_noted stated view n message is = aside stated view n n.firm n.held n.proposed n.stop_made n.sync_made n.impatient (n.behind || tells_behind n message) is is.held
 
-pub sound_kept : {S : Type 0} (stated : List Statement) (view : View) (n : Node S) (message : AnyMessage) → IsSound stated view n → why_dropped n message ≡ None
+pub sound_kept : {S : Type 0} (stated : List Statement) (view : View) (n : Node S) (message : Message) → IsSound stated view n → why_dropped n message ≡ None
     → IsStated n.secret stated message → IsSound stated view (kept (noted n message) message)
 unfolding noted
-sound_kept stated view n (Plain m) is none was = sound_plain stated view n m (n.behind || tells_behind n (Plain m)) is none was
-sound_kept stated view n (Change m) is none was = sound_change stated view n m (n.behind || tells_behind n (Change m)) is none was
+sound_kept stated view n message is none was = sound_arrived stated view n message (n.behind || tells_behind n message) is none was

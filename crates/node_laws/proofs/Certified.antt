@@ -5,7 +5,7 @@ use Rattle.std.proofs.lemmas.List.{length-take-le}
 use Rattle.std.specs.List.{cons_option, filter_map, list_any}
 use Rattle.std.specs.Prelude.{is_some}
 use Rattle.certificates.specs.Certificates.{AreSigned, signers}
-use Rattle.node_rules.specs.Votes.{certificate, has_quorum, has_vote, is_vote, certificate_votes, first_vote, vote_in}
+use Rattle.node_rules.specs.Votes.{certificate, has_quorum, has_vote, is_vote, certificate_votes, first_vote, vote_for}
 use Rattle.replica_rules.specs.Seals.{is_verified}
 use Rattle.agreement_laws.specs.Certificates.{IsDrawn}
 use Rattle.agreement_laws.specs.Statements.{Statement}
@@ -15,7 +15,7 @@ use Rattle.smart_statements.specs.Equality.{same_kind, same_slot}
 use Rattle.smart_statements.specs.Forms.{SignedBy}
 use Rattle.smart_statements.specs.Kinds.{ballots}
 use Rattle.smart_messages.specs.declared.message.Message.{Message}
-use Rattle.smart_messages.specs.declared.message.Message.TheVariants.{Ask, Propose, Reply, Vote}
+use Rattle.smart_messages.specs.declared.message.Message.TheVariants.{Vote}
 use Rattle.smart_statements.specs.declared.statement.Ballot.{Ballot}
 use Rattle.smart_statements.specs.declared.statement.Slot.{Slot}
 use Rattle.smart_statements.specs.declared.statement.VoteKind.{VoteKind}
@@ -95,11 +95,8 @@ same_kind_is kinds.Write kinds.Accept same = absurd (cc)
 same_kind_is kinds.Accept kinds.Write same = absurd (cc)
 same_kind_is kinds.Accept kinds.Accept same = refl
 
-vote_here : (kind : VoteKind) (slot : Slot) (digest : List ℕ) (member : ℕ) (m : Message) (ms : List Message) (b : SignedBy Ballot) → vote_in kind slot digest member m ≡ Some b
+vote_here : (kind : VoteKind) (slot : Slot) (digest : List ℕ) (member : ℕ) (m : Message) (ms : List Message) (b : SignedBy Ballot) → vote_for kind slot digest member m ≡ Some b
     → IsFirst (m ∷ ms) kind slot digest member b
-vote_here kind slot digest member (Ask q) ms b is = absurd (cc)
-vote_here kind slot digest member (Propose p) ms b is = absurd (cc)
-vote_here kind slot digest member (Reply a) ms b is = absurd (cc)
 vote_here kind slot digest member (Vote v) ms b is =
     let parts = guard (is_vote kind member slot digest (Vote v)) (Some v) b is in
     let same : v ≡ b = some_equal v b parts.1 in
@@ -113,9 +110,10 @@ vote_here kind slot digest member (Vote v) ms b is =
       statement_is = ap (λ (x : SignedBy Ballot). x.statement) (sym same)
           ∙ ballot_is s kind slot digest (same_kind_is s.kind kind one.0) (slot_is s.slot slot two.1) (same_bytes_is s.digest digest three.1);
     }
+vote_here kind slot digest member _ ms b is = absurd (cc)
 
 first_step : (kind : VoteKind) (slot : Slot) (digest : List ℕ) (member : ℕ) (m : Message) (ms : List Message) (b : SignedBy Ballot) (here : Option (SignedBy Ballot))
-    → vote_in kind slot digest member m ≡ here → (first_vote ms kind slot digest member ≡ Some b → IsFirst ms kind slot digest member b)
+    → vote_for kind slot digest member m ≡ here → (first_vote ms kind slot digest member ≡ Some b → IsFirst ms kind slot digest member b)
     → or_else here (first_vote ms kind slot digest member) ≡ Some b → IsFirst (m ∷ ms) kind slot digest member b
 first_step kind slot digest member m ms b None at rest is = let later = rest is in record { there = inr later.there; signer_is = later.signer_is; statement_is = later.statement_is }
 first_step kind slot digest member m ms b (Some v) at rest is = vote_here kind slot digest member m ms b (at ∙ is)
@@ -124,14 +122,12 @@ pub first_is : (arrivals : List Message) (kind : VoteKind) (slot : Slot) (digest
     → IsFirst arrivals kind slot digest member b
 first_is [] kind slot digest member b is = absurd (cc)
 first_is (m ∷ ms) kind slot digest member b is =
-    first_step kind slot digest member m ms b (vote_in kind slot digest member m) refl (first_is ms kind slot digest member b) is
+    first_step kind slot digest member m ms b (vote_for kind slot digest member m) refl (first_is ms kind slot digest member b) is
 
 -- where a vote was kept, there is a first
-vote_some : (kind : VoteKind) (slot : Slot) (digest : List ℕ) (member : ℕ) (m : Message) → is_vote kind member slot digest m ≡ true → is_some (vote_in kind slot digest member m) ≡ true
-vote_some kind slot digest member (Ask q) is = absurd (cc)
-vote_some kind slot digest member (Propose p) is = absurd (cc)
-vote_some kind slot digest member (Reply a) is = absurd (cc)
+vote_some : (kind : VoteKind) (slot : Slot) (digest : List ℕ) (member : ℕ) (m : Message) → is_vote kind member slot digest m ≡ true → is_some (vote_for kind slot digest member m) ≡ true
 vote_some kind slot digest member (Vote v) is = rw is refl
+vote_some kind slot digest member _ is = absurd (cc)
 
 some_first : {A : Type 0} (a b : Option A) → is_some a ≡ true → is_some (or_else a b) ≡ true
 some_first None b is = absurd (cc)
@@ -146,8 +142,8 @@ first_some : (arrivals : List Message) (kind : VoteKind) (slot : Slot) (digest :
 first_some [] kind slot digest member is = absurd (cc)
 first_some (m ∷ ms) kind slot digest member is =
     ⊎_elim
-    (λ here. some_first (vote_in kind slot digest member m) (first_vote ms kind slot digest member) (vote_some kind slot digest member m here))
-    (λ later. some_later (vote_in kind slot digest member m) (first_vote ms kind slot digest member) (first_some ms kind slot digest member later))
+    (λ here. some_first (vote_for kind slot digest member m) (first_vote ms kind slot digest member) (vote_some kind slot digest member m here))
+    (λ later. some_later (vote_for kind slot digest member m) (first_vote ms kind slot digest member) (first_some ms kind slot digest member later))
     (or_true (is_vote kind member slot digest m) (has_vote ms kind slot digest member) is)
 
 -- ---- the first votes of members

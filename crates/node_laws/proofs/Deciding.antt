@@ -14,7 +14,7 @@ use Rattle.node_rules.specs.Rules.{decide_batch, decides, deciding, decision_ahe
 use Rattle.smart_base.specs.Lists.{Each, or_else}
 use Rattle.smart_base.specs.Views.{View, is_view}
 use Rattle.smart_messages.specs.declared.message.Message.{Message}
-use Rattle.smart_messages.specs.declared.message.Message.TheVariants.{Ask, Propose, Reply, Vote}
+use Rattle.smart_messages.specs.declared.message.Message.TheVariants.{Propose}
 use Rattle.smart_statements.specs.declared.statement.Slot.{Slot}
 use Rattle.vote_book.proofs.Last.{last_push, latest_push}
 use Rattle.vote_book.specs.BookReports.{accept_for}
@@ -40,9 +40,6 @@ IsNamed secret stated place x = IsBatchAt secret stated place x.digest x.batch
 
 named_proposed : (secret : List ℕ) (stated : List Statement) (view : View) (number place regency : ℕ) (m : Message) (x : Named) → Arrived secret stated view m
     → named_in number place regency m ≡ Some x → IsNamed secret stated place x
-named_proposed secret stated view number place regency (Ask q) x is at = absurd (cc)
-named_proposed secret stated view number place regency (Vote b) x is at = absurd (cc)
-named_proposed secret stated view number place regency (Reply a) x is at = absurd (cc)
 named_proposed secret stated view number place regency (Propose p) x is at =
     let slot : Slot = p.head.statement.slot in
     let it : Named = record { digest = p.head.statement.digest; batch = p.batch } in
@@ -53,6 +50,7 @@ named_proposed secret stated view number place regency (Propose p) x is at =
     let there : IsBatchAt secret stated slot.place p.head.statement.digest p.batch = proposal_may secret stated view p slot is refl in
     subst (λ (y : Named). IsNamed secret stated place y) (some_equal it x parts.1)
     (subst (λ (k : ℕ). IsBatchAt secret stated k p.head.statement.digest p.batch) is_place there)
+named_proposed secret stated view number place regency _ x is at = absurd (cc)
 
 -- an accept for a place of a view
 pub record IsAcceptFor (view place : ℕ) (e : LogEntry) (a : Accept) : Type 0 where

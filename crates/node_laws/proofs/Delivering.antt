@@ -16,9 +16,7 @@ use Rattle.smart_base.specs.Views.{View, is_member}
 use Rattle.smart_statements.specs.Forms.{SignedBy}
 use Rattle.smart_statements.specs.Kinds.{answers, requests}
 use Rattle.smart_statements.specs.Batches.{Batch}
-use Rattle.smart_messages.specs.declared.any.AnyMessage.{AnyMessage}
-use Rattle.smart_messages.specs.declared.any.AnyMessage.TheVariants.{Change, Plain}
-use Rattle.smart_messages.specs.declared.message.Message.TheVariants.{Ask, Propose, Reply, Vote}
+use Rattle.smart_messages.specs.declared.message.Message.TheVariants.{Ask}
 use Rattle.smart_statements.specs.declared.statement.Request.{Request}
 use Rattle.smart_service.specs.Services.{Meaning}
 use Rattle.smart_service.specs.Tables.{last_seq, line_for, with_line}
@@ -34,6 +32,7 @@ use Rattle.agreement_laws.specs.Statements as says
 use Rattle.agreement_laws.proofs.Lists.{each_append, either}
 use Rattle.regency_sync.proofs.Lists.{each_filter}
 use Rattle.replica_rules.proofs.Places.{place_execute, place_all, views_all}
+use Rattle.node_rules.specs.declared.node.Asked.{Asked}
 
 -- ---- lines of places that are reached
 
@@ -134,17 +133,17 @@ sound_onward stated view n batch service table pool is waits answered asked =
 -- ---- answer
 
 pub sound_reply : {S : Type 0} (stated : List Statement) (view : View) (n : Node S) (line : TableLine) → IsSound stated view n → IsReached n.entries line
-    → IsSound stated view (holding n (targets.Client line.client) (Plain (reply_of n.secret n.id line)))
+    → IsSound stated view (holding n (targets.Client line.client) (reply_of n.secret n.id line))
 sound_reply stated view n line is has =
     let says_it = says.Replied (signed answers n.secret n.id (answer_by line)) in
-    holds stated view n (targets.Client line.client) (Plain (reply_of n.secret n.id line)) is
+    holds stated view n (targets.Client line.client) (reply_of n.secret n.id line) is
     (each_filter (Shows stated n) (says.verifies n.secret) (says_it ∷ []) (inr (refl, has), tt))
 
 sound_replying : {S : Type 0} (stated : List Statement) (view : View) (n : Node S) (lines : List TableLine) → IsSound stated view n → Each (IsReached n.entries) lines
     → IsSound stated view (replying n lines)
 sound_replying stated view n [] is all = is
 sound_replying stated view n (line ∷ lines) is all =
-    sound_replying stated view (holding n (targets.Client line.client) (Plain (reply_of n.secret n.id line))) lines (sound_reply stated view n line is all.0) all.1
+    sound_replying stated view (holding n (targets.Client line.client) (reply_of n.secret n.id line)) lines (sound_reply stated view n line is all.0) all.1
 
 -- ---- deliver
 
@@ -155,7 +154,7 @@ delivers_waiting {S = S} m stated view n batch is waits =
     let reached : HasReached n.entries (next_place n) = reached_next stated view n batch is waits in
     let r : Replica S = delivered m n.replica batch in
     let pool : List (SignedBy Request) = settled r.table n.pool in
-    let IsAsked : SignedBy Request → Type 0 = λ q. (is_verified requests n.secret q ≡ true) × IsStated n.secret stated (Plain (Ask q)) in
+    let IsAsked : SignedBy Request → Type 0 = λ q. (is_verified requests n.secret q ≡ true) × IsStated n.secret stated (Ask q) in
     let there : IsSound stated view (onward n r.service r.table pool) =
     sound_onward stated view n batch r.service r.table pool is waits (delivered_table m n.replica n.entries batch reached is.table)
     (each_filter IsAsked (λ q. is_next r.table q.statement) n.pool is.pool) in
@@ -182,15 +181,12 @@ line_for_each P [] client each = tt
 line_for_each P (line ∷ lines) client each =
     either (λ (found : Option TableLine). IfSome found P) (line.client == client) (Some line) (line_for lines client) each.0 (line_for_each P lines client each.1)
 
-answering_each : {S : Type 0} (P : TableLine → Type 0) (n : Node S) (message : AnyMessage) → Each P n.replica.table → IfSome (answering n message) P
+answering_each : {S : Type 0} (P : TableLine → Type 0) (n : Node S) (asked : Option Asked) → Each P n.replica.table → IfSome (answering n asked) P
 unfolding answering
-answering_each P n (Plain (Ask q)) each =
-    either (λ (found : Option TableLine). IfSome found P) (q.statement.seq == last_seq n.replica.table q.statement.client) (line_for n.replica.table q.statement.client) None
-    (line_for_each P n.replica.table q.statement.client each) tt
-answering_each P n (Plain (Propose p)) each = tt
-answering_each P n (Plain (Vote b)) each = tt
-answering_each P n (Plain (Reply a)) each = tt
-answering_each P n (Change m) each = tt
+answering_each P n None each = tt
+answering_each P n (Some asked) each =
+    either (λ (found : Option TableLine). IfSome found P) (asked.seq == last_seq n.replica.table asked.client) (line_for n.replica.table asked.client) None
+    (line_for_each P n.replica.table asked.client each) tt
 
 answers_line : {S : Type 0} (stated : List Statement) (view : View) (n : Node S) (o : Option TableLine) → IsSound stated view n → IfSome o (IsReached n.entries)
     → IsSound stated view (answer_line n o)
@@ -198,6 +194,6 @@ unfolding answer_line
 answers_line stated view n None is has = is
 answers_line stated view n (Some line) is has = sound_reply stated view n line is has
 
-pub sound_answers_again : {S : Type 0} (stated : List Statement) (view : View) (n : Node S) (message : AnyMessage) → IsSound stated view n → IsSound stated view (answers_again n message)
+pub sound_answers_again : {S : Type 0} (stated : List Statement) (view : View) (n : Node S) (asked : Option Asked) → IsSound stated view n → IsSound stated view (answers_again n asked)
 unfolding answers_again
-sound_answers_again stated view n message is = answers_line stated view n (answering n message) is (answering_each (IsReached n.entries) n message is.table)
+sound_answers_again stated view n asked is = answers_line stated view n (answering n asked) is (answering_each (IsReached n.entries) n asked is.table)

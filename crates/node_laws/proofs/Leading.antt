@@ -12,7 +12,6 @@ use Rattle.smart_base.specs.Views.{View, leader}
 use Rattle.smart_base.specs.declared.party.Party.TheVariants.{Member}
 use Rattle.smart_statements.specs.Forms.{SignedBy}
 use Rattle.smart_messages.specs.Regencies.{stops, syncs}
-use Rattle.smart_messages.specs.declared.any.AnyMessage.TheVariants.{Change, Plain}
 use Rattle.smart_messages.specs.declared.message.Message.TheVariants.{Ask}
 use Rattle.smart_messages.specs.declared.regency.Reported.{Reported}
 use Rattle.smart_messages.specs.declared.regency.Sync.{Sync}
@@ -24,7 +23,7 @@ use Rattle.node_laws.proofs.Lists.{each_filter_map, found, guard}
 use Rattle.node_laws.proofs.Nodes.{ReportKept, Shows, aside, holds}
 use Rattle.node_laws.proofs.Stated.{Covers, covers, each_verified, flat_covers}
 use Rattle.node_laws.specs.Sound.{AreAsked, IsSound}
-use Rattle.smart_messages.specs.declared.regency.RegencyMessage.TheVariants as changes
+use Rattle.smart_messages.specs.declared.message.Message.TheVariants as changes
 use Rattle.node_rules.specs.declared.node.Target.TheVariants as targets
 use Rattle.agreement_laws.specs.Statements as says
 use Rattle.agreement_laws.proofs.Lists.{among_either, among_left, each_among, each_take, either, some_equal}
@@ -59,7 +58,7 @@ collected stated view n number regency member r is at =
     let x : Reported = first.0 in
     let there = (found (is_report number regency member) n.reports x first.1).there in
     let kept = each_among (ReportKept n stated view) n.reports x is.reports there in
-    let all = covers n.secret stated (Change (changes.StopData x)) kept.2 in
+    let all = covers n.secret stated (changes.StopData x) kept.2 in
     subst (λ (y : SignedBy Report). Covers n.secret stated (says.in_report y)) first.2
     (λ s here ok. all s (among_left s (says.in_report x.head) (flat_map says.within (says.requests_of x.batch)) here) ok)
 
@@ -78,7 +77,7 @@ collect_covers stated view n items is at =
     flat_covers n.secret stated says.in_report items (subst (λ (rs : List (SignedBy Report)). Each (λ r. Covers n.secret stated (says.in_report r)) rs) same each)
 
 sync_shown : {S : Type 0} (stated : List Statement) (n : Node S) (sync : SignedBy Sync) → sync.signer ≡ n.id → Covers n.secret stated (flat_map says.in_report sync.statement.collect)
-    → (s : Statement) → Among s (flat_map says.within (says.said (Change (changes.Sync sync)))) → says.verifies n.secret s ≡ true → Shows stated n s
+    → (s : Statement) → Among s (flat_map says.within (says.said (changes.Sync sync))) → says.verifies n.secret s ≡ true → Shows stated n s
 sync_shown stated n sync own all s (inl same) ok = subst (λ (x : Statement). Shows stated n x) (sym same) (inr (ap (λ (k : ℕ). Member k) own, tt))
 sync_shown stated n sync own all s (inr there) ok =
     ⊎_elim (λ inside. inl (all s inside ok)) (λ none. absurd none) (among_either s (flat_map says.in_report sync.statement.collect) [] there)
@@ -90,8 +89,8 @@ leads_with {S = S} stated view n (Some items) is at =
     let m : Node S = record n { sync_made = true } in
     let marked : IsSound stated view m = aside stated view n n.firm n.held n.proposed n.stop_made true n.impatient n.behind is is.held in
     let sync : SignedBy Sync = signed syncs n.secret n.id (record { view = (view_of n).number; regency = regency_of n; collect = items }) in
-    holds stated view m targets.View (Change (changes.Sync sync)) marked
-    (each_verified n.secret (Shows stated m) (flat_map says.within (says.said (Change (changes.Sync sync))))
+    holds stated view m targets.View (changes.Sync sync) marked
+    (each_verified n.secret (Shows stated m) (flat_map says.within (says.said (changes.Sync sync)))
     (sync_shown stated m sync refl (collect_covers stated view n items is at)))
 
 pub sound_leads : {S : Type 0} (stated : List Statement) (view : View) (n : Node S) → IsSound stated view n → IsSound stated view (leads n)
@@ -104,8 +103,8 @@ sound_passes_on : {S : Type 0} (stated : List Statement) (view : View) (n : Node
     → IsSound stated view (passes_on n pool)
 sound_passes_on stated view n [] is asked = is
 sound_passes_on stated view n (q ∷ qs) is asked =
-    holds stated view n (targets.Node (leader (view_of n) (regency_of n))) (Plain (Ask q)) is
-    (each-weaken (λ s. Among s stated) (Shows stated n) (λ s there. inl there) (statements n.secret (Plain (Ask q))) asked.0.1)
+    holds stated view n (targets.Node (leader (view_of n) (regency_of n))) (Ask q) is
+    (each-weaken (λ s. Among s stated) (Shows stated n) (λ s there. inl there) (statements n.secret (Ask q)) asked.0.1)
 
 sound_presses : {S : Type 0} (stated : List Statement) (view : View) (n : Node S) → IsSound stated view n → IsSound stated view (presses n)
 unfolding presses

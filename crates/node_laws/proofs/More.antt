@@ -12,7 +12,6 @@ use Rattle.smart_base.specs.declared.party.Party.TheVariants.{Member}
 use Rattle.smart_statements.specs.Forms.{SignedBy}
 use Rattle.smart_statements.specs.Kinds.{requests}
 use Rattle.smart_statements.specs.Batches.{Batch}
-use Rattle.smart_messages.specs.declared.any.AnyMessage.TheVariants.{Change, Plain}
 use Rattle.smart_messages.specs.declared.message.Message.TheVariants.{Ask}
 use Rattle.smart_statements.specs.declared.statement.Ballot.{Ballot}
 use Rattle.vote_book.specs.Books.{Among}
@@ -21,7 +20,7 @@ use Rattle.vote_book.specs.declared.entry.LogEntry.TheVariants.{Accepted, Decide
 use Rattle.vote_book.specs.declared.entry.Start.{Start}
 use Rattle.node_laws.proofs.Nodes.{Arrived, ReportKept, StopKept, SyncKept}
 use Rattle.node_laws.specs.Sound.{AreAmong, AreAsked, HasBatch, IsBatchAt, IsHeld, IsSound, IsStated}
-use Rattle.smart_messages.specs.declared.regency.RegencyMessage.TheVariants as changes
+use Rattle.smart_messages.specs.declared.message.Message.TheVariants as changes
 use Rattle.agreement_laws.specs.Statements as says
 use Rattle.agreement_laws.proofs.Lists.{each_among}
 use Rattle.smart_base.proofs.ViewFacts.{each-weaken}
@@ -59,8 +58,8 @@ module _ (stated more : List Statement) (grows_to : AreAmong stated more) where
 
   asked_more : (secret : List ℕ) (batch : Batch) → AreAsked secret stated batch → AreAsked secret more batch
   asked_more secret batch asked =
-      each-weaken (λ q. (is_verified requests secret q ≡ true) × IsStated secret stated (Plain (Ask q))) (λ q. (is_verified requests secret q ≡ true) × IsStated secret more (Plain (Ask q)))
-      (λ q is. (is.0, areamong_more (statements secret (Plain (Ask q))) is.1)) batch asked
+      each-weaken (λ q. (is_verified requests secret q ≡ true) × IsStated secret stated (Ask q)) (λ q. (is_verified requests secret q ≡ true) × IsStated secret more (Ask q))
+      (λ q is. (is.0, areamong_more (statements secret (Ask q)) is.1)) batch asked
 
   at_more : (secret : List ℕ) (place : ℕ) (digest : List ℕ) (batch : Batch) → IsBatchAt secret stated place digest batch → IsBatchAt secret more place digest batch
   at_more secret place digest batch is = record { may = is.may; asked = asked_more secret batch is.asked }
@@ -96,10 +95,10 @@ module _ (stated more : List Statement) (grows_to : AreAmong stated more) where
     batches = each-weaken (HasBatch n.secret stated) (HasBatch n.secret more) (has_more n.secret) n.entries is.batches;
     waiting = is.waiting;
     table = is.table;
-    arrivals = each-weaken (Arrived n.secret stated view) (Arrived n.secret more view) (λ m k. (k.0, areamong_more (statements n.secret (Plain m)) k.1)) n.arrivals is.arrivals;
-    stops = each-weaken (StopKept n.secret stated view) (StopKept n.secret more view) (λ s k. (k.0, areamong_more (statements n.secret (Change (changes.Stop s))) k.1)) n.stops is.stops;
-    reports = each-weaken (ReportKept n stated view) (ReportKept n more view) (λ r k. (k.0, k.1, areamong_more (statements n.secret (Change (changes.StopData r))) k.2)) n.reports is.reports;
-    syncs = each-weaken (SyncKept n stated view) (SyncKept n more view) (λ s k. (k.0, k.1, areamong_more (statements n.secret (Change (changes.Sync s))) k.2)) n.syncs is.syncs;
+    arrivals = each-weaken (Arrived n.secret stated view) (Arrived n.secret more view) (λ m k. (k.0, areamong_more (statements n.secret m) k.1)) n.arrivals is.arrivals;
+    stops = each-weaken (StopKept n.secret stated view) (StopKept n.secret more view) (λ s k. (k.0, areamong_more (statements n.secret (changes.Stop s)) k.1)) n.stops is.stops;
+    reports = each-weaken (ReportKept n stated view) (ReportKept n more view) (λ r k. (k.0, k.1, areamong_more (statements n.secret (changes.StopData r)) k.2)) n.reports is.reports;
+    syncs = each-weaken (SyncKept n stated view) (SyncKept n more view) (λ s k. (k.0, k.1, areamong_more (statements n.secret (changes.Sync s)) k.2)) n.syncs is.syncs;
     pool = asked_more n.secret n.pool is.pool;
     held = each-weaken (IsHeld n.secret n.id stated n.entries) (IsHeld n.secret n.id more n.entries) (held_more n.secret n.id n.entries) n.held is.held;
   }

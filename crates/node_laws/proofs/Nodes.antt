@@ -17,8 +17,6 @@ use Rattle.smart_statements.specs.Forms.{SignedBy}
 use Rattle.smart_statements.specs.Batches.{Batch}
 use Rattle.smart_messages.specs.Regencies.{stops, syncs}
 use Rattle.smart_statements.specs.Reports.{reports}
-use Rattle.smart_messages.specs.declared.any.AnyMessage.{AnyMessage}
-use Rattle.smart_messages.specs.declared.any.AnyMessage.TheVariants.{Change, Plain}
 use Rattle.smart_messages.specs.declared.message.Message.{Message}
 use Rattle.smart_messages.specs.declared.regency.Reported.{Reported}
 use Rattle.smart_messages.specs.declared.regency.Stop.{Stop}
@@ -33,25 +31,25 @@ use Rattle.vote_book.specs.Tidy.{IsTidyAfter}
 use Rattle.vote_book.specs.declared.entry.LogEntry.{LogEntry}
 use Rattle.node_laws.proofs.Books.{begun_push, decided_push, held_push, least_decided, ranged_push, reached_push, within_at, within_push}
 use Rattle.node_laws.specs.Sound.{AreAsked, HasBatch, HasDecided, IsHeld, IsKept, IsMembers, IsSound, IsStated, IsWithin, place_if}
-use Rattle.smart_messages.specs.declared.regency.RegencyMessage.TheVariants as changes
+use Rattle.smart_messages.specs.declared.message.Message.TheVariants as changes
 use Rattle.agreement_laws.proofs.Lists.{each_end}
 use Rattle.smart_base.proofs.ViewFacts.{each-weaken}
 
 -- ---- what is kept
 
 abbrev pub Arrived : List ℕ → List Statement → View → Message → Type 0
-Arrived secret stated view m = IsKept secret view m × IsStated secret stated (Plain m)
+Arrived secret stated view m = IsKept secret view m × IsStated secret stated m
 
 abbrev pub StopKept : List ℕ → List Statement → View → SignedBy Stop → Type 0
-StopKept secret stated view s = IsMembers view (is_verified stops secret s) s.signer s.statement.view × IsStated secret stated (Change (changes.Stop s))
+StopKept secret stated view s = IsMembers view (is_verified stops secret s) s.signer s.statement.view × IsStated secret stated (changes.Stop s)
 
 abbrev pub ReportKept : {S : Type 0} → Node S → List Statement → View → Reported → Type 0
 ReportKept n stated view r =
-    IsMembers view (is_verified reports n.secret r.head) r.head.signer r.head.statement.view × (is_proven n r ≡ true) × IsStated n.secret stated (Change (changes.StopData r))
+    IsMembers view (is_verified reports n.secret r.head) r.head.signer r.head.statement.view × (is_proven n r ≡ true) × IsStated n.secret stated (changes.StopData r)
 
 abbrev pub SyncKept : {S : Type 0} → Node S → List Statement → View → SignedBy Sync → Type 0
 SyncKept n stated view s =
-    IsMembers view (is_verified syncs n.secret s) s.signer s.statement.view × (is_collect n s.statement ≡ true) × IsStated n.secret stated (Change (changes.Sync s))
+    IsMembers view (is_verified syncs n.secret s) s.signer s.statement.view × (is_collect n s.statement ≡ true) × IsStated n.secret stated (changes.Sync s)
 
 -- ---- what is held, and what the law says nothing of
 
@@ -84,7 +82,7 @@ aside stated view n firm held proposed stop_made sync_made impatient behind is s
 abbrev pub Shows : {S : Type 0} → List Statement → Node S → Statement → Type 0
 Shows stated n s = Among s stated ⊎ ((signer_of s ≡ Member n.id) × IsShown digest_of n.entries s)
 
-pub held_now : {S : Type 0} (stated : List Statement) (n : Node S) (to : Target) (m : AnyMessage) → Each (Shows stated n) (statements n.secret m)
+pub held_now : {S : Type 0} (stated : List Statement) (n : Node S) (to : Target) (m : Message) → Each (Shows stated n) (statements n.secret m)
     → IsHeld n.secret n.id stated n.entries (record { to = to; message = m; needs = length n.entries })
 held_now stated n to m shown = record {
   needs = omega arith;
@@ -92,7 +90,7 @@ held_now stated n to m shown = record {
       (sym (take_all (length n.entries) n.entries (omega arith))) shown;
 }
 
-pub holds : {S : Type 0} (stated : List Statement) (view : View) (n : Node S) (to : Target) (m : AnyMessage) → IsSound stated view n → Each (Shows stated n) (statements n.secret m)
+pub holds : {S : Type 0} (stated : List Statement) (view : View) (n : Node S) (to : Target) (m : Message) → IsSound stated view n → Each (Shows stated n) (statements n.secret m)
     → IsSound stated view (holding n to m)
 holds stated view n to m is shown =
     let h : Held = record { to = to; message = m; needs = length n.entries } in

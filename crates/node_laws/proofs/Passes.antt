@@ -5,14 +5,14 @@ use Rattle.node_rules.specs.Arrivals.{kept, noted, why_dropped}
 use Rattle.node_rules.specs.Changes.{adopts, joins, promises}
 use Rattle.node_rules.specs.Nodes.{Node, recording}
 use Rattle.node_rules.specs.Reopening.{stopped}
-use Rattle.node_rules.specs.Rules.{delivers, proposes, writes}
+use Rattle.node_rules.specs.Rules.{delivers, proposes, writes, asked_in}
 use Rattle.node_rules.specs.Steps.{made_firm, arrival_outcome, opened, passes, reading_outcome, released, staying, step_of, turns, votes}
 use Rattle.node_rules.specs.declared.node.Held.{Held}
 use Rattle.node_rules.specs.declared.node.Why.{Why}
 use Rattle.smart_base.specs.Lists.{Each}
 use Rattle.smart_base.specs.Views.{View, is_view}
-use Rattle.smart_messages.specs.RegencyMessages.{any_decoded}
-use Rattle.smart_messages.specs.declared.any.AnyMessage.{AnyMessage}
+use Rattle.smart_messages.specs.Messages.{decoded}
+use Rattle.smart_messages.specs.declared.message.Message.{Message}
 use Rattle.smart_statements.specs.declared.entry.NodeEvent.{NodeEvent}
 use Rattle.smart_statements.specs.declared.entry.NodeEvent.TheVariants.{Arrive, Deliver, Firm, Tick}
 use Rattle.smart_service.specs.Services.{Meaning}
@@ -46,22 +46,22 @@ sound_passes : {S : Type 0} (stated : List Statement) (view : View) (n : Node S)
 unfolding passes
 sound_passes stated view n viewed is = sound_decides stated view (votes (turns n)) viewed (sound_votes stated view (turns n) viewed (sound_turns stated view n is))
 
-sound_arrival : {S : Type 0} (stated : List Statement) (view : View) (n : Node S) (message : AnyMessage) (why : Option Why) → is_view view ≡ true → IsSound stated view n
+sound_arrival : {S : Type 0} (stated : List Statement) (view : View) (n : Node S) (message : Message) (why : Option Why) → is_view view ≡ true → IsSound stated view n
     → IsStated n.secret stated message → why_dropped n message ≡ why → IsSound stated view (arrival_outcome n message why).node
 sound_arrival stated view n message None viewed is was at =
-    sound_answers_again stated view (passes (kept (noted n message) message)) message
+    sound_answers_again stated view (passes (kept (noted n message) message)) (asked_in message)
     (sound_passes stated view (kept (noted n message) message) viewed (sound_kept stated view n message is at was))
 sound_arrival stated view n message (Some why) viewed is was at = sound_noted stated view n message is
 
-sound_reading : {S : Type 0} (stated : List Statement) (view : View) (n : Node S) (read : Result AnyMessage ℕ) → is_view view ≡ true → IsSound stated view n
-    → ((m : AnyMessage) → read ≡ Ok m → IsStated n.secret stated m) → IsSound stated view (reading_outcome n read).node
+sound_reading : {S : Type 0} (stated : List Statement) (view : View) (n : Node S) (read : Result Message ℕ) → is_view view ≡ true → IsSound stated view n
+    → ((m : Message) → read ≡ Ok m → IsStated n.secret stated m) → IsSound stated view (reading_outcome n read).node
 sound_reading stated view n (Ok message) viewed is was = sound_arrival stated view n message (why_dropped n message) viewed is (was message refl) refl
 sound_reading stated view n (Err at) viewed is was = is
 
 pub sound_step : {S : Type 0} (m : Meaning S) (stated : List Statement) (view : View) (n : Node S) (event : NodeEvent) → is_view view ≡ true → IsSound stated view n
     → IsStatedEvent n.secret stated event → IsSound stated view (step_of m n event).node
 unfolding step_of
-sound_step m stated view n (Arrive bytes) viewed is was = sound_reading stated view n (any_decoded bytes) viewed is was
+sound_step m stated view n (Arrive bytes) viewed is was = sound_reading stated view n (decoded bytes) viewed is was
 sound_step m stated view n Tick viewed is was = sound_times stated view (passes n) (sound_passes stated view n viewed is)
 sound_step m stated view n Deliver viewed is was = sound_passes stated view (delivers m n) viewed (sound_delivers m stated view n is)
 sound_step {S = S} m stated view n (Firm count) viewed is was =

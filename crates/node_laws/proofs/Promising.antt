@@ -13,8 +13,7 @@ use Rattle.smart_base.specs.Views.{View, leader}
 use Rattle.smart_base.specs.declared.party.Party.TheVariants.{Member}
 use Rattle.smart_statements.specs.Forms.{SignedBy}
 use Rattle.smart_statements.specs.Reports.{reports}
-use Rattle.smart_messages.specs.declared.any.AnyMessage.{AnyMessage}
-use Rattle.smart_messages.specs.declared.any.AnyMessage.TheVariants.{Change}
+use Rattle.smart_messages.specs.declared.message.Message.{Message}
 use Rattle.smart_statements.specs.declared.report.Report.{Report}
 use Rattle.vote_book.proofs.Locks.{lock_is, maker_is}
 use Rattle.vote_book.specs.BookReports.{certificate_of, evidence_by, evidence_of, last_maker, lock_of}
@@ -26,7 +25,7 @@ use Rattle.node_laws.proofs.Nodes.{aside, holds}
 use Rattle.node_laws.proofs.Promised.{number_in_force, records_promise}
 use Rattle.node_laws.proofs.Stated.{batch_covers, each_verified}
 use Rattle.node_laws.specs.Sound.{HasBatch, IsSound, IsWithin}
-use Rattle.smart_messages.specs.declared.regency.RegencyMessage.TheVariants as changes
+use Rattle.smart_messages.specs.declared.message.Message.TheVariants as changes
 use Rattle.node_rules.specs.declared.node.Target.TheVariants as targets
 use Rattle.agreement_laws.specs.Statements as says
 use Rattle.agreement_laws.proofs.Lists.{among_either, each_among, each_map, either}
@@ -99,7 +98,7 @@ report_shown stated view n is s (inl same) = subst (λ (x : Statement). Tells st
 report_shown stated view n is s (inr there) = part_shown stated view n is s there
 
 all_shown : {S : Type 0} (stated : List Statement) (view : View) (n : Node S) → IsSound stated view n → (s : Statement)
-    → Among s (flat_map says.within (says.said (Change (changes.StopData (reported_by n (regency_of n + 1)))))) → says.verifies n.secret s ≡ true → Tells stated n s
+    → Among s (flat_map says.within (says.said (changes.StopData (reported_by n (regency_of n + 1))))) → says.verifies n.secret s ≡ true → Tells stated n s
 unfolding reported_by
 all_shown stated view n is s there ok =
     ⊎_elim
@@ -115,7 +114,7 @@ sound_promise {S = S} stated view n is =
     let pushed : IsSound stated view (recording n (Promised (next_promise n))) = records_promise stated view n (next_promise n) is refl (omega arith) in
     let m : Node S = record (recording n (Promised (next_promise n))) { stop_made = false; sync_made = false; impatient = true } in
     let marked : IsSound stated view m = aside stated view (recording n (Promised (next_promise n))) n.firm n.held n.proposed false false true n.behind pushed pushed.held in
-    let message : AnyMessage = Change (changes.StopData (reported_by n (regency_of n + 1))) in
+    let message : Message = (changes.StopData (reported_by n (regency_of n + 1))) in
     holds stated view m (targets.Node (leader (view_of n) (regency_of n + 1))) message marked
     (each_verified n.secret (Tells stated n) (flat_map says.within (says.said message)) (all_shown stated view n is))
 

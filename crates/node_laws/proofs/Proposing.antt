@@ -16,7 +16,6 @@ use Rattle.smart_statements.specs.Equality.{same_slot}
 use Rattle.smart_statements.specs.Forms.{SignedBy}
 use Rattle.smart_statements.specs.Kinds.{proposals, requests}
 use Rattle.smart_statements.specs.Batches.{Batch}
-use Rattle.smart_messages.specs.declared.any.AnyMessage.TheVariants.{Change, Plain}
 use Rattle.smart_messages.specs.declared.message.Message.TheVariants.{Ask, Propose}
 use Rattle.smart_messages.specs.declared.message.Proposed.{Proposed}
 use Rattle.smart_messages.specs.declared.regency.Reported.{Reported}
@@ -27,7 +26,7 @@ use Rattle.node_laws.proofs.Lists.{each_filter_map_in, found, guard}
 use Rattle.node_laws.proofs.Nodes.{ReportKept, Shows, aside, holds}
 use Rattle.node_laws.proofs.Stated.{Covers, batch_covers, covers, each_verified}
 use Rattle.node_laws.specs.Sound.{AreAsked, HasBatch, IsBatchAt, IsSound, IsStated}
-use Rattle.smart_messages.specs.declared.regency.RegencyMessage.TheVariants as changes
+use Rattle.smart_messages.specs.declared.message.Message.TheVariants as changes
 use Rattle.node_rules.specs.declared.node.Target.TheVariants as targets
 use Rattle.agreement_laws.specs.Statements as says
 use Rattle.replica_rules.specs.Pools as pools
@@ -57,7 +56,7 @@ gathered_asked : (secret : List ℕ) (stated : List Statement) (pool : List (Sig
     → AreAsked secret stated batch
 unfolding gathered
 gathered_asked secret stated pool place batch asked is =
-    let IsAsked : SignedBy Request → Type 0 = λ q. (is_verified requests secret q ≡ true) × IsStated secret stated (Plain (Ask q)) in
+    let IsAsked : SignedBy Request → Type 0 = λ q. (is_verified requests secret q ≡ true) × IsStated secret stated (Ask q) in
     batch_each IsAsked (filter (λ q. nat_lt q.statement.after place) pool) batch (each_filter IsAsked (λ q. nat_lt q.statement.after place) pool asked) is
 
 -- ---- the batch that binds
@@ -85,7 +84,7 @@ brought_covers stated view n digest batch is at =
     let of = in_batch (find p n.reports) batch at in
     let r : Reported = of.0 in
     let kept = each_among (ReportKept n stated view) n.reports r is.reports (found p n.reports r of.1).there in
-    reported_covers n.secret stated r r.batch batch refl of.2 (covers n.secret stated (Change (changes.StopData r)) kept.2)
+    reported_covers n.secret stated r r.batch batch refl of.2 (covers n.secret stated (changes.StopData r) kept.2)
 
 under_of : (o : Option Named) (batch : Batch) → option_map (λ (x : Named). x.batch) o ≡ Some batch → (x : Named) × (o ≡ Some x) × (x.batch ≡ batch)
 under_of None batch is = absurd (cc)
@@ -124,7 +123,7 @@ proposing_covers stated view n batch is at =
     under_covers stated view n (bound_at (next_place n) (start_of n)) batch is parts.1
 
 proposal_shown : {S : Type 0} (stated : List Statement) (n : Node S) (p : Proposed) → p.head.signer ≡ n.id → BatchCovers n.secret stated p.batch
-    → (s : Statement) → Among s (flat_map says.within (says.said (Plain (Propose p)))) → says.verifies n.secret s ≡ true → Shows stated n s
+    → (s : Statement) → Among s (flat_map says.within (says.said (Propose p))) → says.verifies n.secret s ≡ true → Shows stated n s
 proposal_shown stated n p own all s (inl same) ok = subst (λ (x : Statement). Shows stated n x) (sym same) (inr (ap (λ (k : ℕ). Member k) own, tt))
 proposal_shown stated n p own all s (inr there) ok = inl (all s there ok)
 
@@ -135,8 +134,8 @@ proposes_with {S = S} stated view n (Some batch) is at =
     let m : Node S = record n { proposed = n.proposed ++ open_slot n ∷ [] } in
     let marked : IsSound stated view m = aside stated view n n.firm n.held (n.proposed ++ open_slot n ∷ []) n.stop_made n.sync_made n.impatient n.behind is is.held in
     let p : Proposed = record { head = signed proposals n.secret n.id (record { slot = open_slot n; digest = digest_of batch }); batch = batch } in
-    holds stated view m targets.View (Plain (Propose p)) marked
-    (each_verified n.secret (Shows stated m) (flat_map says.within (says.said (Plain (Propose p))))
+    holds stated view m targets.View (Propose p) marked
+    (each_verified n.secret (Shows stated m) (flat_map says.within (says.said (Propose p)))
     (proposal_shown stated m p refl (proposing_covers stated view n batch is at)))
 
 pub sound_proposes : {S : Type 0} (stated : List Statement) (view : View) (n : Node S) → IsSound stated view n → IsSound stated view (proposes n)

@@ -10,8 +10,7 @@ use Rattle.smart_base.specs.Views.{View}
 use Rattle.smart_statements.specs.Forms.{SignedBy}
 use Rattle.smart_statements.specs.Kinds.{requests}
 use Rattle.smart_statements.specs.Batches.{Batch, batch_text}
-use Rattle.smart_messages.specs.declared.any.AnyMessage.{AnyMessage}
-use Rattle.smart_messages.specs.declared.any.AnyMessage.TheVariants.{Plain}
+use Rattle.smart_messages.specs.declared.message.Message.{Message}
 use Rattle.smart_messages.specs.declared.message.Message.TheVariants.{Ask, Propose, Vote}
 use Rattle.smart_messages.specs.declared.message.Proposed.{Proposed}
 use Rattle.smart_statements.specs.declared.statement.Ballot.{Ballot}
@@ -42,7 +41,7 @@ passed p x (y ∷ ys) there = passed_step p x y ys (filter p ys) (p y) refl (λ 
 
 -- ---- messages
 
-pub covers : (secret : List ℕ) (stated : List Statement) (m : AnyMessage) → IsStated secret stated m → Covers secret stated (flat_map says.within (says.said m))
+pub covers : (secret : List ℕ) (stated : List Statement) (m : Message) → IsStated secret stated m → Covers secret stated (flat_map says.within (says.said m))
 covers secret stated m is s there ok =
     each_among (λ s. Among s stated) (statements secret m) s is (among_filter (says.verifies secret) (flat_map says.within (says.said m)) s there ok)
 
@@ -65,11 +64,11 @@ flat_covers secret stated f (x ∷ xs) each s there ok =
 
 -- ---- requests
 
-pub ask_stated : (secret : List ℕ) (stated : List Statement) (q : SignedBy Request) → Covers secret stated (says.Asked q ∷ []) → IsStated secret stated (Plain (Ask q))
+pub ask_stated : (secret : List ℕ) (stated : List Statement) (q : SignedBy Request) → Covers secret stated (says.Asked q ∷ []) → IsStated secret stated (Ask q)
 ask_stated secret stated q all = covered secret stated (says.Asked q ∷ []) all
 
-pub asked_of : (secret : List ℕ) (stated : List Statement) (q : SignedBy Request) → IsStated secret stated (Plain (Ask q)) → Covers secret stated (says.Asked q ∷ [])
-asked_of secret stated q is = covers secret stated (Plain (Ask q)) is
+pub asked_of : (secret : List ℕ) (stated : List Statement) (q : SignedBy Request) → IsStated secret stated (Ask q) → Covers secret stated (says.Asked q ∷ [])
+asked_of secret stated q is = covers secret stated (Ask q) is
 
 -- the requests of a batch stand in what a message says that bears it
 ask_within : (q : SignedBy Request) (batch : Batch) → Among q batch → Among (says.Asked q) (flat_map says.within (map says.Asked batch))
@@ -78,7 +77,7 @@ ask_within q batch there = among_flat says.within (map says.Asked batch) (says.A
 pub batch_asked : (secret : List ℕ) (stated parts : List Statement) (batch : Batch) → Covers secret stated (parts ++ flat_map says.within (map says.Asked batch))
     → Each (λ q. is_verified requests secret q ≡ true) batch → AreAsked secret stated batch
 batch_asked secret stated parts batch all ok =
-    each_from (λ q. (is_verified requests secret q ≡ true) × IsStated secret stated (Plain (Ask q))) batch
+    each_from (λ q. (is_verified requests secret q ≡ true) × IsStated secret stated (Ask q)) batch
     (λ q there.
     let tagged : is_verified requests secret q ≡ true = each_among (λ q. is_verified requests secret q ≡ true) batch q ok there in
     let was : Among (says.Asked q) stated = all (says.Asked q) (among_right (says.Asked q) parts (flat_map says.within (map says.Asked batch)) (ask_within q batch there)) tagged in
@@ -117,9 +116,9 @@ may_stand secret place digest batch is =
 pub proposal_asked : (secret : List ℕ) (stated : List Statement) (view : View) (p : Proposed) → Arrived secret stated view (Propose p) → AreAsked secret stated p.batch
 proposal_asked secret stated view p is =
     let may = may_stand secret p.head.statement.slot.place p.head.statement.digest p.batch is.0.batch in
-    batch_asked secret stated (says.Proposed p.head ∷ []) p.batch (covers secret stated (Plain (Propose p)) is.1) may.tags
+    batch_asked secret stated (says.Proposed p.head ∷ []) p.batch (covers secret stated (Propose p) is.1) may.tags
 
 -- ---- votes
 
 pub vote_stated : (secret : List ℕ) (stated : List Statement) (view : View) (b : SignedBy Ballot) → Arrived secret stated view (Vote b) → Among (says.Voted b) stated
-vote_stated secret stated view b is = covers secret stated (Plain (Vote b)) is.1 (says.Voted b) (inl refl) is.0.tagged
+vote_stated secret stated view b is = covers secret stated (Vote b) is.1 (says.Voted b) (inl refl) is.0.tagged

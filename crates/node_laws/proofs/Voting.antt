@@ -14,7 +14,7 @@ use Rattle.smart_base.specs.Views.{View, is_view}
 use Rattle.smart_statements.specs.Equality.{same_slot}
 use Rattle.smart_statements.specs.Kinds.{ballots}
 use Rattle.smart_messages.specs.declared.message.Message.{Message}
-use Rattle.smart_messages.specs.declared.message.Message.TheVariants.{Ask, Propose, Reply, Vote}
+use Rattle.smart_messages.specs.declared.message.Message.TheVariants.{Propose}
 use Rattle.smart_messages.specs.declared.message.Proposed.{Proposed}
 use Rattle.smart_statements.specs.declared.statement.Slot.{Slot}
 use Rattle.smart_statements.specs.declared.statement.VoteKind.{VoteKind}
@@ -45,9 +45,6 @@ pub record IsFor (arrivals : List Message) (slot : Slot) (p : Proposed) : Type 0
   pub slot_is : p.head.statement.slot ≡ slot
 
 proposed_here : (m : Message) (ms : List Message) (slot : Slot) (p : Proposed) → proposed_in slot m ≡ Some p → IsFor (m ∷ ms) slot p
-proposed_here (Ask q) ms slot p is = absurd (cc)
-proposed_here (Vote b) ms slot p is = absurd (cc)
-proposed_here (Reply a) ms slot p is = absurd (cc)
 proposed_here (Propose o) ms slot p is =
     let parts = guard (same_slot o.head.statement.slot slot) (Some o) p is in
     let same : o ≡ p = some_equal o p parts.1 in
@@ -55,6 +52,7 @@ proposed_here (Propose o) ms slot p is =
       there = inl (ap (λ (x : Proposed). Propose x) (sym same));
       slot_is = ap (λ (x : Proposed). x.head.statement.slot) (sym same) ∙ slot_is o.head.statement.slot slot parts.0;
     }
+proposed_here _ ms slot p is = absurd (cc)
 
 proposed_step : (m : Message) (ms : List Message) (slot : Slot) (p : Proposed) (here : Option Proposed) → proposed_in slot m ≡ here → (proposed_for ms slot ≡ Some p → IsFor ms slot p)
     → or_else here (proposed_for ms slot) ≡ Some p → IsFor (m ∷ ms) slot p

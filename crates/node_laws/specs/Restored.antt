@@ -1,4 +1,4 @@
--- What a book shows without the node that keeps it. It holds of each front of the book too, and a member may go on from it after a crash.
+-- What a book shows without its node. Each prefix of the book shows it too, and a member may restart from one.
 use Rattle.std.specs.Prelude.{◌≡◌, ℕ, ◌⊎◌, List, []}
 use Rattle.smart_base.specs.Lists.{Each}
 use Rattle.smart_base.specs.Views.{View}
@@ -10,9 +10,9 @@ use Rattle.agreement_laws.specs.Statements.{Statement}
 use Rattle.agreement_laws.specs.Certificates.{IsBacked}
 use Rattle.node_laws.specs.Sound.{AreRanged, HasBatch, IsBegun}
 
--- Entries from which a member may go on, by what has been stated: so much of a sound node is of its book alone.
+-- Entries from which a member may restart, by what has been stated. This is what a sound node's book shows by itself.
 pub record IsSoundBook (secret : List ℕ) (stated : List Statement) (view : View) (entries : List LogEntry) : Type 0 where
-  -- they begin with the opening, if there are any
+  -- if there are entries, the first one is the opening
   pub begun : (entries ≡ []) ⊎ IsBegun entries
   pub lawful : Lawful 0 0 entries
   pub tidy : IsTidy entries

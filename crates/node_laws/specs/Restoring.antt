@@ -1,4 +1,4 @@
--- What entries rest on, in the terms of certificates, and why bytes that disks restored are damaged.
+-- What entries rest on, in terms of certificates, and what makes restored bytes damaged.
 use Rattle.std.specs.Prelude.{◌≡◌, ℕ, ◌+◌, ◌⊎◌, true, false, List, [], ◌∷◌, ◌++◌, length, None, Result, Ok, Err}
 use Rattle.smart_base.specs.Views.{View}
 use Rattle.certificates.specs.Certificates.{IsWriteCertificate, IsDecisionProof}
@@ -14,19 +14,19 @@ use Rattle.node_rules.specs.Reopening.{is_opening, damaged, decided_of, entries_
 
 -- ---- what an entry rests on
 
--- an accept in a view, of a batch that may stand at its place, which a quorum of the view's members has written
+-- an accept in a view with its write certificate, for a batch that may stand at its place
 pub record IsWritten (secret : List ℕ) (view : View) (a : Accept) : Type 0 where
   pub of_view : a.slot.view ≡ view.number
   pub writes : IsWriteCertificate secret view a.slot a.digest a.writes
   pub batch : is_batch_for secret a.slot.place a.digest a.batch ≡ true
 
--- a decision in a view, of a batch that may stand at its place, which a quorum of the view's members has accepted
+-- a decision in a view with a quorum's ACCEPTs, for a batch that may stand at its place
 pub record IsProven (secret : List ℕ) (view : View) (d : Decision) : Type 0 where
   pub of_view : d.slot.view ≡ view.number
   pub accepts : IsDecisionProof secret view d.slot (digest_of d.batch) d.accepts
   pub batch : is_batch_for secret d.slot.place (digest_of d.batch) d.batch ≡ true
 
--- an entry has what it rests on: an accept its certificate of writes, and a decision its proof
+-- an entry with its evidence: an accept has its write certificate, and a decision its proof; others need none
 abbrev pub IsCertified : List ℕ → View → LogEntry → Type 0
 IsCertified secret view (Opened o) = Unit {0}
 IsCertified secret view (Wrote w) = Unit {0}
@@ -39,14 +39,14 @@ IsCertified secret view (Marked m) = Unit {0}
 
 -- ---- what is damaged
 
--- Why bytes may not be restored behind entries, by what is read of them: they are no entry, or one that is first and no opening, or that may not stand
--- behind those entries, or that lacks what it rests on.
+-- The reason for which bytes may not be restored after entries, by what they are read as. They are no entry. Or they are first and no
+-- opening. Or the entry may not stand after those entries. Or it lacks its evidence.
 abbrev pub IsDamage : List ℕ → View → List LogEntry → Result LogEntry ℕ → Type 0
 IsDamage secret view before (Err at) = Unit {0}
 IsDamage secret view before (Ok e) =
     ((before ≡ []) × (is_opening e ≡ false)) ⊎ ((Admits 0 (length before + 1) before e → ⊥) ⊎ (IsCertified secret view e → ⊥))
 
--- the first damage of what was restored, by its number, from 1: none of the bytes in front of it are damaged
+-- the number, from 1, of the first damaged entry among restored bytes; none of those before it is damaged
 pub record IsFirstDamage (secret : List ℕ) (view : View) (restored : List (List ℕ)) (number : ℕ) : Type 0 where
   pub front : List (List ℕ)
   pub bytes : List ℕ
@@ -58,7 +58,7 @@ pub record IsFirstDamage (secret : List ℕ) (view : View) (restored : List (Lis
 
 -- ---- the order of decisions
 
--- entries decide one place after the other, from the first on
+-- entries that decide one place after the other, from place 1
 abbrev pub DecidesInTurn : List LogEntry → Type 0
 DecidesInTurn entries =
     (before : List LogEntry) (d : Decision) (after : List LogEntry) → entries ≡ before ++ Decided d ∷ after → d.slot.place ≡ length (decided_of before) + 1

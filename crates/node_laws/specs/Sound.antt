@@ -1,4 +1,4 @@
--- What holds of a node, whatever came to it, by what has been stated. So far the view that it began with is in force throughout.
+-- What holds of a node whatever came to it, by what has been stated. INTERIM(views): the view that it began with is in force throughout.
 use Rattle.std.specs.Prelude.{◌≡◌, Bool, ℕ, zero, suc, ◌+◌, ◌<◌, ◌≤◌, ◌⊎◌, true, List, [], ◌∷◌, ◌++◌, length, take, Option, Some, None, IfSome, Ok}
 use Rattle.smart_base.specs.Lists.{Each}
 use Rattle.smart_base.specs.Views.{View, is_member, leader}
@@ -8,18 +8,16 @@ use Rattle.smart_statements.specs.Kinds.{requests, proposals, ballots}
 use Rattle.smart_statements.specs.Batches.{Batch}
 use Rattle.smart_statements.specs.Reports.{reports}
 use Rattle.smart_messages.specs.Regencies.{stops, syncs}
-use Rattle.smart_messages.specs.RegencyMessages.{any_decoded}
+use Rattle.smart_messages.specs.Messages.{decoded}
 use Rattle.smart_statements.specs.declared.statement.Answer.{Answer}
 use Rattle.smart_statements.specs.declared.statement.Slot.{Slot}
 use Rattle.smart_messages.specs.declared.regency.Stop.{Stop}
 use Rattle.smart_messages.specs.declared.regency.Sync.{Sync}
 use Rattle.smart_messages.specs.declared.regency.Reported.{Reported}
-use Rattle.smart_messages.specs.declared.regency.RegencyMessage.TheVariants as changes
+use Rattle.smart_messages.specs.declared.message.Message.TheVariants as changes
 use Rattle.smart_messages.specs.declared.message.Message.{Message}
 use Rattle.smart_messages.specs.declared.message.Message.TheVariants.{Ask, Propose, Vote, Reply}
 use Rattle.smart_messages.specs.declared.message.Proposed.{Proposed}
-use Rattle.smart_messages.specs.declared.any.AnyMessage.{AnyMessage}
-use Rattle.smart_messages.specs.declared.any.AnyMessage.TheVariants.{Plain, Change}
 use Rattle.smart_statements.specs.declared.entry.NodeEvent.{NodeEvent}
 use Rattle.smart_statements.specs.declared.entry.NodeEvent.TheVariants.{Arrive, Tick, Deliver, Firm}
 use Rattle.smart_service.specs.declared.table.TableLine.{TableLine}
@@ -39,27 +37,28 @@ use Rattle.node_rules.specs.declared.node.Held.{Held}
 
 -- ---- what has been stated
 
+-- statements that are all among others
 abbrev pub AreAmong : List Statement → List Statement → Type 0
 AreAmong few all = Each (λ s. Among s all) few
 
--- all that stands in a message, at any depth, and bears the tag of its signer has been stated
-abbrev pub IsStated : List ℕ → List Statement → AnyMessage → Type 0
+-- a message of which all that stands in it, at any depth, and verifies has been stated
+abbrev pub IsStated : List ℕ → List Statement → Message → Type 0
 IsStated secret stated m = AreAmong (statements secret m) stated
 
--- so has what stands in bytes that come
+-- an event of which all that stands in arriving bytes and verifies has been stated
 abbrev pub IsStatedEvent : List ℕ → List Statement → NodeEvent → Type 0
-IsStatedEvent secret stated (Arrive bytes) = (m : AnyMessage) → any_decoded bytes ≡ Ok m → IsStated secret stated m
+IsStatedEvent secret stated (Arrive bytes) = (m : Message) → decoded bytes ≡ Ok m → IsStated secret stated m
 IsStatedEvent secret stated Tick = Unit {0}
 IsStatedEvent secret stated Deliver = Unit {0}
 IsStatedEvent secret stated (Firm count) = Unit {0}
 
--- the requests of a batch
+-- a batch of requests that verify and have been stated
 abbrev pub AreAsked : List ℕ → List Statement → Batch → Type 0
-AreAsked secret stated batch = Each (λ q. (is_verified requests secret q ≡ true) × IsStated secret stated (Plain (Ask q))) batch
+AreAsked secret stated batch = Each (λ q. (is_verified requests secret q ≡ true) × IsStated secret stated (Ask q)) batch
 
 -- ---- what is kept
 
--- a member of the view states something of the view
+-- a statement of the view that a member of the view has signed
 pub record IsMembers (view : View) (verified : Bool) (signer of : ℕ) : Type 0 where
   pub tagged : verified ≡ true
   pub member : is_member view signer ≡ true
@@ -71,19 +70,20 @@ pub record IsProposal (secret : List ℕ) (view : View) (p : Proposed) : Type 0 
   pub leaders : p.head.signer ≡ leader view p.head.statement.slot.regency
   pub batch : is_batch_for secret p.head.statement.slot.place p.head.statement.digest p.batch ≡ true
 
+-- a message that a node may keep among proposals and votes
 abbrev pub IsKept : List ℕ → View → Message → Type 0
-IsKept secret view (Ask q) = ⊥
 IsKept secret view (Propose p) = IsProposal secret view p
 IsKept secret view (Vote b) = IsMembers view (is_verified ballots secret b) b.signer b.statement.slot.view
-IsKept secret view (Reply a) = ⊥
+IsKept secret view _ = ⊥
 
 -- ---- what the book has
 
--- a batch that may stand at a place, under its digest, and whose requests have been stated
+-- a batch that may stand at a place under its digest, and whose requests have been stated
 pub record IsBatchAt (secret : List ℕ) (stated : List Statement) (place : ℕ) (digest : List ℕ) (batch : Batch) : Type 0 where
   pub may : is_batch_for secret place digest batch ≡ true
   pub asked : AreAsked secret stated batch
 
+-- an entry whose batch, if it has one, may stand at its place and has stated requests
 abbrev pub HasBatch : List ℕ → List Statement → LogEntry → Type 0
 HasBatch secret stated (Opened o) = Unit {0}
 HasBatch secret stated (Wrote w) = Unit {0}
@@ -94,19 +94,20 @@ HasBatch secret stated (Decided d) = IsBatchAt secret stated d.slot.place (diges
 HasBatch secret stated (Installed i) = Unit {0}
 HasBatch secret stated (Marked m) = Unit {0}
 
--- a slot of a view, up to a place and up to a regency
+-- a slot of a view, of a place and a regency up to given ones
 pub record IsUpTo (view : View) (place regency : ℕ) (slot : Slot) : Type 0 where
   pub of_view : slot.view ≡ view.number
   pub place_is : slot.place ≤ place
   pub regency_is : slot.regency ≤ regency
 
--- a regency of a view, which is not its first, up to a regency
+-- a regency of a view, from 1 up to a given one
 pub record IsLater (view : View) (regency of r : ℕ) : Type 0 where
   pub of_view : of ≡ view.number
   pub some : 0 < r
   pub most : r ≤ regency
 
--- An entry of a view, whose votes are of no later place and regency; a decision may be of the next regency. So far nothing is installed or marked.
+-- An entry of a view, up to a place and a regency; a decision may be of the next regency. INTERIM(checkpoints), INTERIM(transfer): it marks
+-- and installs nothing.
 abbrev pub IsWithin : View → ℕ → ℕ → LogEntry → Type 0
 IsWithin view place regency (Opened o) = Unit {0}
 IsWithin view place regency (Wrote w) = IsUpTo view place regency w.slot
@@ -117,43 +118,47 @@ IsWithin view place regency (Decided d) = IsUpTo view place (regency + 1) d.slot
 IsWithin view place regency (Installed i) = ⊥
 IsWithin view place regency (Marked m) = ⊥
 
--- each entry is within the place behind the last of those before it, and the regency that is in force with it
+-- entries of which each is within the next place after those before it, and within the regency that is in force with it
 abbrev pub AreRanged : View → List LogEntry → Type 0
 AreRanged view entries =
     (before : List LogEntry) (entry : LogEntry) (after : List LogEntry) → entries ≡ before ++ entry ∷ after
     → IsWithin view (last_made before + 1) (greatest_regency view.number (before ++ entry ∷ [])) entry
 
--- the first of entries opens the book
+-- entries of which the first opens the book
 abbrev pub IsBegun : List LogEntry → Type 0
 IsBegun [] = ⊥
 IsBegun (e ∷ es) = is_opening e ≡ true
 
--- the place made last, if one is
+-- the last made place; none if it is 0
 abbrev pub place_if : ℕ → Option ℕ
 place_if zero = None
 place_if (suc k) = Some (suc k)
 
+-- entries with a decision of a batch at a place
 pub record HasDecided (entries : List LogEntry) (place : ℕ) (batch : Batch) : Type 0 where
   pub decision : Decision
   pub there : Among (Decided decision) entries
   pub place_is : decision.slot.place ≡ place
   pub batch_is : decision.batch ≡ batch
 
+-- the reply that a line of the table of clients tells
 abbrev pub answer_by : TableLine → Answer
 answer_by line = record { view = line.view; place = line.place; index = line.index; client = line.client; seq = line.seq; reply = line.reply }
 
 -- ---- what is held
 
--- Each statement in a message that is held has been stated, or it is the member's own and the entries show it that the message needs.
+-- A held message of which each statement has been stated, or is the member's own. Its own are shown by the entries that the message waits
+-- for.
 pub record IsHeld (secret : List ℕ) (id : ℕ) (stated : List Statement) (entries : List LogEntry) (h : Held) : Type 0 where
   pub needs : h.needs ≤ length entries
   pub shown : Each (λ s. Among s stated ⊎ ((signer_of s ≡ Member id) × IsShown digest_of (take h.needs entries) s)) (statements secret h.message)
 
 -- ---- the node
 
+-- a sound node: everything in it rests on what has been stated
 pub record IsSound {S : Type 0} (stated : List Statement) (view : View) (n : Node S) : Type 0 where
   pub views : n.replica.views ≡ view ∷ []
-  -- the book begins with its opening, is lawful and tidy, and reaches as far as the node
+  -- the book begins with its opening, is lawful and tidy, and its last place is the node's
   pub begun : IsBegun n.entries
   pub lawful : Lawful 0 0 n.entries
   pub tidy : IsTidy n.entries
@@ -161,17 +166,17 @@ pub record IsSound {S : Type 0} (stated : List Statement) (view : View) (n : Nod
   pub latest : latest_made n.entries ≡ place_if (decided_place n)
   pub within : Each (IsWithin view (next_place n) (regency_of n)) n.entries
   pub ranged : AreRanged view n.entries
-  -- it rests on what has been stated
+  -- the book rests on what has been stated
   pub backed : Each (IsBacked n.secret digest_of view stated) n.entries
   pub batches : Each (HasBatch n.secret stated) n.entries
-  -- what waits is decided, and what the replica remembers of a client is of a place that the entries have reached
+  -- the waiting batch is decided, and each line of the table of clients is of a place that the book has reached
   pub waiting : IfSome n.waiting (HasDecided n.entries (next_place n))
   pub table : Each (λ line. HasReached n.entries line.place) n.replica.table
-  -- what is kept passed the node's checks and has been stated
-  pub arrivals : Each (λ m. IsKept n.secret view m × IsStated n.secret stated (Plain m)) n.arrivals
-  pub stops : Each (λ (s : SignedBy Stop). IsMembers view (is_verified stops n.secret s) s.signer s.statement.view × IsStated n.secret stated (Change (changes.Stop s))) n.stops
-  pub reports : Each (λ (r : Reported). IsMembers view (is_verified reports n.secret r.head) r.head.signer r.head.statement.view × (is_proven n r ≡ true) × IsStated n.secret stated (Change (changes.StopData r))) n.reports
-  pub syncs : Each (λ (s : SignedBy Sync). IsMembers view (is_verified syncs n.secret s) s.signer s.statement.view × (is_collect n s.statement ≡ true) × IsStated n.secret stated (Change (changes.Sync s))) n.syncs
+  -- each kept message passed the node's checks, and has been stated
+  pub arrivals : Each (λ m. IsKept n.secret view m × IsStated n.secret stated m) n.arrivals
+  pub stops : Each (λ (s : SignedBy Stop). IsMembers view (is_verified stops n.secret s) s.signer s.statement.view × IsStated n.secret stated (changes.Stop s)) n.stops
+  pub reports : Each (λ (r : Reported). IsMembers view (is_verified reports n.secret r.head) r.head.signer r.head.statement.view × (is_proven n r ≡ true) × IsStated n.secret stated (changes.StopData r)) n.reports
+  pub syncs : Each (λ (s : SignedBy Sync). IsMembers view (is_verified syncs n.secret s) s.signer s.statement.view × (is_collect n s.statement ≡ true) × IsStated n.secret stated (changes.Sync s)) n.syncs
   pub pool : AreAsked n.secret stated n.pool
-  -- what is held is shown
+  -- each held message is shown
   pub held : Each (IsHeld n.secret n.id stated n.entries) n.held

@@ -24,10 +24,10 @@ ghost use Rattle.node_rules.specs.Entries.{AddsAtMost};
 
 use smart_service::service::Service;
 
-/// Whatever comes to a node, as long as all that stands in it and bears its signer's tag has been
-/// stated: its book stays lawful and tidy, its entries rest on what has been stated, and each
-/// statement in a message that it holds has been stated before or is its own and shown by the entries
-/// that the message needs.
+/// A node stays sound whatever comes to it, if everything that stands in it and verifies has been
+/// stated. Its book stays lawful and tidy, and its entries rest on what has been stated. Each
+/// statement in a message that it holds has been stated before, or is its own. Its own are shown by
+/// the entries that the message waits for.
 pub fn a_node_stays_sound<S: Service>()
     ensures first { (secret : List ℕ) (id : ℕ) (view : View) (period : ℕ) → is_view view ≡ true → IsSound [] view (opened S.meaning secret id view period) }
     ensures step { (stated : List Statement) (view : View) (n : Node S) (event : NodeEvent) → is_view view ≡ true → IsSound stated view n → IsStatedEvent n.secret stated event →
@@ -36,14 +36,17 @@ pub fn a_node_stays_sound<S: Service>()
     ensures more { (stated more : List Statement) (view : View) (n : Node S) → AreAmong stated more → IsSound stated view n → IsSound more view n }
 {}
 
-/// A member may go on after a crash from whatever front of its book is left. What a sound node's book
-/// shows by itself (`book`) each front of it shows too (`front`), and where more has been stated
-/// (`more`); what a front decides is a front of what the book decides (`decided`). The node that goes
-/// on from such entries is sound (`reopened`): it has the entries, all of them restored and firm, the
-/// replica that their decisions make, and nothing else of the life before (`node`). Its place is the
-/// last one that they make (`place`), which is the latest (`latest`), for they decide one place after
-/// the other (`turn`, `count`). The spellings of such entries are read as these again (`read`), and
-/// none of them is damaged (`undamaged`).
+/// A member may restart from any prefix of its book (recovery: Dura-SMaRt, USENIX ATC 2013).
+///
+/// - `book`: a sound node's book is sound by itself.
+/// - `front`, `more`: so is each prefix of it, and so it is after more has been stated.
+/// - `decided`: a prefix of the book decides a prefix of what the book decides.
+/// - `reopened`: the node after a restart from a sound book is sound.
+/// - `node`: it has the entries, all restored and firm, the replica that their decisions make, and
+///   nothing else of the earlier life.
+/// - `place`, `latest`: its place is the last one that the entries make, which is the latest, too.
+/// - `turn`, `count`: the entries decide one place after the other.
+/// - `read`, `undamaged`: the bytes of the entries are read as these entries, and none is damaged.
 pub fn a_restart_is_sound<S: Service>()
     ensures book { (stated : List Statement) (view : View) (n : Node S) → IsSound stated view n → IsSoundBook n.secret stated view n.entries }
     ensures front { (secret : List ℕ) (stated : List Statement) (view : View) (entries : List LogEntry) (k : ℕ) → IsSoundBook secret stated view entries →
@@ -68,14 +71,18 @@ pub fn a_restart_is_sound<S: Service>()
         damaged secret view (map entry_text entries) ≡ None }
 {}
 
-/// What disks restored is not damaged exactly where it is entries from which a member may go on. Where
-/// none of it is damaged, all of it is entries (`decoded`), each spelled as it was found (`read`), which
-/// disks can hold (`fits`): they begin with an opening, if there are any (`begun`), each may stand
-/// behind those before it (`lawful`) and has what it rests on (`rest`), an accept a certificate of
-/// writes and a decision its proof, by a quorum of the view's members (`certified`, `exact`). They decide
-/// one place after the other (`turn`). And the spellings of such entries are not damaged (`back`). Else
-/// the first that is damaged is told by its number (`first`), which is one of theirs, and what stands in
-/// front of it is not damaged (`within`).
+/// Restored bytes are undamaged if and only if they are entries from which a member may restart.
+///
+/// - `decoded`, `read`, `fits`: undamaged bytes are entries, each spelled as found, and disks can
+///   hold them.
+/// - `begun`, `lawful`: if there are entries, the first is an opening; each may stand after those
+///   before it.
+/// - `rest`, `certified`, `exact`: an accept has its write certificate and a decision its proof, by a
+///   quorum of the view.
+/// - `turn`: the entries decide one place after the other.
+/// - `back`: the bytes of such entries are undamaged.
+/// - `first`, `within`: otherwise the number of the first damaged entry is told, from 1; what stands
+///   before it is undamaged.
 pub fn what_is_undamaged_is_lawful()
     ensures decoded { (secret : List ℕ) (view : View) (restored : List (List ℕ)) → damaged secret view restored ≡ None →
         map entry_decoded restored ≡ map (λ (e : LogEntry). Ok e) (entries_in restored) }
@@ -102,8 +109,7 @@ pub fn what_is_undamaged_is_lawful()
         (1 ≤ number) × (number ≤ length restored) × (damaged secret view (take (number - 1) restored) ≡ None) }
 {}
 
-/// An event adds at most 8 entries to the book of a node, behind those that it has. It adds as few to
-/// the book of a node that keeps no more than it needs.
+/// An event adds at most 8 entries to the end of a node's book, and to a core's.
 pub fn an_event_makes_few_entries<S: Service>()
     ensures node { (m : Meaning S) (n : Node S) (event : NodeEvent) → AddsAtMost 8 n.entries (step_of m n event).node.entries }
     ensures core { (m : Meaning S) (core : Node S) (event : NodeEvent) → AddsAtMost 8 core.entries (core_step m core event).node.entries }

@@ -1,5 +1,5 @@
-//! The laws of one node: whatever comes to it, its book stays lawful and tidy and rests on what has
-//! been stated, and what it holds is shown by its book.
+//! The laws of one node, whatever comes to it: its book stays lawful and tidy, and rests on what has
+//! been stated. Its book shows what it holds.
 #![tactic(auto)]
 
 pub mod laws;

@@ -1,4 +1,4 @@
-//! What names a batch, and whether it may stand at a place.
+//! The digest of a batch, and whether the batch may stand at a place.
 ghost use Rattle.std.specs.Prelude.{◌≡◌, ◌&&◌, true, not, IfOk, length};
 ghost use Rattle.std.specs.List.{list_any, list_all};
 ghost use Rattle.smart_statements.specs.Batches.{batch_text, FitsBatch};
@@ -16,7 +16,7 @@ use smart_statements::signed::Signed;
 use smart_statements::statement::Request;
 use std::alloc::{AllocError, Global};
 
-/// What names a batch in votes.
+/// The digest that names a batch in votes. Error: want of memory.
 #[tactic(auto, unfolding(replica_rules::specs::Seals::digest_of))]
 pub fn digest_of(alloc: Global, batch: &Batch) -> Result<Digest32, AllocError>
     ensures { IfOk result (λ digest. digest ≡ digest_of batch.now) }
@@ -65,7 +65,7 @@ fn fits(ring: &Ring, batch: &[Signed<Request>], bytes: usize, place: u64) -> boo
         && (batch.len() <= 1 || !has_managers(batch))
 }
 
-/// Whether a batch of so many bytes may stand at a place, and no request of it is the view manager's.
+/// Whether a batch of so many bytes may stand at a place, and has no request of the view manager.
 fn may_stand(ring: &Ring, batch: &[Signed<Request>], bytes: usize, place: u64) -> bool
     requires { bytes ≡ length (batch_text batch.now) }
     ensures { result ≡ (fits ring.now batch.now place && not (list_any is_managers batch.now)) }
@@ -73,7 +73,7 @@ fn may_stand(ring: &Ring, batch: &[Signed<Request>], bytes: usize, place: u64) -
     fits(ring, batch, bytes, place) && !has_managers(batch)
 }
 
-/// Whether a batch may stand at a place, and is the one of a digest.
+/// Whether a batch may stand at a place, and has a digest. Error: want of memory.
 #[tactic(auto, unfolding(replica_rules::specs::Seals::digest_of, node_rules::specs::Arrivals::is_batch_for))]
 pub fn is_batch_for(
     alloc: Global,
@@ -90,7 +90,7 @@ pub fn is_batch_for(
     Ok(stands && same_bytes(named.as_slice(), digest.as_slice()))
 }
 
-/// What names a batch in votes, if it may stand at a place.
+/// The digest of a batch, if the batch may stand at a place. Error: want of memory.
 #[tactic(auto, unfolding(replica_rules::specs::Seals::digest_of, node_rules::specs::Arrivals::is_batch_for))]
 pub(crate) fn named_for(
     alloc: Global,
@@ -107,7 +107,7 @@ pub(crate) fn named_for(
     Ok(Some(Sha::digest(text.as_slice())))
 }
 
-/// Whether two batches are one, by their bytes.
+/// Whether two batches are one, by their bytes. Error: want of memory.
 #[tactic(auto, using(crate::proofs::Named::is_one))]
 pub(crate) fn is_same(alloc: Global, a: &Batch, b: &Batch) -> Result<bool, AllocError>
     requires first { FitsBatch a.now }

@@ -1,16 +1,16 @@
-//! Why a node does not go on.
+//! The reasons for which a node does not restart.
 ghost use Rattle.std.specs.Prelude.{◌≡◌};
 ghost use Rattle.node_restart.specs.declared.fault.ReopenFault.TheVariants.{NoMemory};
 
 use std::alloc::AllocError;
 
-/// Why a node does not go on from what was restored.
+/// The reason for which a node does not restart from what was restored.
 #[derive(Debug, PartialEq, Eq, Drop)]
 pub enum ReopenFault {
-    /// The entry of this number, from 1, is damaged: its bytes are no entry, it may not stand behind
-    /// those before it, or what it rests on does not hold.
+    /// The entry of this number, from 1, is damaged. Its bytes are no entry, it may not stand after
+    /// those before it, or its evidence does not hold.
     Damaged { entry: u64 },
-    /// Memory ran out.
+    /// Want of memory.
     NoMemory,
 }
 

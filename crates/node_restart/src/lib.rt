@@ -1,4 +1,5 @@
-//! What a node is given back by the entries that its disks restored.
+//! The restart of a node from the entries that its disks restored (recovery: Dura-SMaRt, USENIX ATC
+//! 2013).
 #![tactic(auto)]
 
 pub mod batch;

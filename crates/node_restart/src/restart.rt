@@ -1,4 +1,4 @@
-//! A replica and a book that restored entries give back.
+//! The replica and the book that restored entries give back.
 ghost use Rattle.std.specs.Prelude.{◌≡◌, ◌+◌, ◌<◌, ◌^◌, ℕ, ◌++◌, length, Some, None, false, IfOk, OnOk, IsErrOf};
 ghost use Rattle.std.specs.Result.{is_err};
 ghost use Rattle.smart_base.specs.Views.{present};
@@ -26,9 +26,9 @@ use vote_book::book::Book;
 use vote_book::codec::decode_entry;
 use vote_book::entry::LogEntry;
 
-/// A replica and a book that are given back by restored entries, one by one: each is read, checked
-/// behind those before it, and written into the book again, and what it decided is delivered. It is
-/// answered to nobody.
+/// A replica and a book that restored entries give back, one by one. Each entry is read, checked
+/// after those before it, and written into the book again. What it decided is delivered, and nobody
+/// is answered.
 pub struct Restart<S> {
     alloc: Global,
     replica: KeptReplica<S>,
@@ -56,7 +56,7 @@ impl<S> Model for Restart<S> {
     ghost invariant = { λ r. IsReplayed r.replica.replica r.replica.spent r.book };
 }
 
-/// Delivers to a replica what an entry decided.
+/// Delivers to a replica what an entry decided. Error: want of memory.
 fn replay<S: Service>(
     alloc: Global,
     replica: &mut KeptReplica<S>,
@@ -86,7 +86,8 @@ fn replay<S: Service>(
 }
 
 impl<S: Service> Restart<S> {
-    /// Nothing is given back yet: the replica before any batch, in a first view, and an empty book.
+    /// The start of a restart: the replica before any batch, in a first view, and an empty book.
+    /// Error: want of memory.
     pub fn begin(alloc: Global, view: View) -> Result<Self, AllocError>
         ensures { IfOk result (λ restart. restart ≡ begun S.meaning view) }
     {
@@ -97,7 +98,7 @@ impl<S: Service> Restart<S> {
         })
     }
 
-    /// How many entries are given back.
+    /// The number of entries that are given back.
     fn made(&self) -> u64
         ensures value { result ≡ length self.now.entries }
         ensures small { result < 2 ^ 63 }
@@ -119,14 +120,14 @@ impl<S: Service> Restart<S> {
         self.book.admits(entry)
     }
 
-    /// Whether an entry opens the book, where it is the first.
+    /// Whether an entry opens the book, if it is the first.
     fn opens_first(&self, entry: &LogEntry) -> bool
         ensures { result ≡ opens_first self.now.entries entry.now }
     {
         !self.book.pushed().is_empty() || is_opening(entry)
     }
 
-    /// Whether an entry may be restored behind the others.
+    /// Whether an entry may be restored after the others. Error: want of memory.
     fn may_restore(&self, ring: &Ring, entry: &LogEntry) -> Result<bool, AllocError>
         requires sound { AreSound ring.now self.now.entries }
         requires fits { FitsEntry entry.now }
@@ -138,7 +139,7 @@ impl<S: Service> Restart<S> {
         rests(self.alloc, ring, self.view(), &self.book, entry)
     }
 
-    /// Writes an entry into the book, and delivers what it decided.
+    /// Writes an entry into the book, and delivers what it decided. Error: want of memory.
     fn push(self, entry: LogEntry) -> Result<Self, AllocError>
         requires { IsInTurn self.replica.place entry }
         ensures later { IfOk result (λ later. later ≡ took S.meaning self entry) }
@@ -158,7 +159,7 @@ impl<S: Service> Restart<S> {
         })
     }
 
-    /// Takes the next entry back, unless it is damaged.
+    /// Reads the next entry. Errors: the entry is damaged; want of memory.
     fn take(self, ring: &Ring, bytes: &[u8]) -> Result<Self, ReopenFault>
         requires sound { AreSound ring.now self.entries }
         ensures taken { IfOk result (λ later. taken S.meaning ring.now self (entry_decoded bytes.now) ≡ Some later) }
@@ -180,8 +181,8 @@ impl<S: Service> Restart<S> {
         }
     }
 
-    /// The replica and the book, in which what is pushed from now on is not restored. The book's last
-    /// place is the replica's.
+    /// The replica and the book. What is pushed into the book from then on is not restored. The
+    /// book's last place is the replica's.
     pub fn finish(self) -> (KeptReplica<S>, Book)
         ensures replica { result.0 ≡ record { replica = self.replica; spent = false } }
         ensures book { result.1 ≡ record { opening = 0; restored = Some (length self.entries); entries = self.entries } }
@@ -197,8 +198,8 @@ impl<S: Service> Restart<S> {
     }
 }
 
-/// What restored entries give back to a node of a group that begins with a view, or the number of
-/// the first that is damaged.
+/// What restored entries give back to a node of a group, whose first view this is. Errors: the number
+/// of the first damaged entry; want of memory.
 pub fn restarted<S: Service>(
     alloc: Global,
     ring: &Ring,

@@ -1,4 +1,4 @@
-//! What an entry rests on.
+//! The evidence of entries.
 ghost use Rattle.std.specs.Prelude.{◌≡◌, ◌==◌, ◌&&◌, true, is_none, IfOk};
 ghost use Rattle.smart_statements.specs.Batches.{FitsBatch};
 ghost use Rattle.certificates.specs.Certificates.{votes_fault, write_of, accept_of};
@@ -36,7 +36,7 @@ pub fn is_opening(entry: &LogEntry) -> bool
     }
 }
 
-/// Whether an accept has its certificate of writes and a batch for its place.
+/// Whether an accept has its write certificate, and a batch for its place. Error: want of memory.
 fn accept_rests(
     alloc: Global,
     ring: &Ring,
@@ -60,7 +60,7 @@ fn accept_rests(
     is_batch_for(alloc, ring, slot.place.get(), digest, batch)
 }
 
-/// Whether an accept is for a place, and has this batch.
+/// Whether an accept is for a place, and has this batch. Error: want of memory.
 fn has_accepted(
     alloc: Global,
     accept: &Accept,
@@ -77,8 +77,8 @@ fn has_accepted(
     is_same(alloc, &accept.batch, batch)
 }
 
-/// What names a batch in votes, if it may stand at a slot's place. Where the book is locked on this
-/// batch there, it may, and the accept names it.
+/// The digest of a batch, if the batch may stand at a slot's place. If the book is locked on this
+/// batch there, it may, and the accept has the digest. Error: want of memory.
 #[tactic(auto, using(crate::proofs::Sound::lock_sound, crate::proofs::Named::named_so))]
 fn named_behind(
     alloc: Global,
@@ -100,7 +100,7 @@ fn named_behind(
     named_for(alloc, ring, place, batch)
 }
 
-/// Whether a decision has its proof and a batch for its place.
+/// Whether a decision has its proof, and a batch for its place. Error: want of memory.
 #[tactic(auto, using(crate::proofs::Named::named, crate::proofs::Named::unnamed))]
 fn decision_rests(
     alloc: Global,
@@ -127,8 +127,8 @@ fn decision_rests(
     }
 }
 
-/// Whether what an entry rests on holds in a view, behind the entries of a book. It takes memory for
-/// the bytes of two batches alone.
+/// Whether an entry's evidence holds in a view, after the entries of a book. It needs memory for the
+/// bytes of two batches alone. Error: want of memory.
 pub fn rests(
     alloc: Global,
     ring: &Ring,

@@ -3,15 +3,13 @@ use Rattle.std.proofs.Common.{◌≡◌, ℕ, ◌+◌, ◌≤◌, ◌++◌, Bool
 use Rattle.std.proofs.lemmas.List.{append-nil, append_assoc, length-append}
 use Rattle.smart_statements.specs.Forms.{SignedBy}
 use Rattle.smart_statements.specs.Batches.{Batch}
-use Rattle.smart_messages.specs.RegencyMessages.{any_decoded}
+use Rattle.smart_messages.specs.Messages.{decoded}
 use Rattle.smart_statements.specs.declared.statement.Request.{Request}
 use Rattle.smart_messages.specs.declared.regency.Sync.{Sync}
 use Rattle.smart_statements.specs.declared.report.Report.{Report}
 use Rattle.smart_messages.specs.declared.message.Proposed.{Proposed}
-use Rattle.smart_messages.specs.declared.message.Message.TheVariants.{Ask, Propose, Vote, Reply}
-use Rattle.smart_messages.specs.declared.any.AnyMessage.{AnyMessage}
-use Rattle.smart_messages.specs.declared.any.AnyMessage.TheVariants.{Plain, Change}
-use Rattle.smart_messages.specs.declared.regency.RegencyMessage.TheVariants as changes
+use Rattle.smart_messages.specs.declared.message.Message.TheVariants.{Ask}
+use Rattle.smart_messages.specs.declared.message.Message.{Message}
 use Rattle.smart_statements.specs.declared.entry.NodeEvent.{NodeEvent}
 use Rattle.smart_statements.specs.declared.entry.NodeEvent.TheVariants.{Arrive, Deliver, Firm, Tick}
 use Rattle.smart_service.specs.Services.{Meaning}
@@ -22,12 +20,13 @@ use Rattle.vote_book.specs.declared.entry.LogEntry.TheVariants.{Synced}
 use Rattle.replica_rules.specs.Replicas.{is_next}
 use Rattle.replica_rules.specs.Pools.{offered}
 use Rattle.node_rules.specs.Nodes.{Node}
-use Rattle.node_rules.specs.Arrivals.{why_dropped, noted, kept, kept_plain, kept_change}
-use Rattle.node_rules.specs.Rules.{lines_to_answer, replying, deliver_batch, delivers, proposing, propose_batch, proposes, writing, write_batch, writes, accepting, accept_batch, accepts, deciding, decide_batch, decides, answering, answer_line, answers_again}
+use Rattle.node_rules.specs.Arrivals.{why_dropped, noted, kept}
+use Rattle.node_rules.specs.Rules.{lines_to_answer, replying, deliver_batch, delivers, proposing, propose_batch, proposes, writing, write_batch, writes, accepting, accept_batch, accepts, deciding, decide_batch, decides, asked_in, answering, answer_line, answers_again}
 use Rattle.node_rules.specs.Changes.{start_by_sync, promised_for, adopts_by, adoption, adopts, asks_next, joining, joins, promising, promise_next, promises, leading, lead_with, leads, timing, passes_on, presses, times}
 use Rattle.node_rules.specs.Steps.{made_firm, turns, votes, passes, arrival_outcome, reading_outcome, step_of}
 use Rattle.node_rules.specs.Kept.{trimmed, core_step}
 use Rattle.node_rules.specs.declared.node.Why.{Why}
+use Rattle.node_rules.specs.declared.node.Asked.{Asked}
 use Rattle.node_rules.specs.Entries.{AddsAtMost}
 
 -- ---- additions
@@ -164,7 +163,7 @@ passes_adds n =
 
 -- ---- arrivals, time and delivery
 
-pub noted_same : {S : Type 0} (n : Node S) (m : AnyMessage) → (noted n m).entries ≡ n.entries
+pub noted_same : {S : Type 0} (n : Node S) (m : Message) → (noted n m).entries ≡ n.entries
 unfolding noted
 noted_same n m = refl
 
@@ -172,24 +171,19 @@ by_next : {S : Type 0} (n : Node S) (pool : List (SignedBy Request)) (t : Bool) 
 by_next n pool true = refl
 by_next n pool false = refl
 
-pub kept_same : {S : Type 0} (n : Node S) (m : AnyMessage) → (kept n m).entries ≡ n.entries
-unfolding kept_plain kept_change
-kept_same n (Plain (Ask q)) = by_next n (offered n.pool q) (is_next n.replica.table q.statement)
-kept_same n (Plain (Propose p)) = refl
-kept_same n (Plain (Vote b)) = refl
-kept_same n (Plain (Reply a)) = refl
-kept_same n (Change (changes.Stop s)) = refl
-kept_same n (Change (changes.StopData r)) = refl
-kept_same n (Change (changes.Sync s)) = refl
+pub kept_same : {S : Type 0} (n : Node S) (m : Message) → (kept n m).entries ≡ n.entries
+unfolding kept
+kept_same n (Ask q) = by_next n (offered n.pool q) (is_next n.replica.table q.statement)
+kept_same n _ = refl
 
 pub by_answering : {S : Type 0} (n : Node S) (o : Option TableLine) → (answer_line n o).entries ≡ n.entries
 unfolding answer_line
 by_answering n None = refl
 by_answering n (Some line) = refl
 
-pub answers_again_same : {S : Type 0} (n : Node S) (m : AnyMessage) → (answers_again n m).entries ≡ n.entries
+pub answers_again_same : {S : Type 0} (n : Node S) (asked : Option Asked) → (answers_again n asked).entries ≡ n.entries
 unfolding answers_again
-answers_again_same n m = by_answering n (answering n m)
+answers_again_same n asked = by_answering n (answering n asked)
 
 pub by_oldest : {S : Type 0} (n : Node S) (pool : List (SignedBy Request)) → (passes_on n pool).entries ≡ n.entries
 by_oldest n [] = refl
@@ -227,18 +221,18 @@ delivers_same m n = by_waiting m n n.waiting
 around : {S : Type 0} (n : Node S) (last : List LogEntry) (pass : Node S) → pass.entries ≡ n.entries → last ≡ (passes pass).entries → AddsAtMost 6 n.entries last
 around n last pass same is = rw is (subst (λ (es : List LogEntry). AddsAtMost 6 es (passes pass).entries) same (passes_adds pass))
 
-pub arrival_adds : {S : Type 0} (n : Node S) (m : AnyMessage) (why : Option Why) → AddsAtMost 6 n.entries (arrival_outcome n m why).node.entries
+pub arrival_adds : {S : Type 0} (n : Node S) (m : Message) (why : Option Why) → AddsAtMost 6 n.entries (arrival_outcome n m why).node.entries
 arrival_adds n m None =
-    around n _ (kept (noted n m) m) (kept_same (noted n m) m ∙ noted_same n m) (answers_again_same (passes (kept (noted n m) m)) m)
+    around n _ (kept (noted n m) m) (kept_same (noted n m) m ∙ noted_same n m) (answers_again_same (passes (kept (noted n m) m)) (asked_in m))
 arrival_adds n m (Some why) = adds_fewer 0 6 n.entries _ (omega arith) (adds_none n.entries _ (noted_same n m))
 
-pub reading_adds : {S : Type 0} (n : Node S) (read : Result AnyMessage ℕ) → AddsAtMost 6 n.entries (reading_outcome n read).node.entries
+pub reading_adds : {S : Type 0} (n : Node S) (read : Result Message ℕ) → AddsAtMost 6 n.entries (reading_outcome n read).node.entries
 reading_adds n (Ok m) = arrival_adds n m (why_dropped n m)
 reading_adds n (Err at) = adds_fewer 0 6 n.entries n.entries (omega arith) (adds_none n.entries n.entries refl)
 
 pub event_adds : {S : Type 0} (m : Meaning S) (n : Node S) (event : NodeEvent) → AddsAtMost 6 n.entries (step_of m n event).node.entries
 unfolding step_of
-event_adds m n (Arrive bytes) = reading_adds n (any_decoded bytes)
+event_adds m n (Arrive bytes) = reading_adds n (decoded bytes)
 event_adds m n Tick = around n _ n refl (times_same (passes n))
 event_adds m n Deliver = around n _ (delivers m n) (delivers_same m n) refl
 event_adds m n (Firm count) = passes_adds (made_firm n count)

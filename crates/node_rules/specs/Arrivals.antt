@@ -1,4 +1,4 @@
--- Which arrivals a node drops, and what it keeps of the others.
+-- The reasons for which a node drops an arriving message, and what it keeps of the others.
 use Rattle.std.specs.Prelude.{ℕ, ◌+◌, ◌==◌, nat_lt, nat_le, Bool, true, false, not, ◌&&◌, ◌||◌, List, [], ◌∷◌, ◌++◌, if◌then◌else◌, Option, Some, None, is_none}
 use Rattle.std.specs.List.{list_any}
 use Rattle.smart_base.specs.Lists.{or_else, same_bytes}
@@ -20,13 +20,11 @@ use Rattle.smart_statements.specs.declared.report.Report.{Report}
 use Rattle.smart_messages.specs.declared.regency.Stop.{Stop}
 use Rattle.smart_messages.specs.declared.regency.Sync.{Sync}
 use Rattle.smart_messages.specs.declared.regency.Reported.{Reported}
-use Rattle.smart_messages.specs.declared.regency.RegencyMessage.{RegencyMessage}
-use Rattle.smart_messages.specs.declared.regency.RegencyMessage.TheVariants as changes
+use Rattle.smart_messages.specs.Messages.{proposal_in, vote_in, some_of}
 use Rattle.smart_messages.specs.declared.message.Message.{Message}
+use Rattle.smart_messages.specs.declared.message.Message.TheVariants as changes
 use Rattle.smart_messages.specs.declared.message.Message.TheVariants.{Ask, Propose, Vote, Reply}
 use Rattle.smart_messages.specs.declared.message.Proposed.{Proposed}
-use Rattle.smart_messages.specs.declared.any.AnyMessage.{AnyMessage}
-use Rattle.smart_messages.specs.declared.any.AnyMessage.TheVariants.{Plain, Change}
 use Rattle.smart_service.specs.Tables.{last_seq}
 use Rattle.certificates.specs.Collects.{evidence_holds, has_no_false_lock, collect_fault}
 use Rattle.regency_sync.specs.Choices.{choice}
@@ -40,7 +38,7 @@ use Rattle.node_rules.specs.declared.node.Why.TheVariants.{NotMember, BadTag, St
 
 -- ---- reasons that several kinds of messages share
 
--- the first reason that the node's own membership, a member's tag and its name give
+-- the first reason to drop a member's message by its signer: the node is no member, the tag is bad, or the signer is no member
 unfoldable pub signer_why : {S : Type 0} → Node S → Bool → ℕ → Option Why
 signer_why n verified signer =
     if not (is_member (view_of n) n.id) then Some NotMember
@@ -48,46 +46,45 @@ signer_why n verified signer =
     else if not (is_member (view_of n) signer) then Some Stranger
     else None
 
+-- the reason to drop a message by its view: it is earlier or later than the one in force
 abbrev pub view_why : {S : Type 0} → Node S → ℕ → Option Why
 view_why n view =
     if nat_lt view (view_of n).number then Some OldView
     else if nat_lt (view_of n).number view then Some NewView
     else None
 
+-- the reason to drop a message by its place: it is decided, or more than two past the last decided one
 abbrev pub place_why : {S : Type 0} → Node S → ℕ → Option Why
 place_why n place =
     if nat_le place (decided_place n) then Some OldPlace
     else if nat_lt (decided_place n + 2) place then Some FarPlace
     else None
 
--- a regency that is over, or further ahead than the next
+-- the reason to drop a message by its regency: it is over, or later than the next one
 abbrev pub regency_why : {S : Type 0} → Node S → ℕ → Option Why
 regency_why n regency =
     if nat_lt regency (regency_of n) then Some OldRegency
     else if nat_lt (regency_of n + 1) regency then Some NewRegency
     else None
 
--- the first reason that a slot gives
+-- the first reason to drop a message by its slot: by its view, then its place, then its regency
 unfoldable pub slot_why : {S : Type 0} → Node S → Slot → Option Why
 slot_why n slot = or_else (view_why n slot.view) (or_else (place_why n slot.place) (regency_why n slot.regency))
 
 -- ---- what repeats another
 
+-- a message that is a proposal of the same signer for the same slot
 abbrev pub is_same_proposal : Proposed → Message → Bool
-is_same_proposal p (Ask q) = false
-is_same_proposal p (Propose o) = (o.head.signer == p.head.signer) && same_slot o.head.statement.slot p.head.statement.slot
-is_same_proposal p (Vote b) = false
-is_same_proposal p (Reply a) = false
+is_same_proposal p m = some_of (λ (o : Proposed). (o.head.signer == p.head.signer) && same_slot o.head.statement.slot p.head.statement.slot) (proposal_in m)
 
+-- a message that is a vote of the same kind and signer for the same slot
 abbrev pub is_same_vote : SignedBy Ballot → Message → Bool
-is_same_vote b (Ask q) = false
-is_same_vote b (Propose o) = false
-is_same_vote b (Vote o) = same_kind o.statement.kind b.statement.kind && (o.signer == b.signer) && same_slot o.statement.slot b.statement.slot
-is_same_vote b (Reply a) = false
+is_same_vote b m =
+    some_of (λ (o : SignedBy Ballot). same_kind o.statement.kind b.statement.kind && (o.signer == b.signer) && same_slot o.statement.slot b.statement.slot) (vote_in m)
 
 -- ---- what orders requests
 
--- until views change, the view manager is a stranger
+-- the first reason to drop a request. INTERIM(views): the view manager is a stranger.
 unfoldable pub why_ask : {S : Type 0} → Node S → SignedBy Request → Option Why
 why_ask n q =
     if not (is_member (view_of n) n.id) then Some NotMember
@@ -97,16 +94,17 @@ why_ask n q =
     else if nat_lt (last_seq n.replica.table q.statement.client + 1) q.statement.seq then Some FarSeq
     else None
 
--- a batch that may stand at a place, and that is the one of a digest. Until views change, none of the view manager's may
+-- a batch that may stand at a place, and that a digest names. INTERIM(views): it has no request of the view manager.
 unfoldable pub is_batch_for : List ℕ → ℕ → List ℕ → Batch → Bool
 is_batch_for secret place digest batch = fits secret batch place && not (list_any is_managers batch) && same_bytes (digest_of batch) digest
 
--- a proposal of the regency in force for another batch than the one that binds at its place
+-- a proposal in the regency in force whose digest is not the one that binds at its place
 abbrev pub is_unbound : {S : Type 0} → Node S → Proposed → Bool
 is_unbound n p =
     (p.head.statement.slot.regency == regency_of n)
     && not (is_within (bound_at p.head.statement.slot.place (start_of n)) p.head.statement.digest)
 
+-- the first reason to drop a PROPOSE
 unfoldable pub why_propose : {S : Type 0} → Node S → Proposed → Option Why
 why_propose n p =
     or_else (signer_why n (is_verified proposals n.secret p.head) p.head.signer)
@@ -117,30 +115,27 @@ why_propose n p =
     else if list_any (is_same_proposal p) n.arrivals then Some Repeated
     else None))
 
+-- the first reason to drop a vote
 unfoldable pub why_vote : {S : Type 0} → Node S → SignedBy Ballot → Option Why
 why_vote n b =
     or_else (signer_why n (is_verified ballots n.secret b) b.signer)
     (or_else (slot_why n b.statement.slot)
     (if list_any (is_same_vote b) n.arrivals then Some Repeated else None))
 
+-- the first reason to drop a reply; every reply is dropped, as no member waits for one
 unfoldable pub why_reply : {S : Type 0} → Node S → SignedBy Answer → Option Why
 why_reply n a = or_else (signer_why n (is_verified answers n.secret a) a.signer) (Some Unasked)
 
-abbrev pub why_plain : {S : Type 0} → Node S → Message → Option Why
-why_plain n (Ask q) = why_ask n q
-why_plain n (Propose p) = why_propose n p
-why_plain n (Vote b) = why_vote n b
-why_plain n (Reply a) = why_reply n a
-
 -- ---- what changes the regency
 
--- a regency that is in force, or over, or further ahead than the next
+-- the reason to drop a STOP by its regency: it is in force or over, or later than the next one
 abbrev pub wish_why : {S : Type 0} → Node S → ℕ → Option Why
 wish_why n regency =
     if nat_le regency (regency_of n) then Some OldRegency
     else if nat_lt (regency_of n + 1) regency then Some NewRegency
     else None
 
+-- the first reason to drop a STOP
 unfoldable pub why_stop : {S : Type 0} → Node S → SignedBy Stop → Option Why
 why_stop n s =
     or_else (signer_why n (is_verified stops n.secret s) s.signer)
@@ -148,21 +143,23 @@ why_stop n s =
     (or_else (wish_why n s.statement.regency)
     (if repeats_stop (synchronizer_of n) s then Some Repeated else None)))
 
+-- evidence that consists of marks
 abbrev pub is_marks : Evidence → Bool
 is_marks evidence.Nothing = false
 is_marks (evidence.Decided p) = false
 is_marks (evidence.Marked m) = true
 
--- marks are what shows a report's last place. Until members mark their replicas, none is shown so
+-- a report whose last place rests on marks. INTERIM(checkpoints): members make no marks, and such a report is no proof.
 abbrev pub rests_on_marks : Report → Bool
 rests_on_marks s = not (s.last == 0) && is_marks s.evidence
 
--- the batch on which a report's signer is locked comes with it, and may stand behind the last place
+-- a report that brings the batch of its lock, if it has a lock; the batch may stand at the place after its last one
 abbrev pub bears_lock : List ℕ → ℕ → Option LockCertificate → Option Batch → Bool
 bears_lock secret place None batch = true
 bears_lock secret place (Some lock) None = false
 bears_lock secret place (Some lock) (Some batch) = is_batch_for secret place lock.digest batch
 
+-- a report whose evidence, lock and batch hold
 unfoldable pub is_proven : {S : Type 0} → Node S → Reported → Bool
 is_proven n r =
     evidence_holds n.secret n.replica.views r.head.statement.last r.head.statement.evidence
@@ -170,6 +167,7 @@ is_proven n r =
     && has_no_false_lock n.secret (view_of n) r.head.statement.last r.head.statement.regency r.head.statement.lock
     && bears_lock n.secret (r.head.statement.last + 1) r.head.statement.lock r.batch
 
+-- the first reason to drop a STOPDATA
 unfoldable pub why_report : {S : Type 0} → Node S → Reported → Option Why
 why_report n r =
     or_else (signer_why n (is_verified reports n.secret r.head) r.head.signer)
@@ -180,12 +178,13 @@ why_report n r =
     else if repeats_report (synchronizer_of n) r.head then Some Repeated
     else None)))
 
--- reports that are a collect
+-- the reports of a SYNC that are a valid collect
 unfoldable pub is_collect : {S : Type 0} → Node S → Sync → Bool
 is_collect n s =
     is_none (collect_fault n.secret n.replica.views s.regency s.collect)
     && not (list_any (λ (r : SignedBy Report). rests_on_marks r.statement) s.collect)
 
+-- the first reason to drop a SYNC
 unfoldable pub why_sync : {S : Type 0} → Node S → SignedBy Sync → Option Why
 why_sync n s =
     or_else (signer_why n (is_verified syncs n.secret s) s.signer)
@@ -196,62 +195,52 @@ why_sync n s =
     else if is_begun n s.statement.regency || repeats_sync (synchronizer_of n) s then Some Repeated
     else None))
 
-abbrev pub why_change : {S : Type 0} → Node S → RegencyMessage → Option Why
-why_change n (changes.Stop s) = why_stop n s
-why_change n (changes.StopData r) = why_report n r
-why_change n (changes.Sync s) = why_sync n s
+-- ---- messages
 
-abbrev pub why_dropped : {S : Type 0} → Node S → AnyMessage → Option Why
-why_dropped n (Plain m) = why_plain n m
-why_dropped n (Change m) = why_change n m
+-- the first reason to drop a message; none if it is kept
+abbrev pub why_dropped : {S : Type 0} → Node S → Message → Option Why
+why_dropped n (Ask q) = why_ask n q
+why_dropped n (Propose p) = why_propose n p
+why_dropped n (Vote b) = why_vote n b
+why_dropped n (changes.Stop s) = why_stop n s
+why_dropped n (changes.StopData r) = why_report n r
+why_dropped n (changes.Sync s) = why_sync n s
+why_dropped n (Reply a) = why_reply n a
 
 -- ---- what tells a node that it is behind
 
--- a view that is not yet in force
+-- a view later than the one in force
 abbrev pub is_newer : {S : Type 0} → Node S → ℕ → Bool
 is_newer n view = nat_lt (view_of n).number view
 
--- a slot that the node does not reach by votes: of a newer view, or more than one place past the last decided one
+-- a slot that votes do not lead the node to: it is of a newer view, or more than one place past the last decided one
 abbrev pub is_beyond : {S : Type 0} → Node S → Slot → Bool
 is_beyond n slot = is_newer n slot.view || ((slot.view == (view_of n).number) && nat_lt (decided_place n + 1) slot.place)
 
--- a member's message tells the node that it is behind, whether a later reason drops it or not
-abbrev pub tells_plain : {S : Type 0} → Node S → Message → Bool
-tells_plain n (Ask q) = false
-tells_plain n (Propose p) = is_none (signer_why n (is_verified proposals n.secret p.head) p.head.signer) && is_beyond n p.head.statement.slot
-tells_plain n (Vote b) = is_none (signer_why n (is_verified ballots n.secret b) b.signer) && is_beyond n b.statement.slot
-tells_plain n (Reply a) = false
+-- a member's message that shows that the node lags, whether the message is dropped for a later reason or not
+abbrev pub tells_behind : {S : Type 0} → Node S → Message → Bool
+tells_behind n (Propose p) = is_none (signer_why n (is_verified proposals n.secret p.head) p.head.signer) && is_beyond n p.head.statement.slot
+tells_behind n (Vote b) = is_none (signer_why n (is_verified ballots n.secret b) b.signer) && is_beyond n b.statement.slot
+tells_behind n (changes.Stop s) = is_none (signer_why n (is_verified stops n.secret s) s.signer) && is_newer n s.statement.view
+tells_behind n (changes.StopData r) = is_none (signer_why n (is_verified reports n.secret r.head) r.head.signer) && is_newer n r.head.statement.view
+tells_behind n (changes.Sync s) = is_none (signer_why n (is_verified syncs n.secret s) s.signer) && is_newer n s.statement.view
+tells_behind n _ = false
 
-abbrev pub tells_change : {S : Type 0} → Node S → RegencyMessage → Bool
-tells_change n (changes.Stop s) = is_none (signer_why n (is_verified stops n.secret s) s.signer) && is_newer n s.statement.view
-tells_change n (changes.StopData r) = is_none (signer_why n (is_verified reports n.secret r.head) r.head.signer) && is_newer n r.head.statement.view
-tells_change n (changes.Sync s) = is_none (signer_why n (is_verified syncs n.secret s) s.signer) && is_newer n s.statement.view
-
-abbrev pub tells_behind : {S : Type 0} → Node S → AnyMessage → Bool
-tells_behind n (Plain m) = tells_plain n m
-tells_behind n (Change m) = tells_change n m
-
-unfoldable pub noted : {S : Type 0} → Node S → AnyMessage → Node S
+-- the node with its note that it lags, if the message shows it or the note stands
+unfoldable pub noted : {S : Type 0} → Node S → Message → Node S
 noted n message = record n { behind = n.behind || tells_behind n message }
 
 -- ---- what is kept
 
-unfoldable pub kept_plain : {S : Type 0} → Node S → Message → Node S
-kept_plain n (Ask q) = if is_next n.replica.table q.statement then record n { pool = offered n.pool q } else n
-kept_plain n (Propose p) = record n { arrivals = n.arrivals ++ Propose p ∷ [] }
-kept_plain n (Vote b) = record n { arrivals = n.arrivals ++ Vote b ∷ [] }
-kept_plain n (Reply a) = n
-
--- the beginning of a regency past the next place tells the node that it is behind
-unfoldable pub kept_change : {S : Type 0} → Node S → RegencyMessage → Node S
-kept_change n (changes.Stop s) = record n { stops = n.stops ++ s ∷ [] }
-kept_change n (changes.StopData r) = record n { reports = n.reports ++ r ∷ [] }
-kept_change n (changes.Sync s) = record n {
+-- the node after it keeps a message that was not dropped. A SYNC whose regency begins past the next place shows that the node lags.
+unfoldable pub kept : {S : Type 0} → Node S → Message → Node S
+kept n (Ask q) = if is_next n.replica.table q.statement then record n { pool = offered n.pool q } else n
+kept n (Propose p) = record n { arrivals = n.arrivals ++ Propose p ∷ [] }
+kept n (Vote b) = record n { arrivals = n.arrivals ++ Vote b ∷ [] }
+kept n (changes.Stop s) = record n { stops = n.stops ++ s ∷ [] }
+kept n (changes.StopData r) = record n { reports = n.reports ++ r ∷ [] }
+kept n (changes.Sync s) = record n {
   syncs = n.syncs ++ s ∷ [];
   behind = n.behind || nat_lt (decided_place n + 1) (choice s.statement.collect).base;
 }
-
--- the node with an arrival that is not dropped
-abbrev pub kept : {S : Type 0} → Node S → AnyMessage → Node S
-kept n (Plain m) = kept_plain n m
-kept n (Change m) = kept_change n m
+kept n _ = n

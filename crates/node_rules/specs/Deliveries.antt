@@ -4,7 +4,7 @@ use Rattle.node_rules.specs.declared.node.Delivery.{Delivery}
 use Rattle.node_rules.specs.declared.node.Fired.{Fired}
 use Rattle.node_rules.specs.declared.node.Fired.TheVariants as fires
 
--- what a rule that fired has delivered
+-- the delivery that a rule's event reports, if it is one
 abbrev pub delivery_in : Fired → List Delivery
 delivery_in (fires.Delivered d) = d ∷ []
 delivery_in (fires.Adopted s) = []
@@ -18,7 +18,7 @@ delivery_in (fires.Decided place) = []
 delivery_in fires.Timed = []
 delivery_in fires.Answered = []
 
--- deliveries at one place after the other, from a place on
+-- deliveries at successive places, the first at a given one
 abbrev pub AtPlaces : ℕ → List Delivery → Type 0
 AtPlaces place [] = Unit {0}
 AtPlaces place (d ∷ ds) = (d.place ≡ place) × AtPlaces (place + 1) ds

@@ -1,8 +1,8 @@
--- What is added to a book.
+-- The growth of a book.
 use Rattle.std.specs.Prelude.{◌≡◌, ◌≤◌, ℕ, List, ◌++◌, length}
 use Rattle.vote_book.specs.declared.entry.LogEntry.{LogEntry}
 
--- a book is another with at most so many entries more behind it
+-- a book that is another with at most so many entries added at its end
 pub record AddsAtMost (most : ℕ) (before after : List LogEntry) : Type 0 where
   pub more : List LogEntry
   pub is : after ≡ before ++ more

@@ -1,4 +1,4 @@
--- A node that goes on after a crash: from the entries that its disks restored.
+-- The restart of a node after a crash, from the entries that its disks restored (recovery from the log: Dura-SMaRt, USENIX ATC 2013).
 use Rattle.std.specs.Prelude.{ℕ, ◌+◌, ◌==◌, Bool, true, false, ◌&&◌, List, [], ◌∷◌, ◌++◌, length, filter_map, if◌then◌else◌, Option, Some, None, is_none, Result, Ok, Err}
 use Rattle.smart_base.specs.Views.{View}
 use Rattle.smart_statements.specs.Batches.{Batch}
@@ -16,7 +16,7 @@ use Rattle.node_rules.specs.Steps.{opened}
 
 -- ---- which entries are lawful
 
--- an entry opens a book
+-- an entry that opens a book
 abbrev pub is_opening : LogEntry → Bool
 is_opening (Opened o) = true
 is_opening (Wrote w) = false
@@ -27,8 +27,9 @@ is_opening (Decided d) = false
 is_opening (Installed i) = false
 is_opening (Marked m) = false
 
--- What an entry rests on holds: an accept has its certificate of writes, a decision its proof, each by members of the view, and a batch that may stand at
--- its place. So far there is one view. A book that is restored admits an installation at place 0 alone, while it makes no place; that one changes nothing.
+-- an entry whose evidence holds, as members of the view signed it. An accept has its certificate of WRITEs, a decision its proof, and each
+-- batch may stand at its place. INTERIM(views): there is one view. INTERIM(transfer): an installation is admitted at place 0 alone, and
+-- changes nothing.
 abbrev pub rests : List ℕ → View → LogEntry → Bool
 rests secret view (Opened o) = true
 rests secret view (Wrote w) = true
@@ -45,34 +46,37 @@ rests secret view (Decided d) =
 rests secret view (Installed i) = true
 rests secret view (Marked m) = true
 
--- the first entry opens the book
+-- a book's first entry opens it
 abbrev pub opens_first : List LogEntry → LogEntry → Bool
 opens_first [] entry = is_opening entry
 opens_first (e ∷ es) entry = true
 
--- an entry may be restored behind others
+-- an entry that may be restored after others: the book admits it, and its evidence holds
 abbrev pub may_restore : List ℕ → View → List LogEntry → LogEntry → Bool
 may_restore secret view before entry = opens_first before entry && admits 0 (length before + 1) before entry && rests secret view entry
 
--- the number of an entry behind others, from 1, if it is damaged: it is none, or may not be restored behind them. Else what comes of those behind it
+-- the number, from 1, of the first damaged entry, by what the next bytes read as. Bytes are damaged if they are no entry, or one that may
+-- not be restored there. Otherwise later entries decide.
 abbrev pub damage_at : List ℕ → View → List LogEntry → (LogEntry → Option ℕ) → Result LogEntry ℕ → Option ℕ
 damage_at secret view before behind (Err at) = Some (length before + 1)
 damage_at secret view before behind (Ok entry) = if may_restore secret view before entry then behind entry else Some (length before + 1)
 
--- the number of the first entry that is damaged
+-- the number, from 1, of the first damaged entry among bytes restored after other entries, if there is one
 abbrev pub damaged_from : List ℕ → View → List LogEntry → List (List ℕ) → Option ℕ
 damaged_from secret view before [] = None
 damaged_from secret view before (bytes ∷ rest) =
     damage_at secret view before (λ entry. damaged_from secret view (before ++ entry ∷ []) rest) (entry_decoded bytes)
 
+-- the number, from 1, of the first damaged entry of a restored book, if there is one
 abbrev pub damaged : List ℕ → View → List (List ℕ) → Option ℕ
 damaged secret view restored = damaged_from secret view [] restored
 
--- the entries of what was restored, where none is damaged
+-- the entry that bytes read as, if they are one
 abbrev pub entry_of : Result LogEntry ℕ → Option LogEntry
 entry_of (Ok entry) = Some entry
 entry_of (Err at) = None
 
+-- the entries that restored bytes read as, in order
 abbrev pub entries_in : List (List ℕ) → List LogEntry
 entries_in restored = filter_map (λ bytes. entry_of (entry_decoded bytes)) restored
 
@@ -90,7 +94,7 @@ decided_of (Decided d ∷ es) = d.batch ∷ decided_of es
 decided_of (Installed i ∷ es) = decided_of es
 decided_of (Marked m ∷ es) = decided_of es
 
--- a node takes back an entry: what was decided is delivered, and answered to nobody
+-- the node after a restart has read one more entry. A decided batch is delivered, and nobody is answered.
 abbrev pub takes_back : {S : Type 0} → Meaning S → Node S → LogEntry → Node S
 takes_back m n (Opened o) = recording n (Opened o)
 takes_back m n (Wrote w) = recording n (Wrote w)
@@ -101,11 +105,12 @@ takes_back m n (Decided d) = record (recording n (Decided d)) { replica = delive
 takes_back m n (Installed i) = recording n (Installed i)
 takes_back m n (Marked k) = recording n (Marked k)
 
+-- the node after a restart has read more entries, in order
 abbrev pub takes_all_back : {S : Type 0} → Meaning S → Node S → List LogEntry → Node S
 takes_all_back m n [] = n
 takes_all_back m n (e ∷ es) = takes_all_back m (takes_back m n e) es
 
--- a node of no entry, which knows that it may be behind
+-- a node before a restart reads its first entry: its book is empty, and it lags
 abbrev pub stopped : {S : Type 0} → Meaning S → List ℕ → ℕ → View → Node S
 stopped m secret id view =
     record {
@@ -129,7 +134,8 @@ stopped m secret id view =
       behind = true;
     }
 
--- The node that goes on from entries: all of them are firm, and nothing else of the life before is left. Without an entry it opens its book anew.
+-- the node after a restart from entries. All of them are firm, and nothing else of the earlier life is left. With no entry the node opens a
+-- new book. It lags in both cases (the log is executed again: Dura-SMaRt, USENIX ATC 2013).
 unfoldable pub reopened : {S : Type 0} → Meaning S → List ℕ → ℕ → View → ℕ → List LogEntry → Node S
 reopened m secret id view period [] = record (opened m secret id view period) { behind = true }
 reopened m secret id view period (e ∷ es) = record (takes_all_back m (stopped m secret id view) (e ∷ es)) { restored = length (e ∷ es); firm = length (e ∷ es) }

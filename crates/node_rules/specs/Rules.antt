@@ -1,19 +1,21 @@
--- The rules by which a node orders requests and answers them. Each is three definitions: what is due, what the rule does with that, and both.
-use Rattle.smart_messages.specs.declared.message.Message.{Message}
-use Rattle.std.specs.Prelude.{ℕ, ◌+◌, ◌^◌, ◌==◌, nat_lt, not, ◌&&◌, List, [], ◌∷◌, ◌++◌, length, if◌then◌else◌, Option, Some, None, false}
+-- The rules that order requests and answer them. Each rule has three definitions: what is due, what the rule does with it, and both
+-- together.
+use Rattle.std.specs.Prelude.{ℕ, ◌+◌, ◌^◌, ◌==◌, nat_lt, not, ◌&&◌, List, [], ◌∷◌, ◌++◌, length, if◌then◌else◌, Option, Some, None, option_map, false}
 use Rattle.std.specs.List.{list_any}
 use Rattle.smart_base.specs.Lists.{or_else}
 use Rattle.smart_base.specs.Views.{is_member, leader}
 use Rattle.smart_statements.specs.Equality.{same_slot}
 use Rattle.smart_statements.specs.Kinds.{proposals, ballots, answers}
 use Rattle.smart_statements.specs.Batches.{Batch}
+use Rattle.smart_statements.specs.Forms.{SignedBy}
+use Rattle.smart_statements.specs.declared.statement.Request.{Request}
 use Rattle.smart_statements.specs.declared.statement.Slot.{Slot}
 use Rattle.smart_statements.specs.declared.statement.VoteKind.{VoteKind}
 use Rattle.smart_statements.specs.declared.statement.VoteKind.TheVariants.{Write, Accept}
-use Rattle.smart_messages.specs.declared.message.Message.TheVariants.{Ask, Propose, Vote, Reply}
+use Rattle.smart_messages.specs.Messages.{request_in}
+use Rattle.smart_messages.specs.declared.message.Message.{Message}
+use Rattle.smart_messages.specs.declared.message.Message.TheVariants.{Propose, Vote, Reply}
 use Rattle.smart_messages.specs.declared.message.Proposed.{Proposed}
-use Rattle.smart_messages.specs.declared.any.AnyMessage.{AnyMessage}
-use Rattle.smart_messages.specs.declared.any.AnyMessage.TheVariants.{Plain, Change}
 use Rattle.smart_service.specs.Services.{Meaning}
 use Rattle.smart_service.specs.declared.table.TableLine.{TableLine}
 use Rattle.smart_service.specs.Tables.{last_seq, line_for}
@@ -26,104 +28,122 @@ use Rattle.replica_rules.specs.Seals.{signed, digest_of}
 use Rattle.replica_rules.specs.Pools.{settled, gathered}
 use Rattle.node_rules.specs.Votes.{has_quorum, certificate_votes, proposed_for, known, accepted_in, decision_by, accepted_under}
 use Rattle.node_rules.specs.Nodes.{Node, view_of, regency_of, start_of, next_place, open_slot, is_free, is_open, bound_at, is_within, synchronizer_of, holding, recording}
+use Rattle.node_rules.specs.declared.node.Asked.{Asked}
 use Rattle.node_rules.specs.declared.node.Target.TheVariants as targets
 use Rattle.node_rules.specs.declared.node.Fired.{Fired}
 use Rattle.node_rules.specs.declared.node.Fired.TheVariants as fires
 
--- what a rule tells where something was due
+-- the event that a rule reports, if something was due
 abbrev pub fired_if : {A : Type 0} → Fired → Option A → List Fired
 fired_if rule None = []
 fired_if rule (Some x) = rule ∷ []
 
--- deliver: the batch that waits is executed, and each client whose request was is answered
+-- deliver: the waiting batch is executed, and each client whose request was executed gets its reply
 
+-- the signed reply of a member that a line of the table of clients tells
 abbrev pub reply_of : List ℕ → ℕ → TableLine → Message
 reply_of secret id line =
     Reply (signed answers secret id
     (record { view = line.view; place = line.place; index = line.index; client = line.client; seq = line.seq; reply = line.reply }))
 
+-- a reply put into the outbox for each line
 abbrev pub replying : {S : Type 0} → Node S → List TableLine → Node S
 replying n [] = n
-replying n (line ∷ lines) = replying (holding n (targets.Client line.client) (Plain (reply_of n.secret n.id line))) lines
+replying n (line ∷ lines) = replying (holding n (targets.Client line.client) (reply_of n.secret n.id line)) lines
 
--- a member of the view of the place answers
+-- the lines that the node answers: those that the batch executes, if the node is a member of the view in force
 abbrev pub lines_to_answer : {S : Type 0} → Meaning S → Node S → Batch → List TableLine
 lines_to_answer m n batch = if is_member (view_of n) n.id then executed_lines m n.replica batch else []
 
+-- what delivery does: execute the batch, drop what is no longer next from the pool, end the wait, and reply
 unfoldable pub deliver_batch : {S : Type 0} → Meaning S → Node S → Option Batch → Node S
 deliver_batch m n None = n
 deliver_batch m n (Some batch) =
     let replica = delivered m n.replica batch in
     replying (record n { replica = replica; waiting = None; pool = settled replica.table n.pool; impatient = false }) (lines_to_answer m n batch)
 
+-- the event of a delivery: its place, its batch, and how many of its requests were executed
 unfoldable pub delivery : {S : Type 0} → Meaning S → Node S → Option Batch → List Fired
 delivery m n None = []
 delivery m n (Some batch) =
     fires.Delivered (record { place = next_place n; batch = batch; executed = length (executed_lines m n.replica batch) }) ∷ []
 
+-- the rule that delivers: the waiting batch, if there is one, is executed and answered (state machine replication; a reply waits for the
+-- log: Dura-SMaRt, USENIX ATC 2013)
 unfoldable pub delivers : {S : Type 0} → Meaning S → Node S → Node S
 delivers m n = deliver_batch m n n.waiting
 
--- propose: the leader proposes a batch for the slot that is open, once. At the base of its regency it proposes the batch that binds there,
--- which a report brought or which it has accepted itself
+-- propose: the leader proposes one batch for the open slot. At the base of its regency it proposes the batch that binds there. A report
+-- brought that batch, or the node accepted it itself.
 
+-- the batch to propose, if there is one: the bound batch if the node has it; if nothing binds, a batch gathered from the pool
 unfoldable pub batch_under : {S : Type 0} → Node S → Option (List ℕ) → Option Batch
 batch_under n None = gathered n.pool (next_place n)
 batch_under n (Some digest) =
     or_else (batch_of (view_of n) (synchronizer_of n) digest) (accepted_under (view_of n).number (next_place n) digest n.entries)
 
+-- the proposal that is due: the slot is open, the node leads, it has made none for this slot, and it has a batch
 unfoldable pub proposing : {S : Type 0} → Node S → Option Batch
 proposing n =
     if is_open n && (leader (view_of n) (regency_of n) == n.id) && not (list_any (same_slot (open_slot n)) n.proposed)
     then batch_under n (bound_at (next_place n) (start_of n))
     else None
 
+-- what a proposal does: note the slot, and send the signed PROPOSE with its batch to the view
 unfoldable pub propose_batch : {S : Type 0} → Node S → Option Batch → Node S
 propose_batch n None = n
 propose_batch n (Some batch) =
     holding (record n { proposed = n.proposed ++ open_slot n ∷ [] }) targets.View
-    (Plain (Propose (record { head = signed proposals n.secret n.id (record { slot = open_slot n; digest = digest_of batch }); batch = batch })))
+    (Propose (record { head = signed proposals n.secret n.id (record { slot = open_slot n; digest = digest_of batch }); batch = batch }))
 
+-- the rule that proposes: the leader of the regency in force sends PROPOSE, once in a slot (Mod-SMaRt, EDCC 2012)
 unfoldable pub proposes : {S : Type 0} → Node S → Node S
 proposes n = propose_batch n (proposing n)
 
--- write: the batch that was proposed for the slot that is open, where it may get votes, once
+-- write: the node votes once in the open slot for the batch proposed there, if that batch may get votes
 
-abbrev pub ballot : {S : Type 0} → Node S → VoteKind → List ℕ → AnyMessage
-ballot n kind digest = Plain (Vote (signed ballots n.secret n.id (record { kind = kind; slot = open_slot n; digest = digest })))
+-- the node's signed vote of a kind for a digest in the open slot
+abbrev pub ballot : {S : Type 0} → Node S → VoteKind → List ℕ → Message
+ballot n kind digest = Vote (signed ballots n.secret n.id (record { kind = kind; slot = open_slot n; digest = digest }))
 
--- a proposal for the slot that is open, where its batch may get votes
+-- a proposal whose digest may get votes at the next place
 abbrev pub votable : {S : Type 0} → Node S → Option Proposed → Option Proposed
 votable n None = None
 votable n (Some p) = if is_within (bound_at (next_place n) (start_of n)) p.head.statement.digest then Some p else None
 
+-- the WRITE that is due: the slot is open, the book has no WRITE in it, and its first proposal may get votes
 unfoldable pub writing : {S : Type 0} → Node S → Option Proposed
 writing n =
     if is_open n && not (list_any (writes_in (open_slot n)) n.entries)
     then votable n (proposed_for n.arrivals (open_slot n))
     else None
 
+-- what a WRITE does: record it in the book, and send it to the view; it leaves after its entry is firm
 unfoldable pub write_batch : {S : Type 0} → Node S → Option Proposed → Node S
 write_batch n None = n
 write_batch n (Some p) =
     holding (recording n (Wrote (record { slot = open_slot n; digest = p.head.statement.digest }))) targets.View (ballot n Write p.head.statement.digest)
 
+-- the rule that writes: the node sends WRITE for the first proposal, once in a slot (Mod-SMaRt, EDCC 2012; its entry first: this project's
+-- own)
 unfoldable pub writes : {S : Type 0} → Node S → Node S
 writes n = write_batch n (writing n)
 
--- accept: the batch that was proposed for the slot that is open, where it may get votes and a quorum wrote for it, once
+-- accept: the node accepts once in the open slot the proposed batch that a quorum wrote for
 
--- a proposal whose batch a quorum wrote for in the slot that is open
+-- a proposal for whose digest a quorum's WRITEs in the open slot were kept
 abbrev pub written : {S : Type 0} → Node S → Option Proposed → Option Proposed
 written n None = None
 written n (Some p) = if has_quorum n.arrivals (view_of n) Write (open_slot n) p.head.statement.digest then Some p else None
 
+-- the ACCEPT that is due: the slot is open, the book has no ACCEPT in it, and a quorum wrote for its first proposal, which may get votes
 unfoldable pub accepting : {S : Type 0} → Node S → Option Proposed
 accepting n =
     if is_open n && not (list_any (accepts_in (open_slot n)) n.entries)
     then written n (votable n (proposed_for n.arrivals (open_slot n)))
     else None
 
+-- what an ACCEPT does: record the batch with its certificate of WRITEs, and send the vote to the view; it leaves after its entry is firm
 unfoldable pub accept_batch : {S : Type 0} → Node S → Option Proposed → Node S
 accept_batch n None = n
 accept_batch n (Some p) =
@@ -134,47 +154,62 @@ accept_batch n (Some p) =
       batch = p.batch;
     }))) targets.View (ballot n Accept p.head.statement.digest)
 
+-- the rule that accepts: after a quorum's WRITEs the node sends ACCEPT, once in a slot (Mod-SMaRt, EDCC 2012; its entry first: this
+-- project's own)
 unfoldable pub accepts : {S : Type 0} → Node S → Node S
 accepts n = accept_batch n (accepting n)
 
--- decide: a batch that the node knows for the next place, and that a quorum accepted there in the regency in force or in the next one
+-- decide: the node decides a batch that it has, after a quorum accepted it at the next place. The quorum is of the regency in force or the
+-- next one.
 
--- the slot of the next place in a regency
+-- the slot of the next place in a regency of the view in force
 abbrev pub slot_in : {S : Type 0} → Node S → ℕ → Slot
 slot_in n regency = record { view = (view_of n).number; place = next_place n; regency = regency }
 
+-- the decision that the kept ACCEPTs prove in a regency, for a batch that the node has
 unfoldable pub decision_in : {S : Type 0} → Node S → ℕ → Option Decision
 decision_in n regency =
     decision_by (view_of n) (slot_in n regency) n.arrivals
     (accepted_in (view_of n) (slot_in n regency) n.arrivals (known (view_of n).number (next_place n) (regency_of n) n.arrivals n.entries))
 
--- the decision in the next regency, if there is one
+-- the decision that they prove in the regency after the one in force, if there is such a regency
 abbrev pub decision_ahead : {S : Type 0} → Node S → Option Decision
 decision_ahead n = if nat_lt (regency_of n + 1) (2 ^ 32) then decision_in n (regency_of n + 1) else None
 
+-- the decision that is due, if the node is free: in the regency in force first, then in the next one
 unfoldable pub deciding : {S : Type 0} → Node S → Option Decision
 deciding n = if is_free n then or_else (decision_in n (regency_of n)) (decision_ahead n) else None
 
+-- what a decision does: record it with its proof, and let its batch wait for delivery
 unfoldable pub decide_batch : {S : Type 0} → Node S → Option Decision → Node S
 decide_batch n None = n
 decide_batch n (Some d) = record (recording n (Decided d)) { waiting = Some d.batch }
 
+-- the rule that decides: a quorum's ACCEPTs decide a batch that the node has (Mod-SMaRt, EDCC 2012; those of the next regency: this
+-- project's own)
 unfoldable pub decides : {S : Type 0} → Node S → Node S
 decides n = decide_batch n (deciding n)
 
--- answer: a client that asks again for its last executed request is sent the kept reply again
+-- answer again: a client that repeats its last executed request gets the kept reply again
 
-unfoldable pub answering : {S : Type 0} → Node S → AnyMessage → Option TableLine
-answering n (Plain (Ask q)) =
-    if q.statement.seq == last_seq n.replica.table q.statement.client then line_for n.replica.table q.statement.client else None
-answering n (Plain (Propose p)) = None
-answering n (Plain (Vote b)) = None
-answering n (Plain (Reply a)) = None
-answering n (Change m) = None
+-- the client and the number of a request
+abbrev pub asking : SignedBy Request → Asked
+asking q = record { client = q.statement.client; seq = q.statement.seq }
 
+-- the client and the number that a message asks for, if it is a request
+abbrev pub asked_in : Message → Option Asked
+asked_in m = option_map asking (request_in m)
+
+-- the line that is due again: the request has the number of its client's last executed one
+unfoldable pub answering : {S : Type 0} → Node S → Option Asked → Option TableLine
+answering n None = None
+answering n (Some asked) = if asked.seq == last_seq n.replica.table asked.client then line_for n.replica.table asked.client else None
+
+-- a kept reply put into the outbox, if there is one
 unfoldable pub answer_line : {S : Type 0} → Node S → Option TableLine → Node S
 answer_line n None = n
-answer_line n (Some line) = holding n (targets.Client line.client) (Plain (reply_of n.secret n.id line))
+answer_line n (Some line) = holding n (targets.Client line.client) (reply_of n.secret n.id line)
 
-unfoldable pub answers_again : {S : Type 0} → Node S → AnyMessage → Node S
-answers_again n message = answer_line n (answering n message)
+-- the rule that answers a repeated request (the kept reply of state machine replication)
+unfoldable pub answers_again : {S : Type 0} → Node S → Option Asked → Node S
+answers_again n asked = answer_line n (answering n asked)

@@ -1,52 +1,59 @@
 //! What a node tells and sends.
 use smart_base::name::{ClientId, MemberId};
 use smart_base::number::Place;
-use smart_messages::any::AnyMessage;
+use smart_messages::message::Message;
 use smart_statements::batch::Batch;
 use vote_book::entry::{Promise, Start};
 
-/// Why an arrival is dropped: the first reason that applies.
+/// The first reason for which an arrival is dropped.
 #[derive(Clone, Copy, Debug, PartialEq, Eq)]
 pub enum Why {
     /// The bytes are no message.
     Unread,
     /// The node is no member of its view.
     NotMember,
-    /// The tag is not the signer's.
+    /// The tag is not the one that the signer makes.
     BadTag,
     /// The signer is no member of the view, or no client.
     Stranger,
-    /// It is of a view before the one in force.
+    /// The view is earlier than the one in force.
     OldView,
-    /// It is of a view that is not yet in force.
+    /// The view is later than the one in force.
     NewView,
-    /// Its place is decided.
+    /// The place is decided already.
     OldPlace,
-    /// Its place is too far ahead.
+    /// The place is more than two past the last decided one.
     FarPlace,
-    /// Its regency is over.
+    /// The regency is over; for a STOP, also in force.
     OldRegency,
-    /// Its regency is too far ahead.
+    /// The regency is later than the next one.
     NewRegency,
     /// A later request of the client was executed.
     OldSeq,
-    /// The client's request before it was not executed.
+    /// The client's request before this one was not executed.
     FarSeq,
-    /// The signer does not lead the regency, or a report comes to a node that does not.
+    /// The signer does not lead the regency; or a report came to a node that does not lead it.
     NotLeader,
-    /// The batch may not stand at the place, or is not the one that is named.
+    /// The batch may not stand at the place, or is not the one that the digest names.
     InvalidBatch,
-    /// What a report or a collect of reports rests on does not hold.
+    /// The evidence or the lock of a report, or of one in a SYNC, does not hold.
     BadProof,
     /// The regency is bound to another batch at this place.
     Unbound,
-    /// Nothing waits for it.
+    /// No member waits for a reply.
     Unasked,
-    /// One of this kind was kept from this signer, or the regency that it begins has begun.
+    /// Another one of this kind was kept from this signer; or the regency of a SYNC has begun.
     Repeated,
 }
 
-/// Whom a message is for.
+/// The client and the number of a request.
+#[derive(Clone, Copy, Debug)]
+pub struct Asked {
+    pub client: ClientId,
+    pub seq: u64,
+}
+
+/// The receivers of a message.
 #[derive(Clone, Copy, Debug, PartialEq, Eq)]
 pub enum Target {
     /// One member.
@@ -56,15 +63,15 @@ pub enum Target {
     View,
 }
 
-/// A message that leaves once so many entries of its node's book are firm.
+/// A message that leaves after the first `needs` entries of its node's book are firm.
 #[derive(Drop)]
 pub struct Held {
     pub to: Target,
-    pub message: AnyMessage,
+    pub message: Message,
     pub needs: u64,
 }
 
-/// A batch that was delivered at a place, and how many of its requests were executed.
+/// A delivered batch, its place, and the number of its executed requests.
 #[derive(Drop)]
 pub struct Delivery {
     pub place: Place,
@@ -72,26 +79,26 @@ pub struct Delivery {
     pub executed: u64,
 }
 
-/// A rule that fired in a step.
+/// The event that a rule reports in a step.
 #[derive(Drop)]
 pub enum Fired {
-    /// The batch that waited is delivered.
+    /// The waiting batch was delivered.
     Delivered(Delivery),
-    /// The reports with which a leader began a regency are adopted.
+    /// The node adopted the beginning of a regency.
     Adopted(Start),
-    /// The node asked for the next regency, as more members than may be faulty did.
+    /// The node asked for the next regency, after more than f members did.
     Joined,
-    /// The next regency is promised, and its leader is told what the book has.
+    /// The node promised the next regency, and reported its book to the new leader.
     Promised(Promise),
-    /// The node has begun its regency with the reports that it collected.
+    /// The node, as leader, began its regency with the reports that it collected.
     Led,
     Proposed,
     Wrote,
     Accepted,
     Decided(Place),
-    /// Time passed while something waited: the leader is given the oldest request, or the next regency
-    /// is asked for.
+    /// Time passed under pressure: the leader was given the oldest request, or the next regency was
+    /// asked for.
     Timed,
-    /// A client that asked again was sent its last reply again.
+    /// A client that repeated its last request was sent its reply again.
     Answered,
 }

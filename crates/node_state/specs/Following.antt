@@ -14,34 +14,34 @@ use Rattle.node_rules.specs.Votes.{Named}
 use Rattle.consensus_instance.specs.Instances.{Instance}
 use Rattle.consensus_instance.specs.Nodes.{IsInstance}
 
--- An instance and a synchronizer are those of a member whose last delivered place, batch that waits and book these are, in a view.
+-- The instance and the synchronizer of a member, by its last delivered place, its waiting batch and its book, in a view.
 pub record Follows (id : ℕ) (view : View) (place : ℕ) (waiting : Option Batch) (entries : List LogEntry) (i : Instance) (s : Synchronizer) : Type 0 where
-  -- there is a next place where a batch waits
+  -- if a batch waits, its place is below 2^63
   pub room : IsSome waiting → place + 1 < 2 ^ 63
   pub instance : IsInstance id view place waiting i.arrivals entries i
   pub member : s.id ≡ id
-  -- both are of the regency in force, and the book says whether that has begun
+  -- both are of the regency in force, and the book tells whether it has begun
   pub regency : s.regency ≡ i.regency
   pub synced : s.synced ≡ is_some (start_in view.number i.regency entries)
-  -- the last place that the book makes is the last that is delivered or decided
+  -- the last place that the book makes is the last delivered or decided one
   pub made : last_made entries ≡ (if is_some waiting then place + 1 else place)
 
--- what an accept names
+-- the batch and digest of an accept
 abbrev pub named : Accept → Named
 named a = record { digest = a.digest; batch = a.batch }
 
--- a regency is later than a node's, or it is the node's and has not begun
+-- a regency later than a node's, or the node's own that has not begun
 abbrev pub is_unbegun : {S : Type 0} → Node S → ℕ → Bool
 is_unbegun n regency = nat_lt (regency_of n) regency || ((regency == regency_of n) && not (is_synced n))
 
--- the node that has made a promise
+-- the node after it has made a promise
 abbrev pub promised_by : {S : Type 0} → Node S → Promise → Node S
 promised_by n promise = record (recording n (Promised promise)) { stop_made = false; sync_made = false }
 
--- the node that has made a promise where it is of a later regency
+-- the node after it has made a promise, if that is of a later regency
 abbrev pub reached : {S : Type 0} → Node S → Promise → Node S
 reached n promise = if nat_lt (regency_of n) promise.regency then promised_by n promise else n
 
--- the node that takes part in its regency from where it begins
+-- the node after it takes part in its regency from the beginning
 abbrev pub begun_at : {S : Type 0} → Node S → Start → Node S
 begun_at n start = record (recording n (Synced start)) { impatient = false }

@@ -1,4 +1,4 @@
--- What a member signs and checks with.
+-- The keys with which a member signs and checks.
 use Rattle.std.specs.Prelude.{ℕ, List}
 
 -- a member, and the secret of its group

@@ -33,7 +33,7 @@ pub fn has_proposed(proposed: &[Slot], slot: &Slot) -> bool
     proposed.iter().any(|made| same_slot(*slot, *made))
 }
 
-/// Keeps the slots past a place.
+/// Keeps only the slots past a place.
 pub fn keep_ahead(slots: &mut Vec<Slot>, view: ViewNo, place: Place, regency: Regency)
     ensures { slots.new.items ≡ filter (is_ahead view place regency) slots.old.items }
 {
@@ -59,7 +59,7 @@ pub fn accept_under<'a>(
     None
 }
 
-/// The first accept in a slot's view for its place of a batch that a quorum accepted in that slot.
+/// The first accept in a slot's view and place whose batch a quorum accepted in that slot.
 pub fn accept_by_quorum<'a>(
     book: &'a Book,
     instance: &Instance,
@@ -78,7 +78,7 @@ pub fn accept_by_quorum<'a>(
     None
 }
 
-/// Where a regency begins, by the entry that says so.
+/// The beginning that an entry states.
 fn beginning_of(start: &Start) -> Beginning
     ensures { result ≡ start_by start.now }
 {
@@ -88,7 +88,7 @@ fn beginning_of(start: &Start) -> Beginning
     }
 }
 
-/// Where a regency of a view first began, by a book.
+/// The first beginning of a regency of a view, by a book.
 pub fn first_beginning(book: &Book, view: ViewNo, regency: Regency) -> Option<Beginning>
     ensures { result ≡ option_map start_by (first_start view regency book.now.entries) }
 {
@@ -98,7 +98,7 @@ pub fn first_beginning(book: &Book, view: ViewNo, regency: Regency) -> Option<Be
     }
 }
 
-/// Where a regency of a view begins, once a book says so. Regency 0 begins with the view.
+/// The beginning of a regency of a view, if a book states it; regency 0 begins with the view.
 #[tactic(auto, using(crate::proofs::Starts::starts_at))]
 pub fn start_at(book: &Book, view: &View, regency: Regency) -> Option<Beginning>
     ensures value { result ≡ option_map start_by (start_at view.now regency book.now.entries) }
@@ -113,7 +113,7 @@ pub fn start_at(book: &Book, view: &View, regency: Regency) -> Option<Beginning>
     first_beginning(book, view.number(), regency)
 }
 
-/// The regency that an entry promises in a view, 0 of one that promises none there.
+/// The regency that an entry promises in a view; 0 if it promises none there.
 fn regency_in(view: ViewNo, entry: &LogEntry) -> Regency
     ensures { result ≡ regency_in view entry.now }
 {
@@ -136,7 +136,7 @@ fn greater(a: Regency, b: Regency) -> Regency
     if a < b { b } else { a }
 }
 
-/// The greatest regency that entries promise in a view, 0 where they promise none.
+/// The greatest regency that entries promise in a view; 0 if they promise none.
 pub fn greatest_regency(view: ViewNo, entries: &[LogEntry]) -> Regency
     ensures { result ≡ greatest_regency view entries.now }
 {

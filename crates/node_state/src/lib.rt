@@ -1,4 +1,4 @@
-//! What a member's node is, and what can be read of it.
+//! The state of a member's node, and what can be read of it.
 #![tactic(auto)]
 
 pub mod find;

@@ -1,4 +1,4 @@
-//! What a member signs, whose tags it tells, and what names a batch.
+//! What a member signs and checks, and the digests of batches.
 ghost use Rattle.std.specs.Prelude.{◌≡◌, ℕ, List, IfErr, IfOk, length};
 ghost use Rattle.std.specs.List.{list_any, list_all};
 ghost use Rattle.smart_base.specs.Spelling.{member_kind};
@@ -22,7 +22,7 @@ use smart_statements::statement::Request;
 use std::alloc::{AllocError, Global};
 use std::marker::Model;
 
-/// A sealer that is lent for one tag, so that it stays what it is.
+/// A sealer that is lent for one tag, and stays as it is.
 #[derive(Drop)]
 struct LentSealer<'a> {
     sealer: &'a Sealer,
@@ -45,7 +45,7 @@ impl<'a> Signer for LentSealer<'a> {
 
     ghost refuses = { λ key why. why ≡ NoMemory };
 
-    /// The tag over bytes. Only memory can be wanting, and the key stays.
+    /// The tag over bytes. The key stays as it is. Error: want of memory.
     fn sign(&mut self, alloc: Global, bytes: &[u8]) -> Result<Tag, SignRefused>
         ensures made { IfOk result (λ tag. tag ≡ hmac self.old bytes.now) }
         ensures refused { IfErr result (λ why. why ≡ NoMemory) }
@@ -63,7 +63,7 @@ fn no_memory(_why: SignRefused) -> AllocError
     AllocError
 }
 
-/// The keys of a member: what tells all tags, and what makes its own, which is made once.
+/// The keys of a member: one that checks all tags, and one that makes its own, which is made once.
 pub struct MemberKeys {
     member: MemberId,
     ring: Ring,
@@ -113,14 +113,14 @@ impl MemberKeys {
         self.member
     }
 
-    /// What tells all tags.
+    /// The key that checks all tags.
     pub fn ring(&self) -> &Ring
         ensures { result.now ≡ self.now.secret }
     {
         &self.ring
     }
 
-    /// A statement that the member signs.
+    /// A statement with the member's signature. Error: want of memory.
     #[tactic(auto, unfolding(smart_keys::specs::Keys::tag_of))]
     pub fn sealed<S: Statement>(&self, alloc: Global, statement: S) -> Result<Signed<S>, AllocError>
         requires { Form.kind S.form ≡ member_kind }

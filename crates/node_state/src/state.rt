@@ -18,7 +18,7 @@ use smart_base::name::MemberId;
 use smart_base::number::{Place, Regency};
 use smart_base::sequence::Sequence;
 use smart_base::view::View;
-use smart_messages::any::AnyMessage;
+use smart_messages::message::Message;
 use smart_service::service::Service;
 use smart_statements::batch::Batch;
 use smart_statements::statement::Slot;
@@ -28,20 +28,20 @@ use vote_book::book::Book;
 use vote_book::entry::Accept;
 use vote_book::votes::OwnVotes;
 
-/// What a node is: its copy of what is replicated, what it has heard and written down, and the
-/// messages that it holds until its book is firm. The crates of its rules change its fields.
+/// The state of a node: its replica, what it has heard, its book, and the messages that wait until
+/// entries are firm. The crates of its rules change its fields.
 pub struct NodeState<S> {
     pub alloc: Global,
     pub keys: MemberKeys,
     pub replica: KeptReplica<S>,
     pub waiting: Option<Batch>,
     pub pool: RequestPool,
-    /// What was kept of proposals and votes, and what the book says of the next place.
+    /// The proposals and votes that were kept, and what the book says of the next place.
     pub instance: Instance,
-    /// What was kept of wishes, reports and beginnings of regencies, and what the book says of them.
+    /// The STOPs, STOPDATA and SYNCs that were kept, and what the book says of them.
     pub synchronizer: Synchronizer,
     pub book: Book,
-    /// How many entries were restored when this life began.
+    /// The number of entries that were restored when this life began.
     pub restored: u64,
     pub firm: u64,
     pub held: Outbox,
@@ -122,7 +122,7 @@ impl<S: Service> NodeState<S> {
         self.replica.replica().views.present()
     }
 
-    /// How many entries the book has.
+    /// The number of entries in the book.
     pub fn made(&self) -> u64
         ensures { result ≡ length self.now.entries }
     {
@@ -151,14 +151,14 @@ impl<S: Service> NodeState<S> {
         self.instance.regency()
     }
 
-    /// What the node has heard and done to change the regency.
+    /// The node's part in a leader change.
     pub fn synchronizer(&self) -> &Synchronizer
         ensures { result.now ≡ synchronizer_of self.now }
     {
         &self.synchronizer
     }
 
-    /// Whether a regency of the view in force has begun, by the book. Of the regency in force the
+    /// Whether a regency of the view in force has begun, by the book. For the regency in force the
     /// synchronizer tells it.
     #[tactic(auto, using(crate::proofs::Starts::begun_now, crate::proofs::Starts::begun_by))]
     pub fn is_begun(&self, regency: Regency) -> bool
@@ -176,14 +176,14 @@ impl<S: Service> NodeState<S> {
         self.book.lock(self.view().number())
     }
 
-    /// What the node has voted in a regency of the view in force at a place.
+    /// The node's votes at a place in a regency of the view in force.
     pub fn votes_at(&self, place: u64, regency: Regency) -> OwnVotes
         ensures { result ≡ own_votes (record { view = (view_of self.now).number; place = place; regency = regency }) self.now.entries }
     {
         self.book.votes_at(self.view().number(), place, regency)
     }
 
-    /// The last place that is delivered or decided.
+    /// The last place that is decided, delivered or not.
     pub fn decided_place(&self) -> Place
         ensures { result ≡ decided_place self.now }
     {
@@ -197,7 +197,7 @@ impl<S: Service> NodeState<S> {
         self.instance.is_free()
     }
 
-    /// Whether a vote is open at the next place.
+    /// Whether the node's slot is open at the next place.
     pub fn is_open(&self) -> bool
         ensures { result ≡ is_open self.now }
     {
@@ -212,8 +212,9 @@ impl<S: Service> NodeState<S> {
         self.instance.open_slot(self.view())
     }
 
-    /// Holds a message until all entries made so far are firm.
-    pub fn hold(&mut self, to: Target, message: AnyMessage) -> Result<(), AllocError>
+    /// Puts a message into the outbox, until all entries that the book has now are firm. Error: want
+    /// of memory.
+    pub fn hold(&mut self, to: Target, message: Message) -> Result<(), AllocError>
         ensures node { OnOk result (self.new ≡ holding self.old to message) }
         ensures err { OnErr result (self.new.entries ≡ self.old.entries) }
     {

@@ -3,7 +3,6 @@ use crate::kit::request;
 use node_rules::node::Target;
 use outbox::outbox::Outbox;
 use smart_base::name::ClientId;
-use smart_messages::any::AnyMessage;
 use smart_messages::message::Message;
 
 #[test]
@@ -11,7 +10,7 @@ fn all_that_may_leave_leaves_at_once(rt: HostRuntime) {
     let alloc = rt.alloc();
     let mut outbox = Outbox::new(alloc);
     for needs in [1, 1, 2, 0] {
-        let message = AnyMessage::Plain(Message::Ask(request(&rt, alloc, 1, 1, b'5')));
+        let message = Message::Ask(request(&rt, alloc, 1, 1, b'5'));
         let to = Target::Client(ClientId::new(1));
         outbox
             .hold(to, message, needs)

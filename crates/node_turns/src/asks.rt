@@ -1,4 +1,4 @@
-//! How a node asks for the next regency.
+//! The node's wish for the next regency.
 ghost use Rattle.std.specs.Prelude.{◌≡◌, ◌+◌, ◌<◌, ◌^◌, IfOk, OnOk, OnErr};
 ghost use Rattle.node_rules.specs.Nodes.{regency_of};
 ghost use Rattle.node_rules.specs.Changes.{stop_for, asks_next};
@@ -6,13 +6,13 @@ ghost use Rattle.node_rules.specs.Changes.{stop_for, asks_next};
 use node_rules::node::Target;
 use node_state::state::NodeState;
 use smart_base::number::Regency;
-use smart_messages::any::AnyMessage;
-use smart_messages::regency::{RegencyMessage, Stop};
+use smart_messages::message::Message;
+use smart_messages::regency::Stop;
 use smart_service::service::Service;
 use std::alloc::AllocError;
 
-/// The node's wish for the regency behind the one in force.
-fn stop_for<S: Service>(node: &NodeState<S>) -> Result<AnyMessage, AllocError>
+/// The node's signed STOP for the regency after the one in force. Error: want of memory.
+fn stop_for<S: Service>(node: &NodeState<S>) -> Result<Message, AllocError>
     requires { regency_of node.now + 1 < 2 ^ 32 }
     ensures { IfOk result (λ stop. stop ≡ stop_for node.now) }
 {
@@ -21,10 +21,10 @@ fn stop_for<S: Service>(node: &NodeState<S>) -> Result<AnyMessage, AllocError>
         regency: Regency::new(node.regency().get() + 1),
     };
     let signed = node.keys.sealed(node.alloc, stop)?;
-    Ok(AnyMessage::Change(RegencyMessage::Stop(signed)))
+    Ok(Message::Stop(signed))
 }
 
-/// Asks for the regency behind the one in force.
+/// Asks for the regency after the one in force: STOP goes to the view. Error: want of memory.
 pub fn asks_next<S: Service>(node: &mut NodeState<S>) -> Result<(), AllocError>
     requires { regency_of node.old + 1 < 2 ^ 32 }
     ensures node { OnOk result (node.new ≡ asks_next node.old) }

@@ -1,5 +1,5 @@
-//! The rules by which a member's node changes the regency with the others of its view (the
-//! synchronisation phase of Mod-SMaRt, EDCC 2012).
+//! The rules of a leader change (the synchronisation phase of Mod-SMaRt, EDCC 2012): the node adopts,
+//! joins, promises, leads, and acts on time.
 #![tactic(auto)]
 
 mod asks;

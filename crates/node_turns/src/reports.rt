@@ -1,4 +1,4 @@
-//! What a node reports to the leader of a regency.
+//! The report of a node to a new leader (STOPDATA of Mod-SMaRt, EDCC 2012).
 ghost use Rattle.std.specs.Prelude.{◌≡◌, IfOk, option_map};
 ghost use Rattle.replica_rules.specs.Seals.{digest_of};
 ghost use Rattle.vote_book.specs.BookReports.{last_maker, evidence_of, evidence_by, lock_of, certificate_of};
@@ -16,7 +16,7 @@ use smart_statements::report::{DecisionProof, Evidence, LockCertificate, MarkCer
 use std::alloc::{AllocError, Global};
 use vote_book::entry::{Accept, LogEntry};
 
-/// What shows the place that an entry makes.
+/// The evidence that an entry gives for the place that it makes. Error: want of memory.
 fn evidence_by(alloc: Global, entry: &LogEntry) -> Result<Evidence, AllocError>
     ensures { IfOk result (λ evidence. evidence ≡ evidence_by digest_of entry.now) }
 {
@@ -41,7 +41,7 @@ fn evidence_by(alloc: Global, entry: &LogEntry) -> Result<Evidence, AllocError>
     }
 }
 
-/// What shows that a member has accepted a batch rightly.
+/// The certificate of a lock: the WRITEs of an accept. Error: want of memory.
 fn certificate_of(alloc: Global, accept: &Accept) -> Result<LockCertificate, AllocError>
     ensures { IfOk result (λ lock. lock ≡ certificate_of accept.now) }
 {
@@ -52,7 +52,7 @@ fn certificate_of(alloc: Global, accept: &Accept) -> Result<LockCertificate, All
     })
 }
 
-/// What shows the last place that the book makes.
+/// The evidence for the last place that the book makes. Error: want of memory.
 fn evidence<S: Service>(node: &NodeState<S>) -> Result<Evidence, AllocError>
     ensures { IfOk result (λ evidence. evidence ≡ evidence_of digest_of (last_maker node.now.entries)) }
 {
@@ -62,7 +62,7 @@ fn evidence<S: Service>(node: &NodeState<S>) -> Result<Evidence, AllocError>
     }
 }
 
-/// What shows the batch on which the node is locked.
+/// The certificate of the node's lock, if it has one. Error: want of memory.
 fn lock_certificate<S: Service>(node: &NodeState<S>) -> Result<Option<LockCertificate>, AllocError>
     ensures { IfOk result (λ lock. lock ≡ option_map certificate_of (lock_of (view_of node.now).number node.now.entries)) }
 {
@@ -72,7 +72,7 @@ fn lock_certificate<S: Service>(node: &NodeState<S>) -> Result<Option<LockCertif
     }
 }
 
-/// The batch on which the node is locked.
+/// The batch on which the node is locked, if there is one. Error: want of memory.
 fn locked_batch<S: Service>(node: &NodeState<S>) -> Result<Option<Batch>, AllocError>
     ensures { IfOk result (λ batch. batch ≡ option_map (λ (a : Accept). a.batch) (lock_of (view_of node.now).number node.now.entries)) }
 {
@@ -82,7 +82,7 @@ fn locked_batch<S: Service>(node: &NodeState<S>) -> Result<Option<Batch>, AllocE
     }
 }
 
-/// What the node reports to the leader of a regency of what its book has.
+/// The node's report of its book for a regency. Error: want of memory.
 #[tactic(auto, unfolding(node_rules::specs::Changes::report_of))]
 fn report_of<S: Service>(node: &NodeState<S>, regency: Regency) -> Result<Report, AllocError>
     ensures { IfOk result (λ report. report ≡ report_of node.now regency) }
@@ -96,7 +96,7 @@ fn report_of<S: Service>(node: &NodeState<S>, regency: Regency) -> Result<Report
     })
 }
 
-/// The same, signed, with the batch of its lock.
+/// The signed report, with the batch of its lock. Error: want of memory.
 #[tactic(auto, unfolding(node_rules::specs::Changes::reported_by))]
 pub fn reported_by<S: Service>(
     node: &NodeState<S>,

@@ -1,4 +1,4 @@
-//! How a node promises a regency, and takes part in it from where it begins.
+//! The promise of a regency, and the part in it from its beginning on.
 ghost use Rattle.std.specs.Prelude.{◌≡◌, ◌<◌, true, OnOk, option_map, OnErr};
 ghost use Rattle.vote_book.specs.Standing.{first_start};
 ghost use Rattle.consensus_instance.specs.Nodes.{start_by};
@@ -17,7 +17,7 @@ use smart_service::service::Service;
 use std::alloc::AllocError;
 use vote_book::entry::{LogEntry, Promise, Start};
 
-/// Where a regency begins by the reports that its leader collected.
+/// The beginning that a SYNC states: the choice of the reports in it.
 pub fn start_by_sync(sync: &Sync) -> Start
     ensures { result ≡ start_by_sync sync.now }
 {
@@ -30,14 +30,14 @@ pub fn start_by_sync(sync: &Sync) -> Start
     }
 }
 
-/// Where a regency of the view in force first began, by the book.
+/// The first beginning of a regency of the view in force, by the book.
 fn start_in<S: Service>(node: &NodeState<S>, regency: Regency) -> Option<Beginning>
     ensures { result ≡ option_map start_by (first_start (view_of node.now).number regency node.now.entries) }
 {
     first_beginning(&node.book, node.view().number(), regency)
 }
 
-/// Promises a later regency.
+/// Promises a later regency. Error: want of memory.
 pub fn promise_to<S: Service>(node: &mut NodeState<S>, promise: Promise) -> Result<(), AllocError>
     requires view { promise.view ≡ (view_of node.old).number }
     requires later { regency_of node.old < promise.regency }
@@ -54,7 +54,7 @@ pub fn promise_to<S: Service>(node: &mut NodeState<S>, promise: Promise) -> Resu
     Ok(())
 }
 
-/// Promises a regency, where it is a later one.
+/// Promises a regency, if it is later than the one in force. Error: want of memory.
 fn reach<S: Service>(node: &mut NodeState<S>, promise: Promise) -> Result<(), AllocError>
     requires view { promise.view ≡ (view_of node.old).number }
     requires later { is_unbegun node.old promise.regency ≡ true }
@@ -68,8 +68,8 @@ fn reach<S: Service>(node: &mut NodeState<S>, promise: Promise) -> Result<(), Al
     Ok(())
 }
 
-/// Takes part in the regency in force from where it begins, unless the book has a beginning of it
-/// already.
+/// Takes part in the regency in force from its beginning, unless the book has one already. Error:
+/// want of memory.
 fn begin_at<S: Service>(node: &mut NodeState<S>, start: Start) -> Result<(), AllocError>
     requires view { start.view ≡ (view_of node.old).number }
     requires regency { regency_of node.old ≡ start.regency }
@@ -88,7 +88,7 @@ fn begin_at<S: Service>(node: &mut NodeState<S>, start: Start) -> Result<(), All
     Ok(())
 }
 
-/// Takes part in a regency from where it begins. A later one is promised first.
+/// Takes part in a regency from its beginning; a later one is promised first. Error: want of memory.
 pub fn adopt_start<S: Service>(node: &mut NodeState<S>, start: Start) -> Result<(), AllocError>
     requires view { start.view ≡ (view_of node.old).number }
     requires later { is_unbegun node.old start.regency ≡ true }

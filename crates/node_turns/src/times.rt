@@ -1,4 +1,4 @@
-//! What time does where something waits.
+//! The rule of time.
 ghost use Rattle.std.specs.Prelude.{◌≡◌, ◌+◌, ◌<◌, ◌^◌, ◌++◌, true, IfOk, OnOk, slice_get, OnErr};
 ghost use Rattle.node_rules.specs.Nodes.{regency_of, is_synced};
 ghost use Rattle.node_rules.specs.Changes.{fired_when, is_pressed, timing, passes_on, presses, times};
@@ -9,7 +9,6 @@ use node_rules::node::{Fired, Target};
 use node_state::state::NodeState;
 use smart_base::duplicate::Duplicate;
 use smart_base::sequence::Sequence;
-use smart_messages::any::AnyMessage;
 use smart_messages::message::Message;
 use smart_service::service::Service;
 use smart_statements::signed::Signed;
@@ -23,13 +22,16 @@ fn is_synced<S: Service>(node: &NodeState<S>) -> bool
     node.instance.start().is_some()
 }
 
-/// Whether something waits, and the node does something about it.
+/// Whether there is pressure: a request waits, or the regency has not begun, and the node is a member
+/// that does not lag.
 fn is_pressed<S: Service>(node: &NodeState<S>) -> bool
     ensures { result ≡ is_pressed node.now }
 {
     node.view().is_member(node.id()) && !node.behind && (!node.pool.is_empty() || !is_synced(node))
 }
 
+/// Whether the node acts on time: there is pressure, and a first wait to begin or a next regency to
+/// ask for.
 #[tactic(auto, unfolding(node_rules::specs::Changes::timing))]
 fn timing<S: Service>(node: &NodeState<S>) -> bool
     ensures value { result ≡ timing node.now }
@@ -38,7 +40,7 @@ fn timing<S: Service>(node: &NodeState<S>) -> bool
     is_pressed(node) && (!node.impatient || node.regency().get() < u32::MAX)
 }
 
-/// A copy of the request that has waited longest.
+/// A copy of the oldest request in the pool. Error: want of memory.
 fn oldest<S: Service>(node: &NodeState<S>) -> Result<Option<Signed<Request>>, AllocError>
     ensures { IfOk result (λ request. request ≡ slice_get node.now.pool 0) }
 {
@@ -48,7 +50,7 @@ fn oldest<S: Service>(node: &NodeState<S>) -> Result<Option<Signed<Request>>, Al
     }
 }
 
-/// The leader is passed the request that has waited longest.
+/// Passes the oldest request in the pool to the leader. Error: want of memory.
 fn passes_on<S: Service>(node: &mut NodeState<S>) -> Result<(), AllocError>
     ensures node { OnOk result (node.new ≡ passes_on node.old node.old.pool) }
     ensures err { OnErr result (node.new.entries ≡ node.old.entries) }
@@ -57,10 +59,7 @@ fn passes_on<S: Service>(node: &mut NodeState<S>) -> Result<(), AllocError>
     match oldest(node)? {
         None => Ok(()),
         Some(request) => {
-            node.hold(
-                Target::Node(leader),
-                AnyMessage::Plain(Message::Ask(request)),
-            )?;
+            node.hold(Target::Node(leader), Message::Ask(request))?;
             Ok(())
         }
     }
@@ -81,7 +80,8 @@ fn presses<S: Service>(node: &mut NodeState<S>) -> Result<(), AllocError>
     Ok(())
 }
 
-/// What time does where something waits. Adds what this tells.
+/// The rule that acts on time: the leader is passed the oldest request first, and then the next
+/// regency is asked for (the two timeouts of Mod-SMaRt, EDCC 2012). Error: want of memory.
 #[tactic(auto, unfolding(node_rules::specs::Changes::times))]
 pub fn times<S: Service>(
     node: &mut NodeState<S>,

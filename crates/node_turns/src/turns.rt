@@ -1,4 +1,5 @@
-//! What a node adopts, joins, promises and leads: what is due, what the rule does with it, and both.
+//! The rules that adopt, join, promise and lead. Each has three functions: what is due, what the rule
+//! does with it, and both together.
 ghost use Rattle.std.specs.Prelude.{◌≡◌, ◌+◌, ◌<◌, ◌^◌, ◌++◌, true, find, IfOk, IfSome, OnOk, Some, OnErr};
 ghost use Rattle.std.specs.Option.{option_copied};
 ghost use Rattle.node_rules.specs.Nodes.{view_of, regency_of};
@@ -18,8 +19,8 @@ use regency_sync::needed::needs_sync;
 use smart_base::duplicate::Duplicate;
 use smart_base::number::Regency;
 use smart_base::sequence::Sequence;
-use smart_messages::any::AnyMessage;
-use smart_messages::regency::{RegencyMessage, Sync};
+use smart_messages::message::Message;
+use smart_messages::regency::Sync;
 use smart_service::service::Service;
 use smart_statements::report::Report;
 use smart_statements::signed::Signed;
@@ -27,7 +28,7 @@ use smart_statements::signed_list::SignedList;
 use std::alloc::AllocError;
 use vote_book::entry::Promise;
 
-/// Adopts, joins, promises and leads.
+/// Adopts, joins, promises and leads, each once. Error: want of memory.
 #[tactic(auto, unfolding(node_rules::specs::Steps::turns, node_rules::specs::Steps::fired_turns))]
 pub fn turns<S: Service>(
     node: &mut NodeState<S>,
@@ -44,8 +45,8 @@ pub fn turns<S: Service>(
     Ok(())
 }
 
-/// Whether the beginning of a regency may be adopted: it is of the view in force, and of a regency
-/// that is in force or later and has not begun.
+/// Whether a SYNC may be adopted: it is of the view in force, of the regency in force or a later one,
+/// and that regency has not begun.
 fn is_adoptable<S: Service>(node: &NodeState<S>, sync: &Signed<Sync>) -> bool
     ensures { result ≡ is_adoptable node.now sync.now }
 {
@@ -62,7 +63,7 @@ fn first_adoptable<'a, S: Service>(
     syncs.iter().find(|sync| is_adoptable(node, sync))
 }
 
-/// The first beginning of a regency that may be adopted, if one came.
+/// The first kept SYNC that may be adopted, if there is one.
 #[tactic(auto, unfolding(node_rules::specs::Changes::adoption))]
 fn adoption<S: Service>(node: &NodeState<S>) -> Option<&Signed<Sync>>
     ensures sync { option_copied result ≡ adoption node.now }
@@ -72,6 +73,8 @@ fn adoption<S: Service>(node: &NodeState<S>) -> Option<&Signed<Sync>>
     first_adoptable(node, node.synchronizer().syncs())
 }
 
+/// The rule that adopts: the node takes part in a regency that its leader has begun (reception of
+/// SYNC: Mod-SMaRt, EDCC 2012). Error: want of memory.
 #[tactic(auto, unfolding(node_rules::specs::Changes::adopts, node_rules::specs::Changes::adopts_by))]
 fn adopts<S: Service>(
     node: &mut NodeState<S>,
@@ -92,6 +95,7 @@ fn adopts<S: Service>(
     }
 }
 
+/// Whether more than f members ask for the next regency, and the node has not asked in this life.
 #[tactic(auto, unfolding(node_rules::specs::Changes::joining))]
 fn joining<S: Service>(node: &NodeState<S>) -> bool
     ensures value { result ≡ joining node.now }
@@ -100,6 +104,8 @@ fn joining<S: Service>(node: &NodeState<S>) -> bool
     node.synchronizer().is_joining(node.view())
 }
 
+/// The rule that joins: the node asks for the next regency after more than f members did (Mod-SMaRt,
+/// EDCC 2012). Error: want of memory.
 #[tactic(auto, unfolding(node_rules::specs::Changes::joins))]
 fn joins<S: Service>(node: &mut NodeState<S>, fired: &mut Sequence<Fired>) -> Result<(), AllocError>
     ensures node { OnOk result (node.new ≡ joins node.old) }
@@ -113,6 +119,7 @@ fn joins<S: Service>(node: &mut NodeState<S>, fired: &mut Sequence<Fired>) -> Re
     Ok(())
 }
 
+/// Whether 2f+1 members ask for the next regency.
 #[tactic(auto, unfolding(node_rules::specs::Changes::promising))]
 fn promising<S: Service>(node: &NodeState<S>) -> bool
     ensures value { result ≡ promising node.now }
@@ -143,11 +150,14 @@ fn promise_next<S: Service>(node: &mut NodeState<S>) -> Result<(), AllocError>
     let reported = reported_by(node, regency)?;
     promise_to(node, promise)?;
     node.impatient = true;
-    let message = RegencyMessage::StopData(reported);
-    node.hold(Target::Node(leader), AnyMessage::Change(message))?;
+    let message = Message::StopData(reported);
+    node.hold(Target::Node(leader), message)?;
     Ok(())
 }
 
+/// The rule that promises: after 2f+1 members ask for the next regency the node promises it, and
+/// reports to its leader (Mod-SMaRt, EDCC 2012). The report leaves after the promise is firm (this
+/// project's own rule). Error: want of memory.
 #[tactic(auto, unfolding(node_rules::specs::Changes::promises))]
 fn promises<S: Service>(
     node: &mut NodeState<S>,
@@ -164,7 +174,7 @@ fn promises<S: Service>(
     Ok(())
 }
 
-/// The reports with which the node is to begin its regency, if it is to.
+/// The collect with which the node begins its regency, if it is to begin it. Error: want of memory.
 #[tactic(auto, unfolding(node_rules::specs::Changes::leading))]
 fn leading<S: Service>(node: &NodeState<S>) -> Result<Option<SignedList<Report>>, AllocError>
     ensures { IfOk result (λ reports. reports ≡ leading node.now) }
@@ -187,11 +197,13 @@ fn lead_with<S: Service>(
     };
     let signed = node.keys.sealed(node.alloc, sync)?;
     node.synchronizer.sync_made();
-    let message = RegencyMessage::Sync(signed);
-    node.hold(Target::View, AnyMessage::Change(message))?;
+    let message = Message::Sync(signed);
+    node.hold(Target::View, message)?;
     Ok(())
 }
 
+/// The rule that leads: the leader of a regency that has not begun begins it with n-f reports (SYNC
+/// of Mod-SMaRt, EDCC 2012). Error: want of memory.
 #[tactic(auto, unfolding(node_rules::specs::Changes::leads, node_rules::specs::Changes::lead_with))]
 fn leads<S: Service>(node: &mut NodeState<S>, fired: &mut Sequence<Fired>) -> Result<(), AllocError>
     ensures node { OnOk result (node.new ≡ leads node.old) }

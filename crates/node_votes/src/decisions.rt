@@ -1,12 +1,12 @@
-//! What a node decides: what is due, what the rule does with it, and both.
+//! The rule that decides. It has three functions: what is due, what the rule does with it, and both
+//! together.
 ghost use Rattle.std.specs.Prelude.{◌≡◌, ◌++◌, true, IfOk, IfSome, OnOk, IsSome, Some, option_map, filter_map, OnErr};
 ghost use Rattle.std.specs.Option.{option_copied};
 ghost use Rattle.smart_base.specs.Lists.{or_else};
 ghost use Rattle.node_state.specs.Following.{named};
 ghost use Rattle.node_rules.specs.Rules.{slot_in, decision_in, decision_ahead, deciding, decide_batch, decides, fired_if};
 ghost use Rattle.node_rules.specs.Nodes.{next_place, is_free, view_of, regency_of};
-ghost use Rattle.node_rules.specs.Votes.{named_in, named_by, accepted_in, decision_by};
-ghost use Rattle.consensus_instance.specs.Instances.{name_of};
+ghost use Rattle.node_rules.specs.Votes.{name_of, named_in, named_by, accepted_in, decision_by};
 ghost use Rattle.node_rules.specs.declared.node.Fired.TheVariants as fires;
 
 use node_rules::node::Fired;
@@ -23,7 +23,7 @@ use smart_statements::statement::{Slot, VoteKind};
 use std::alloc::AllocError;
 use vote_book::entry::{Accept, Decision, LogEntry};
 
-/// The slot of the next place in a regency.
+/// The slot of the next place in a regency of the view in force.
 fn slot_in<S: Service>(node: &NodeState<S>, regency: Regency) -> Slot
     requires { is_free node.now ≡ true }
     ensures { result ≡ slot_in node.now regency }
@@ -35,7 +35,8 @@ fn slot_in<S: Service>(node: &NodeState<S>, regency: Regency) -> Slot
     }
 }
 
-/// The decision in a slot of a batch, whose digest comes with it.
+/// The decision in a slot for a batch with its digest, with the ACCEPTs that prove it. Error: want of
+/// memory.
 fn decision_of<S: Service>(
     node: &NodeState<S>,
     slot: &Slot,
@@ -56,15 +57,15 @@ fn decision_of<S: Service>(
     })
 }
 
-/// The first proposal for the place of a slot, in the regency in force or a later one, whose batch
-/// a quorum accepted in that slot.
+/// The first proposal for the place of a slot whose batch a quorum accepted in that slot. It is of
+/// the regency in force or a later one.
 fn proposed_by_quorum<'a, S: Service>(node: &'a NodeState<S>, slot: &Slot) -> Option<&'a Proposed>
     ensures { option_map name_of (option_copied result) ≡ accepted_in (view_of node.now) slot.now node.now.arrivals (filter_map (named_in slot.now.view slot.now.place (regency_of node.now)) node.now.arrivals) }
 {
     node.instance.accepted_proposal(node.view(), slot)
 }
 
-/// The decision in a slot of a batch that was proposed.
+/// The decision in a slot for a proposed batch. Error: want of memory.
 fn proposed_decision<S: Service>(
     node: &NodeState<S>,
     slot: &Slot,
@@ -81,8 +82,8 @@ fn proposed_decision<S: Service>(
     }
 }
 
-/// The first batch that the node accepted at the place of a slot, in whatever regency, and that a
-/// quorum accepted in that slot.
+/// The first batch that the node accepted at the place of a slot, in any regency, and that a quorum
+/// accepted in that slot.
 fn accepted_by_quorum<'a, S: Service>(node: &'a NodeState<S>, slot: &Slot) -> Option<&'a Accept>
     requires free { is_free node.now ≡ true }
     requires place { slot.now.place ≡ next_place node.now }
@@ -91,7 +92,7 @@ fn accepted_by_quorum<'a, S: Service>(node: &'a NodeState<S>, slot: &Slot) -> Op
     accept_by_quorum(&node.book, &node.instance, node.view(), slot)
 }
 
-/// The decision in a slot of a batch that the node accepted.
+/// The decision in a slot for a batch that the node accepted. Error: want of memory.
 fn own_decision<S: Service>(
     node: &NodeState<S>,
     slot: &Slot,
@@ -107,7 +108,8 @@ fn own_decision<S: Service>(
     }
 }
 
-/// A decision in a slot of the next place, or else one of a batch that the node accepted.
+/// A decision in a slot of the next place, or else one for a batch that the node accepted. Error:
+/// want of memory.
 fn or_own<S: Service>(
     node: &NodeState<S>,
     first: Option<Decision>,
@@ -125,7 +127,7 @@ fn or_own<S: Service>(
     own_decision(node, slot)
 }
 
-/// The decision that is due in a regency at the next place.
+/// The decision that is due in a regency at the next place. Error: want of memory.
 fn decision_in<S: Service>(
     node: &NodeState<S>,
     regency: Regency,
@@ -140,7 +142,7 @@ fn decision_in<S: Service>(
     Ok(found)
 }
 
-/// The decision that is due in the next regency.
+/// The decision that is due in the regency after the one in force. Error: want of memory.
 fn decision_ahead<S: Service>(node: &NodeState<S>) -> Result<Option<Decision>, AllocError>
     requires { is_free node.now ≡ true }
     ensures decision { IfOk result (λ d. d ≡ decision_ahead node.now) }
@@ -153,6 +155,8 @@ fn decision_ahead<S: Service>(node: &NodeState<S>) -> Result<Option<Decision>, A
     decision_in(node, Regency::new(present + 1))
 }
 
+/// The decision that is due, if the node is free: in the regency in force first, then in the next
+/// one. Error: want of memory.
 #[tactic(auto, unfolding(node_rules::specs::Rules::deciding))]
 fn deciding<S: Service>(node: &NodeState<S>) -> Result<Option<Decision>, AllocError>
     ensures decision { IfOk result (λ d. d ≡ deciding node.now) }
@@ -183,6 +187,9 @@ fn decide_batch<S: Service>(node: &mut NodeState<S>, decision: Decision) -> Resu
     Ok(())
 }
 
+/// The rule that decides: a quorum accepted a batch that the node has (Mod-SMaRt, EDCC 2012; a quorum
+/// of the next regency: this project's own). The decision is recorded with its proof, and its batch
+/// waits for delivery. Error: want of memory.
 #[tactic(auto, unfolding(node_rules::specs::Rules::decides, node_rules::specs::Rules::decide_batch))]
 pub fn decides<S: Service>(
     node: &mut NodeState<S>,

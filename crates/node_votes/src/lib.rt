@@ -1,4 +1,5 @@
-//! The rules by which a member's node orders requests: it proposes, writes, accepts and decides.
+//! The rules by which a member's node orders requests: it proposes, writes, accepts and decides
+//! (Mod-SMaRt, EDCC 2012).
 #![tactic(auto)]
 
 pub mod decisions;

@@ -1,4 +1,5 @@
-//! What a node proposes, writes for and accepts: what is due, what the rule does with it, and both.
+//! The rules that propose, write and accept. Each has three functions: what is due, what the rule
+//! does with it, and both together.
 ghost use Rattle.std.specs.Prelude.{◌≡◌, ◌++◌, true, IfOk, OnOk, IsSome, Some, option_map, OnErr, ◌∷◌, []};
 ghost use Rattle.std.specs.Option.{option_copied};
 ghost use Rattle.smart_statements.specs.Kinds.{proposals};
@@ -24,7 +25,6 @@ use smart_base::bytes::Digest32;
 use smart_base::duplicate::Duplicate;
 use smart_base::number::Place;
 use smart_base::sequence::Sequence;
-use smart_messages::any::AnyMessage;
 use smart_messages::message::{Message, Proposed};
 use smart_service::service::Service;
 use smart_statements::batch::Batch;
@@ -33,7 +33,7 @@ use smart_statements::statement::{Ballot, Proposal, VoteKind};
 use std::alloc::AllocError;
 use vote_book::entry::{Accept, LogEntry, Write};
 
-/// Proposes, writes and accepts.
+/// Proposes, writes and accepts, each once. Error: want of memory.
 #[tactic(auto, unfolding(node_rules::specs::Steps::votes, node_rules::specs::Steps::fired_votes))]
 pub fn votes<S: Service>(
     node: &mut NodeState<S>,
@@ -49,7 +49,7 @@ pub fn votes<S: Service>(
     Ok(())
 }
 
-/// The first batch of a digest that the node accepted at the next place, in whatever regency.
+/// The first batch of a digest that the node accepted at the next place, in any regency.
 fn accepted_under<'a, S: Service>(node: &'a NodeState<S>, digest: &Digest32) -> Option<&'a Accept>
     requires { is_free node.now ≡ true }
     ensures { option_map (λ (a : Accept). a.batch) (option_copied result) ≡ accepted_under (view_of node.now).number (next_place node.now) digest.now node.now.entries }
@@ -59,7 +59,7 @@ fn accepted_under<'a, S: Service>(node: &'a NodeState<S>, digest: &Digest32) -> 
     accept_under(&node.book, view, place, digest)
 }
 
-/// The batch that binds under a digest: one that a report brought, or that the node accepted.
+/// The bound batch, by its digest: one that a report brought, or that the node accepted.
 #[tactic(auto, unfolding(node_rules::specs::Rules::batch_under))]
 fn bound_batch<'a, S: Service>(node: &'a NodeState<S>, digest: &Digest32) -> Option<&'a Batch>
     requires { is_free node.now ≡ true }
@@ -75,15 +75,15 @@ fn bound_batch<'a, S: Service>(node: &'a NodeState<S>, digest: &Digest32) -> Opt
     }
 }
 
-/// The digest of the batch that binds at a place, if one does.
+/// The digest that binds at a place, if there is one.
 fn is_bound_to<S: Service>(node: &NodeState<S>, place: Place) -> Option<&Digest32>
     ensures { option_copied result ≡ bound_at place (start_of node.now) }
 {
     node.instance.is_bound_to(place)
 }
 
-/// The batch that is proposed at the next place: the one that binds there, or of requests that
-/// wait.
+/// The batch to propose at the next place: the bound one, or one gathered from the pool. Error: want
+/// of memory.
 #[tactic(auto, unfolding(node_rules::specs::Rules::batch_under))]
 fn next_batch<S: Service>(node: &NodeState<S>) -> Result<Option<Batch>, AllocError>
     requires { is_free node.now ≡ true }
@@ -99,6 +99,8 @@ fn next_batch<S: Service>(node: &NodeState<S>) -> Result<Option<Batch>, AllocErr
     }
 }
 
+/// The proposal that is due: the slot is open, the node leads, it has made none for this slot, and it
+/// has a batch. Error: want of memory.
 #[tactic(auto, unfolding(node_rules::specs::Rules::proposing))]
 fn proposing<S: Service>(node: &NodeState<S>) -> Result<Option<Batch>, AllocError>
     ensures batch { IfOk result (λ batch. batch ≡ proposing node.now) }
@@ -114,7 +116,7 @@ fn proposing<S: Service>(node: &NodeState<S>) -> Result<Option<Batch>, AllocErro
     next_batch(node)
 }
 
-/// The node's proposal of a digest for the slot that is open.
+/// The node's signed PROPOSE of a digest for the open slot. Error: want of memory.
 fn proposal<S: Service>(
     node: &NodeState<S>,
     digest: Digest32,
@@ -138,10 +140,12 @@ fn propose_batch<S: Service>(node: &mut NodeState<S>, batch: Batch) -> Result<()
     let head = proposal(node, digest)?;
     node.proposed.push(slot)?;
     let message = Message::Propose(Proposed { head, batch });
-    node.hold(Target::View, AnyMessage::Plain(message))?;
+    node.hold(Target::View, message)?;
     Ok(())
 }
 
+/// The rule that proposes: the leader sends PROPOSE with one batch for the open slot (Mod-SMaRt, EDCC
+/// 2012). Error: want of memory.
 #[tactic(auto, unfolding(node_rules::specs::Rules::proposes, node_rules::specs::Rules::propose_batch))]
 fn proposes<S: Service>(
     node: &mut NodeState<S>,
@@ -161,21 +165,21 @@ fn proposes<S: Service>(
     }
 }
 
-/// The node's vote for a digest in the slot that is open.
+/// The node's signed vote for a digest in the open slot. Error: want of memory.
 fn ballot<S: Service>(
     node: &NodeState<S>,
     kind: VoteKind,
     digest: Digest32,
-) -> Result<AnyMessage, AllocError>
+) -> Result<Message, AllocError>
     requires { is_free node.now ≡ true }
     ensures { IfOk result (λ vote. vote ≡ ballot node.now kind digest) }
 {
     let slot = node.open_slot();
     let ballot = Ballot { kind, slot, digest };
-    Ok(AnyMessage::Plain(Message::Vote(node.keys.sealed(node.alloc, ballot)?)))
+    Ok(Message::Vote(node.keys.sealed(node.alloc, ballot)?))
 }
 
-/// The proposal for which a rule is due.
+/// The proposal for which a vote is due, if there is one.
 fn due<S: Service>(node: &NodeState<S>, rule: Rule) -> Option<&Proposed>
     ensures proposal { option_copied result ≡ due_at rule node.now }
     ensures free { IsSome result → is_free node.now ≡ true }
@@ -183,7 +187,7 @@ fn due<S: Service>(node: &NodeState<S>, rule: Rule) -> Option<&Proposed>
     node.instance.due(node.view(), rule)
 }
 
-/// Writes for the batch of a digest.
+/// Records a WRITE for a digest, and puts it into the outbox. Error: want of memory.
 fn write_digest<S: Service>(node: &mut NodeState<S>, digest: Digest32) -> Result<(), AllocError>
     requires { is_free node.old ≡ true }
     ensures node { OnOk result (node.new ≡ holding (recording node.old (entries.Wrote (record { slot = open_slot node.old; digest = digest }))) targets.View (ballot node.old kinds.Write digest)) }
@@ -197,6 +201,9 @@ fn write_digest<S: Service>(node: &mut NodeState<S>, digest: Digest32) -> Result
     Ok(())
 }
 
+/// The rule that writes: the node votes once in the open slot for the batch proposed there (WRITE of
+/// Mod-SMaRt, EDCC 2012). The vote leaves after its entry is firm (this project's own rule). Error:
+/// want of memory.
 #[tactic(auto, unfolding(node_rules::specs::Rules::writes, node_rules::specs::Rules::write_batch))]
 fn writes<S: Service>(
     node: &mut NodeState<S>,
@@ -217,7 +224,8 @@ fn writes<S: Service>(
     }
 }
 
-/// Accepts a batch under a digest, with the writes that it rests on.
+/// Records an ACCEPT for a batch with its write certificate, and puts it into the outbox. Error: want
+/// of memory.
 fn accept_digest<S: Service>(
     node: &mut NodeState<S>,
     digest: Digest32,
@@ -244,6 +252,9 @@ fn accept_digest<S: Service>(
     Ok(())
 }
 
+/// The rule that accepts: the node accepts once in the open slot the batch that a quorum wrote for
+/// (ACCEPT of Mod-SMaRt, EDCC 2012). The vote leaves after its entry is firm (this project's own
+/// rule). Error: want of memory.
 #[tactic(auto, unfolding(node_rules::specs::Rules::accepts, node_rules::specs::Rules::accept_batch))]
 fn accepts<S: Service>(
     node: &mut NodeState<S>,

@@ -4,7 +4,7 @@ ghost use Rattle.node_rules.specs.declared.node.Held.{Held};
 ghost use Rattle.node_rules.specs.Steps.{first_leaving, leaving, staying};
 ghost use Rattle.outbox.specs.Releases.{given, left_by, IsLongestFront};
 
-/// Releases until one gives nothing give the longest front whose messages need no more than is firm,
+/// Releases until one gives nothing give the longest prefix of messages whose entries are all firm,
 /// and leave the rest. There are never more of them than messages.
 pub fn release_gives_the_longest_front()
     ensures given { (firm count : ℕ) (held : List Held) → first_leaving firm (left_by firm count held) ≡ None → given firm count held ≡ leaving firm held }

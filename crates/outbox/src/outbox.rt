@@ -4,16 +4,15 @@ ghost use Rattle.node_rules.specs.Steps.{first_leaving, after_first, leaving, st
 
 use node_rules::node::{Held, Target};
 use smart_base::sequence::Sequence;
-use smart_messages::any::AnyMessage;
+use smart_messages::message::Message;
 use std::alloc::{AllocError, Global};
 use std::collections::VecDeque;
 use std::marker::Model;
 use std::mem;
 
-/// The messages that wait until so many entries of their member's book are firm, in the order in
-/// which they were held (Dura-SMaRt, ATC 2013, for replies; for votes this project's own rule). A
-/// message waits behind each that was held before it, so what leaves keeps that order. In contracts
-/// it is the list of them.
+/// The outbox: messages that wait until so many entries of their member's book are firm, in the order
+/// in which they were held. That replies wait is Dura-SMaRt's (USENIX ATC 2013); that votes do is
+/// this project's own rule. A message waits for each that was held before it, so the order is kept.
 pub struct Outbox {
     held: VecDeque<Held>,
 }
@@ -35,7 +34,7 @@ impl Model for Outbox {
 }
 
 impl Outbox {
-    /// The outbox that holds nothing. It takes no memory.
+    /// The empty outbox. It needs no memory.
     pub fn new(alloc: Global) -> Self
         ensures { result ≡ [] }
     {
@@ -44,9 +43,9 @@ impl Outbox {
         }
     }
 
-    /// Holds a message behind all others, until as many entries are firm as it needs. Without memory
-    /// it is not held.
-    pub fn hold(&mut self, to: Target, message: AnyMessage, needs: u64) -> Result<(), AllocError>
+    /// Holds a message after all others, until as many entries are firm as it needs. Error: want of
+    /// memory; the message is not held then.
+    pub fn hold(&mut self, to: Target, message: Message, needs: u64) -> Result<(), AllocError>
         ensures ok { OnOk result (self.new ≡ self.old ++ record { to = to; message = message; needs = needs } ∷ []) }
         ensures err { OnErr result (self.new ≡ self.old) }
     {
@@ -54,8 +53,8 @@ impl Outbox {
         Ok(())
     }
 
-    /// The first message leaves, where as many entries are firm as it needs. `None` comes exactly where
-    /// it waits or none is held. It takes no memory, and its cost does not grow with what is held.
+    /// Takes the first message out, if as many entries are firm as it needs. Gives `None` if and only
+    /// if it waits or none is held. It needs no memory, and its cost does not grow with what is held.
     pub fn release(&mut self, firm: u64) -> Option<Held>
         ensures held { result ≡ first_leaving firm self.old }
         ensures rest { self.new ≡ after_first firm self.old }
@@ -66,8 +65,8 @@ impl Outbox {
         }
     }
 
-    /// The messages leave in order, up to the first that waits: all that releases one after another
-    /// give. Without memory none leaves. The cost is linear in what is held.
+    /// Takes the messages out, in order, up to the first that waits. Error: want of memory; none is
+    /// taken out then. The cost is linear in what is held.
     #[tactic(auto, using(crate::proofs::Leaving::few_leaving, crate::proofs::Leaving::take_leaving, crate::proofs::Leaving::drop_leaving, crate::proofs::Leaving::none_leaving, crate::proofs::Leaving::all_staying))]
     pub fn release_all(&mut self, firm: u64) -> Result<Sequence<Held>, AllocError>
         ensures held { IfOk result (λ left. left ≡ leaving firm self.old) }
@@ -90,7 +89,7 @@ impl Outbox {
         self.held.is_empty()
     }
 
-    /// How many messages are held.
+    /// The number of held messages.
     pub fn len(&self) -> usize
         ensures { result ≡ length self.now }
     {
@@ -98,7 +97,7 @@ impl Outbox {
     }
 }
 
-/// How many messages leave: those before the first that waits.
+/// The number of messages that leave: those before the first that waits.
 fn count_leaving(held: &VecDeque<Held>, firm: u64) -> usize
     ensures { result ≡ length (leaving firm held.now.items) }
 {

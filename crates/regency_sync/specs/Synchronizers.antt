@@ -1,5 +1,5 @@
--- How the members of a view change the regency (the synchronisation phase of Mod-SMaRt, EDCC 2012): what a member has heard and done, what is
--- due by that, and what becomes of it.
+-- A leader change (the synchronisation phase of Mod-SMaRt, EDCC 2012): what a member has heard and done, what is due, and what becomes of
+-- it.
 use Rattle.std.specs.Prelude.{ℕ, ◌≡◌, ◌+◌, ◌^◌, ◌==◌, nat_lt, nat_le, Bool, false, true, not, ◌&&◌, ◌||◌, if◌then◌else◌, List, [], ◌∷◌, ◌++◌, length, take, filter, find, filter_map, Option, Some, None, is_some, option_map}
 use Rattle.std.specs.List.{list_any}
 use Rattle.smart_base.specs.Lists.{same_bytes, Each}
@@ -15,29 +15,30 @@ use Rattle.smart_messages.specs.declared.regency.Reported.{Reported}
 use Rattle.regency_sync.specs.declared.rule.Rule.{Rule}
 use Rattle.regency_sync.specs.declared.rule.Rule.TheVariants.{Join, Promise, Collect}
 
+-- a member's part in a leader change
 pub record Synchronizer : Type 0 where
-  -- the member
+  -- the member's number
   pub id : ℕ
-  -- the greatest regency that it has promised in the view in force, 0 where it promised none
+  -- the greatest regency that it has promised in the view in force; 0 if it has promised none
   pub regency : ℕ
-  -- it has adopted the reports with which a leader began that regency
+  -- whether it has adopted the beginning of that regency
   pub synced : Bool
-  -- it has asked for the regency behind that one, in this life
+  -- whether it has asked in this life for the regency after that one
   pub stop_made : Bool
-  -- as the leader of that regency it has begun it, in this life
+  -- whether it has sent, as leader, the SYNC of that regency in this life
   pub sync_made : Bool
-  -- what came and was not dropped, in the order in which it came
+  -- what came and was kept, in the order in which it came: STOPs, STOPDATA and SYNCs
   pub stops : List (SignedBy Stop)
   pub reports : List Reported
   pub syncs : List (SignedBy Sync)
 
--- the member takes part in its regency: regency 0 needs no leader to begin it
+-- a member that takes part in its regency; regency 0 needs no beginning
 abbrev pub is_synced : Synchronizer → Bool
 is_synced s = (s.regency == 0) || s.synced
 
 -- ---- what is kept
 
--- of this view, and of this regency or a later one
+-- a view and regency that are needed: this view, and this regency or a later one
 abbrev pub is_needed : ℕ → ℕ → ℕ → ℕ → Bool
 is_needed view regency v r = (v == view) && nat_le regency r
 
@@ -50,91 +51,98 @@ needs_report view regency r = is_needed view regency r.head.statement.view r.hea
 abbrev pub needs_sync : ℕ → ℕ → SignedBy Sync → Bool
 needs_sync view regency sync = is_needed view regency sync.statement.view sync.statement.regency
 
--- the same signer states the same view and regency
+-- STOPs of one signer for one view and regency
 abbrev pub is_same_stop : SignedBy Stop → SignedBy Stop → Bool
 is_same_stop a b = (b.signer == a.signer) && (b.statement.view == a.statement.view) && (b.statement.regency == a.statement.regency)
 
+-- reports of one signer for one view and regency
 abbrev pub is_same_report : SignedBy Report → Reported → Bool
 is_same_report a b =
     (b.head.signer == a.signer) && (b.head.statement.view == a.statement.view) && (b.head.statement.regency == a.statement.regency)
 
+-- SYNCs of one signer for one view and regency
 abbrev pub is_same_sync : SignedBy Sync → SignedBy Sync → Bool
 is_same_sync a b = (b.signer == a.signer) && (b.statement.view == a.statement.view) && (b.statement.regency == a.statement.regency)
 
+-- a STOP of which one of the same signer, view and regency was kept
 abbrev pub repeats_stop : Synchronizer → SignedBy Stop → Bool
 repeats_stop s stop = list_any (is_same_stop stop) s.stops
 
+-- a report of which one of the same signer, view and regency was kept
 abbrev pub repeats_report : Synchronizer → SignedBy Report → Bool
 repeats_report s report = list_any (is_same_report report) s.reports
 
+-- a SYNC of which one of the same signer, view and regency was kept
 abbrev pub repeats_sync : Synchronizer → SignedBy Sync → Bool
 repeats_sync s sync = list_any (is_same_sync sync) s.syncs
 
 -- ---- what is due
 
--- a member asks for a regency
+-- a member's STOP for a regency
 abbrev pub is_stop : ℕ → ℕ → ℕ → SignedBy Stop → Bool
 is_stop view regency member stop = (stop.signer == member) && (stop.statement.view == view) && (stop.statement.regency == regency)
 
--- there is a regency behind the member's
+-- a member whose regency has a next one; regencies are below 2^32
 abbrev pub has_next : Synchronizer → Bool
 has_next s = nat_lt (s.regency + 1) (2 ^ 32)
 
--- the members that ask for the regency behind the member's
+-- the members that ask for the next regency
 abbrev pub stoppers : View → Synchronizer → List ℕ
 stoppers view s = filter (λ member. list_any (is_stop view.number (s.regency + 1) member) s.stops) view.members
 
--- more members than may be faulty ask for the next regency, and the member has not asked yet
+-- the condition of joining: more than f members ask for the next regency, and the member has not asked (Mod-SMaRt, EDCC 2012)
 unfoldable pub is_joining : View → Synchronizer → Bool
 is_joining view s = has_next s && not s.stop_made && nat_lt view.f (length (stoppers view s))
 
--- so many ask for it that it is promised
+-- the condition of promising: 2f+1 members ask for the next regency (Mod-SMaRt, EDCC 2012)
 unfoldable pub is_promising : View → Synchronizer → Bool
 is_promising view s = has_next s && nat_le (stop_size view) (length (stoppers view s))
 
--- a member's report of a regency
+-- a member's report for a regency
 abbrev pub is_report : ℕ → ℕ → ℕ → Reported → Bool
 is_report view regency member r =
     (r.head.signer == member) && (r.head.statement.view == view) && (r.head.statement.regency == regency)
 
--- a member's first report of a regency
+-- a member's first report for a regency
 abbrev pub first_report : ℕ → ℕ → List Reported → ℕ → Option (SignedBy Report)
 first_report view regency reports member = option_map (λ (r : Reported). r.head) (find (is_report view regency member) reports)
 
--- the members that reported in it
+-- the members that reported for the member's regency
 abbrev pub reporters : View → Synchronizer → List ℕ
 reporters view s = filter (λ member. list_any (is_report view.number s.regency member) s.reports) view.members
 
--- the member leads a regency that has not begun, which it has not begun either, and all members but those that may be faulty have reported
+-- the condition of leading: the member leads a regency that has not begun, has sent no SYNC, and n-f members have reported (Mod-SMaRt, EDCC
+-- 2012)
 abbrev pub is_collecting : View → Synchronizer → Bool
 is_collecting view s =
     (leader view s.regency == s.id) && not (is_synced s) && not s.sync_made && nat_le (collect_size view) (length (reporters view s))
 
--- the first reports by member, ascending, one of each: as many as answer for sure
+-- the collect: the first report of each of the first n-f members by number
 abbrev pub collect : View → Synchronizer → List (SignedBy Report)
 collect view s = take (collect_size view) (filter_map (first_report view.number s.regency s.reports) view.members)
 
--- the reports with which the member begins its regency
+-- the collect with which the member begins its regency, if it is to begin it
 unfoldable pub collecting : View → Synchronizer → Option (List (SignedBy Report))
 collecting view s = if is_collecting view s then Some (collect view s) else None
 
--- whether a rule is due
+-- a rule that is due
 abbrev pub is_due : View → Synchronizer → Rule → Bool
 is_due view s Join = is_joining view s
 is_due view s Promise = is_promising view s
 is_due view s Collect = is_collecting view s
 
--- the first rule that is
+-- the first rule that is due
 unfoldable pub due : View → Synchronizer → Option Rule
 due view s = find (is_due view s) (Join ∷ Promise ∷ Collect ∷ [])
 
 -- ---- the batch that binds
 
+-- a lock, if there is one, for a digest
 abbrev pub is_lock_of : List ℕ → Option LockCertificate → Bool
 is_lock_of digest None = false
 is_lock_of digest (Some lock) = same_bytes lock.digest digest
 
--- a report that is still needed, whose lock has this digest, and which carries a batch
+-- a report that is still needed, whose lock is for a digest, and which brings a batch
 abbrev pub bears : View → Synchronizer → List ℕ → Reported → Bool
 bears view s digest r = needs_report view.number s.regency r && is_lock_of digest r.head.statement.lock && is_some r.batch
 
@@ -152,7 +160,7 @@ batch_of view s digest = batch_in (find (bears view s digest) s.reports)
 abbrev pub begun : ℕ → Synchronizer
 begun id = record { id = id; regency = 0; synced = false; stop_made = false; sync_made = false; stops = []; reports = []; syncs = [] }
 
--- a member that goes on in a regency
+-- a member after a restart in a regency
 abbrev pub resumed : ℕ → ℕ → Bool → Synchronizer
 resumed id regency synced =
     record { id = id; regency = regency; synced = synced; stop_made = false; sync_made = false; stops = []; reports = []; syncs = [] }
@@ -166,7 +174,7 @@ with_report report batch s = record s { reports = s.reports ++ record { head = r
 abbrev pub with_sync : SignedBy Sync → Synchronizer → Synchronizer
 with_sync sync s = record s { syncs = s.syncs ++ sync ∷ [] }
 
--- the beginning of a regency is adopted: the member takes part in it
+-- a member after it has adopted the beginning of a regency
 abbrev pub adopted : ℕ → Synchronizer → Synchronizer
 adopted regency s = record s {
   regency = regency;
@@ -175,27 +183,27 @@ adopted regency s = record s {
   sync_made = s.sync_made && (regency == s.regency);
 }
 
--- the member has asked for the next regency
+-- a member after it has asked for the next regency
 abbrev pub stopped : Synchronizer → Synchronizer
 stopped s = record s { stop_made = true }
 
--- the next regency is promised: its leader has to begin it
+-- a member after it has promised the next regency, whose leader has to begin it
 abbrev pub promised : Synchronizer → Synchronizer
 promised s = record s { regency = s.regency + 1; synced = false; stop_made = false; sync_made = false }
 
--- a later regency is promised, which the member may have begun to take part in before
+-- a member after it has promised a later regency, which its book may already have begun
 abbrev pub promised_to : ℕ → Bool → Synchronizer → Synchronizer
 promised_to regency begun s = record s { regency = regency; synced = begun; stop_made = false; sync_made = false }
 
--- the member has begun its regency
+-- a member after it has sent its SYNC
 abbrev pub led : Synchronizer → Synchronizer
 led s = record s { sync_made = true }
 
--- another view is in force, in which nothing is promised
+-- a member after another view came into force, in which it has promised nothing
 abbrev pub moved : Synchronizer → Synchronizer
 moved s = record s { regency = 0; synced = false; stop_made = false; sync_made = false }
 
--- what is of another view or an earlier regency is dropped
+-- a member without what is of another view or an earlier regency
 unfoldable pub trimmed : View → Synchronizer → Synchronizer
 trimmed view s = record s {
   stops = filter (needs_stop view.number s.regency) s.stops;
@@ -203,7 +211,7 @@ trimmed view s = record s {
   syncs = filter (needs_sync view.number s.regency) s.syncs;
 }
 
--- nothing that came is of a view
+-- a member that kept nothing of a view
 pub record HasNothingOf (view : ℕ) (s : Synchronizer) : Type 0 where
   pub no_stops : Each (λ (m : SignedBy Stop). (m.statement.view == view) ≡ false) s.stops
   pub no_reports : Each (λ (m : Reported). (m.head.statement.view == view) ≡ false) s.reports

@@ -64,11 +64,10 @@ fn bound(last: Place, reports: &[Signed<Report>]) -> Option<Digest32>
     }
 }
 
-/// What reports leave to the regency that begins with them: it begins behind the greatest last
-/// place that they state, and there the lock of the greatest regency binds that one of them has
-/// behind that place, of several alike the first. That a value which may be decided already binds
-/// the next leader is Mod-SMaRt's (EDCC 2012), how it is chosen is this project's own rule. It takes
-/// no memory.
+/// The choice of reports. The regency begins at the place after the greatest last place that they
+/// state. Among their locks for that place the one of the greatest regency binds; of equals the
+/// first. That a value which may be decided binds the next leader is Mod-SMaRt's (EDCC 2012); how it
+/// is chosen is this project's own rule. It needs no memory.
 #[tactic(auto, unfolding(crate::specs::Choices::choice))]
 pub fn choice(reports: &[Signed<Report>]) -> Choice
     ensures { result ≡ choice reports.now }

@@ -41,21 +41,21 @@ fn is_same_sync(sync: &Signed<Sync>, other: &Signed<Sync>) -> bool
         && other.statement().regency == sync.statement().regency
 }
 
-/// Whether the signer's stop of the regency was kept before.
+/// Whether the signer's STOP for the regency was kept before.
 pub fn has_same_stop(stops: &[Signed<Stop>], stop: &Signed<Stop>) -> bool
     ensures { result ≡ list_any (is_same_stop stop.now) stops.now }
 {
     stops.iter().any(|other| is_same_stop(stop, other))
 }
 
-/// Whether the signer's report of the regency was kept before.
+/// Whether the signer's report for the regency was kept before.
 pub fn has_same_report(reports: &[Reported], report: &Signed<Report>) -> bool
     ensures { result ≡ list_any (is_same_report report.now) reports.now }
 {
     reports.iter().any(|other| is_same_report(report, other))
 }
 
-/// Whether the signer's beginning of the regency was kept before.
+/// Whether the signer's SYNC of the regency was kept before.
 pub fn has_same_sync(syncs: &[Signed<Sync>], sync: &Signed<Sync>) -> bool
     ensures { result ≡ list_any (is_same_sync sync.now) syncs.now }
 {
@@ -78,7 +78,7 @@ fn has_stop(stops: &[Signed<Stop>], view: ViewNo, regency: Regency, member: Memb
         .any(|stop| is_stop(view, regency, member, stop))
 }
 
-/// How many of these members ask for a regency.
+/// The number of members among these that ask for a regency.
 pub fn count_stoppers(
     stops: &[Signed<Stop>],
     members: &[MemberId],
@@ -109,7 +109,7 @@ fn has_report(reports: &[Reported], view: ViewNo, regency: Regency, member: Memb
         .any(|reported| is_report(view, regency, member, reported))
 }
 
-/// How many of these members have reported in a regency.
+/// The number of members among these that have reported for a regency.
 pub fn count_reporters(
     reports: &[Reported],
     members: &[MemberId],
@@ -137,8 +137,8 @@ fn report_of(
         .find(|reported| is_report(view, regency, member, reported))
 }
 
-/// The first reports by member, of as many members as `size` says, or of all that have reported where
-/// they are fewer.
+/// The first reports of the first `size` members by number, or of all that have reported if they are
+/// fewer. Error: want of memory.
 pub fn collect(
     alloc: Global,
     reports: &[Reported],
@@ -171,7 +171,7 @@ fn is_lock_of(digest: &Digest32, lock: &Option<LockCertificate>) -> bool
     }
 }
 
-/// Whether a report carries the batch of a digest, by its lock.
+/// Whether a report brings the batch of a digest, by its lock.
 pub fn carries(digest: &Digest32, reported: &Reported) -> bool
     ensures { result ≡ (is_lock_of digest.now reported.now.head.statement.lock && is_some reported.now.batch) }
 {

@@ -1,4 +1,4 @@
-//! Laws of choices, and of a member that drops what it does not need any more.
+//! Laws of choices, and of a member that drops what it no longer needs.
 ghost use Rattle.std.specs.Prelude.{◌≡◌, ℕ, ◌+◌, ◌<◌, ◌≤◌, ◌↔◌, true, List, [], Some, None};
 ghost use Rattle.smart_base.specs.Lists.{Each};
 ghost use Rattle.smart_base.specs.Views.{View};
@@ -13,7 +13,7 @@ ghost use Rattle.regency_sync.specs.Synchronizers.{Synchronizer, needs_stop, nee
 ghost use Rattle.regency_sync.specs.Synchronizers.{is_joining, is_promising, collecting, due, batch_of, with_stop, with_report, with_sync};
 ghost use Rattle.regency_sync.specs.Synchronizers.{adopted, stopped, promised, led, moved, trimmed, HasNothingOf};
 
-/// A regency begins at the least place, from 1 on, that is behind each last place.
+/// A regency begins at the least place, from 1, that is past each last place.
 pub fn a_regency_begins_behind_each_last_place()
     ensures above { (reports : List (SignedBy Report)) → Each (λ r. r.statement.last < (choice reports).base) reports }
     ensures least { (reports : List (SignedBy Report)) (place : ℕ) → 1 ≤ place → Each (λ r. r.statement.last < place) reports →
@@ -21,8 +21,8 @@ pub fn a_regency_begins_behind_each_last_place()
     ensures none { choice [] ≡ record { base = 1; bound = None } }
 {}
 
-/// What binds is the first lock of the greatest regency among those behind the greatest last place,
-/// and where there is none nothing binds.
+/// The lock that binds is the first of the greatest regency among those at the place after the
+/// greatest last place. If there is none, nothing binds.
 pub fn the_greatest_lock_binds()
     ensures base { (reports : List (SignedBy Report)) → (choice reports).base ≡ greatest_last reports + 1 }
     ensures some { (reports : List (SignedBy Report)) (digest : List ℕ) → ((choice reports).bound ≡ Some digest) ↔ IsBound reports digest }
@@ -30,7 +30,7 @@ pub fn the_greatest_lock_binds()
         ((choice reports).bound ≡ None) ↔ Each (λ r. lock_behind (greatest_last reports) r ≡ None) reports }
 {}
 
-/// What is due is due by what is still needed alone.
+/// What is due depends on what is still needed alone.
 pub fn what_is_needed_makes_due()
     ensures join { (view : View) (s : Synchronizer) → is_joining view (trimmed view s) ≡ is_joining view s }
     ensures promise { (view : View) (s : Synchronizer) → is_promising view (trimmed view s) ≡ is_promising view s }
@@ -39,7 +39,7 @@ pub fn what_is_needed_makes_due()
     ensures batch { (view : View) (s : Synchronizer) (digest : List ℕ) → batch_of view (trimmed view s) digest ≡ batch_of view s digest }
 {}
 
-/// What is still needed repeats no other than what is still needed.
+/// What is still needed repeats nothing but what is still needed.
 pub fn what_is_needed_repeats_what_is_needed()
     ensures stop { (view : View) (s : Synchronizer) (stop : SignedBy Stop) → needs_stop view.number s.regency stop ≡ true →
         repeats_stop (trimmed view s) stop ≡ repeats_stop s stop }
@@ -49,9 +49,9 @@ pub fn what_is_needed_repeats_what_is_needed()
         repeats_sync (trimmed view s) sync ≡ repeats_sync s sync }
 {}
 
-/// A member that has dropped what it does not need any more goes on as one that keeps all: as long as
-/// regencies do not fall and nothing of a later view was kept, what it keeps is what the other one
-/// needs.
+/// A member that drops what it no longer needs does the same as one that keeps everything, and keeps
+/// what that one needs. The premises are that regencies do not fall, and that nothing of a later view
+/// was kept.
 pub fn what_is_dropped_is_not_missed()
     ensures stop { (view : View) (s : Synchronizer) (stop : SignedBy Stop) → needs_stop view.number s.regency stop ≡ true →
         with_stop stop (trimmed view s) ≡ trimmed view (with_stop stop s) }

@@ -1,6 +1,5 @@
-//! How the members of a view change the regency: what a member has heard of stops, reports and
-//! beginnings of regencies, what is due by that, and what reports leave to the regency that begins
-//! with them (the synchronisation phase of Mod-SMaRt, EDCC 2012).
+//! The leader change (the synchronisation phase of Mod-SMaRt, EDCC 2012): the STOPs, STOPDATA and
+//! SYNCs that a member has heard, what is due, and the choice of reports.
 #![tactic(auto)]
 
 pub mod choice;

@@ -31,7 +31,7 @@ pub fn needs_report(view: ViewNo, regency: Regency, reported: &Reported) -> bool
     is_needed(view, regency, report.view, report.regency)
 }
 
-/// Whether a beginning is of this view, and of this regency or a later one.
+/// Whether a SYNC is of this view, and of this regency or a later one.
 pub fn needs_sync(view: ViewNo, regency: Regency, sync: &Signed<Sync>) -> bool
     ensures { result ≡ needs_sync view regency sync.now }
 {
@@ -43,21 +43,21 @@ pub fn needs_sync(view: ViewNo, regency: Regency, sync: &Signed<Sync>) -> bool
     )
 }
 
-/// Keeps the stops that are still needed.
+/// Keeps only the STOPs that are still needed.
 pub fn keep_stops(stops: &mut Vec<Signed<Stop>>, view: ViewNo, regency: Regency)
     ensures { stops.new.items ≡ filter (needs_stop view regency) stops.old.items }
 {
     stops.retain(|stop| needs_stop(view, regency, stop));
 }
 
-/// Keeps the reports that are still needed.
+/// Keeps only the reports that are still needed.
 pub fn keep_reports(reports: &mut Vec<Reported>, view: ViewNo, regency: Regency)
     ensures { reports.new.items ≡ filter (needs_report view regency) reports.old.items }
 {
     reports.retain(|reported| needs_report(view, regency, reported));
 }
 
-/// Keeps the beginnings that are still needed.
+/// Keeps only the SYNCs that are still needed.
 pub fn keep_syncs(syncs: &mut Vec<Signed<Sync>>, view: ViewNo, regency: Regency)
     ensures { syncs.new.items ≡ filter (needs_sync view regency) syncs.old.items }
 {

@@ -1,4 +1,4 @@
-//! What a member has heard and done to change the regency.
+//! A member's part in a leader change.
 ghost use Rattle.std.specs.Prelude.{◌≡◌, ◌+◌, ◌<◌, ◌^◌, true, length, find, IfOk, OnOk, OnErr};
 ghost use Rattle.std.specs.Option.{option_copied};
 ghost use Rattle.regency_sync.specs.Synchronizers.{Synchronizer, is_synced, repeats_stop, repeats_report, repeats_sync};
@@ -25,22 +25,21 @@ use smart_view::size::{collect_size, stop_size};
 use std::alloc::{AllocError, Global};
 use std::marker::Model;
 
-/// A member's part in changing the regency (the synchronisation phase of Mod-SMaRt, EDCC 2012). Who
-/// calls it has checked what it keeps: that the signers are members, and that reports and the
-/// beginnings of regencies bear their proofs. The view in force is lent to each call that needs it.
-/// What is of another view or of an earlier regency than the member's counts for nothing: `trim`
-/// drops it.
+/// A member's part in a leader change (the synchronisation phase of Mod-SMaRt, EDCC 2012). Its caller
+/// has checked what it keeps: signers are members, and reports and SYNCs bear their proofs. The view
+/// in force is lent to each call that needs it. What is of another view or of an earlier regency
+/// counts for nothing, and `trim` drops it.
 pub struct Synchronizer {
     id: MemberId,
-    /// The greatest regency that is promised in the view in force, 0 where none is.
+    /// The greatest promised regency in the view in force; 0 if none is promised.
     regency: Regency,
-    /// Whether the reports with which a leader began that regency are adopted.
+    /// Whether the beginning of that regency is adopted.
     synced: bool,
-    /// Whether the member has asked for the regency behind that one, in this life.
+    /// Whether the member has asked in this life for the regency after that one.
     stop_made: bool,
-    /// Whether the member has begun that regency as its leader, in this life.
+    /// Whether the member has sent, as leader, the SYNC of that regency in this life.
     sync_made: bool,
-    /// In the order in which they came, as the next two.
+    /// The STOPs, and then the STOPDATA and SYNCs, each in the order in which they came.
     stops: Vec<Signed<Stop>>,
     reports: Vec<Reported>,
     syncs: Vec<Signed<Sync>>,
@@ -80,7 +79,7 @@ impl Model for Synchronizer {
 }
 
 impl Synchronizer {
-    /// A member that has promised nothing. It takes no memory.
+    /// A member that has promised nothing. It needs no memory.
     pub fn begin(alloc: Global, id: MemberId) -> Self
         ensures { result ≡ begun id }
     {
@@ -96,7 +95,7 @@ impl Synchronizer {
         }
     }
 
-    /// A member that goes on in a regency, which it takes part in or not. It takes no memory.
+    /// A member after a restart in a regency, in which it takes part or not. It needs no memory.
     pub fn resume(alloc: Global, id: MemberId, regency: Regency, synced: bool) -> Self
         ensures { result ≡ resumed id regency synced }
     {
@@ -112,7 +111,7 @@ impl Synchronizer {
         }
     }
 
-    /// The greatest regency that the member has promised in the view in force, 0 where it promised
+    /// The greatest regency that the member has promised in the view in force; 0 if it has promised
     /// none.
     pub fn regency(&self) -> Regency
         ensures { result ≡ self.now.regency }
@@ -120,15 +119,15 @@ impl Synchronizer {
         self.regency
     }
 
-    /// Whether the member takes part in its regency: in regency 0 at once, in a later one when it has
-    /// adopted the reports with which the leader begins it.
+    /// Whether the member takes part in its regency: in regency 0 at once, in a later one after it
+    /// has adopted the beginning.
     pub fn is_synced(&self) -> bool
         ensures { result ≡ is_synced self.now }
     {
         self.regency.get() == 0 || self.synced
     }
 
-    /// Keeps a member's wish for a regency. Without memory nothing is kept.
+    /// Keeps a member's STOP. Error: want of memory; nothing is kept then.
     pub fn on_stop(&mut self, stop: Signed<Stop>) -> Result<(), AllocError>
         ensures ok { OnOk result (self.new ≡ with_stop stop self.old) }
         ensures err { OnErr result (self.new ≡ self.old) }
@@ -137,7 +136,8 @@ impl Synchronizer {
         Ok(())
     }
 
-    /// Keeps a member's report, with the batch of its lock. Without memory nothing is kept.
+    /// Keeps a member's report, with the batch of its lock. Error: want of memory; nothing is kept
+    /// then.
     pub fn on_stopdata(
         &mut self,
         report: Signed<Report>,
@@ -153,7 +153,7 @@ impl Synchronizer {
         Ok(())
     }
 
-    /// Keeps the beginning of a regency. Without memory nothing is kept.
+    /// Keeps a SYNC. Error: want of memory; nothing is kept then.
     pub fn on_sync(&mut self, sync: Signed<Sync>) -> Result<(), AllocError>
         ensures ok { OnOk result (self.new ≡ with_sync sync self.old) }
         ensures err { OnErr result (self.new ≡ self.old) }
@@ -162,35 +162,35 @@ impl Synchronizer {
         Ok(())
     }
 
-    /// The beginnings of regencies that were kept, in the order in which they came.
+    /// The SYNCs that were kept, in the order in which they came.
     pub fn syncs(&self) -> &[Signed<Sync>]
         ensures { result.now ≡ self.now.syncs }
     {
         self.syncs.as_slice()
     }
 
-    /// Whether the signer's wish for the regency was kept before.
+    /// Whether the signer's STOP for the regency was kept before.
     pub fn repeats_stop(&self, stop: &Signed<Stop>) -> bool
         ensures { result ≡ repeats_stop self.now stop.now }
     {
         has_same_stop(self.stops.as_slice(), stop)
     }
 
-    /// Whether the signer's report in the regency was kept before.
+    /// Whether the signer's report for the regency was kept before.
     pub fn repeats_report(&self, report: &Signed<Report>) -> bool
         ensures { result ≡ repeats_report self.now report.now }
     {
         has_same_report(self.reports.as_slice(), report)
     }
 
-    /// Whether the signer's beginning of the regency was kept before.
+    /// Whether the signer's SYNC of the regency was kept before.
     pub fn repeats_sync(&self, sync: &Signed<Sync>) -> bool
         ensures { result ≡ repeats_sync self.now sync.now }
     {
         has_same_sync(self.syncs.as_slice(), sync)
     }
 
-    /// The first rule that is due, if one is.
+    /// The first rule that is due, if there is one.
     #[tactic(auto, unfolding(crate::specs::Synchronizers::due))]
     pub fn due(&self, view: &View) -> Option<Rule>
         ensures { result ≡ due view.now self.now }
@@ -206,8 +206,8 @@ impl Synchronizer {
         }
     }
 
-    /// Whether the member is to ask for the next regency, as more members than may be faulty do. There
-    /// is none behind 2^32-1.
+    /// Whether the member is to ask for the next regency, as more than f members do. There is no
+    /// regency after 2^32 - 1.
     #[tactic(auto, unfolding(crate::specs::Synchronizers::is_joining))]
     pub fn is_joining(&self, view: &View) -> bool
         ensures value { result ≡ is_joining view.now self.now }
@@ -216,8 +216,8 @@ impl Synchronizer {
         self.has_next() && !self.stop_made && (view.f() as usize) < self.count_stoppers(view)
     }
 
-    /// Whether the member is to promise the next regency, as 2f+1 members ask for it. There is none
-    /// behind 2^32-1.
+    /// Whether the member is to promise the next regency, as 2f+1 members ask for it. There is no
+    /// regency after 2^32 - 1.
     #[tactic(auto, unfolding(crate::specs::Synchronizers::is_promising))]
     pub fn is_promising(&self, view: &View) -> bool
         ensures value { result ≡ is_promising view.now self.now }
@@ -226,9 +226,9 @@ impl Synchronizer {
         self.has_next() && stop_size(view) <= self.count_stoppers(view)
     }
 
-    /// The reports with which the member is to begin its regency, if it is to: it leads the regency,
-    /// nobody has begun it, and n-f members have reported. They are the first n-f by member,
-    /// ascending; of one member the first that came.
+    /// The collect with which the member is to begin its regency, if it is to: it leads the regency,
+    /// nobody has begun it, and n-f members have reported. It has the first report of each of the
+    /// first n-f members by number. Error: want of memory.
     #[tactic(auto, unfolding(crate::specs::Synchronizers::collecting))]
     pub fn collecting(
         &self,
@@ -244,8 +244,8 @@ impl Synchronizer {
         }
     }
 
-    /// The batch of a digest that binds: that of the first report whose lock has this digest and
-    /// which carries a batch, whosever it is (this project's own rule).
+    /// The batch of a digest that binds: that of the first report whose lock has the digest, and
+    /// which brings a batch, from whichever member (this project's own rule).
     #[tactic(auto, unfolding(crate::specs::Synchronizers::batch_of))]
     pub fn batch_of(&self, view: &View, digest: &Digest32) -> Option<&Batch>
         ensures { option_copied result ≡ batch_of view.now self.now digest.now }
@@ -256,7 +256,7 @@ impl Synchronizer {
         }
     }
 
-    /// The member has adopted the reports with which a regency begins: it takes part in that one.
+    /// Notes that the member has adopted the beginning of a regency, in which it then takes part.
     pub fn adopted(&mut self, regency: Regency)
         ensures { self.new ≡ adopted regency self.old }
     {
@@ -267,14 +267,14 @@ impl Synchronizer {
         self.synced = true;
     }
 
-    /// The member has asked for the next regency.
+    /// Notes that the member has asked for the next regency.
     pub fn stop_made(&mut self)
         ensures { self.new ≡ stopped self.old }
     {
         self.stop_made = true;
     }
 
-    /// The member has promised the next regency, which its leader has to begin.
+    /// Notes that the member has promised the next regency, which its leader has to begin.
     pub fn promised(&mut self)
         requires { self.old.regency + 1 < 2 ^ 32 }
         ensures { self.new ≡ promised self.old }
@@ -285,8 +285,9 @@ impl Synchronizer {
         self.sync_made = false;
     }
 
-    /// The member has promised a later regency, which that one's leader has to begin, unless the
-    /// member adopted its beginning before: a book that is not tidy may have one before the promise.
+    /// Notes that the member has promised a later regency, which its leader has to begin. If the
+    /// member adopted its beginning before, it takes part at once; a book that is not tidy may have
+    /// one before the promise.
     pub fn promised_to(&mut self, regency: Regency, begun: bool)
         ensures { self.new ≡ promised_to regency begun self.old }
     {
@@ -296,15 +297,14 @@ impl Synchronizer {
         self.sync_made = false;
     }
 
-    /// The member has begun its regency.
+    /// Notes that the member has sent its SYNC.
     pub fn sync_made(&mut self)
         ensures { self.new ≡ led self.old }
     {
         self.sync_made = true;
     }
 
-    /// This view is in force from now on, in which nothing is promised. What is of other views is
-    /// dropped.
+    /// Moves to another view, in which nothing is promised. What is of other views is dropped.
     pub fn moved(&mut self, view: &View)
         ensures { self.new ≡ trimmed view.now (moved self.old) }
     {
@@ -332,7 +332,7 @@ impl Synchronizer {
         self.regency.get() < u32::MAX
     }
 
-    /// How many members ask for the regency behind the member's.
+    /// The number of members that ask for the next regency.
     fn count_stoppers(&self, view: &View) -> usize
         requires { has_next self.now ≡ true }
         ensures { result ≡ length (stoppers view.now self.now) }
@@ -350,7 +350,7 @@ impl Synchronizer {
             && collect_size(view) <= self.count_reporters(view)
     }
 
-    /// How many members have reported in the member's regency.
+    /// The number of members that have reported for the member's regency.
     fn count_reporters(&self, view: &View) -> usize
         ensures { result ≡ length (reporters view.now self.now) }
     {
@@ -362,7 +362,7 @@ impl Synchronizer {
         )
     }
 
-    /// The first reports by member, ascending.
+    /// The first reports of members, by number. Error: want of memory.
     fn collect(&self, alloc: Global, view: &View) -> Result<SignedList<Report>, AllocError>
         ensures { IfOk result (λ reports. reports ≡ collect view.now self.now) }
     {
@@ -376,7 +376,7 @@ impl Synchronizer {
         )
     }
 
-    /// The first report with a lock of this digest that carries a batch.
+    /// The first report with a lock of this digest that brings a batch.
     fn bearer(&self, view: &View, digest: &Digest32) -> Option<&Reported>
         ensures { option_copied result ≡ find (bears view.now self.now digest.now) self.now.reports }
     {

@@ -5,9 +5,7 @@ use Rattle.std.specs.Option.{option_to_list}
 use Rattle.smart_base.specs.Lists.{Each}
 use Rattle.smart_statements.specs.Batches.{Batch}
 use Rattle.smart_statements.specs.declared.statement.Request.{Request}
-use Rattle.smart_messages.specs.declared.message.Message.TheVariants.{Ask, Propose, Vote, Reply}
-use Rattle.smart_messages.specs.declared.any.AnyMessage.{AnyMessage}
-use Rattle.smart_messages.specs.declared.any.AnyMessage.TheVariants.{Plain, Change}
+use Rattle.smart_messages.specs.declared.message.Message.{Message}
 use Rattle.smart_service.specs.Services.{Meaning}
 use Rattle.smart_service.specs.Tables.{last_seq, line_for}
 use Rattle.smart_service.specs.declared.table.TableLine.{TableLine}
@@ -20,10 +18,11 @@ use Rattle.node_rules.specs.declared.node.Fired.TheVariants as fires
 use Rattle.node_rules.specs.Deliveries.{delivery_in}
 use Rattle.node_laws.proofs.Delivering.{each_with_line}
 use Rattle.agreement_laws.proofs.Lists.{either}
+use Rattle.node_rules.specs.declared.node.Asked.{Asked}
 
 -- the node that is told
 
-pub replica-noted : {S : Type 0} (n : Node S) (message : AnyMessage) → (noted n message).replica ≡ n.replica
+pub replica-noted : {S : Type 0} (n : Node S) (message : Message) → (noted n message).replica ≡ n.replica
 unfolding noted
 replica-noted n message = refl
 
@@ -34,9 +33,9 @@ unfolding answer_line
 replica-answer_line n None = refl
 replica-answer_line n (Some line) = refl
 
-pub replica-answers_again : {S : Type 0} (n : Node S) (message : AnyMessage) → (answers_again n message).replica ≡ n.replica
+pub replica-answers_again : {S : Type 0} (n : Node S) (asked : Option Asked) → (answers_again n asked).replica ≡ n.replica
 unfolding answers_again
-replica-answers_again n message = replica-answer_line n (answering n message)
+replica-answers_again n asked = replica-answer_line n (answering n asked)
 
 -- it delivers nothing
 pub delivers-answer : (line : Option TableLine) → flat_map delivery_in (fired_if fires.Answered line) ≡ []
@@ -56,15 +55,12 @@ line_for-each P [] client each = tt
 line_for-each P (l ∷ ls) client each = either (λ (found : Option TableLine). ForLine found P) (l.client == client) (Some l) (line_for ls client) each.0 (line_for-each P ls client each.1)
 
 -- so is the line of an answer
-pub answering-each : {S : Type 0} (P : TableLine → Type 0) (n : Node S) (message : AnyMessage) → Each P n.replica.table → ForLine (answering n message) P
+pub answering-each : {S : Type 0} (P : TableLine → Type 0) (n : Node S) (asked : Option Asked) → Each P n.replica.table → ForLine (answering n asked) P
 unfolding answering
-answering-each P n (Plain (Ask q)) each =
-    either (λ (found : Option TableLine). ForLine found P) (q.statement.seq == last_seq n.replica.table q.statement.client) (line_for n.replica.table q.statement.client) None
-    (line_for-each P n.replica.table q.statement.client each) tt
-answering-each P n (Plain (Propose p)) each = tt
-answering-each P n (Plain (Vote b)) each = tt
-answering-each P n (Plain (Reply a)) each = tt
-answering-each P n (Change x) each = tt
+answering-each P n None each = tt
+answering-each P n (Some asked) each =
+    either (λ (found : Option TableLine). ForLine found P) (asked.seq == last_seq n.replica.table asked.client) (line_for n.replica.table asked.client) None
+    (line_for-each P n.replica.table asked.client each) tt
 
 -- the lines of a table
 

@@ -5,7 +5,7 @@ use Rattle.smart_statements.specs.Batches.{Batch}
 use Rattle.smart_statements.specs.declared.statement.Request.{Request}
 use Rattle.smart_statements.specs.declared.statement.Slot.{Slot}
 use Rattle.smart_statements.specs.declared.report.Report.{Report}
-use Rattle.smart_messages.specs.declared.any.AnyMessage.{AnyMessage}
+use Rattle.smart_messages.specs.declared.message.Message.{Message}
 use Rattle.smart_service.specs.declared.table.TableLine.{TableLine}
 use Rattle.vote_book.specs.declared.entry.Accept.{Accept}
 use Rattle.vote_book.specs.declared.entry.Decision.{Decision}
@@ -19,6 +19,7 @@ use Rattle.node_rules.specs.Changes.{asks_next, joining, joins, leading, lead_wi
 use Rattle.node_rules.specs.declared.node.Held.{Held}
 use Rattle.node_laws.proofs.Books.{greatest_push}
 use Rattle.agreement_laws.proofs.Lists.{either}
+use Rattle.node_rules.specs.declared.node.Asked.{Asked}
 
 -- an entry that is no promise and no beginning
 pub record IsQuiet (e : LogEntry) : Type 0 where
@@ -121,11 +122,11 @@ aside-answer_line {S = S} n (Some line) =
     let x : Node S = answer_line n (Some line) in
     record { holds = x.held; slots = n.proposed; stopped = n.stop_made; led = n.sync_made; pressed = n.impatient; told = n.behind; same = refl }
 
-pub aside-answers_again : {S : Type 0} (n : Node S) (message : AnyMessage) → Aside n (answers_again n message)
+pub aside-answers_again : {S : Type 0} (n : Node S) (asked : Option Asked) → Aside n (answers_again n asked)
 unfolding answers_again
-aside-answers_again n message = aside-answer_line n (answering n message)
+aside-answers_again n asked = aside-answer_line n (answering n asked)
 
-pub aside-noted : {S : Type 0} (n : Node S) (message : AnyMessage) → Aside n (noted n message)
+pub aside-noted : {S : Type 0} (n : Node S) (message : Message) → Aside n (noted n message)
 unfolding noted
 aside-noted {S = S} n message =
     let x : Node S = noted n message in

@@ -9,7 +9,7 @@ use Rattle.smart_statements.specs.Spelling.{IsSigner, FitsSigned}
 use Rattle.smart_statements.specs.SignedLists.{FitsOptional}
 use Rattle.smart_statements.specs.Reports.{reports, FitsReport, FitsLockCertificate}
 use Rattle.smart_messages.specs.Regencies.{FitsSync}
-use Rattle.smart_messages.specs.RegencyMessages.{FitsAny}
+use Rattle.smart_messages.specs.Messages.{Fits}
 use Rattle.smart_statements.specs.declared.statement.Ballot.{Ballot}
 use Rattle.smart_statements.specs.declared.statement.VoteKind.TheVariants.{Write, Accept}
 use Rattle.smart_statements.specs.declared.report.LockCertificate.{LockCertificate}
@@ -166,7 +166,7 @@ spelled-rules secret m = record {
   by_decides = λ n is. record { node = fit-decides secret n is.node; book = spelled-decides secret n is.node is.book };
 }
 
-spelled-in_steps : {S : Type 0} (secret : List ℕ) (m : Meaning S) → IsBrief m → KeptInSteps m (λ n. FitBook m secret n) FitsAny
+spelled-in_steps : {S : Type 0} (secret : List ℕ) (m : Meaning S) → IsBrief m → KeptInSteps m (λ n. FitBook m secret n) Fits
 spelled-in_steps secret m brief = record {
   by_rules = spelled-rules secret m;
   by_times = λ n is. record { node = fit-times secret n is.node; book = book-as n.entries (times n).entries (times_same n) is.book };
@@ -179,7 +179,7 @@ spelled-in_steps secret m brief = record {
 -- each event keeps it
 pub spelled-step : {S : Type 0} (secret : List ℕ) (m : Meaning S) → IsBrief m → (n : Node S) (event : NodeEvent) → FitsEvent event → FitBook m secret n → FitBook m secret (step_of m n event).node
 spelled-step secret m brief n event fit is =
-    keeps_step m (λ x. FitBook m secret x) FitsAny n event (spelled-in_steps secret m brief)
+    keeps_step m (λ x. FitBook m secret x) Fits n event (spelled-in_steps secret m brief)
     (λ x count good. record { node = fit-as secret x count x.proposed x.stop_made x.sync_made x.impatient x.behind good.node; book = good.book }) fit is
 
 -- a node begins so

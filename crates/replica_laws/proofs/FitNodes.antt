@@ -18,8 +18,8 @@ use Rattle.smart_statements.specs.Spelling.{FitsSlot, FitsBallot, FitsRequest, I
 use Rattle.smart_statements.specs.SignedLists.{optional, FitsOptional}
 use Rattle.smart_statements.specs.Reports.{reports, votes_of, FitsVote, FitsReport}
 use Rattle.smart_messages.specs.Regencies.{stops, syncs, FitsSync}
-use Rattle.smart_messages.specs.RegencyMessages.{change_spelling, FitsAny, any_decoded}
-use Rattle.smart_messages.proofs.AnyMessages.{decoded_any_is}
+use Rattle.smart_messages.specs.Messages.{spelling, Fits, decoded}
+use Rattle.smart_messages.proofs.Messages.{decoded_is}
 use Rattle.smart_base.specs.Cuts.{IsBytes}
 use Rattle.node_rules.specs.Kept.{node_after}
 use Rattle.smart_statements.specs.declared.statement.Request.{Request}
@@ -31,12 +31,10 @@ use Rattle.smart_statements.specs.declared.report.LockCertificate.{LockCertifica
 use Rattle.smart_statements.specs.declared.report.Report.{Report}
 use Rattle.smart_messages.specs.declared.regency.Sync.{Sync}
 use Rattle.smart_messages.specs.declared.regency.Reported.{Reported}
-use Rattle.smart_messages.specs.declared.regency.RegencyMessage.TheVariants as changes
+use Rattle.smart_messages.specs.declared.message.Message.TheVariants as changes
 use Rattle.smart_messages.specs.declared.message.Message.{Message}
 use Rattle.smart_messages.specs.declared.message.Message.TheVariants.{Ask, Propose, Vote, Reply}
 use Rattle.smart_messages.specs.declared.message.Proposed.{Proposed}
-use Rattle.smart_messages.specs.declared.any.AnyMessage.{AnyMessage}
-use Rattle.smart_messages.specs.declared.any.AnyMessage.TheVariants.{Plain, Change}
 use Rattle.smart_statements.specs.declared.entry.NodeEvent.{NodeEvent}
 use Rattle.smart_statements.specs.declared.entry.NodeEvent.TheVariants.{Arrive, Tick, Deliver, Firm}
 use Rattle.smart_service.specs.Services.{Meaning, Comes, comes_first, comes_next}
@@ -52,11 +50,11 @@ use Rattle.vote_book.specs.declared.entry.LogEntry.TheVariants as entries
 use Rattle.regency_sync.specs.Synchronizers.{Synchronizer, needs_report, is_lock_of, bears, batch_in, batch_of as bound_batch, has_next, is_joining, is_promising, is_report, first_report, is_collecting, collect, collecting}
 use Rattle.replica_rules.specs.Seals.{is_verified, signed, digest_of, is_managers, request_fits}
 use Rattle.replica_rules.specs.Replicas.{is_next, line_of, execute, line_made, lines_of, at_next, delivered, executed_lines}
-use Rattle.node_rules.specs.Votes.{is_vote, has_vote, certificate, Named, vote_in, first_vote, certificate_votes, proposed_in, proposed_for, named_in, named_by, known, decision_by, accepted_under}
+use Rattle.node_rules.specs.Votes.{is_vote, has_vote, certificate, Named, vote_for, first_vote, certificate_votes, proposed_in, proposed_for, named_in, named_by, known, decision_by, accepted_under}
 use Rattle.replica_rules.specs.Pools.{offered, settled, is_within as is_within_limits, filled, batch_of, gathered}
 use Rattle.node_rules.specs.Rules.{reply_of, replying, lines_to_answer, deliver_batch, delivers, batch_under, proposing, propose_batch, proposes, ballot, votable, writing, write_batch, writes, written, accepting, accept_batch, accepts, slot_in, decision_in, decision_ahead, deciding, decide_batch, decides, answering, answer_line, answers_again}
 use Rattle.node_rules.specs.Nodes.{Node, view_of, regency_of, regency_in, greatest_regency, start_of, next_place, open_slot, is_free, is_open, bound_at, synchronizer_of, holding, recording}
-use Rattle.node_rules.specs.Arrivals.{signer_why, view_why, regency_why, bears_lock, is_batch_for, rests_on_marks, is_proven, why_report, why_dropped, kept_plain, kept_change, kept, noted}
+use Rattle.node_rules.specs.Arrivals.{signer_why, view_why, regency_why, bears_lock, is_batch_for, rests_on_marks, is_proven, why_report, why_dropped, kept, noted}
 use Rattle.node_rules.specs.Changes.{start_by_sync, promised_for, adopts_by, is_adoptable, adoption, adopts, stop_for, asks_next, joining, joins, report_of, reported_by, next_promise, promising, promise_next, promises, leading, lead_with, leads, is_pressed, timing, passes_on, presses, times}
 use Rattle.node_rules.specs.Steps.{step_of, released, opened}
 use Rattle.node_rules.specs.declared.node.Why.TheVariants.{NotLeader, BadProof}
@@ -84,6 +82,7 @@ use Rattle.replica_rules.proofs.Places.{views_execute, views_delivered, place_ex
 use Rattle.replica_rules.proofs.Coming.{valid_execute, valid_delivered}
 use Rattle.smart_service.proofs.Coming.{comes_valid}
 use Rattle.node_rules.proofs.Options.{else_none}
+use Rattle.node_rules.specs.declared.node.Asked.{Asked}
 
 -- ---- what has a spelling
 
@@ -93,10 +92,9 @@ FitsSending secret batch = FitsBatch batch × AreVerified secret batch
 
 -- a proposal that was kept: its digest has its length, and its batch may be sent. A vote that was kept
 abbrev pub FitsArrival : List ℕ → Message → Type 0
-FitsArrival secret (Ask q) = Unit {0}
 FitsArrival secret (Propose p) = FitsSending secret p.batch × (length p.head.statement.digest ≡ 32)
 FitsArrival secret (Vote b) = FitsSigned ballots (λ signer. FitsBallot) b
-FitsArrival secret (Reply a) = Unit {0}
+FitsArrival secret _ = Unit {0}
 
 -- a batch that has a spelling, at a place that has one
 abbrev pub FitsAt : ℕ → Batch → Type 0
@@ -214,7 +212,7 @@ fit-as secret n firm slots stopped led pressed told is =
     }
 
 -- a message waits to leave
-fit-holding : {S : Type 0} {m : Meaning S} (secret : List ℕ) (n : Node S) (to : Target) (message : AnyMessage) → IsGood secret message → FitNode m secret n → FitNode m secret (holding n to message)
+fit-holding : {S : Type 0} {m : Meaning S} (secret : List ℕ) (n : Node S) (to : Target) (message : Message) → IsGood secret message → FitNode m secret n → FitNode m secret (holding n to message)
 unfolding regency_of
 fit-holding secret n to message good is =
     record {
@@ -259,9 +257,9 @@ fit-recording : {S : Type 0} {m : Meaning S} (secret : List ℕ) (n : Node S) (e
 fit-recording secret n e quiet fit is = fit-book secret n (e ∷ []) (let low = is.regency in let same = regency-quiet n e quiet in omega (arith, same, low)) (fit, tt) is
 
 -- a reply has a spelling
-line-good : (secret own : List ℕ) (id : ℕ) (line : TableLine) → own ≡ secret → IsSigner 1 id → FitsLine line → IsGood secret (Plain (reply_of own id line))
+line-good : (secret own : List ℕ) (id : ℕ) (line : TableLine) → own ≡ secret → IsSigner 1 id → FitsLine line → IsGood secret (reply_of own id line)
 line-good secret own id line shared named fit =
-    subst (λ (s : List ℕ). IsGood secret (Plain (reply_of s id line))) (sym shared)
+    subst (λ (s : List ℕ). IsGood secret (reply_of s id line)) (sym shared)
     (reply-good secret id (record { view = line.view; place = line.place; index = line.index; client = line.client; seq = line.seq; reply = line.reply }) named
     (record { view_fits = fit.view; place_fits = fit.place; index_fits = fit.index; client_fits = fit.client; seq_fits = fit.seq; reply_fits = fit.reply }))
 
@@ -269,8 +267,8 @@ line-good secret own id line shared named fit =
 fit-replying : {S : Type 0} {m : Meaning S} (secret : List ℕ) (n : Node S) (lines : List TableLine) → Each FitsLine lines → FitNode m secret n → FitNode m secret (replying n lines)
 fit-replying secret n [] each is = is
 fit-replying secret n (l ∷ ls) each is =
-    fit-replying secret (holding n (targets.Client l.client) (Plain (reply_of n.secret n.id l))) ls each.1
-    (fit-holding secret n (targets.Client l.client) (Plain (reply_of n.secret n.id l)) (line-good secret n.secret n.id l is.shared is.named each.0) is)
+    fit-replying secret (holding n (targets.Client l.client) (reply_of n.secret n.id l)) ls each.1
+    (fit-holding secret n (targets.Client l.client) (reply_of n.secret n.id l) (line-good secret n.secret n.id l is.shared is.named each.0) is)
 
 -- ---- arrivals
 
@@ -323,16 +321,16 @@ locked-fits secret place (Some lock) None borne fit = tt
 locked-fits secret place (Some lock) (Some batch) borne fit = (fit, verified_where_valid secret place lock.digest batch borne)
 
 -- a report is no longer than the message that bears it
-head-short : (r : Reported) → length (change_spelling (changes.StopData r)) ≤ 1048576 → length (spells.signed reports r.head) ≤ 1048576
-unfolding change_spelling
+head-short : (r : Reported) → length (spelling (changes.StopData r)) ≤ 1048576 → length (spells.signed reports r.head) ≤ 1048576
+unfolding spelling
 head-short r short =
     let long = length-append (spells.signed reports r.head) (optional batch_text r.batch) in
     omega (arith, short, long)
 
 -- an arrival that is not dropped is kept
-pub fit-kept : {S : Type 0} {m : Meaning S} (secret : List ℕ) (n : Node S) (message : AnyMessage) → why_dropped n message ≡ None → FitsAny message → FitNode m secret n → FitNode m secret (kept n message)
-unfolding kept_plain kept_change regency_of
-fit-kept {S = S} {m = m} secret n (Plain (Ask q)) fine fit is =
+pub fit-kept : {S : Type 0} {m : Meaning S} (secret : List ℕ) (n : Node S) (message : Message) → why_dropped n message ≡ None → Fits message → FitNode m secret n → FitNode m secret (kept n message)
+unfolding kept regency_of
+fit-kept {S = S} {m = m} secret n (Ask q) fine fit is =
     either (λ (x : Node S). FitNode m secret x) (is_next n.replica.table q.statement) (record n { pool = offered n.pool q }) n
     (record {
       named = is.named;
@@ -351,7 +349,7 @@ fit-kept {S = S} {m = m} secret n (Plain (Ask q)) fine fit is =
       held = is.held;
       service = is.service;
     }) is
-fit-kept secret n (Plain (Propose p)) fine fit is =
+fit-kept secret n (Propose p) fine fit is =
     record {
       named = is.named;
       shared = is.shared;
@@ -375,7 +373,7 @@ fit-kept secret n (Plain (Propose p)) fine fit is =
       held = is.held;
       service = is.service;
     }
-fit-kept secret n (Plain (Vote b)) fine fit is =
+fit-kept secret n (Vote b) fine fit is =
     record {
       named = is.named;
       shared = is.shared;
@@ -392,8 +390,8 @@ fit-kept secret n (Plain (Vote b)) fine fit is =
       held = is.held;
       service = is.service;
     }
-fit-kept secret n (Plain (Reply a)) fine fit is = is
-fit-kept secret n (Change (changes.Stop s)) fine fit is =
+fit-kept secret n (Reply a) fine fit is = is
+fit-kept secret n (changes.Stop s) fine fit is =
     record {
       named = is.named;
       shared = is.shared;
@@ -410,7 +408,7 @@ fit-kept secret n (Change (changes.Stop s)) fine fit is =
       held = is.held;
       service = is.service;
     }
-fit-kept secret n (Change (changes.StopData r)) fine fit is =
+fit-kept secret n (changes.StopData r) fine fit is =
     record {
       named = is.named;
       shared = is.shared;
@@ -436,7 +434,7 @@ fit-kept secret n (Change (changes.StopData r)) fine fit is =
       held = is.held;
       service = is.service;
     }
-fit-kept secret n (Change (changes.Sync s)) fine fit is =
+fit-kept secret n (changes.Sync s) fine fit is =
     record {
       named = is.named;
       shared = is.shared;
@@ -455,7 +453,7 @@ fit-kept secret n (Change (changes.Sync s)) fine fit is =
     }
 
 -- a node is told that it is behind
-pub fit-noted : {S : Type 0} {m : Meaning S} (secret : List ℕ) (n : Node S) (message : AnyMessage) → FitNode m secret n → FitNode m secret (noted n message)
+pub fit-noted : {S : Type 0} {m : Meaning S} (secret : List ℕ) (n : Node S) (message : Message) → FitNode m secret n → FitNode m secret (noted n message)
 unfolding noted
 fit-noted secret n message is = fit-as secret n n.firm n.proposed n.stop_made n.sync_made n.impatient _ is
 
@@ -464,11 +462,11 @@ fit-answer_line : {S : Type 0} {m : Meaning S} (secret : List ℕ) (n : Node S) 
 unfolding answer_line
 fit-answer_line secret n None fit is = is
 fit-answer_line secret n (Some line) fit is =
-    fit-holding secret n (targets.Client line.client) (Plain (reply_of n.secret n.id line)) (line-good secret n.secret n.id line is.shared is.named fit) is
+    fit-holding secret n (targets.Client line.client) (reply_of n.secret n.id line) (line-good secret n.secret n.id line is.shared is.named fit) is
 
-pub fit-answers_again : {S : Type 0} {m : Meaning S} (secret : List ℕ) (n : Node S) (message : AnyMessage) → FitNode m secret n → FitNode m secret (answers_again n message)
+pub fit-answers_again : {S : Type 0} {m : Meaning S} (secret : List ℕ) (n : Node S) (asked : Option Asked) → FitNode m secret n → FitNode m secret (answers_again n asked)
 unfolding answers_again
-fit-answers_again secret n message is = fit-answer_line secret n (answering n message) (answering-each FitsLine n message is.lines) is
+fit-answers_again secret n asked is = fit-answer_line secret n (answering n asked) (answering-each FitsLine n asked is.lines) is
 
 -- ---- deliver
 
@@ -603,20 +601,18 @@ vote-fits kind member slot digest b is fit =
       tag_fits = fit.tag_fits;
     }
 
-vote_in-fits : (secret : List ℕ) (kind : VoteKind) (slot : Slot) (digest : List ℕ) (member : ℕ) (m : Message) → FitsArrival secret m
-    → IfSome (vote_in kind slot digest member m) (FitsSigned (votes_of kind) (λ signer. FitsVote kind))
-vote_in-fits secret kind slot digest member (Ask q) fit = tt
-vote_in-fits secret kind slot digest member (Propose p) fit = tt
-vote_in-fits secret kind slot digest member (Vote b) fit =
+vote_for-fits : (secret : List ℕ) (kind : VoteKind) (slot : Slot) (digest : List ℕ) (member : ℕ) (m : Message) → FitsArrival secret m
+    → IfSome (vote_for kind slot digest member m) (FitsSigned (votes_of kind) (λ signer. FitsVote kind))
+vote_for-fits secret kind slot digest member (Vote b) fit =
     if_cond (FitsSigned (votes_of kind) (λ signer. FitsVote kind)) (is_vote kind member slot digest (Vote b)) (Some b) (λ is. vote-fits kind member slot digest b is fit)
-vote_in-fits secret kind slot digest member (Reply a) fit = tt
+vote_for-fits secret kind slot digest member _ fit = tt
 
 first_vote-fits : (secret : List ℕ) (arrivals : List Message) (kind : VoteKind) (slot : Slot) (digest : List ℕ) (member : ℕ) → Each (FitsArrival secret) arrivals
     → IfSome (first_vote arrivals kind slot digest member) (FitsSigned (votes_of kind) (λ signer. FitsVote kind))
 first_vote-fits secret [] kind slot digest member each = tt
 first_vote-fits secret (m ∷ ms) kind slot digest member each =
-    if_or (FitsSigned (votes_of kind) (λ signer. FitsVote kind)) (vote_in kind slot digest member m) (first_vote ms kind slot digest member)
-    (vote_in-fits secret kind slot digest member m each.0) (first_vote-fits secret ms kind slot digest member each.1)
+    if_or (FitsSigned (votes_of kind) (λ signer. FitsVote kind)) (vote_for kind slot digest member m) (first_vote ms kind slot digest member)
+    (vote_for-fits secret kind slot digest member m each.0) (first_vote-fits secret ms kind slot digest member each.1)
 
 pub certificate-fits : (secret : List ℕ) (arrivals : List Message) (view : View) (kind : VoteKind) (slot : Slot) (digest : List ℕ) → is_view view ≡ true → Each (FitsArrival secret) arrivals
     → FitVotes kind (certificate_votes arrivals view kind slot digest)
@@ -644,7 +640,7 @@ asks-fit : {S : Type 0} {m : Meaning S} (secret : List ℕ) (n : Node S) → reg
 asks-fit {S = S} secret n low is =
     let x : Node S = record n { stop_made = true } in
     fit-holding secret x targets.View (stop_for n)
-    (subst (λ (s : List ℕ). IsGood secret (Change (changes.Stop (signed stops s n.id (record { view = (view_of n).number; regency = regency_of n + 1 }))))) (sym is.shared)
+    (subst (λ (s : List ℕ). IsGood secret (changes.Stop (signed stops s n.id (record { view = (view_of n).number; regency = regency_of n + 1 })))) (sym is.shared)
     (stop-good secret n.id (record { view = (view_of n).number; regency = regency_of n + 1 }) is.named (record { view_fits = view-low (view_of n) is.view; regency_fits = low })))
     (fit-as secret n n.firm n.proposed true n.sync_made n.impatient n.behind is)
 
@@ -794,11 +790,11 @@ report_of-fits secret n regency low is = record {
   lock_fits = lock-good secret (lock_of (view_of n).number n.entries) (lock-fits secret (view_of n).number (last_made n.entries + 1) n.entries is.book);
 }
 
-reported_by-good : {S : Type 0} {m : Meaning S} (secret : List ℕ) (n : Node S) (regency : ℕ) → regency < 2 ^ 32 → FitNode m secret n → IsGood secret (Change (changes.StopData (reported_by n regency)))
+reported_by-good : {S : Type 0} {m : Meaning S} (secret : List ℕ) (n : Node S) (regency : ℕ) → regency < 2 ^ 32 → FitNode m secret n → IsGood secret (changes.StopData (reported_by n regency))
 unfolding reported_by
 reported_by-good secret n regency low is =
     let lock = lock_of (view_of n).number n.entries in
-    subst (λ (s : List ℕ). IsGood secret (Change (changes.StopData (record { head = signed reports s n.id (report_of n regency); batch = option_map (λ (a : accept.Accept). a.batch) (lock_of (view_of n).number n.entries) }))))
+    subst (λ (s : List ℕ). IsGood secret (changes.StopData (record { head = signed reports s n.id (report_of n regency); batch = option_map (λ (a : accept.Accept). a.batch) (lock_of (view_of n).number n.entries) })))
     (sym is.shared)
     (report-good secret n.id (report_of n regency) (option_map (λ (a : accept.Accept). a.batch) (lock_of (view_of n).number n.entries)) is.named (report_of-fits secret n regency low is)
     (lock-batch secret (lock_of (view_of n).number n.entries) (lock-fits secret (view_of n).number (last_made n.entries + 1) n.entries is.book)))
@@ -822,7 +818,7 @@ unfolding promise_next
 fit-promise_next {S = S} secret n low is =
     let x : Node S = recording n (entries.Promised (next_promise n)) in
     let y : Node S = record x { stop_made = false; sync_made = false; impatient = true } in
-    fit-holding secret y (targets.Node (leader (view_of n) (regency_of n + 1))) (Change (changes.StopData (reported_by n (regency_of n + 1)))) (reported_by-good secret n (regency_of n + 1) low is)
+    fit-holding secret y (targets.Node (leader (view_of n) (regency_of n + 1))) (changes.StopData (reported_by n (regency_of n + 1))) (reported_by-good secret n (regency_of n + 1) low is)
     (fit-as secret x x.firm x.proposed false false true x.behind (fit-promised secret n low is))
 
 pub fit-promises : {S : Type 0} {m : Meaning S} (secret : List ℕ) (n : Node S) → FitNode m secret n → FitNode m secret (promises n)
@@ -862,8 +858,8 @@ unfolding lead_with
 fit-lead_with secret n None fit is = is
 fit-lead_with {S = S} secret n (Some collected) fit is =
     let x : Node S = record n { sync_made = true } in
-    fit-holding secret x targets.View (Change (changes.Sync (signed syncs n.secret n.id (record { view = (view_of n).number; regency = regency_of n; collect = collected }))))
-    (subst (λ (s : List ℕ). IsGood secret (Change (changes.Sync (signed syncs s n.id (record { view = (view_of n).number; regency = regency_of n; collect = collected }))))) (sym is.shared)
+    fit-holding secret x targets.View (changes.Sync (signed syncs n.secret n.id (record { view = (view_of n).number; regency = regency_of n; collect = collected })))
+    (subst (λ (s : List ℕ). IsGood secret (changes.Sync (signed syncs s n.id (record { view = (view_of n).number; regency = regency_of n; collect = collected })))) (sym is.shared)
     (sync-good secret n.id (record { view = (view_of n).number; regency = regency_of n; collect = collected }) is.named (view-low (view_of n) is.view) is.regency fit.few fit.each))
     (fit-as secret n n.firm n.proposed n.stop_made true n.impatient n.behind is)
 
@@ -874,7 +870,7 @@ fit-leads secret n is = fit-lead_with secret n (leading n) (leading-fits secret 
 -- time passes
 fit-passes_on : {S : Type 0} {m : Meaning S} (secret : List ℕ) (n : Node S) (pool : List (SignedBy Request)) → Each (FitsPool secret) pool → FitNode m secret n → FitNode m secret (passes_on n pool)
 fit-passes_on secret n [] each is = is
-fit-passes_on secret n (q ∷ qs) each is = fit-holding secret n (targets.Node (leader (view_of n) (regency_of n))) (Plain (Ask q)) (ask-good secret q each.0.fits each.0.tagged) is
+fit-passes_on secret n (q ∷ qs) each is = fit-holding secret n (targets.Node (leader (view_of n) (regency_of n))) (Ask q) (ask-good secret q each.0.fits each.0.tagged) is
 
 -- an impatient node asks for the next regency where there is one
 timing-low : {S : Type 0} (n : Node S) (impatient : Bool) → (is_pressed n && (not impatient || nat_lt (regency_of n + 1) (2 ^ 32))) ≡ true → impatient ≡ true → regency_of n + 1 < 2 ^ 32
@@ -988,8 +984,8 @@ fit-propose_batch secret n None fit is = is
 fit-propose_batch {S = S} secret n (Some batch) fit is =
     let x : Node S = record n { proposed = n.proposed ++ open_slot n ∷ [] } in
     fit-holding secret x targets.View
-    (Plain (Propose (record { head = signed proposals n.secret n.id (record { slot = open_slot n; digest = digest_of batch }); batch = batch })))
-    (subst (λ (s : List ℕ). IsGood secret (Plain (Propose (record { head = signed proposals s n.id (record { slot = open_slot n; digest = digest_of batch }); batch = batch })))) (sym is.shared)
+    (Propose (record { head = signed proposals n.secret n.id (record { slot = open_slot n; digest = digest_of batch }); batch = batch }))
+    (subst (λ (s : List ℕ). IsGood secret (Propose (record { head = signed proposals s n.id (record { slot = open_slot n; digest = digest_of batch }); batch = batch }))) (sym is.shared)
     (propose-good secret n.id (record { slot = open_slot n; digest = digest_of batch }) batch is.named
     (record { slot_fits = open-fits secret n is fit.0.1; digest_fits = digest_of-length batch }) fit.0.0 fit.1))
     (fit-as secret n n.firm x.proposed n.stop_made n.sync_made n.impatient n.behind is)
@@ -1001,7 +997,7 @@ fit-proposes secret n is = fit-propose_batch secret n (proposing n) (proposing-f
 -- a vote has a spelling
 ballot-good : {S : Type 0} {m : Meaning S} (secret : List ℕ) (n : Node S) (kind : VoteKind) (digest : List ℕ) → next_place n < 2 ^ 63 → length digest ≡ 32 → FitNode m secret n → IsGood secret (ballot n kind digest)
 ballot-good secret n kind digest low long is =
-    subst (λ (s : List ℕ). IsGood secret (Plain (Vote (signed ballots s n.id (record { kind = kind; slot = open_slot n; digest = digest }))))) (sym is.shared)
+    subst (λ (s : List ℕ). IsGood secret (Vote (signed ballots s n.id (record { kind = kind; slot = open_slot n; digest = digest })))) (sym is.shared)
     (vote-good secret n.id (record { kind = kind; slot = open_slot n; digest = digest }) is.named (record { slot_fits = open-fits secret n is low; digest_fits = long }))
 
 -- a proposal that may get the node's vote
@@ -1012,11 +1008,9 @@ pub record FitsVoted (secret : List ℕ) (place : ℕ) (p : Proposed) : Type 0 w
 
 proposed_in-fits : (secret : List ℕ) (slot : Slot) (message : Message) → FitsArrival secret message
     → IfSome (proposed_in slot message) (λ (p : Proposed). FitsSending secret p.batch × (length p.head.statement.digest ≡ 32))
-proposed_in-fits secret slot (Ask q) fit = tt
 proposed_in-fits secret slot (Propose p) fit =
     if_cond (λ (x : Proposed). FitsSending secret x.batch × (length x.head.statement.digest ≡ 32)) (same_slot p.head.statement.slot slot) (Some p) (λ is. fit)
-proposed_in-fits secret slot (Vote b) fit = tt
-proposed_in-fits secret slot (Reply a) fit = tt
+proposed_in-fits secret slot _ fit = tt
 
 proposed_for-fits : (secret : List ℕ) (slot : Slot) (arrivals : List Message) → Each (FitsArrival secret) arrivals
     → IfSome (proposed_for arrivals slot) (λ (p : Proposed). FitsSending secret p.batch × (length p.head.statement.digest ≡ 32))
@@ -1079,12 +1073,10 @@ fit-accepts secret n is = fit-accept_batch secret n (accepting n) (accepting-fit
 
 -- the batches that a node has for a place
 named_in-fits : (secret : List ℕ) (view place regency : ℕ) (message : Message) → FitsArrival secret message → IfSome (named_in view place regency message) (λ (x : Named). FitsSending secret x.batch)
-named_in-fits secret view place regency (Ask q) fit = tt
 named_in-fits secret view place regency (Propose p) fit =
     let slot : Slot = p.head.statement.slot in
     if_cond (λ (x : Named). FitsSending secret x.batch) (((slot.view == view) && (slot.place == place)) && nat_le regency slot.regency) (Some (record { digest = p.head.statement.digest; batch = p.batch })) (λ is. fit.0)
-named_in-fits secret view place regency (Vote b) fit = tt
-named_in-fits secret view place regency (Reply a) fit = tt
+named_in-fits secret view place regency _ fit = tt
 
 known-fits : (secret : List ℕ) (view place regency : ℕ) (arrivals : List Message) (es : List LogEntry) → Each (FitsArrival secret) arrivals → Each (FitsEntry secret) es
     → Each (λ (x : Named). FitsSending secret x.batch) (known view place regency arrivals es)
@@ -1166,7 +1158,7 @@ fit-rules secret m = record {
   by_decides = λ n is. fit-decides secret n is;
 }
 
-fit-in_steps : {S : Type 0} (secret : List ℕ) (m : Meaning S) → IsBrief m → KeptInSteps m (λ n. FitNode m secret n) FitsAny
+fit-in_steps : {S : Type 0} (secret : List ℕ) (m : Meaning S) → IsBrief m → KeptInSteps m (λ n. FitNode m secret n) Fits
 fit-in_steps secret m brief = record {
   by_rules = fit-rules secret m;
   by_times = λ n is. fit-times secret n is;
@@ -1178,12 +1170,12 @@ fit-in_steps secret m brief = record {
 
 -- what comes has a spelling
 abbrev pub FitsEvent : NodeEvent → Type 0
-FitsEvent event = ForEvent FitsAny event
+FitsEvent event = ForEvent Fits event
 
 -- each event keeps that what a node holds has a spelling
 pub fit-step : {S : Type 0} (secret : List ℕ) (m : Meaning S) → IsBrief m → (n : Node S) (event : NodeEvent) → FitsEvent event → FitNode m secret n → FitNode m secret (step_of m n event).node
 fit-step secret m brief n event fit is =
-    keeps_step m (λ x. FitNode m secret x) FitsAny n event (fit-in_steps secret m brief) (λ x count good. fit-as secret x count x.proposed x.stop_made x.sync_made x.impatient x.behind good) fit is
+    keeps_step m (λ x. FitNode m secret x) Fits n event (fit-in_steps secret m brief) (λ x count good. fit-as secret x count x.proposed x.stop_made x.sync_made x.impatient x.behind good) fit is
 
 -- what is firm has left
 pub fit-released : {S : Type 0} {m : Meaning S} (secret : List ℕ) (n : Node S) → FitNode m secret n → FitNode m secret (released n)
@@ -1230,12 +1222,12 @@ fit-opened secret m id view period named is =
 -- ---- whatever comes
 
 -- bytes that are a message are its spelling
-bytes-fit : (bytes : List ℕ) (read : Result AnyMessage ℕ) → IsBytes bytes → any_decoded bytes ≡ read → ForRead FitsAny read
-bytes-fit bytes (Ok m) are is = (decoded_any_is bytes m are is).0
+bytes-fit : (bytes : List ℕ) (read : Result Message ℕ) → IsBytes bytes → decoded bytes ≡ read → ForRead Fits read
+bytes-fit bytes (Ok m) are is = (decoded_is bytes m are is).0
 bytes-fit bytes (Err at) are is = tt
 
 pub event-fits : (event : NodeEvent) → IsByteEvent event → FitsEvent event
-event-fits (Arrive bytes) are = bytes-fit bytes (any_decoded bytes) are refl
+event-fits (Arrive bytes) are = bytes-fit bytes (decoded bytes) are refl
 event-fits Tick are = tt
 event-fits Deliver are = tt
 event-fits (Firm count) are = tt

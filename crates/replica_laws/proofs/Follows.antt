@@ -5,19 +5,18 @@ use Rattle.std.proofs.lemmas.Grind.{flat_map-append}
 use Rattle.smart_base.specs.Lists.{Each}
 use Rattle.smart_statements.specs.Forms.{SignedBy}
 use Rattle.smart_statements.specs.Batches.{Batch}
-use Rattle.smart_messages.specs.RegencyMessages.{any_decoded}
+use Rattle.smart_messages.specs.Messages.{decoded}
 use Rattle.smart_messages.specs.declared.regency.Sync.{Sync}
-use Rattle.smart_messages.specs.declared.any.AnyMessage.{AnyMessage}
-use Rattle.smart_messages.specs.declared.any.AnyMessage.TheVariants.{Plain}
+use Rattle.smart_messages.specs.declared.message.Message.{Message}
 use Rattle.smart_statements.specs.declared.entry.NodeEvent.{NodeEvent}
 use Rattle.smart_statements.specs.declared.entry.NodeEvent.TheVariants.{Arrive, Tick, Deliver, Firm}
 use Rattle.smart_service.specs.Services.{Meaning}
 use Rattle.smart_service.specs.declared.table.TableLine.{TableLine}
 use Rattle.vote_book.specs.declared.entry.Decision.{Decision}
 use Rattle.vote_book.specs.declared.entry.LogEntry.TheVariants.{Decided}
-use Rattle.replica_rules.specs.Replicas.{delivered}
+use Rattle.replica_rules.specs.Replicas.{delivered, executed_lines}
 use Rattle.replica_rules.specs.Pools.{settled}
-use Rattle.node_rules.specs.Rules.{reply_of, replying, lines_to_answer, deliver_batch, delivers, delivery, proposing, proposes, writing, writes, accepting, deciding, decide_batch, decides, fired_if, answering, answers_again}
+use Rattle.node_rules.specs.Rules.{reply_of, replying, lines_to_answer, deliver_batch, delivers, delivery, proposing, proposes, writing, writes, accepting, deciding, decide_batch, decides, fired_if, answering, answers_again, asked_in}
 use Rattle.node_rules.specs.declared.node.Delivery.{Delivery}
 use Rattle.node_rules.specs.Nodes.{Node, next_place, holding}
 use Rattle.node_rules.specs.Arrivals.{why_dropped, kept, noted}
@@ -37,6 +36,7 @@ use Rattle.replica_laws.proofs.Leaves.{leaves-adopts, leaves-joins, leaves-promi
 use Rattle.node_rules.proofs.Rulewise.{KeptByRules, KeptInSteps, free-event, keeps_step}
 use Rattle.agreement_laws.proofs.Lists.{each_append}
 use Rattle.node_rules.proofs.Entries.{noted_same, answers_again_same, delivers_same, joins_same, leads_same, proposes_same, times_same}
+use Rattle.node_rules.specs.declared.node.Asked.{Asked}
 
 -- the same member's node
 abbrev pub Follows : {S : Type 0} → Node S → Node S → Type 0
@@ -49,7 +49,7 @@ follows-same n = refl
 -- held replies keep its name
 follows-replying : {S : Type 0} (n : Node S) (lines : List TableLine) → Follows n (replying n lines)
 follows-replying n [] = follows-same n
-follows-replying n (l ∷ ls) = follows-replying (holding n (targets.Client l.client) (Plain (reply_of n.secret n.id l))) ls
+follows-replying n (l ∷ ls) = follows-replying (holding n (targets.Client l.client) (reply_of n.secret n.id l)) ls
 
 -- so does a delivery
 follows-deliver_batch : {S : Type 0} (m : Meaning S) (n : Node S) (batch : Option Batch) → Follows n (deliver_batch m n batch)
@@ -156,103 +156,105 @@ unfolding passes decides
 next-passes n = next-after n (votes (turns n)) (passes n) (decided-votes (turns n) ∙ decided-turns n) (next-decide_batch (votes (turns n)) (deciding (votes (turns n))))
 
 -- an answer again decides nothing
-next-answers_again : {S : Type 0} (n x : Node S) (message : AnyMessage) → DecidesNext n x → DecidesNext n (answers_again x message)
-next-answers_again n x message next = next-before n x (answers_again x message) (answers_again_same x message) (leaves-answers_again x message).waits next
+next-answers_again : {S : Type 0} (n x : Node S) (asked : Option Asked) → DecidesNext n x → DecidesNext n (answers_again x asked)
+next-answers_again n x asked next = next-before n x (answers_again x asked) (answers_again_same x asked) (leaves-answers_again x asked).waits next
 
 -- so does an arrival
-next-arrival : {S : Type 0} (n : Node S) (message : AnyMessage) (why : Option Why) → DecidesNext n (arrival_outcome n message why).node
+next-arrival : {S : Type 0} (n : Node S) (message : Message) (why : Option Why) → DecidesNext n (arrival_outcome n message why).node
 next-arrival {S = S} n message None =
     let k : Node S = kept (noted n message) message in
-    next-answers_again n (passes k) message (next-after n k (passes k) (ap decided_of (entries-arrives n message)) (next-passes k))
+    next-answers_again n (passes k) (asked_in message) (next-after n k (passes k) (ap decided_of (entries-arrives n message)) (next-passes k))
 next-arrival n message (Some why) = next-same n (noted n message) (ap decided_of (noted_same n message))
 
 -- so do bytes that come
-next-reading : {S : Type 0} (n : Node S) (read : Result AnyMessage ℕ) → DecidesNext n (reading_outcome n read).node
+next-reading : {S : Type 0} (n : Node S) (read : Result Message ℕ) → DecidesNext n (reading_outcome n read).node
 next-reading n (Ok message) = next-arrival n message (why_dropped n message)
 next-reading n (Err at) = next-same n n refl
 
 -- so does a step
 pub next-step : {S : Type 0} (m : Meaning S) (n : Node S) (event : NodeEvent) → DecidesNext n (step_of m n event).node
 unfolding step_of
-next-step m n (Arrive bytes) = next-reading n (any_decoded bytes)
+next-step m n (Arrive bytes) = next-reading n (decoded bytes)
 next-step m n Tick = next-before n (passes n) (times (passes n)) (times_same (passes n)) (leaves-times (passes n)).waits (next-passes n)
 next-step m n Deliver = next-after n (delivers m n) (passes (delivers m n)) (ap decided_of (delivers_same m n)) (next-passes (delivers m n))
 next-step m n (Firm count) = next-after n (made_firm n count) (passes (made_firm n count)) refl (next-passes (made_firm n count))
 
 -- what a step delivers is the batch that waited, at the next place
 
--- a delivery of the batch that waited at a node
-abbrev pub WasDue : {S : Type 0} → Node S → Delivery → Type 0
-WasDue n d = (n.waiting ≡ Some d.batch) × (d.place ≡ next_place n)
+-- a delivery of the batch that waited at a node, with the number of its requests that are executed
+pub record WasDue {S : Type 0} (m : Meaning S) (n : Node S) (d : Delivery) : Type 0 where
+  pub batch : n.waiting ≡ Some d.batch
+  pub place : d.place ≡ next_place n
+  pub executed : d.executed ≡ length (executed_lines m n.replica d.batch)
 
 -- fired rules that deliver no other
-abbrev AllDue : {S : Type 0} → Node S → List Fired → Type 0
-AllDue n fired = Each (WasDue n) (flat_map delivery_in fired)
+abbrev AllDue : {S : Type 0} → Meaning S → Node S → List Fired → Type 0
+AllDue m n fired = Each (WasDue m n) (flat_map delivery_in fired)
 
 -- rules that fire one after the other
-due-append : {S : Type 0} (n : Node S) (xs ys : List Fired) → AllDue n xs → AllDue n ys → AllDue n (xs ++ ys)
-due-append n xs ys dx dy = rw flat_map-append (each_append (WasDue n) (flat_map delivery_in xs) (flat_map delivery_in ys) dx dy)
+due-append : {S : Type 0} (m : Meaning S) (n : Node S) (xs ys : List Fired) → AllDue m n xs → AllDue m n ys → AllDue m n (xs ++ ys)
+due-append m n xs ys dx dy = rw flat_map-append (each_append (WasDue m n) (flat_map delivery_in xs) (flat_map delivery_in ys) dx dy)
 
 -- a rule that delivers nothing
-due-if : {S A : Type 0} (n : Node S) (rule : Fired) (x : Option A) → delivery_in rule ≡ [] → AllDue n (fired_if rule x)
-due-if n rule None none = tt
-due-if n rule (Some x) none = rw none tt
+due-if : {S A : Type 0} (m : Meaning S) (n : Node S) (rule : Fired) (x : Option A) → delivery_in rule ≡ [] → AllDue m n (fired_if rule x)
+due-if m n rule None none = tt
+due-if m n rule (Some x) none = rw none tt
 
-due-when : {S : Type 0} (n : Node S) (rule : Fired) (b : Bool) → delivery_in rule ≡ [] → AllDue n (fired_when rule b)
-due-when n rule true none = rw none tt
-due-when n rule false none = tt
+due-when : {S : Type 0} (m : Meaning S) (n : Node S) (rule : Fired) (b : Bool) → delivery_in rule ≡ [] → AllDue m n (fired_when rule b)
+due-when m n rule true none = rw none tt
+due-when m n rule false none = tt
 
-due-adopt : {S : Type 0} (n : Node S) (sync : Option (SignedBy Sync)) → AllDue n (fired_adopt sync)
-due-adopt n None = tt
-due-adopt n (Some sync) = tt
+due-adopt : {S : Type 0} (m : Meaning S) (n : Node S) (sync : Option (SignedBy Sync)) → AllDue m n (fired_adopt sync)
+due-adopt m n None = tt
+due-adopt m n (Some sync) = tt
 
 -- changes of the regency deliver nothing
-due-turns : {S : Type 0} (n x : Node S) → AllDue n (fired_turns x)
+due-turns : {S : Type 0} (m : Meaning S) (n x : Node S) → AllDue m n (fired_turns x)
 unfolding fired_turns
-due-turns n x =
-    due-append n (fired_adopt (adoption x)) _ (due-adopt n (adoption x))
-    (due-append n (fired_when fires.Joined (joining (adopts x))) _ (due-when n fires.Joined (joining (adopts x)) refl)
-    (due-append n (fired_when (fires.Promised (next_promise (joins (adopts x)))) (promising (joins (adopts x)))) _
-    (due-when n (fires.Promised (next_promise (joins (adopts x)))) (promising (joins (adopts x))) refl)
-    (due-if n fires.Led (leading (promises (joins (adopts x)))) refl)))
+due-turns m n x =
+    due-append m n (fired_adopt (adoption x)) _ (due-adopt m n (adoption x))
+    (due-append m n (fired_when fires.Joined (joining (adopts x))) _ (due-when m n fires.Joined (joining (adopts x)) refl)
+    (due-append m n (fired_when (fires.Promised (next_promise (joins (adopts x)))) (promising (joins (adopts x)))) _
+    (due-when m n (fires.Promised (next_promise (joins (adopts x)))) (promising (joins (adopts x))) refl)
+    (due-if m n fires.Led (leading (promises (joins (adopts x)))) refl)))
 
 -- nor do votes
-due-votes : {S : Type 0} (n x : Node S) → AllDue n (fired_votes x)
+due-votes : {S : Type 0} (m : Meaning S) (n x : Node S) → AllDue m n (fired_votes x)
 unfolding fired_votes
-due-votes n x =
-    due-append n (fired_if fires.Proposed (proposing x)) _ (due-if n fires.Proposed (proposing x) refl)
-    (due-append n (fired_if fires.Wrote (writing (proposes x))) _ (due-if n fires.Wrote (writing (proposes x)) refl) (due-if n fires.Accepted (accepting (writes (proposes x))) refl))
+due-votes m n x =
+    due-append m n (fired_if fires.Proposed (proposing x)) _ (due-if m n fires.Proposed (proposing x) refl)
+    (due-append m n (fired_if fires.Wrote (writing (proposes x))) _ (due-if m n fires.Wrote (writing (proposes x)) refl) (due-if m n fires.Accepted (accepting (writes (proposes x))) refl))
 
 -- a pass delivers nothing
-pub due-pass : {S : Type 0} (n x : Node S) → AllDue n (fired_pass x)
+pub due-pass : {S : Type 0} (m : Meaning S) (n x : Node S) → AllDue m n (fired_pass x)
 unfolding fired_pass
-due-pass n x =
-    due-append n (fired_turns x) _ (due-turns n x)
-    (due-append n (fired_votes (turns x)) _ (due-votes n (turns x))
-    (due-if n (fires.Decided (next_place (votes (turns x)))) (deciding (votes (turns x))) refl))
+due-pass m n x =
+    due-append m n (fired_turns x) _ (due-turns m n x)
+    (due-append m n (fired_votes (turns x)) _ (due-votes m n (turns x))
+    (due-if m n (fires.Decided (next_place (votes (turns x)))) (deciding (votes (turns x))) refl))
 
 -- an arrival delivers nothing
-due-arrival : {S : Type 0} (n : Node S) (message : AnyMessage) (why : Option Why) → AllDue n (arrival_outcome n message why).fired
-due-arrival {S = S} n message None =
+due-arrival : {S : Type 0} (m : Meaning S) (n : Node S) (message : Message) (why : Option Why) → AllDue m n (arrival_outcome n message why).fired
+due-arrival {S = S} m n message None =
     let k : Node S = kept (noted n message) message in
-    due-append n (fired_pass k) (fired_if fires.Answered (answering (passes k) message)) (due-pass n k) (due-if n fires.Answered (answering (passes k) message) refl)
-due-arrival n message (Some why) = tt
+    due-append m n (fired_pass k) (fired_if fires.Answered (answering (passes k) (asked_in message))) (due-pass m n k) (due-if m n fires.Answered (answering (passes k) (asked_in message)) refl)
+due-arrival m n message (Some why) = tt
 
 -- nor do bytes that come
-due-reading : {S : Type 0} (n : Node S) (read : Result AnyMessage ℕ) → AllDue n (reading_outcome n read).fired
-due-reading n (Ok message) = due-arrival n message (why_dropped n message)
-due-reading n (Err at) = tt
+due-reading : {S : Type 0} (m : Meaning S) (n : Node S) (read : Result Message ℕ) → AllDue m n (reading_outcome n read).fired
+due-reading m n (Ok message) = due-arrival m n message (why_dropped n message)
+due-reading m n (Err at) = tt
 
 -- a delivery delivers what waited
-due-delivery : {S : Type 0} (m : Meaning S) (n : Node S) (batch : Option Batch) → n.waiting ≡ batch → AllDue n (delivery m n batch)
+due-delivery : {S : Type 0} (m : Meaning S) (n : Node S) (batch : Option Batch) → n.waiting ≡ batch → AllDue m n (delivery m n batch)
 unfolding delivery
 due-delivery m n None at = tt
-due-delivery m n (Some batch) at = ((at, refl), tt)
+due-delivery m n (Some batch) at = (record { batch = at; place = refl; executed = refl }, tt)
 
 -- a step delivers what waited at most
-pub due-step : {S : Type 0} (m : Meaning S) (n : Node S) (event : NodeEvent) → Each (WasDue n) (flat_map delivery_in (step_of m n event).fired)
+pub due-step : {S : Type 0} (m : Meaning S) (n : Node S) (event : NodeEvent) → Each (WasDue m n) (flat_map delivery_in (step_of m n event).fired)
 unfolding step_of
-due-step m n (Arrive bytes) = due-reading n (any_decoded bytes)
-due-step m n Tick = due-append n (fired_pass n) (fired_when fires.Timed (timing (passes n))) (due-pass n n) (due-when n fires.Timed (timing (passes n)) refl)
-due-step m n Deliver = due-append n (delivery m n n.waiting) (fired_pass (delivers m n)) (due-delivery m n n.waiting refl) (due-pass n (delivers m n))
-due-step m n (Firm count) = due-pass n (made_firm n count)
+due-step m n (Arrive bytes) = due-reading m n (decoded bytes)
+due-step m n Tick = due-append m n (fired_pass n) (fired_when fires.Timed (timing (passes n))) (due-pass m n n) (due-when m n fires.Timed (timing (passes n)) refl)
+due-step m n Deliver = due-append m n (delivery m n n.waiting) (fired_pass (delivers m n)) (due-delivery m n n.waiting refl) (due-pass m n (delivers m n))
+due-step m n (Firm count) = due-pass m n (made_firm n count)

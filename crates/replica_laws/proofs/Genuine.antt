@@ -9,7 +9,7 @@ use Rattle.smart_keys.proofs.Tags.{tag_of-length, is_tag-tag_of}
 use Rattle.smart_statements.specs.Forms.{Form, SignedBy, party_of}
 use Rattle.smart_statements.specs.Kinds.{requests, proposals, ballots, answers}
 use Rattle.smart_statements.specs.Batches.{Batch, batch_text, FitsBatch}
-use Rattle.smart_messages.specs.Messages.{spelling, Fits}
+use Rattle.smart_messages.specs.Messages.{spelling, FitsContent}
 use Rattle.smart_statements.specs.Spelling as spells
 use Rattle.smart_statements.specs.Spelling.{FitsProposal, FitsBallot, FitsAnswer, FitsRequest, IsSigner, FitsSigned}
 use Rattle.smart_statements.specs.Statements.{proposal_small, ballot_small, answer_small}
@@ -19,8 +19,7 @@ use Rattle.smart_statements.specs.Reports.{reports, votes_of, FitsVote, FitsRepo
 use Rattle.smart_messages.specs.Regencies as spells_change
 use Rattle.smart_messages.specs.Regencies.{stops, syncs, FitsStop, FitsSync}
 use Rattle.smart_messages.specs.RegencyLaws.{stop_small}
-use Rattle.smart_messages.specs.RegencyMessages.{change_spelling, FitsChangeContent, FitsChange}
-use Rattle.smart_messages.proofs.AnyMessages.{any_spelling_is}
+use Rattle.smart_messages.proofs.Messages.{spelling_is}
 use Rattle.smart_statements.specs.declared.statement.Request.{Request}
 use Rattle.smart_statements.specs.declared.statement.Proposal.{Proposal}
 use Rattle.smart_statements.specs.declared.statement.Ballot.{Ballot}
@@ -33,44 +32,26 @@ use Rattle.smart_statements.specs.declared.report.LockCertificate.{LockCertifica
 use Rattle.smart_statements.specs.declared.report.Report.{Report}
 use Rattle.smart_messages.specs.declared.regency.Stop.{Stop}
 use Rattle.smart_messages.specs.declared.regency.Sync.{Sync}
-use Rattle.smart_messages.specs.declared.regency.RegencyMessage.TheVariants as changes
+use Rattle.smart_messages.specs.declared.message.Message.TheVariants as changes
 use Rattle.smart_messages.specs.declared.message.Message.TheVariants.{Ask, Propose, Vote, Reply}
-use Rattle.smart_messages.specs.declared.any.AnyMessage.{AnyMessage}
-use Rattle.smart_messages.specs.declared.any.AnyMessage.TheVariants.{Plain, Change}
+use Rattle.smart_messages.specs.declared.message.Message.{Message}
 use Rattle.replica_rules.specs.Seals.{signed, is_verified, digest_of}
-use Rattle.replica_laws.specs.Sending.{all_tagged, is_tagged, IsTerse, IsReadBack, IsGenuine}
+use Rattle.replica_laws.specs.Sending.{all_tagged, is_tagged, IsTerse, AreTerse, IsGenuine}
 use Rattle.smart_base.proofs.SameLists.{and_true}
 use Rattle.std.proofs.lemmas.Bool.{and_from}
 
--- it has a spelling. Of the beginning of a regency all parts have one
-abbrev pub FitsHeld : AnyMessage → Type 0
-FitsHeld (Plain m) = Fits m
-FitsHeld (Change (changes.Stop s)) = FitsChange (changes.Stop s)
-FitsHeld (Change (changes.StopData r)) = FitsChange (changes.StopData r)
-FitsHeld (Change (changes.Sync s)) = FitsChangeContent (changes.Sync s)
-
--- and that has a spelling itself where the reports in it bear no idle evidence
-abbrev pub FitsTerse : AnyMessage → Type 0
-FitsTerse (Plain m) = Unit {0}
-FitsTerse (Change (changes.Stop s)) = Unit {0}
-FitsTerse (Change (changes.StopData r)) = Unit {0}
-FitsTerse (Change (changes.Sync s)) = Each (λ r. IsTerse r.statement) s.statement.collect → length (change_spelling (changes.Sync s)) ≤ 1048576
-
--- it has a spelling, and each statement in it bears its signer's tag
-pub record IsGood (secret : List ℕ) (message : AnyMessage) : Type 0 where
-  pub fits : FitsHeld message
-  pub terse : FitsTerse message
+-- its parts have spellings, and it has one itself where the reports in it bear no idle evidence. Each statement in it bears its signer's tag
+pub record IsGood (secret : List ℕ) (message : Message) : Type 0 where
+  pub fits : FitsContent message
+  pub short : AreTerse message → length (spelling message) ≤ 1048576
   pub tagged : is_tagged secret message ≡ true
 
 -- so it is read as itself
-read-back : (x : AnyMessage) → FitsHeld x → FitsTerse x → IsReadBack x
-read-back (Plain m) fits terse = any_spelling_is (Plain m) fits
-read-back (Change (changes.Stop s)) fits terse = any_spelling_is (Change (changes.Stop s)) fits
-read-back (Change (changes.StopData r)) fits terse = any_spelling_is (Change (changes.StopData r)) fits
-read-back (Change (changes.Sync s)) fits terse = λ each. any_spelling_is (Change (changes.Sync s)) (record { content_fits = fits; bytes_fit = terse each })
-
-pub good-genuine : (secret : List ℕ) (x : AnyMessage) → IsGood secret x → IsGenuine secret x
-good-genuine secret x is = record { read = read-back x is.fits is.terse; tagged = is.tagged }
+pub good-genuine : (secret : List ℕ) (x : Message) → IsGood secret x → IsGenuine secret x
+good-genuine secret x is = record {
+  read = λ terse. spelling_is x (record { content_fits = is.fits; bytes_fit = is.short terse });
+  tagged = is.tagged;
+}
 
 -- what is signed is verified
 pub signed-verified : {A : Type 0} (form : Form A) (secret : List ℕ) (signer : ℕ) (s : A) → is_verified form secret (signed form secret signer s) ≡ true
@@ -97,40 +78,34 @@ tag-length : {A : Type 0} (form : Form A) (secret : List ℕ) (signer : ℕ) (s 
 tag-length form secret signer s = omega (arith, signed-length form (signed form secret signer s), tag_of-length secret (party_of form.kind signer) (form.spell s))
 
 -- a client's request, as it came
-pub ask-good : (secret : List ℕ) (q : SignedBy Request) → FitsSigned requests FitsRequest q → is_verified requests secret q ≡ true → IsGood secret (Plain (Ask q))
+pub ask-good : (secret : List ℕ) (q : SignedBy Request) → FitsSigned requests FitsRequest q → is_verified requests secret q ≡ true → IsGood secret (Ask q)
 unfolding spelling
 ask-good secret q fit tagged =
     let long = signed-length requests q in
     let text : length (spells.request q.statement) ≡ 23 + length q.statement.op = omega arith in
-    record { fits = record { content_fits = fit; bytes_fit = omega (arith, long, text, fit.statement_fits.op_fits, fit.tag_fits) }; terse = tt; tagged = tagged }
+    record { fits = fit; short = λ terse. omega (arith, long, text, fit.statement_fits.op_fits, fit.tag_fits); tagged = tagged }
 
 -- a member's vote
-pub vote-good : (secret : List ℕ) (id : ℕ) (b : Ballot) → IsSigner 1 id → FitsBallot b → IsGood secret (Plain (Vote (signed ballots secret id b)))
+pub vote-good : (secret : List ℕ) (id : ℕ) (b : Ballot) → IsSigner 1 id → FitsBallot b → IsGood secret (Vote (signed ballots secret id b))
 unfolding spelling
 vote-good secret id b named fit =
     let long = tag-length ballots secret id b in
     let text : length (spells.ballot b) ≡ 17 + length b.digest = omega arith in
     record {
-      fits = record {
-        content_fits = signed-fits ballots (λ signer. FitsBallot) secret id b named fit (ballot_small b fit.digest_fits);
-        bytes_fit = omega (arith, long, text, fit.digest_fits);
-      };
-      terse = tt;
+      fits = signed-fits ballots (λ signer. FitsBallot) secret id b named fit (ballot_small b fit.digest_fits);
+      short = λ terse. omega (arith, long, text, fit.digest_fits);
       tagged = signed-verified ballots secret id b;
     }
 
 -- a member's reply
-pub reply-good : (secret : List ℕ) (id : ℕ) (a : Answer) → IsSigner 1 id → FitsAnswer a → IsGood secret (Plain (Reply (signed answers secret id a)))
+pub reply-good : (secret : List ℕ) (id : ℕ) (a : Answer) → IsSigner 1 id → FitsAnswer a → IsGood secret (Reply (signed answers secret id a))
 unfolding spelling
 reply-good secret id a named fit =
     let long = tag-length answers secret id a in
     let text : length (spells.answer a) ≡ 29 + length a.reply = omega arith in
     record {
-      fits = record {
-        content_fits = signed-fits answers (λ signer. FitsAnswer) secret id a named fit (answer_small a fit.reply_fits);
-        bytes_fit = omega (arith, long, text, fit.reply_fits);
-      };
-      terse = tt;
+      fits = signed-fits answers (λ signer. FitsAnswer) secret id a named fit (answer_small a fit.reply_fits);
+      short = λ terse. omega (arith, long, text, fit.reply_fits);
       tagged = signed-verified answers secret id a;
     }
 
@@ -140,17 +115,14 @@ AreVerified secret batch = list_all (λ q. is_verified requests secret q) batch 
 
 -- a leader's proposal
 pub propose-good : (secret : List ℕ) (id : ℕ) (p : Proposal) (batch : Batch) → IsSigner 1 id → FitsProposal p → FitsBatch batch → AreVerified secret batch
-    → IsGood secret (Plain (Propose (record { head = signed proposals secret id p; batch = batch })))
+    → IsGood secret (Propose (record { head = signed proposals secret id p; batch = batch }))
 unfolding spelling
 propose-good secret id p batch named fit all tagged =
     let long = tag-length proposals secret id p in
     let text : length (spells.proposal p) ≡ 17 + length p.digest = omega arith in
     record {
-      fits = record {
-        content_fits = (signed-fits proposals (λ signer. FitsProposal) secret id p named fit (proposal_small p fit.digest_fits), all);
-        bytes_fit = omega (arith, long, text, fit.digest_fits, all.bytes_fit, length-append (spells.signed proposals (signed proposals secret id p)) (batch_text batch));
-      };
-      terse = tt;
+      fits = (signed-fits proposals (λ signer. FitsProposal) secret id p named fit (proposal_small p fit.digest_fits), all);
+      short = λ terse. omega (arith, long, text, fit.digest_fits, all.bytes_fit, length-append (spells.signed proposals (signed proposals secret id p)) (batch_text batch));
       tagged = and_from (is_verified proposals secret (signed proposals secret id p)) (list_all (λ q. is_verified requests secret q) batch)
           (signed-verified proposals secret id p) tagged;
     }
@@ -190,14 +162,14 @@ longer-verified secret (r ∷ rs) q are tagged =
 -- ---- changes of the regency
 
 -- a member's wish for a regency
-pub stop-good : (secret : List ℕ) (id : ℕ) (s : Stop) → IsSigner 1 id → FitsStop s → IsGood secret (Change (changes.Stop (signed stops secret id s)))
-unfolding change_spelling
+pub stop-good : (secret : List ℕ) (id : ℕ) (s : Stop) → IsSigner 1 id → FitsStop s → IsGood secret (changes.Stop (signed stops secret id s))
+unfolding spelling
 stop-good secret id s named fit =
     let long = tag-length stops secret id s in
     let text : length (spells_change.stop s) ≡ 9 = omega arith in
     record {
-      fits = record { content_fits = signed-fits stops (λ signer. FitsStop) secret id s named fit (stop_small s); bytes_fit = omega (arith, long, text) };
-      terse = tt;
+      fits = signed-fits stops (λ signer. FitsStop) secret id s named fit (stop_small s);
+      short = λ terse. omega (arith, long, text);
       tagged = signed-verified stops secret id s;
     }
 
@@ -311,19 +283,16 @@ some-length secret (Some batch) fit = let short = fit.0.bytes_fit in omega (arit
 
 -- a member's report to a leader, with the batch of its lock
 pub report-good : (secret : List ℕ) (id : ℕ) (s : Report) (batch : Option Batch) → IsSigner 1 id → FitReport s → FitsSome secret batch
-    → IsGood secret (Change (changes.StopData (record { head = signed reports secret id s; batch = batch })))
-unfolding change_spelling
+    → IsGood secret (changes.StopData (record { head = signed reports secret id s; batch = batch }))
+unfolding spelling
 report-good secret id s batch named fit some =
     let long = tag-length reports secret id s in
     let text = report-length s fit in
     let short = some-length secret batch some in
     let both = length-append (spells.signed reports (signed reports secret id s)) (optional batch_text batch) in
     record {
-      fits = record {
-        content_fits = (signed-fits reports (λ signer. FitsReport) secret id s named (report-fits s fit) (omega (arith, text)), some-fits secret batch some);
-        bytes_fit = omega (arith, long, text, short, both);
-      };
-      terse = tt;
+      fits = (signed-fits reports (λ signer. FitsReport) secret id s named (report-fits s fit) (omega (arith, text)), some-fits secret batch some);
+      short = λ terse. omega (arith, long, text, short, both);
       tagged = and_from (is_verified reports secret (signed reports secret id s)) (all_tagged secret batch) (signed-verified reports secret id s) (some-tagged secret batch some);
     }
 
@@ -359,18 +328,18 @@ terse-text secret (r ∷ rs) each terse =
     omega (arith, one, rest, long)
 
 sync-short : (secret : List ℕ) (id : ℕ) (s : Sync) → length s.collect ≤ 31 → length (flat_map (spells.signed reports) s.collect) ≤ 5720 * length s.collect
-    → length (change_spelling (changes.Sync (signed syncs secret id s))) ≤ 1048576
-unfolding change_spelling
+    → length (spelling (changes.Sync (signed syncs secret id s))) ≤ 1048576
+unfolding spelling
 sync-short secret id s few text = let long = tag-length syncs secret id s in omega (arith, long, few, text)
 
 -- the beginning of a regency, with the reports of few members: all its parts have a spelling
 pub sync-good : (secret : List ℕ) (id : ℕ) (s : Sync) → IsSigner 1 id → s.view < 2 ^ 32 → s.regency < 2 ^ 32 → length s.collect ≤ 31 → Each (FitsCollected secret) s.collect
-    → IsGood secret (Change (changes.Sync (signed syncs secret id s)))
+    → IsGood secret (changes.Sync (signed syncs secret id s))
 sync-good secret id s named view regency few each =
     let text = collect-text secret s.collect each in
     record {
       fits = signed-fits syncs (λ signer. FitsSync) secret id s named
           (record { view_fits = view; regency_fits = regency; collect_fits = (omega (arith, few), collect-fits secret s.collect each) }) (omega (arith, text, few));
-      terse = λ terse. sync-short secret id s few (terse-text secret s.collect each terse);
+      short = λ terse. sync-short secret id s few (terse-text secret s.collect each terse);
       tagged = and_from (is_verified syncs secret (signed syncs secret id s)) (list_all (λ r. is_verified reports secret r) s.collect) (signed-verified syncs secret id s) (collect-tagged secret s.collect each);
     }

@@ -5,8 +5,7 @@ use Rattle.std.specs.Prelude.{slice_get}
 use Rattle.smart_base.specs.Views.{View}
 use Rattle.smart_statements.specs.Batches.{Batch}
 use Rattle.smart_messages.specs.declared.message.Proposed.{Proposed}
-use Rattle.smart_messages.specs.declared.any.AnyMessage.{AnyMessage}
-use Rattle.smart_messages.specs.declared.any.AnyMessage.TheVariants.{Plain}
+use Rattle.smart_messages.specs.declared.message.Message.{Message}
 use Rattle.smart_statements.specs.declared.entry.NodeEvent.{NodeEvent}
 use Rattle.smart_service.specs.Services.{Meaning}
 use Rattle.smart_service.specs.declared.table.TableLine.{TableLine}
@@ -110,7 +109,7 @@ decided-accepts n = decided-accept_batch n (accepting n)
 in_order-replying : {S : Type 0} (m : Meaning S) (view : View) (n : Node S) (lines : List TableLine) → DeliversInOrder m view n → DeliversInOrder m view (replying n lines)
 in_order-replying m view n [] d = d
 in_order-replying m view n (l ∷ ls) d =
-    in_order-replying m view (holding n (targets.Client l.client) (Plain (reply_of n.secret n.id l))) ls (record { replica = d.replica; waiting = d.waiting; count = d.count })
+    in_order-replying m view (holding n (targets.Client l.client) (reply_of n.secret n.id l)) ls (record { replica = d.replica; waiting = d.waiting; count = d.count })
 
 -- delivery takes the batch that waits
 in_order-deliver_batch : {S : Type 0} (m : Meaning S) (view : View) (n : Node S) (batch : Option Batch) → n.waiting ≡ batch → DeliversInOrder m view n → DeliversInOrder m view (deliver_batch m n batch)
@@ -156,11 +155,11 @@ unfolding decides
 in_order-decides m view n d = in_order-decide_batch m view n (deciding n) (decides_free n) d
 
 -- an arrival that is kept
-pub in_order-kept : {S : Type 0} (m : Meaning S) (view : View) (n : Node S) (message : AnyMessage) → DeliversInOrder m view n → DeliversInOrder m view (kept n message)
+pub in_order-kept : {S : Type 0} (m : Meaning S) (view : View) (n : Node S) (message : Message) → DeliversInOrder m view n → DeliversInOrder m view (kept n message)
 in_order-kept m view n message d = in_order_as m view n (kept n message) (leaves-kept n message) (decided_as n (kept n message) (kept_same n message)) d
 
 -- a node that is told that it is behind
-pub in_order-noted : {S : Type 0} (m : Meaning S) (view : View) (n : Node S) (message : AnyMessage) → DeliversInOrder m view n → DeliversInOrder m view (noted n message)
+pub in_order-noted : {S : Type 0} (m : Meaning S) (view : View) (n : Node S) (message : Message) → DeliversInOrder m view n → DeliversInOrder m view (noted n message)
 in_order-noted m view n message d = in_order_as m view n (noted n message) (leaves-noted n message) (decided_as n (noted n message) (noted_same n message)) d
 
 pub in_order-rules : {S : Type 0} (m : Meaning S) (view : View) → KeptByRules (λ (n : Node S). DeliversInOrder m view n)

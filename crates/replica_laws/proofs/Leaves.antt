@@ -5,19 +5,18 @@ use Rattle.smart_statements.specs.Batches.{Batch}
 use Rattle.smart_statements.specs.declared.statement.Request.{Request}
 use Rattle.smart_statements.specs.declared.report.Report.{Report}
 use Rattle.smart_messages.specs.declared.regency.Sync.{Sync}
-use Rattle.smart_messages.specs.declared.regency.RegencyMessage.TheVariants as changes
-use Rattle.smart_messages.specs.declared.message.Message.TheVariants.{Ask, Propose, Vote, Reply}
+use Rattle.smart_messages.specs.declared.message.Message.TheVariants.{Ask, Reply}
 use Rattle.smart_messages.specs.declared.message.Proposed.{Proposed}
-use Rattle.smart_messages.specs.declared.any.AnyMessage.{AnyMessage}
-use Rattle.smart_messages.specs.declared.any.AnyMessage.TheVariants.{Plain, Change}
+use Rattle.smart_messages.specs.declared.message.Message.{Message}
 use Rattle.smart_service.specs.declared.table.TableLine.{TableLine}
 use Rattle.replica_rules.specs.Replicas.{is_next}
 use Rattle.replica_rules.specs.Pools.{offered}
 use Rattle.node_rules.specs.Nodes.{Node}
-use Rattle.node_rules.specs.Arrivals.{kept_plain, kept_change, kept, noted}
+use Rattle.node_rules.specs.Arrivals.{kept, noted}
 use Rattle.node_rules.specs.Rules.{proposing, propose_batch, proposes, writing, write_batch, writes, accepting, accept_batch, accepts, answering, answer_line, answers_again}
 use Rattle.node_rules.specs.Changes.{adopts_by, adoption, adopts, asks_next, joining, joins, promising, promise_next, promises, leading, lead_with, leads, timing, passes_on, presses, times}
 use Rattle.agreement_laws.proofs.Lists.{either}
+use Rattle.node_rules.specs.declared.node.Asked.{Asked}
 
 -- a node with the same name and secret, of which as much was restored and is firm, and with the same replica and the same batch that waits
 pub record Leaves {S : Type 0} (n n' : Node S) : Type 0 where
@@ -105,22 +104,18 @@ unfolding answer_line
 leaves-answer_line n None = leaves-same n
 leaves-answer_line n (Some line) = record { named = refl; shared = refl; restored_is = refl; firm_is = refl; replica_is = refl; waits = refl }
 
-pub leaves-answers_again : {S : Type 0} (n : Node S) (message : AnyMessage) → Leaves n (answers_again n message)
+pub leaves-answers_again : {S : Type 0} (n : Node S) (asked : Option Asked) → Leaves n (answers_again n asked)
 unfolding answers_again
-leaves-answers_again n message = leaves-answer_line n (answering n message)
+leaves-answers_again n asked = leaves-answer_line n (answering n asked)
 
-pub leaves-noted : {S : Type 0} (n : Node S) (message : AnyMessage) → Leaves n (noted n message)
+pub leaves-noted : {S : Type 0} (n : Node S) (message : Message) → Leaves n (noted n message)
 unfolding noted
 leaves-noted n message = record { named = refl; shared = refl; restored_is = refl; firm_is = refl; replica_is = refl; waits = refl }
 
-pub leaves-kept : {S : Type 0} (n : Node S) (message : AnyMessage) → Leaves n (kept n message)
-unfolding kept_plain kept_change
-leaves-kept {S = S} n (Plain (Ask q)) =
+pub leaves-kept : {S : Type 0} (n : Node S) (message : Message) → Leaves n (kept n message)
+unfolding kept
+leaves-kept {S = S} n (Ask q) =
     either (λ (x : Node S). Leaves n x) (is_next n.replica.table q.statement) (record n { pool = offered n.pool q }) n
     (record { named = refl; shared = refl; restored_is = refl; firm_is = refl; replica_is = refl; waits = refl }) (leaves-same n)
-leaves-kept n (Plain (Propose p)) = record { named = refl; shared = refl; restored_is = refl; firm_is = refl; replica_is = refl; waits = refl }
-leaves-kept n (Plain (Vote b)) = record { named = refl; shared = refl; restored_is = refl; firm_is = refl; replica_is = refl; waits = refl }
-leaves-kept n (Plain (Reply a)) = leaves-same n
-leaves-kept n (Change (changes.Stop s)) = record { named = refl; shared = refl; restored_is = refl; firm_is = refl; replica_is = refl; waits = refl }
-leaves-kept n (Change (changes.StopData r)) = record { named = refl; shared = refl; restored_is = refl; firm_is = refl; replica_is = refl; waits = refl }
-leaves-kept n (Change (changes.Sync s)) = record { named = refl; shared = refl; restored_is = refl; firm_is = refl; replica_is = refl; waits = refl }
+leaves-kept n (Reply a) = leaves-same n
+leaves-kept n _ = record { named = refl; shared = refl; restored_is = refl; firm_is = refl; replica_is = refl; waits = refl }

@@ -20,3 +20,5 @@ pub mod FitBooks
 pub mod Sources
 pub mod Longer
 pub mod Telling
+pub mod Resumed
+pub mod Beginning

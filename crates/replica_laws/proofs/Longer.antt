@@ -1,10 +1,9 @@
 -- A node keeps its name and its secret, and its book only grows.
 use Rattle.std.proofs.Common.{◌≡◌, ℕ, ◌++◌, false, List, [], ◌∷◌, refl, ap, ◌∙◌, sym, Option, Some, None, Result, Ok, Err, append-nil, append_assoc}
 use Rattle.smart_statements.specs.Batches.{Batch}
-use Rattle.smart_messages.specs.RegencyMessages.{any_decoded}
+use Rattle.smart_messages.specs.Messages.{decoded}
 use Rattle.smart_messages.specs.declared.message.Proposed.{Proposed}
-use Rattle.smart_messages.specs.declared.any.AnyMessage.{AnyMessage}
-use Rattle.smart_messages.specs.declared.any.AnyMessage.TheVariants.{Plain}
+use Rattle.smart_messages.specs.declared.message.Message.{Message}
 use Rattle.smart_statements.specs.declared.entry.NodeEvent.{NodeEvent}
 use Rattle.smart_statements.specs.declared.entry.NodeEvent.TheVariants.{Arrive, Tick, Deliver, Firm}
 use Rattle.smart_service.specs.Services.{Meaning}
@@ -13,7 +12,7 @@ use Rattle.vote_book.specs.declared.entry.Decision.{Decision}
 use Rattle.vote_book.specs.declared.entry.LogEntry.{LogEntry}
 use Rattle.replica_rules.specs.Pools.{settled}
 use Rattle.replica_rules.specs.Replicas.{delivered}
-use Rattle.node_rules.specs.Rules.{reply_of, replying, lines_to_answer, deliver_batch, delivers, proposes, writing, write_batch, writes, accepting, accept_batch, accepts, deciding, decide_batch, decides, answers_again}
+use Rattle.node_rules.specs.Rules.{reply_of, replying, lines_to_answer, deliver_batch, delivers, proposes, writing, write_batch, writes, accepting, accept_batch, accepts, deciding, decide_batch, decides, answers_again, asked_in}
 use Rattle.node_rules.specs.Nodes.{Node, holding}
 use Rattle.node_rules.specs.Arrivals.{why_dropped, noted, kept}
 use Rattle.node_rules.specs.Changes.{adoption, adopts, joins, promising, promise_next, promises, leads, times}
@@ -99,7 +98,7 @@ longer-decides a n is = longer-decide_batch a n (deciding n) is
 longer-replying : {S : Type 0} (a n : Node S) (lines : List TableLine) → Longer a n → Longer a (replying n lines)
 longer-replying a n [] is = is
 longer-replying a n (l ∷ ls) is =
-    longer-replying a (holding n (targets.Client l.client) (Plain (reply_of n.secret n.id l))) ls
+    longer-replying a (holding n (targets.Client l.client) (reply_of n.secret n.id l)) ls
     (record { named = is.named; shared = is.shared; restored_is = is.restored_is; firm_is = is.firm_is; book = is.book })
 
 longer-deliver_batch : {S : Type 0} (m : Meaning S) (a n : Node S) (batch : Option Batch) → Longer a n → Longer a (deliver_batch m n batch)
@@ -138,23 +137,23 @@ longer-passes : {S : Type 0} (a n : Node S) → Longer a n → Longer a (passes 
 longer-passes a n is = keeps_passes (λ x. Longer a x) n (longer-rules a) is
 
 -- an arrival and its pass
-longer-arrival : {S : Type 0} (m : Meaning S) (n : Node S) (message : AnyMessage) (why : Option Why) → Longer n (arrival_outcome n message why).node
+longer-arrival : {S : Type 0} (m : Meaning S) (n : Node S) (message : Message) (why : Option Why) → Longer n (arrival_outcome n message why).node
 longer-arrival {S = S} m n message None =
     let told : Node S = noted n message in
     let k : Node S = kept told message in
     let one : Longer n told = longer-as n n told (leaves-noted n message) (noted_same n message) (longer-same n) in
     let two : Longer n k = longer-as n told k (leaves-kept told message) (kept_same told message) one in
-    longer-as n (passes k) (answers_again (passes k) message) (leaves-answers_again (passes k) message) (answers_again_same (passes k) message) (longer-passes n k two)
+    longer-as n (passes k) (answers_again (passes k) (asked_in message)) (leaves-answers_again (passes k) (asked_in message)) (answers_again_same (passes k) (asked_in message)) (longer-passes n k two)
 longer-arrival m n message (Some why) = longer-as n n (noted n message) (leaves-noted n message) (noted_same n message) (longer-same n)
 
-longer-reading : {S : Type 0} (m : Meaning S) (n : Node S) (read : Result AnyMessage ℕ) → Longer n (reading_outcome n read).node
+longer-reading : {S : Type 0} (m : Meaning S) (n : Node S) (read : Result Message ℕ) → Longer n (reading_outcome n read).node
 longer-reading m n (Ok message) = longer-arrival m n message (why_dropped n message)
 longer-reading m n (Err at) = longer-same n
 
 -- a step
 pub longer-step : {S : Type 0} (m : Meaning S) (n : Node S) (event : NodeEvent) → Longer (told_firm n event) (step_of m n event).node
 unfolding step_of
-longer-step m n (Arrive bytes) = longer-reading m n (any_decoded bytes)
+longer-step m n (Arrive bytes) = longer-reading m n (decoded bytes)
 longer-step m n Tick = longer-as n (passes n) (times (passes n)) (leaves-times (passes n)) (times_same (passes n)) (longer-passes n n (longer-same n))
 longer-step m n Deliver = longer-passes n (delivers m n) (longer-delivers m n n (longer-same n))
 longer-step {S = S} m n (Firm count) = let firmer : Node S = made_firm n count in longer-passes firmer firmer (longer-same firmer)

@@ -6,7 +6,7 @@ use Rattle.smart_statements.specs.Equality.{same_slot}
 use Rattle.smart_statements.specs.declared.statement.Slot.{Slot}
 use Rattle.smart_messages.specs.declared.regency.Sync.{Sync}
 use Rattle.smart_messages.specs.declared.message.Proposed.{Proposed}
-use Rattle.smart_messages.specs.declared.any.AnyMessage.{AnyMessage}
+use Rattle.smart_messages.specs.declared.message.Message.{Message}
 use Rattle.smart_statements.specs.declared.entry.NodeEvent.{NodeEvent}
 use Rattle.smart_service.specs.Services.{Meaning}
 use Rattle.vote_book.specs.Admission.{accepts_in}
@@ -34,7 +34,7 @@ use Rattle.std.proofs.lemmas.Bool.{or_parts}
 -- rules that record nothing
 
 -- with what it tells
-pub entries-arrives : {S : Type 0} (n : Node S) (message : AnyMessage) → (kept (noted n message) message).entries ≡ n.entries
+pub entries-arrives : {S : Type 0} (n : Node S) (message : Message) → (kept (noted n message) message).entries ≡ n.entries
 entries-arrives n message = kept_same (noted n message) message ∙ noted_same n message
 
 -- rules that record entries

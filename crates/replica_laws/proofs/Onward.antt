@@ -6,7 +6,7 @@ use Rattle.smart_base.specs.Lists.{Each, or_else}
 use Rattle.smart_base.specs.Views.{View, is_member, leader}
 use Rattle.smart_statements.specs.Forms.{SignedBy}
 use Rattle.smart_statements.specs.Batches.{Batch}
-use Rattle.smart_messages.specs.RegencyMessages.{any_decoded}
+use Rattle.smart_messages.specs.Messages.{decoded}
 use Rattle.smart_statements.specs.Kinds.{proposals}
 use Rattle.smart_messages.specs.Regencies.{syncs}
 use Rattle.smart_statements.specs.declared.statement.Request.{Request}
@@ -14,12 +14,10 @@ use Rattle.smart_statements.specs.declared.statement.Slot.{Slot}
 use Rattle.smart_statements.specs.declared.statement.VoteKind.TheVariants.{Write, Accept}
 use Rattle.smart_statements.specs.declared.report.Report.{Report}
 use Rattle.smart_messages.specs.declared.regency.Sync.{Sync}
-use Rattle.smart_messages.specs.declared.regency.RegencyMessage.TheVariants as changes
+use Rattle.smart_messages.specs.declared.message.Message.TheVariants as changes
 use Rattle.smart_messages.specs.declared.message.Message.TheVariants.{Ask, Propose, Vote, Reply}
 use Rattle.smart_messages.specs.declared.message.Message.{Message}
 use Rattle.smart_messages.specs.declared.message.Proposed.{Proposed}
-use Rattle.smart_messages.specs.declared.any.AnyMessage.{AnyMessage}
-use Rattle.smart_messages.specs.declared.any.AnyMessage.TheVariants.{Plain, Change}
 use Rattle.smart_statements.specs.declared.entry.NodeEvent.{NodeEvent}
 use Rattle.smart_statements.specs.declared.entry.NodeEvent.TheVariants.{Arrive, Tick, Deliver, Firm}
 use Rattle.smart_service.specs.Services.{Meaning}
@@ -36,7 +34,7 @@ use Rattle.replica_rules.specs.Pools.{offered, settled}
 use Rattle.node_rules.specs.Rules.{reply_of, replying, lines_to_answer, deliver_batch, delivers, proposing, propose_batch, proposes, ballot, writing, write_batch, writes, accepting, accept_batch, accepts, slot_in, decision_in, decision_ahead, deciding, decide_batch, decides, answering, answer_line, answers_again}
 use Rattle.node_rules.specs.Nodes.{Node, view_of, regency_of, next_place, open_slot, is_free, holding, recording}
 use Rattle.node_rules.specs.Votes.{Named, certificate_votes, decision_by}
-use Rattle.node_rules.specs.Arrivals.{kept_plain, kept_change, kept, noted}
+use Rattle.node_rules.specs.Arrivals.{kept, noted}
 use Rattle.node_rules.specs.Changes.{start_by_sync, promised_for, adopts_by, adoption, adopts, stop_for, asks_next, joining, joins, report_of, reported_by, next_promise, promising, promise_next, promises, leading, lead_with, leads, timing, passes_on, presses, times}
 use Rattle.node_rules.specs.Steps.{made_firm, passes, step_of, released, opened}
 use Rattle.node_rules.specs.declared.node.Held.{Held}
@@ -52,6 +50,7 @@ use Rattle.node_laws.proofs.Lists.{among_last}
 use Rattle.agreement_laws.proofs.Growing.{HasReached-more, HasVoted-more}
 use Rattle.smart_base.proofs.ViewFacts.{each-weaken}
 use Rattle.node_laws.proofs.Passes.{each_staying}
+use Rattle.node_rules.specs.declared.node.Asked.{Asked}
 
 -- ---- longer books
 
@@ -83,17 +82,14 @@ reported-append es more r has = record {
   reports = has.reports;
 }
 
-rests-append : (es more : List LogEntry) (message : AnyMessage) → RestsOn es message → RestsOn (es ++ more) message
-rests-append es more (Plain (Ask q)) rests = tt
-rests-append es more (Plain (Propose p)) rests = tt
-rests-append es more (Plain (Vote b)) rests = HasVoted-more es more b.statement.kind b.statement.slot b.statement.digest rests
-rests-append es more (Plain (Reply a)) rests = HasReached-more es more a.statement.place rests
-rests-append es more (Change (changes.Stop s)) rests = tt
-rests-append es more (Change (changes.StopData r)) rests = reported-append es more r.head.statement rests
-rests-append es more (Change (changes.Sync s)) rests = tt
+rests-append : (es more : List LogEntry) (message : Message) → RestsOn es message → RestsOn (es ++ more) message
+rests-append es more (Vote b) rests = HasVoted-more es more b.statement.kind b.statement.slot b.statement.digest rests
+rests-append es more (Reply a) rests = HasReached-more es more a.statement.place rests
+rests-append es more (changes.StopData r) rests = reported-append es more r.head.statement rests
+rests-append es more _ rests = tt
 
 -- what a message rests on stands in a longer book too
-pub rests-more : (xs ys : List LogEntry) → Longer xs ys → (message : AnyMessage) → RestsOn xs message → RestsOn ys message
+pub rests-more : (xs ys : List LogEntry) → Longer xs ys → (message : Message) → RestsOn xs message → RestsOn ys message
 rests-more xs ys longer message rests = subst (λ (es : List LogEntry). RestsOn es message) (sym longer.split) (rests-append xs longer.more message rests)
 
 -- ---- nodes
@@ -164,7 +160,7 @@ holds-more id es more held each =
     }) held each
 
 -- a message is held that rests on the book
-holds-one : {S : Type 0} (n : Node S) (to : Target) (message : AnyMessage) → IsOwn n.id to message → RestsOn n.entries message
+holds-one : {S : Type 0} (n : Node S) (to : Target) (message : Message) → IsOwn n.id to message → RestsOn n.entries message
     → HoldsRight n.id n.entries (record { to = to; message = message; needs = length n.entries })
 holds-one n to message own rests = record {
   own = own;
@@ -172,7 +168,7 @@ holds-one n to message own rests = record {
   rests = subst (λ (es : List LogEntry). RestsOn es message) (sym (take_all (length n.entries) n.entries (omega arith))) rests;
 }
 
-pub rests-holding : {S : Type 0} (n : Node S) (to : Target) (message : AnyMessage) → IsOwn n.id to message → RestsOn n.entries message → NodeRests n → NodeRests (holding n to message)
+pub rests-holding : {S : Type 0} (n : Node S) (to : Target) (message : Message) → IsOwn n.id to message → RestsOn n.entries message → NodeRests n → NodeRests (holding n to message)
 rests-holding n to message own rests is =
     record { held = each_end (HoldsRight n.id n.entries) n.held _ is.held (holds-one n to message own rests); waits = is.waits; lines = is.lines }
 
@@ -200,8 +196,8 @@ rests-reply es place batch l decided at =
 onward-replying : {S : Type 0} (n : Node S) (lines : List TableLine) → Each (LineRests n.entries) lines → NodeRests n → Onward n (replying n lines)
 onward-replying n [] each is = onward-same n is
 onward-replying n (l ∷ ls) each is =
-    let f = onward-replying (holding n (targets.Client l.client) (Plain (reply_of n.secret n.id l))) ls each.1
-    (rests-holding n (targets.Client l.client) (Plain (reply_of n.secret n.id l)) (refl, refl) each.0 is) in
+    let f = onward-replying (holding n (targets.Client l.client) (reply_of n.secret n.id l)) ls each.1
+    (rests-holding n (targets.Client l.client) (reply_of n.secret n.id l) (refl, refl) each.0 is) in
     record { id = f.id; firm = f.firm; more = f.more; book = f.book; rests = f.rests }
 
 -- the replies to a batch that is decided rest on its decision
@@ -231,26 +227,22 @@ unfolding delivers
 onward-delivers m n is = onward-deliver_batch m n n.waiting refl is
 
 -- an arrival is kept
-onward-kept : {S : Type 0} (n : Node S) (message : AnyMessage) → NodeRests n → Onward n (kept n message)
-unfolding kept_plain kept_change
-onward-kept {S = S} n (Plain (Ask q)) is =
+onward-kept : {S : Type 0} (n : Node S) (message : Message) → NodeRests n → Onward n (kept n message)
+unfolding kept
+onward-kept {S = S} n (Ask q) is =
     either (λ (x : Node S). Onward n x) (is_next n.replica.table q.statement) (record n { pool = offered n.pool q }) n
     (record { id = refl; firm = refl; more = []; book = sym (append-nil n.entries); rests = record { held = is.held; waits = is.waits; lines = is.lines } })
     (onward-same n is)
-onward-kept n (Plain (Propose p)) is = record { id = refl; firm = refl; more = []; book = sym (append-nil n.entries); rests = record { held = is.held; waits = is.waits; lines = is.lines } }
-onward-kept n (Plain (Vote b)) is = record { id = refl; firm = refl; more = []; book = sym (append-nil n.entries); rests = record { held = is.held; waits = is.waits; lines = is.lines } }
-onward-kept n (Plain (Reply a)) is = onward-same n is
-onward-kept n (Change (changes.Stop s)) is = record { id = refl; firm = refl; more = []; book = sym (append-nil n.entries); rests = record { held = is.held; waits = is.waits; lines = is.lines } }
-onward-kept n (Change (changes.StopData r)) is = record { id = refl; firm = refl; more = []; book = sym (append-nil n.entries); rests = record { held = is.held; waits = is.waits; lines = is.lines } }
-onward-kept n (Change (changes.Sync s)) is = record { id = refl; firm = refl; more = []; book = sym (append-nil n.entries); rests = record { held = is.held; waits = is.waits; lines = is.lines } }
+onward-kept n (Reply a) is = onward-same n is
+onward-kept n _ is = record { id = refl; firm = refl; more = []; book = sym (append-nil n.entries); rests = record { held = is.held; waits = is.waits; lines = is.lines } }
 
 -- a node is told that it is behind
-onward-noted : {S : Type 0} (n : Node S) (message : AnyMessage) → NodeRests n → Onward n (noted n message)
+onward-noted : {S : Type 0} (n : Node S) (message : Message) → NodeRests n → Onward n (noted n message)
 unfolding noted
 onward-noted n message is = record { id = refl; firm = refl; more = []; book = sym (append-nil n.entries); rests = record { held = is.held; waits = is.waits; lines = is.lines } }
 
 -- a message is held, and else nothing of the book changes
-onward-holding : {S : Type 0} (n : Node S) (to : Target) (message : AnyMessage) → IsOwn n.id to message → RestsOn n.entries message → NodeRests n → Onward n (holding n to message)
+onward-holding : {S : Type 0} (n : Node S) (to : Target) (message : Message) → IsOwn n.id to message → RestsOn n.entries message → NodeRests n → Onward n (holding n to message)
 onward-holding n to message own rests is =
     let r = rests-holding n to message own rests is in
     record { id = refl; firm = refl; more = []; book = sym (append-nil n.entries); rests = record { held = r.held; waits = r.waits; lines = r.lines } }
@@ -259,11 +251,11 @@ onward-holding n to message own rests is =
 onward-answer_line : {S : Type 0} (n : Node S) (line : Option TableLine) → ForLine line (LineRests n.entries) → NodeRests n → Onward n (answer_line n line)
 unfolding answer_line
 onward-answer_line n None rests is = onward-same n is
-onward-answer_line n (Some line) rests is = onward-holding n (targets.Client line.client) (Plain (reply_of n.secret n.id line)) (refl, refl) rests is
+onward-answer_line n (Some line) rests is = onward-holding n (targets.Client line.client) (reply_of n.secret n.id line) (refl, refl) rests is
 
-onward-answers_again : {S : Type 0} (n : Node S) (message : AnyMessage) → NodeRests n → Onward n (answers_again n message)
+onward-answers_again : {S : Type 0} (n : Node S) (asked : Option Asked) → NodeRests n → Onward n (answers_again n asked)
 unfolding answers_again
-onward-answers_again n message is = onward-answer_line n (answering n message) (answering-each (LineRests n.entries) n message is.lines) is
+onward-answers_again n asked is = onward-answer_line n (answering n asked) (answering-each (LineRests n.entries) n asked is.lines) is
 
 -- the next regency is asked for
 onward-asks_next : {S : Type 0} (n : Node S) → NodeRests n → Onward n (asks_next n)
@@ -281,7 +273,7 @@ unfolding lead_with
 onward-lead_with n None is = onward-same n is
 onward-lead_with n (Some collect) is =
     let f = onward-holding (record n { sync_made = true }) targets.View
-    (Change (changes.Sync (signed syncs n.secret n.id (record { view = (view_of n).number; regency = regency_of n; collect = collect })))) refl tt
+    (changes.Sync (signed syncs n.secret n.id (record { view = (view_of n).number; regency = regency_of n; collect = collect }))) refl tt
     (record { held = is.held; waits = is.waits; lines = is.lines }) in
     record { id = f.id; firm = f.firm; more = f.more; book = f.book; rests = f.rests }
 
@@ -292,7 +284,7 @@ onward-leads n is = onward-lead_with n (leading n) is
 -- time passes
 onward-passes_on : {S : Type 0} (n : Node S) (pool : List (SignedBy Request)) → NodeRests n → Onward n (passes_on n pool)
 onward-passes_on n [] is = onward-same n is
-onward-passes_on n (q ∷ qs) is = onward-holding n (targets.Node (leader (view_of n) (regency_of n))) (Plain (Ask q)) tt tt is
+onward-passes_on n (q ∷ qs) is = onward-holding n (targets.Node (leader (view_of n) (regency_of n))) (Ask q) tt tt is
 
 onward-presses : {S : Type 0} (n : Node S) → NodeRests n → Onward n (presses n)
 unfolding presses
@@ -352,7 +344,7 @@ onward-promise_next {S = S} n is =
     let e : LogEntry = entries.Promised (next_promise n) in
     let x : Node S = record (recording n e) { stop_made = false; sync_made = false; impatient = true } in
     let r = rests-recording n e is in
-    let f = onward-holding x (targets.Node (leader (view_of n) (regency_of n + 1))) (Change (changes.StopData (reported_by n (regency_of n + 1)))) (refl, tt) (promise-reports n)
+    let f = onward-holding x (targets.Node (leader (view_of n) (regency_of n + 1))) (changes.StopData (reported_by n (regency_of n + 1))) (refl, tt) (promise-reports n)
     (record { held = r.held; waits = r.waits; lines = r.lines }) in
     record { id = refl; firm = refl; more = e ∷ []; book = refl; rests = record { held = f.rests.held; waits = f.rests.waits; lines = f.rests.lines } }
 
@@ -366,7 +358,7 @@ unfolding propose_batch
 onward-propose_batch n None is = onward-same n is
 onward-propose_batch n (Some batch) is =
     let f = onward-holding (record n { proposed = n.proposed ++ open_slot n ∷ [] }) targets.View
-    (Plain (Propose (record { head = signed proposals n.secret n.id (record { slot = open_slot n; digest = digest_of batch }); batch = batch }))) refl tt
+    (Propose (record { head = signed proposals n.secret n.id (record { slot = open_slot n; digest = digest_of batch }); batch = batch })) refl tt
     (record { held = is.held; waits = is.waits; lines = is.lines }) in
     record { id = f.id; firm = f.firm; more = f.more; book = f.book; rests = f.rests }
 
@@ -483,7 +475,7 @@ told_firm n (Firm count) = made_firm n count
 -- a step
 pub onward-step : {S : Type 0} (m : Meaning S) (n : Node S) (event : NodeEvent) → NodeRests n → Onward (told_firm n event) (step_of m n event).node
 unfolding step_of
-onward-step m n (Arrive bytes) is = keeps_reading m (λ x. Onward n x) (λ message. Unit {0}) n (any_decoded bytes) (onward-in_steps m n) (free-read (any_decoded bytes)) (onward-same n is)
+onward-step m n (Arrive bytes) is = keeps_reading m (λ x. Onward n x) (λ message. Unit {0}) n (decoded bytes) (onward-in_steps m n) (free-read (decoded bytes)) (onward-same n is)
 onward-step m n Tick is =
     let f : Onward n (passes n) = onward-passes n n (onward-same n is) in
     onward-then n (passes n) (times (passes n)) f (onward-times (passes n) f.rests)

@@ -1,7 +1,6 @@
 -- What replies, the rules of a pass and a delivery leave of a replica.
 use Rattle.std.proofs.Common.{◌≡◌, ◌+◌, true, false, List, [], ◌∷◌, refl, ap, ◌∙◌, Option, Some, None, is_some}
 use Rattle.smart_statements.specs.Batches.{Batch}
-use Rattle.smart_messages.specs.declared.any.AnyMessage.TheVariants.{Plain}
 use Rattle.smart_service.specs.Services.{Meaning}
 use Rattle.smart_service.specs.declared.table.TableLine.{TableLine}
 use Rattle.smart_service.specs.declared.replica.Replica.{Replica}
@@ -23,13 +22,13 @@ use Rattle.replica_rules.proofs.Places.{place_delivered}
 pub aside-replying : {S : Type 0} (n : Node S) (lines : List TableLine) → Aside n (replying n lines)
 aside-replying n [] = aside-same n
 aside-replying {S = S} n (l ∷ ls) =
-    let x : Node S = holding n (targets.Client l.client) (Plain (reply_of n.secret n.id l)) in
+    let x : Node S = holding n (targets.Client l.client) (reply_of n.secret n.id l) in
     aside-then n x (replying x ls) (record { holds = x.held; slots = n.proposed; stopped = n.stop_made; led = n.sync_made; pressed = n.impatient; told = n.behind; same = refl }) (aside-replying x ls)
 
 -- and leave the replica
 pub replica-replying : {S : Type 0} (n : Node S) (lines : List TableLine) → (replying n lines).replica ≡ n.replica
 replica-replying n [] = refl
-replica-replying n (l ∷ ls) = replica-replying (holding n (targets.Client l.client) (Plain (reply_of n.secret n.id l))) ls
+replica-replying n (l ∷ ls) = replica-replying (holding n (targets.Client l.client) (reply_of n.secret n.id l)) ls
 
 -- ---- the place of a replica
 

@@ -3,19 +3,17 @@ use Rattle.std.proofs.Common.{◌≡◌, ◌⊎◌, inl, inr, ⊎_elim, ℕ, ◌
 use Rattle.std.proofs.lemmas.Bool.{ltb-true, leb-true, eqb-true, eq-eqb}
 use Rattle.std.proofs.lemmas.List.{take-append-drop}
 use Rattle.std.specs.List.{filter_map, cons_option, list_any}
-use Rattle.std.specs.Prelude.{IfSome, find}
-use Rattle.smart_base.specs.Lists.{Each, same_bytes}
+use Rattle.std.specs.Prelude.{IfSome, find, option_map}
+use Rattle.smart_base.specs.Lists.{Each, same_bytes, or_else}
 use Rattle.smart_base.specs.Views.{View, quorum}
 use Rattle.smart_statements.specs.Equality.{same_slot, same_kind}
 use Rattle.smart_statements.specs.Forms.{SignedBy}
 use Rattle.smart_statements.specs.Batches.{Batch}
-use Rattle.smart_messages.specs.RegencyMessages.{any_decoded}
-use Rattle.smart_messages.specs.declared.any.AnyMessage.{AnyMessage}
-use Rattle.smart_messages.specs.declared.any.AnyMessage.TheVariants.{Plain, Change}
+use Rattle.smart_messages.specs.Messages.{decoded, proposal_in, vote_in, stop_in, sync_in}
 use Rattle.smart_messages.specs.declared.message.Message.{Message}
 use Rattle.smart_messages.specs.declared.message.Message.TheVariants.{Ask, Propose, Vote, Reply}
 use Rattle.smart_messages.specs.declared.message.Proposed.{Proposed}
-use Rattle.smart_messages.specs.declared.regency.RegencyMessage.TheVariants as changes
+use Rattle.smart_messages.specs.declared.message.Message.TheVariants as changes
 use Rattle.smart_messages.specs.declared.regency.Stop.{Stop}
 use Rattle.smart_messages.specs.declared.regency.Sync.{Sync}
 use Rattle.smart_statements.specs.declared.statement.Slot.{Slot}
@@ -38,7 +36,7 @@ use Rattle.replica_rules.specs.Replicas.{is_next, delivered, state}
 use Rattle.agreement_laws.specs.Statements.{Statement}
 use Rattle.node_rules.specs.Votes.{is_vote, has_vote, has_quorum, proposed_in, proposed_for}
 use Rattle.node_rules.specs.Nodes.{Node, view_of, regency_of, regency_in, greatest_regency, open_slot, synchronizer_of}
-use Rattle.node_rules.specs.Arrivals.{kept_plain, kept_change, kept, noted}
+use Rattle.node_rules.specs.Arrivals.{kept, noted}
 use Rattle.node_rules.specs.Rules.{lines_to_answer, replying, deliver_batch, delivers, proposes, votable, writing, write_batch, writes, written, accepting, accept_batch, accepts, slot_in, deciding, decide_batch, decides, answers_again}
 use Rattle.node_rules.specs.Changes.{start_by_sync, promised_for, adopts_by, is_adoptable, adoption, adopts, joins, next_promise, promising, promise_next, promises, leads, times}
 use Rattle.node_rules.specs.Steps.{step_of, released, opened}
@@ -57,47 +55,40 @@ use Rattle.vote_book.proofs.Tested.{slot_is}
 use Rattle.smart_base.proofs.SameLists.{and_true}
 use Rattle.agreement_laws.proofs.Lists.{some_equal, either, either_by, each_end, each_both}
 use Rattle.smart_base.proofs.ViewFacts.{each-weaken}
+use Rattle.smart_statements.specs.declared.statement.Ballot.{Ballot}
 
 -- ---- sources
 
 -- some bytes are read as a message
-abbrev pub HasSource : List (List ℕ) → AnyMessage → Type 0
+abbrev pub HasSource : List (List ℕ) → Message → Type 0
 HasSource [] m = ⊥
-HasSource (bytes ∷ more) m = (any_decoded bytes ≡ Ok m) ⊎ HasSource more m
+HasSource (bytes ∷ more) m = (decoded bytes ≡ Ok m) ⊎ HasSource more m
 
 -- what a message is for: the slot of a proposal
-abbrev pub slot_proposed : AnyMessage → Option Slot
-slot_proposed (Plain (Ask q)) = None
-slot_proposed (Plain (Propose p)) = Some p.head.statement.slot
-slot_proposed (Plain (Vote b)) = None
-slot_proposed (Plain (Reply a)) = None
-slot_proposed (Change m) = None
+abbrev pub slot_proposed : Message → Option Slot
+slot_proposed m = option_map (λ (p : Proposed). p.head.statement.slot) (proposal_in m)
 
 -- the place of a vote
-abbrev pub place_voted : AnyMessage → Option ℕ
-place_voted (Plain (Ask q)) = None
-place_voted (Plain (Propose p)) = None
-place_voted (Plain (Vote b)) = Some b.statement.slot.place
-place_voted (Plain (Reply a)) = None
-place_voted (Change m) = None
+abbrev pub place_voted : Message → Option ℕ
+place_voted m = option_map (λ (b : SignedBy Ballot). b.statement.slot.place) (vote_in m)
+
+abbrev promise_begun : SignedBy Sync → Promise
+promise_begun s = record { view = s.statement.view; regency = s.statement.regency }
+
+abbrev promise_asked : SignedBy Stop → Promise
+promise_asked s = record { view = s.statement.view; regency = s.statement.regency }
 
 -- the regency that is begun
-abbrev pub regency_begun : AnyMessage → Option Promise
-regency_begun (Plain m) = None
-regency_begun (Change (changes.Stop s)) = None
-regency_begun (Change (changes.StopData r)) = None
-regency_begun (Change (changes.Sync s)) = Some (record { view = s.statement.view; regency = s.statement.regency })
+abbrev pub regency_begun : Message → Option Promise
+regency_begun m = option_map promise_begun (sync_in m)
 
 -- or asked for
-abbrev pub regency_asked : AnyMessage → Option Promise
-regency_asked (Plain m) = None
-regency_asked (Change (changes.Stop s)) = Some (record { view = s.statement.view; regency = s.statement.regency })
-regency_asked (Change (changes.StopData r)) = None
-regency_asked (Change (changes.Sync s)) = Some (record { view = s.statement.view; regency = s.statement.regency })
+abbrev pub regency_asked : Message → Option Promise
+regency_asked m = or_else (option_map promise_asked (stop_in m)) (regency_begun m)
 
 -- a message for this has a source
-pub record FromMessage {K : Type 0} (sources : List (List ℕ)) (key : AnyMessage → Option K) (k : K) : Type 0 where
-  pub message : AnyMessage
+pub record FromMessage {K : Type 0} (sources : List (List ℕ)) (key : Message → Option K) (k : K) : Type 0 where
+  pub message : Message
   pub source : HasSource sources message
   pub key_is : key message ≡ Some k
 
@@ -137,9 +128,9 @@ pub record FromBook (sources : List (List ℕ)) (entries : List LogEntry) : Type
 
 -- what a node has kept has a source, and so has its book
 pub record FromSources {S : Type 0} (sources : List (List ℕ)) (n : Node S) : Type 0 where
-  pub arrivals : Each (λ (m : Message). HasSource sources (Plain m)) n.arrivals
-  pub stops : Each (λ (s : SignedBy Stop). HasSource sources (Change (changes.Stop s))) n.stops
-  pub syncs : Each (λ (s : SignedBy Sync). HasSource sources (Change (changes.Sync s))) n.syncs
+  pub arrivals : Each (λ (m : Message). HasSource sources m) n.arrivals
+  pub stops : Each (λ (s : SignedBy Stop). HasSource sources (changes.Stop s)) n.stops
+  pub syncs : Each (λ (s : SignedBy Sync). HasSource sources (changes.Sync s)) n.syncs
   pub book : FromBook sources n.entries
 
 -- ---- books
@@ -195,11 +186,11 @@ from-take sources entries k book =
 
 -- ---- more sources
 
-message-more : {K : Type 0} (sources more : List (List ℕ)) → ((m : AnyMessage) → HasSource sources m → HasSource more m) → (key : AnyMessage → Option K) (k : K) → FromMessage sources key k
+message-more : {K : Type 0} (sources more : List (List ℕ)) → ((m : Message) → HasSource sources m → HasSource more m) → (key : Message → Option K) (k : K) → FromMessage sources key k
     → FromMessage more key k
 message-more sources more all key k from = record { message = from.message; source = all from.message from.source; key_is = from.key_is }
 
-entry-more : (sources more : List (List ℕ)) → ((m : AnyMessage) → HasSource sources m → HasSource more m) → (e : LogEntry) → EntryFrom sources e → EntryFrom more e
+entry-more : (sources more : List (List ℕ)) → ((m : Message) → HasSource sources m → HasSource more m) → (e : LogEntry) → EntryFrom sources e → EntryFrom more e
 entry-more sources more all (Opened o) from = from
 entry-more sources more all (Wrote w) from = message-more sources more all slot_proposed w.slot from
 entry-more sources more all (Accepted a) from = message-more sources more all slot_proposed a.slot from
@@ -209,17 +200,17 @@ entry-more sources more all (Decided d) from = message-more sources more all pla
 entry-more sources more all (Installed i) from = from
 entry-more sources more all (Marked m) from = from
 
-pub book-more : (sources more : List (List ℕ)) → ((m : AnyMessage) → HasSource sources m → HasSource more m) → (entries : List LogEntry) → FromBook sources entries → FromBook more entries
+pub book-more : (sources more : List (List ℕ)) → ((m : Message) → HasSource sources m → HasSource more m) → (entries : List LogEntry) → FromBook sources entries → FromBook more entries
 book-more sources more all entries book =
     record { behind = behind_weaker (EntryFrom sources) (EntryFrom more) (entry-more sources more all) entries book.behind; rising = book.rising }
 
-pub from-more : {S : Type 0} (sources more : List (List ℕ)) → ((m : AnyMessage) → HasSource sources m → HasSource more m) → (n : Node S) → FromSources sources n → FromSources more n
+pub from-more : {S : Type 0} (sources more : List (List ℕ)) → ((m : Message) → HasSource sources m → HasSource more m) → (n : Node S) → FromSources sources n → FromSources more n
 from-more sources more all n from = record {
-  arrivals = each-weaken (λ (m : Message). HasSource sources (Plain m)) (λ (m : Message). HasSource more (Plain m)) (λ m has. all (Plain m) has) n.arrivals from.arrivals;
-  stops = each-weaken (λ (s : SignedBy Stop). HasSource sources (Change (changes.Stop s))) (λ (s : SignedBy Stop). HasSource more (Change (changes.Stop s)))
-      (λ s has. all (Change (changes.Stop s)) has) n.stops from.stops;
-  syncs = each-weaken (λ (s : SignedBy Sync). HasSource sources (Change (changes.Sync s))) (λ (s : SignedBy Sync). HasSource more (Change (changes.Sync s)))
-      (λ s has. all (Change (changes.Sync s)) has) n.syncs from.syncs;
+  arrivals = each-weaken (λ (m : Message). HasSource sources m) (λ (m : Message). HasSource more m) (λ m has. all m has) n.arrivals from.arrivals;
+  stops = each-weaken (λ (s : SignedBy Stop). HasSource sources (changes.Stop s)) (λ (s : SignedBy Stop). HasSource more (changes.Stop s))
+      (λ s has. all (changes.Stop s) has) n.stops from.stops;
+  syncs = each-weaken (λ (s : SignedBy Sync). HasSource sources (changes.Sync s)) (λ (s : SignedBy Sync). HasSource more (changes.Sync s))
+      (λ s has. all (changes.Sync s) has) n.syncs from.syncs;
   book = book-more sources more all n.entries from.book;
 }
 
@@ -245,15 +236,13 @@ one_of {A = A} P p (x ∷ xs) each some = by (p x) refl some (λ later. one_of P
 
 -- a proposal for the slot
 
-proposed_in-from : (sources : List (List ℕ)) (slot : Slot) (m : Message) → HasSource sources (Plain m) → IfSome (proposed_in slot m) (λ (p : Proposed). FromMessage sources slot_proposed slot)
-proposed_in-from sources slot (Ask q) has = tt
+proposed_in-from : (sources : List (List ℕ)) (slot : Slot) (m : Message) → HasSource sources m → IfSome (proposed_in slot m) (λ (p : Proposed). FromMessage sources slot_proposed slot)
 proposed_in-from sources slot (Propose p) has =
     if_cond (λ (x : Proposed). FromMessage sources slot_proposed slot) (same_slot p.head.statement.slot slot) (Some p)
-    (λ is. record { message = Plain (Propose p); source = has; key_is = ap (λ (s : Slot). Some s) (slot_is p.head.statement.slot slot is) })
-proposed_in-from sources slot (Vote b) has = tt
-proposed_in-from sources slot (Reply a) has = tt
+    (λ is. record { message = (Propose p); source = has; key_is = ap (λ (s : Slot). Some s) (slot_is p.head.statement.slot slot is) })
+proposed_in-from sources slot _ has = tt
 
-proposed_for-from : (sources : List (List ℕ)) (slot : Slot) (arrivals : List Message) → Each (λ (m : Message). HasSource sources (Plain m)) arrivals
+proposed_for-from : (sources : List (List ℕ)) (slot : Slot) (arrivals : List Message) → Each (λ (m : Message). HasSource sources m) arrivals
     → IfSome (proposed_for arrivals slot) (λ (p : Proposed). FromMessage sources slot_proposed slot)
 proposed_for-from sources slot [] each = tt
 proposed_for-from sources slot (m ∷ ms) each =
@@ -277,24 +266,22 @@ accepting-from sources n from =
 
 -- a vote for the place
 
-vote_place : (kind : VoteKind) (member : ℕ) (slot : Slot) (digest : List ℕ) (m : Message) → is_vote kind member slot digest m ≡ true → place_voted (Plain m) ≡ Some slot.place
-vote_place kind member slot digest (Ask q) is = absurd (cc)
-vote_place kind member slot digest (Propose p) is = absurd (cc)
-vote_place kind member slot digest (Reply a) is = absurd (cc)
+vote_place : (kind : VoteKind) (member : ℕ) (slot : Slot) (digest : List ℕ) (m : Message) → is_vote kind member slot digest m ≡ true → place_voted m ≡ Some slot.place
 vote_place kind member slot digest (Vote b) is =
     let outer = and_true (same_kind b.statement.kind kind && (b.signer == member) && same_slot b.statement.slot slot) (same_bytes b.statement.digest digest) is in
     let same = and_true (same_kind b.statement.kind kind && (b.signer == member)) (same_slot b.statement.slot slot) outer.0 in
     ap (λ (s : Slot). Some s.place) (slot_is b.statement.slot slot same.1)
+vote_place kind member slot digest _ is = absurd (cc)
 
 -- a quorum is not empty
-vote-from : (sources : List (List ℕ)) (view : View) (kind : VoteKind) (slot : Slot) (digest : List ℕ) (arrivals : List Message) → Each (λ (m : Message). HasSource sources (Plain m)) arrivals
+vote-from : (sources : List (List ℕ)) (view : View) (kind : VoteKind) (slot : Slot) (digest : List ℕ) (arrivals : List Message) → Each (λ (m : Message). HasSource sources m) arrivals
     → has_quorum arrivals view kind slot digest ≡ true → FromMessage sources place_voted slot.place
 vote-from sources view kind slot digest arrivals each enough =
     let p : ℕ → Bool = has_vote arrivals kind slot digest in
     let le = leb-true (quorum view) (length (filter p view.members)) enough in
     let member = one_passes p view.members (omega (arith, le)) in
-    let vote = one_of (λ (m : Message). HasSource sources (Plain m)) (is_vote kind member.0 slot digest) arrivals each member.1 in
-    record { message = Plain vote.0; source = vote.1; key_is = vote_place kind member.0 slot digest vote.0 vote.2 }
+    let vote = one_of (λ (m : Message). HasSource sources m) (is_vote kind member.0 slot digest) arrivals each member.1 in
+    record { message = vote.0; source = vote.1; key_is = vote_place kind member.0 slot digest vote.0 vote.2 }
 
 deciding-from : {S : Type 0} (sources : List (List ℕ)) (n : Node S) (d : Decision) → deciding n ≡ Some d → FromSources sources n → FromMessage sources place_voted d.slot.place
 deciding-from sources n d is from =
@@ -307,7 +294,7 @@ deciding-from sources n d is from =
 same_promise : (v r view regency : ℕ) → v ≡ view → r ≡ regency → ◌≡◌ {A = Option Promise} (Some (record { view = v; regency = r })) (Some (record { view = view; regency = regency }))
 same_promise v r view regency ev er = rw (ev, er) refl
 
-promising-from : (sources : List (List ℕ)) (view : View) (s : Synchronizer) → Each (λ (x : SignedBy Stop). HasSource sources (Change (changes.Stop x))) s.stops → is_promising view s ≡ true
+promising-from : (sources : List (List ℕ)) (view : View) (s : Synchronizer) → Each (λ (x : SignedBy Stop). HasSource sources (changes.Stop x)) s.stops → is_promising view s ≡ true
     → FromMessage sources regency_asked (record { view = view.number; regency = s.regency + 1 })
 unfolding is_promising
 promising-from sources view s each is =
@@ -315,28 +302,28 @@ promising-from sources view s each is =
     let parts = and_true (nat_lt (s.regency + 1) (2 ^ 32)) (nat_le (2 * view.f + 1) (length (filter p view.members))) is in
     let le = leb-true (2 * view.f + 1) (length (filter p view.members)) parts.1 in
     let member = one_passes p view.members (omega (arith, le)) in
-    let stop = one_of (λ (x : SignedBy Stop). HasSource sources (Change (changes.Stop x))) (is_stop view.number (s.regency + 1) member.0) s.stops each member.1 in
+    let stop = one_of (λ (x : SignedBy Stop). HasSource sources (changes.Stop x)) (is_stop view.number (s.regency + 1) member.0) s.stops each member.1 in
     let w = stop.0.statement in
     let tests = and_true ((stop.0.signer == member.0) && (w.view == view.number)) (w.regency == s.regency + 1) stop.2 in
     let front = and_true (stop.0.signer == member.0) (w.view == view.number) tests.0 in
     record {
-      message = Change (changes.Stop stop.0);
+      message = (changes.Stop stop.0);
       source = stop.1;
       key_is = same_promise w.view w.regency view.number (s.regency + 1) (eqb-true w.view view.number front.1) (eqb-true w.regency (s.regency + 1) tests.1);
     }
 
 -- a beginning that is adopted came, and is of the view in force
 record IsAdopted (sources : List (List ℕ)) (view : ℕ) (s : SignedBy Sync) : Type 0 where
-  source : HasSource sources (Change (changes.Sync s))
+  source : HasSource sources (changes.Sync s)
   of_view : s.statement.view ≡ view
 
 adoption-from : {S : Type 0} (sources : List (List ℕ)) (n : Node S) → FromSources sources n → IfSome (adoption n) (IsAdopted sources (view_of n).number)
 unfolding adoption
 adoption-from sources n from =
     by (find (is_adoptable n) n.syncs)
-    (if_found (λ (s : SignedBy Sync). HasSource sources (Change (changes.Sync s))) (is_adoptable n) n.syncs from.syncs)
+    (if_found (λ (s : SignedBy Sync). HasSource sources (changes.Sync s)) (is_adoptable n) n.syncs from.syncs)
   where
-    by : (o : Option (SignedBy Sync)) → IfSome o (λ s. HasSource sources (Change (changes.Sync s)) × (is_adoptable n s ≡ true)) → IfSome o (IsAdopted sources (view_of n).number)
+    by : (o : Option (SignedBy Sync)) → IfSome o (λ s. HasSource sources (changes.Sync s) × (is_adoptable n s ≡ true)) → IfSome o (IsAdopted sources (view_of n).number)
     by None due = tt
     by (Some s) due =
         let outer = and_true (is_needed (view_of n).number (regency_of n) s.statement.view s.statement.regency) _ due.1 in
@@ -355,9 +342,9 @@ record IsFrom {S : Type 0} (sources : List (List ℕ)) (n : Node S) : Type 0 whe
 is_from-as : {S : Type 0} (sources : List (List ℕ)) (n n' : Node S) → n'.arrivals ≡ n.arrivals → n'.stops ≡ n.stops → n'.syncs ≡ n.syncs → n'.entries ≡ n.entries → IsFrom sources n → IsFrom sources n'
 is_from-as sources n n' arrivals stops syncs entries is = record {
   from = record {
-    arrivals = subst (λ (ms : List Message). Each (λ (m : Message). HasSource sources (Plain m)) ms) (sym arrivals) is.from.arrivals;
-    stops = subst (λ (xs : List (SignedBy Stop)). Each (λ (s : SignedBy Stop). HasSource sources (Change (changes.Stop s))) xs) (sym stops) is.from.stops;
-    syncs = subst (λ (xs : List (SignedBy Sync)). Each (λ (s : SignedBy Sync). HasSource sources (Change (changes.Sync s))) xs) (sym syncs) is.from.syncs;
+    arrivals = subst (λ (ms : List Message). Each (λ (m : Message). HasSource sources m) ms) (sym arrivals) is.from.arrivals;
+    stops = subst (λ (xs : List (SignedBy Stop)). Each (λ (s : SignedBy Stop). HasSource sources (changes.Stop s)) xs) (sym stops) is.from.stops;
+    syncs = subst (λ (xs : List (SignedBy Sync)). Each (λ (s : SignedBy Sync). HasSource sources (changes.Sync s)) xs) (sym syncs) is.from.syncs;
     book = subst (λ (es : List LogEntry). FromBook sources es) (sym entries) is.from.book;
   };
   some = subst (λ (es : List LogEntry). 0 < length es) (sym entries) is.some;
@@ -387,7 +374,7 @@ is_from-promised {S = S} sources n s came is =
     either_by (λ (xs : List LogEntry). IsFrom sources (record n { entries = n.entries ++ xs })) (nat_lt (regency_of n) s.statement.regency)
     (Promised (record { view = s.statement.view; regency = s.statement.regency }) ∷ []) []
     (λ less. is_from-end sources n _ (Promised (record { view = s.statement.view; regency = s.statement.regency })) refl refl refl refl
-    (record { message = Change (changes.Sync s); source = came.source; key_is = refl })
+    (record { message = (changes.Sync s); source = came.source; key_is = refl })
     (above_force n s.statement.view s.statement.regency came.of_view (ltb-true (regency_of n) s.statement.regency less)) is)
     (λ not_less. is_from-as sources n _ refl refl refl (append-nil n.entries) is)
 
@@ -397,7 +384,7 @@ is_from-adopts_by sources n None came is = is
 is_from-adopts_by {S = S} sources n (Some s) came is =
     let x : Node S = record n { entries = n.entries ++ promised_for n s.statement } in
     is_from-end sources x (adopts_by n (Some s)) (Synced (start_by_sync s.statement)) refl refl refl refl
-    (record { message = Change (changes.Sync s); source = came.source; key_is = refl }) tt (is_from-promised sources n s came is)
+    (record { message = (changes.Sync s); source = came.source; key_is = refl }) tt (is_from-promised sources n s came is)
 
 is_from-adopts : {S : Type 0} (sources : List (List ℕ)) (n : Node S) → IsFrom sources n → IsFrom sources (adopts n)
 unfolding adopts
@@ -444,44 +431,44 @@ unfolding decides
 is_from-decides sources n is = is_from-decide_batch sources n (deciding n) refl is
 
 -- what is kept has come
-is_from-kept : {S : Type 0} (sources : List (List ℕ)) (n : Node S) (message : AnyMessage) → HasSource sources message → IsFrom sources n → IsFrom sources (kept n message)
-unfolding kept_plain kept_change
-is_from-kept {S = S} sources n (Plain (Ask q)) came is =
+is_from-kept : {S : Type 0} (sources : List (List ℕ)) (n : Node S) (message : Message) → HasSource sources message → IsFrom sources n → IsFrom sources (kept n message)
+unfolding kept
+is_from-kept {S = S} sources n (Ask q) came is =
     either (λ (x : Node S). IsFrom sources x) (is_next n.replica.table q.statement) (record n { pool = offered n.pool q }) n (is_from-as sources n _ refl refl refl refl is) is
-is_from-kept sources n (Plain (Propose p)) came is = record {
+is_from-kept sources n (Propose p) came is = record {
   from = record {
-    arrivals = each_end (λ (m : Message). HasSource sources (Plain m)) n.arrivals (Propose p) is.from.arrivals came;
+    arrivals = each_end (λ (m : Message). HasSource sources m) n.arrivals (Propose p) is.from.arrivals came;
     stops = is.from.stops;
     syncs = is.from.syncs;
     book = is.from.book;
   };
   some = is.some;
 }
-is_from-kept sources n (Plain (Vote b)) came is = record {
+is_from-kept sources n (Vote b) came is = record {
   from = record {
-    arrivals = each_end (λ (m : Message). HasSource sources (Plain m)) n.arrivals (Vote b) is.from.arrivals came;
+    arrivals = each_end (λ (m : Message). HasSource sources m) n.arrivals (Vote b) is.from.arrivals came;
     stops = is.from.stops;
     syncs = is.from.syncs;
     book = is.from.book;
   };
   some = is.some;
 }
-is_from-kept sources n (Plain (Reply a)) came is = is
-is_from-kept sources n (Change (changes.Stop s)) came is = record {
+is_from-kept sources n (Reply a) came is = is
+is_from-kept sources n (changes.Stop s) came is = record {
   from = record {
     arrivals = is.from.arrivals;
-    stops = each_end (λ (x : SignedBy Stop). HasSource sources (Change (changes.Stop x))) n.stops s is.from.stops came;
+    stops = each_end (λ (x : SignedBy Stop). HasSource sources (changes.Stop x)) n.stops s is.from.stops came;
     syncs = is.from.syncs;
     book = is.from.book;
   };
   some = is.some;
 }
-is_from-kept sources n (Change (changes.StopData r)) came is = is_from-as sources n _ refl refl refl refl is
-is_from-kept sources n (Change (changes.Sync s)) came is = record {
+is_from-kept sources n (changes.StopData r) came is = is_from-as sources n _ refl refl refl refl is
+is_from-kept sources n (changes.Sync s) came is = record {
   from = record {
     arrivals = is.from.arrivals;
     stops = is.from.stops;
-    syncs = each_end (λ (x : SignedBy Sync). HasSource sources (Change (changes.Sync x))) n.syncs s is.from.syncs came;
+    syncs = each_end (λ (x : SignedBy Sync). HasSource sources (changes.Sync x)) n.syncs s is.from.syncs came;
     book = is.from.book;
   };
   some = is.some;
@@ -553,18 +540,18 @@ from-reopened {S = S} sources m secret id view period (e ∷ es) book =
 -- ---- different keys have different sources
 
 -- the sources without one of a key still have the other keys
-record Without {K : Type 0} (sources : List (List ℕ)) (key : AnyMessage → Option K) (k : K) : Type 0 where
+record Without {K : Type 0} (sources : List (List ℕ)) (key : Message → Option K) (k : K) : Type 0 where
   rest : List (List ℕ)
   fewer : length sources ≡ length rest + 1
   others : (j : K) → FromMessage sources key j → (j ≡ k → ⊥) → FromMessage rest key j
 
 -- a message that is read from other bytes
-elsewhere : {K : Type 0} (bytes : List ℕ) (more : List (List ℕ)) (key : AnyMessage → Option K) (j : K) (m : AnyMessage) → HasSource (bytes ∷ more) m → key m ≡ Some j
-    → (any_decoded bytes ≡ Ok m → FromMessage more key j) → FromMessage more key j
+elsewhere : {K : Type 0} (bytes : List ℕ) (more : List (List ℕ)) (key : Message → Option K) (j : K) (m : Message) → HasSource (bytes ∷ more) m → key m ≡ Some j
+    → (decoded bytes ≡ Ok m → FromMessage more key j) → FromMessage more key j
 elsewhere bytes more key j m (inl here) at by = by here
 elsewhere bytes more key j m (inr later) at by = record { message = m; source = later; key_is = at }
 
-first_without : {K : Type 0} (bytes : List ℕ) (more : List (List ℕ)) (key : AnyMessage → Option K) (m : AnyMessage) (k : K) → any_decoded bytes ≡ Ok m → key m ≡ Some k → Without (bytes ∷ more) key k
+first_without : {K : Type 0} (bytes : List ℕ) (more : List (List ℕ)) (key : Message → Option K) (m : Message) (k : K) → decoded bytes ≡ Ok m → key m ≡ Some k → Without (bytes ∷ more) key k
 first_without bytes more key m k read at = record {
   rest = more;
   fewer = omega arith;
@@ -574,17 +561,17 @@ first_without bytes more key m k read at = record {
       absurd (other (some_equal j k (sym from.key_is ∙ (sym (ap key same) ∙ at)))));
 }
   where
-    one : (a b : AnyMessage) → ◌≡◌ {A = Result AnyMessage ℕ} (Ok a) (Ok b) → a ≡ b
+    one : (a b : Message) → ◌≡◌ {A = Result Message ℕ} (Ok a) (Ok b) → a ≡ b
     one a b same = cc
 
 -- with other bytes before them
-put_before : {K : Type 0} (bytes : List ℕ) (more rest : List (List ℕ)) (key : AnyMessage → Option K) (j : K) (m : AnyMessage) → HasSource (bytes ∷ more) m → key m ≡ Some j
+put_before : {K : Type 0} (bytes : List ℕ) (more rest : List (List ℕ)) (key : Message → Option K) (j : K) (m : Message) → HasSource (bytes ∷ more) m → key m ≡ Some j
     → (FromMessage more key j → FromMessage rest key j) → FromMessage (bytes ∷ rest) key j
 put_before bytes more rest key j m (inl here) at by = record { message = m; source = inl here; key_is = at }
 put_before bytes more rest key j m (inr later) at by =
     let there = by (record { message = m; source = later; key_is = at }) in record { message = there.message; source = inr there.source; key_is = there.key_is }
 
-without : {K : Type 0} (sources : List (List ℕ)) (key : AnyMessage → Option K) (m : AnyMessage) (k : K) → HasSource sources m → key m ≡ Some k → Without sources key k
+without : {K : Type 0} (sources : List (List ℕ)) (key : Message → Option K) (m : Message) (k : K) → HasSource sources m → key m ≡ Some k → Without sources key k
 without [] key m k has at = absurd has
 without (bytes ∷ more) key m k (inl read) at = first_without bytes more key m k read at
 without (bytes ∷ more) key m k (inr later) at =
@@ -601,7 +588,7 @@ Apart [] = Unit {0}
 Apart (k ∷ ks) = Each (λ j. j ≡ k → ⊥) ks × Apart ks
 
 -- there are no more of them than sources
-few_keys : {K : Type 0} (sources : List (List ℕ)) (key : AnyMessage → Option K) (ks : List K) → Apart ks → Each (λ k. FromMessage sources key k) ks → length ks ≤ length sources
+few_keys : {K : Type 0} (sources : List (List ℕ)) (key : Message → Option K) (ks : List K) → Apart ks → Each (λ k. FromMessage sources key k) ks → length ks ≤ length sources
 few_keys sources key [] apart each = omega arith
 few_keys {K = K} sources key (k ∷ ks) apart each =
     let w = without sources key each.0.message k each.0.source each.0.key_is in
@@ -646,7 +633,7 @@ differ_apart {K = K} kind (e ∷ es) differ = by (kind e) refl (differ_apart kin
       rest,
     )
 
-few_kind : {K : Type 0} (sources : List (List ℕ)) (key : AnyMessage → Option K) (kind : LogEntry → Option K) (e : LogEntry) (es : List LogEntry) → Differ kind (e ∷ es)
+few_kind : {K : Type 0} (sources : List (List ℕ)) (key : Message → Option K) (kind : LogEntry → Option K) (e : LogEntry) (es : List LogEntry) → Differ kind (e ∷ es)
     → ((x : LogEntry) → EntryFrom sources x → IfSome (kind x) (λ k. FromMessage sources key k)) → Each (EntryFrom sources) es → length (filter_map kind es) ≤ length sources
 few_kind {K = K} sources key kind e es differ gives each =
     few_keys sources key (filter_map kind es) (differ_apart kind es (differ_behind kind e es differ)) (each_given (EntryFrom sources) (λ (k : K). FromMessage sources key k) kind gives es each)

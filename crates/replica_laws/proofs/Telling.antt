@@ -5,15 +5,14 @@ use Rattle.smart_base.specs.Lists.{Each}
 use Rattle.smart_base.specs.Views.{View, is_member}
 use Rattle.smart_statements.specs.Forms.{SignedBy}
 use Rattle.smart_statements.specs.Batches.{Batch}
-use Rattle.smart_messages.specs.RegencyMessages.{any_decoded}
+use Rattle.smart_messages.specs.Messages.{decoded}
 use Rattle.smart_statements.specs.declared.statement.Request.{Request}
 use Rattle.smart_statements.specs.declared.report.Report.{Report}
 use Rattle.smart_messages.specs.declared.regency.Sync.{Sync}
-use Rattle.smart_messages.specs.declared.regency.RegencyMessage.TheVariants as changes
+use Rattle.smart_messages.specs.declared.message.Message.TheVariants as changes
 use Rattle.smart_messages.specs.declared.message.Proposed.{Proposed}
 use Rattle.smart_messages.specs.declared.message.Message.TheVariants.{Ask, Propose, Vote, Reply}
-use Rattle.smart_messages.specs.declared.any.AnyMessage.{AnyMessage}
-use Rattle.smart_messages.specs.declared.any.AnyMessage.TheVariants.{Plain, Change}
+use Rattle.smart_messages.specs.declared.message.Message.{Message}
 use Rattle.smart_statements.specs.declared.entry.NodeEvent.{NodeEvent}
 use Rattle.smart_statements.specs.declared.entry.NodeEvent.TheVariants.{Arrive, Tick, Deliver, Firm}
 use Rattle.smart_service.specs.Services.{Meaning}
@@ -23,9 +22,9 @@ use Rattle.vote_book.specs.declared.entry.Decision.{Decision}
 use Rattle.vote_book.specs.declared.entry.LogEntry.{LogEntry}
 use Rattle.replica_rules.specs.Replicas.{is_next, delivered, executed_lines, executions, empty}
 use Rattle.replica_rules.specs.Pools.{offered, settled}
-use Rattle.node_rules.specs.Rules.{reply_of, replying, lines_to_answer, deliver_batch, delivers, proposing, propose_batch, proposes, writing, write_batch, writes, accepting, accept_batch, accepts, deciding, decide_batch, decides, answering, answer_line, answers_again}
+use Rattle.node_rules.specs.Rules.{reply_of, replying, lines_to_answer, deliver_batch, delivers, proposing, propose_batch, proposes, writing, write_batch, writes, accepting, accept_batch, accepts, deciding, decide_batch, decides, answering, answer_line, answers_again, asked_in}
 use Rattle.node_rules.specs.Nodes.{Node, view_of, holding}
-use Rattle.node_rules.specs.Arrivals.{why_dropped, noted, kept_plain, kept_change, kept}
+use Rattle.node_rules.specs.Arrivals.{why_dropped, noted, kept}
 use Rattle.node_rules.specs.Changes.{adopts_by, adoption, adopts, asks_next, joining, joins, promising, promise_next, promises, leading, lead_with, leads, timing, passes_on, presses, times}
 use Rattle.node_rules.specs.Steps.{made_firm, passes, arrival_outcome, reading_outcome, step_of}
 use Rattle.node_rules.specs.declared.node.Why.{Why}
@@ -49,6 +48,7 @@ use Rattle.replica_laws.specs.Lines.{ReplyRight, HeldRight, HoldsExecuted, line_
 use Rattle.replica_laws.proofs.InOrder.{in_order-step, in_order-opened}
 use Rattle.replica_laws.proofs.Longer.{told_firm, longer-step}
 use Rattle.node_laws.proofs.Restored.{decided_append}
+use Rattle.node_rules.specs.declared.node.Asked.{Asked}
 
 -- a node's replica is the state of a front of a list, and the batch that waits is the list's next
 pub record Along {S : Type 0} (m : Meaning S) (view : View) (list : List Batch) (n : Node S) : Type 0 where
@@ -56,12 +56,9 @@ pub record Along {S : Type 0} (m : Meaning S) (view : View) (list : List Batch) 
   pub waiting : (batch : Batch) → n.waiting ≡ Some batch → batch_at list (n.replica.place + 1) ≡ Some batch
 
 -- what a reply tells of a list, it tells of a longer one
-pub right-more : {S : Type 0} (m : Meaning S) (v : View) (list more : List Batch) (x : AnyMessage) → ReplyRight m v list x → ReplyRight m v (list ++ more) x
-right-more m v list more (Plain (Ask q)) right = tt
-right-more m v list more (Plain (Propose p)) right = tt
-right-more m v list more (Plain (Vote b)) right = tt
-right-more m v list more (Change x) right = tt
-right-more m v list more (Plain (Reply a)) right = executions-more m v list more (line_told a.statement) right
+pub right-more : {S : Type 0} (m : Meaning S) (v : View) (list more : List Batch) (x : Message) → ReplyRight m v list x → ReplyRight m v (list ++ more) x
+right-more m v list more (Reply a) right = executions-more m v list more (line_told a.statement) right
+right-more m v list more _ right = tt
 
 -- rules of a node
 
@@ -75,8 +72,8 @@ held-replying : {S : Type 0} (m : Meaning S) (v : View) (chosen : List Batch) (n
     → HeldRight m v chosen (replying n lines)
 held-replying m v chosen n [] held each = held
 held-replying m v chosen n (l ∷ ls) held each =
-    held-replying m v chosen (holding n (targets.Client l.client) (Plain (reply_of n.secret n.id l))) ls
-    (each_end (λ (h : Held). ReplyRight m v chosen h.message) n.held (record { to = targets.Client l.client; message = Plain (reply_of n.secret n.id l); needs = length n.entries }) held each.0) each.1
+    held-replying m v chosen (holding n (targets.Client l.client) (reply_of n.secret n.id l)) ls
+    (each_end (λ (h : Held). ReplyRight m v chosen h.message) n.held (record { to = targets.Client l.client; message = reply_of n.secret n.id l; needs = length n.entries }) held each.0) each.1
 
 -- the lines that a node answers are executions of the list along which it stands
 answered_lines : {S : Type 0} (m : Meaning S) (v : View) (chosen : List Batch) (n : Node S) (batch : Batch) → Along m v chosen n → n.waiting ≡ Some batch
@@ -98,18 +95,13 @@ held-deliver_batch {S = S} m v chosen n (Some batch) aligned waits held =
     (answered_lines m v chosen n batch aligned waits)
 
 -- an arrival holds no reply
-held-kept : {S : Type 0} (m : Meaning S) (v : View) (chosen : List Batch) (n : Node S) (x : AnyMessage) → HeldRight m v chosen n → HeldRight m v chosen (kept n x)
-unfolding kept_plain kept_change
-held-kept m v chosen n (Plain (Ask q)) held = either (HeldRight m v chosen) (is_next n.replica.table q.statement) (record n { pool = offered n.pool q }) n held held
-held-kept m v chosen n (Plain (Propose p)) held = held
-held-kept m v chosen n (Plain (Vote b)) held = held
-held-kept m v chosen n (Plain (Reply a)) held = held
-held-kept m v chosen n (Change (changes.Stop x)) held = held
-held-kept m v chosen n (Change (changes.StopData x)) held = held
-held-kept m v chosen n (Change (changes.Sync x)) held = held
+held-kept : {S : Type 0} (m : Meaning S) (v : View) (chosen : List Batch) (n : Node S) (x : Message) → HeldRight m v chosen n → HeldRight m v chosen (kept n x)
+unfolding kept
+held-kept m v chosen n (Ask q) held = either (HeldRight m v chosen) (is_next n.replica.table q.statement) (record n { pool = offered n.pool q }) n held held
+held-kept m v chosen n _ held = held
 
 -- nor does a node that is told that it is behind
-held-noted : {S : Type 0} (m : Meaning S) (v : View) (chosen : List Batch) (n : Node S) (x : AnyMessage) → HeldRight m v chosen n → HeldRight m v chosen (noted n x)
+held-noted : {S : Type 0} (m : Meaning S) (v : View) (chosen : List Batch) (n : Node S) (x : Message) → HeldRight m v chosen n → HeldRight m v chosen (noted n x)
 unfolding noted
 held-noted m v chosen n x held = held
 
@@ -128,12 +120,12 @@ held-answer_line : {S : Type 0} (m : Meaning S) (v : View) (chosen : List Batch)
 unfolding answer_line
 held-answer_line m v chosen n None right held = held
 held-answer_line m v chosen n (Some line) right held =
-    each_end (λ (h : Held). ReplyRight m v chosen h.message) n.held (record { to = targets.Client line.client; message = Plain (reply_of n.secret n.id line); needs = length n.entries }) held right
+    each_end (λ (h : Held). ReplyRight m v chosen h.message) n.held (record { to = targets.Client line.client; message = reply_of n.secret n.id line; needs = length n.entries }) held right
 
-held-answers_again : {S : Type 0} (m : Meaning S) (v : View) (chosen : List Batch) (n : Node S) (x : AnyMessage) → Each (HasLine (executions m v chosen)) n.replica.table → HeldRight m v chosen n
-    → HeldRight m v chosen (answers_again n x)
+held-answers_again : {S : Type 0} (m : Meaning S) (v : View) (chosen : List Batch) (n : Node S) (asked : Option Asked) → Each (HasLine (executions m v chosen)) n.replica.table → HeldRight m v chosen n
+    → HeldRight m v chosen (answers_again n asked)
 unfolding answers_again
-held-answers_again m v chosen n x lines held = held-answer_line m v chosen n (answering n x) (answering-each (HasLine (executions m v chosen)) n x lines) held
+held-answers_again m v chosen n asked lines held = held-answer_line m v chosen n (answering n asked) (answering-each (HasLine (executions m v chosen)) n asked lines) held
 
 -- what changes the regency is no reply
 held-asks_next : {S : Type 0} (m : Meaning S) (v : View) (chosen : List Batch) (n : Node S) → HeldRight m v chosen n → HeldRight m v chosen (asks_next n)
@@ -233,17 +225,17 @@ held-passes : {S : Type 0} (m : Meaning S) (v : View) (chosen : List Batch) (n :
 held-passes {S = S} m v chosen n held = keeps_passes (λ (x : Node S). HeldRight m v chosen x × (x.replica ≡ n.replica)) n (held-rules m v chosen n.replica) (held, refl)
 
 -- an arrival, kept or dropped, leaves held replies right
-held-arrival : {S : Type 0} (m : Meaning S) (v : View) (chosen : List Batch) (n : Node S) (x : AnyMessage) (why : Option Why) → HeldRight m v chosen n
+held-arrival : {S : Type 0} (m : Meaning S) (v : View) (chosen : List Batch) (n : Node S) (x : Message) (why : Option Why) → HeldRight m v chosen n
     → Each (HasLine (executions m v chosen)) n.replica.table → HeldRight m v chosen (arrival_outcome n x why).node
 held-arrival {S = S} m v chosen n x None held lines =
     let k : Node S = kept (noted n x) x in
     let passed = held-passes m v chosen k (held-kept m v chosen (noted n x) x (held-noted m v chosen n x held)) in
     let same : (passes k).replica ≡ n.replica = passed.1 ∙ ((leaves-kept (noted n x) x).replica_is ∙ (leaves-noted n x).replica_is) in
-    held-answers_again m v chosen (passes k) x (subst (λ (r : Replica S). Each (HasLine (executions m v chosen)) r.table) (sym same) lines) passed.0
+    held-answers_again m v chosen (passes k) (asked_in x) (subst (λ (r : Replica S). Each (HasLine (executions m v chosen)) r.table) (sym same) lines) passed.0
 held-arrival m v chosen n x (Some why) held lines = held-noted m v chosen n x held
 
 -- so do bytes
-held-reading : {S : Type 0} (m : Meaning S) (v : View) (chosen : List Batch) (n : Node S) (read : Result AnyMessage ℕ) → HeldRight m v chosen n
+held-reading : {S : Type 0} (m : Meaning S) (v : View) (chosen : List Batch) (n : Node S) (read : Result Message ℕ) → HeldRight m v chosen n
     → Each (HasLine (executions m v chosen)) n.replica.table → HeldRight m v chosen (reading_outcome n read).node
 held-reading m v chosen n (Ok x) held lines = held-arrival m v chosen n x (why_dropped n x) held lines
 held-reading m v chosen n (Err at) held lines = held
@@ -252,7 +244,7 @@ held-reading m v chosen n (Err at) held lines = held
 pub held-step : {S : Type 0} (m : Meaning S) (v : View) (chosen : List Batch) (n : Node S) (event : NodeEvent) → Along m v chosen n → HeldRight m v chosen n
     → HeldRight m v chosen (step_of m n event).node
 unfolding step_of delivers
-held-step m v chosen n (Arrive bytes) aligned held = held-reading m v chosen n (any_decoded bytes) held (table_lines m v chosen n aligned)
+held-step m v chosen n (Arrive bytes) aligned held = held-reading m v chosen n (decoded bytes) held (table_lines m v chosen n aligned)
 held-step m v chosen n Tick aligned held = held-times m v chosen (passes n) (held-passes m v chosen n held).0
 held-step m v chosen n Deliver aligned held = (held-passes m v chosen (deliver_batch m n n.waiting) (held-deliver_batch m v chosen n n.waiting aligned refl held)).0
 held-step m v chosen n (Firm count) aligned held = (held-passes m v chosen (made_firm n count) held).0
@@ -281,7 +273,7 @@ executed-step {S = S} m view n event d held =
     (λ h right. subst (λ (list : List Batch). ReplyRight m view list h.message) (sym decided) (right-more m view (decided_of n.entries) (decided_of book.rest) h.message right)) n'.held
     (held-step m view (decided_of n.entries) n event (along-order m view n d) held)
 
-executed_after : {S : Type 0} (m : Meaning S) (view : View) (n : Node S) (events : List NodeEvent) → DeliversInOrder m view n → HoldsExecuted m view n → HoldsExecuted m view (node_after m n events)
+pub executed_after : {S : Type 0} (m : Meaning S) (view : View) (n : Node S) (events : List NodeEvent) → DeliversInOrder m view n → HoldsExecuted m view n → HoldsExecuted m view (node_after m n events)
 executed_after m view n [] d held = held
 executed_after m view n (e ∷ es) d held = executed_after m view (step_of m n e).node es (in_order-step m view n e d) (executed-step m view n e d held)
 

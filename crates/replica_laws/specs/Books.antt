@@ -1,24 +1,28 @@
 -- What is promised of a node and its book, whatever comes to it.
-use Rattle.std.specs.Prelude.{ℕ, ◌+◌, ◌≡◌, ◌≤◌, Bool, List, [], ◌∷◌, length, if◌then◌else◌, take, slice_get}
+use Rattle.std.specs.Prelude.{ℕ, ◌+◌, ◌≡◌, ◌≤◌, Bool, List, [], ◌∷◌, length, if◌then◌else◌, take, slice_get, is_some}
 use Rattle.smart_base.specs.Views.{View}
 use Rattle.smart_statements.specs.declared.statement.Slot.{Slot}
 use Rattle.smart_service.specs.Services.{Meaning}
 use Rattle.vote_book.specs.Admission.{accepts_in}
 use Rattle.vote_book.specs.declared.entry.LogEntry.{LogEntry}
 use Rattle.replica_rules.specs.Replicas.{state}
-use Rattle.node_rules.specs.Nodes.{Node, decided_place}
+use Rattle.node_rules.specs.Nodes.{Node, decided_place, start_by}
 use Rattle.node_rules.specs.Reopening.{decided_of}
 
--- how many values pass a test
+-- the number of values that pass a test
 abbrev pub passing : {A : Type 0} → (A → Bool) → List A → ℕ
 passing p [] = 0
 passing p (x ∷ xs) = (if p x then 1 else 0) + passing p xs
 
--- at most one batch is accepted for a slot
+-- an entry tells that a regency of a view begins
+abbrev pub begins : ℕ → ℕ → LogEntry → Bool
+begins view regency entry = is_some (start_by view regency entry)
+
+-- entries that accept at most one batch in each slot
 abbrev pub AcceptsOnce : List LogEntry → Type 0
 AcceptsOnce entries = (slot : Slot) → passing (accepts_in slot) entries ≤ 1
 
--- a node's replica is the state after its decided batches in order, but for the last where it waits
+-- A node whose replica is the state after its decided batches, in order. If the last one waits, the replica lacks it.
 pub record DeliversInOrder {S : Type 0} (m : Meaning S) (view : View) (n : Node S) : Type 0 where
   pub replica : n.replica ≡ state m view (take n.replica.place (decided_of n.entries))
   pub waiting : n.waiting ≡ slice_get (decided_of n.entries) n.replica.place

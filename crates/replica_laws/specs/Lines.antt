@@ -1,29 +1,29 @@
--- The lines of a list's executions.
-use Rattle.std.specs.Prelude.{◌≡◌, ◌<◌, ◌⊎◌, List, [], ◌∷◌}
+-- The lines of the executions of a list of batches.
+use Rattle.std.specs.Prelude.{◌≡◌, ◌<◌, ◌⊎◌, List, [], ◌∷◌, IfSome}
 use Rattle.smart_base.specs.Views.{View}
 use Rattle.smart_statements.specs.Batches.{Batch}
 use Rattle.smart_statements.specs.declared.statement.Answer.{Answer}
 use Rattle.smart_messages.specs.declared.message.Message.TheVariants.{Ask, Propose, Vote, Reply}
-use Rattle.smart_messages.specs.declared.any.AnyMessage.{AnyMessage}
-use Rattle.smart_messages.specs.declared.any.AnyMessage.TheVariants.{Plain, Change}
+use Rattle.smart_messages.specs.declared.message.Message.{Message}
 use Rattle.smart_service.specs.Services.{Meaning}
 use Rattle.replica_rules.specs.Replicas.{executions}
 use Rattle.node_rules.specs.Nodes.{Node}
 use Rattle.node_rules.specs.Reopening.{decided_of}
 use Rattle.smart_base.specs.Lists.{Each}
 use Rattle.smart_service.specs.declared.table.TableLine.{TableLine}
+use Rattle.smart_messages.specs.Messages.{reply_in}
 
--- a line is among lines
+-- lines among which a line is
 abbrev pub HasLine : List TableLine → TableLine → Type 0
 HasLine [] line = ⊥
 HasLine (l ∷ ls) line = (l ≡ line) ⊎ HasLine ls line
 
--- a line stands before another: at an earlier place or at an earlier index of the same, with a lower number where both are one client's
+-- A line that stands before another, at an earlier place or at an earlier index of one place. Its number is lower if both are one client's.
 pub record Before (a b : TableLine) : Type 0 where
   pub stands : (a.place < b.place) ⊎ ((a.place ≡ b.place) × (a.index < b.index))
   pub rises : a.client ≡ b.client → a.seq < b.seq
 
--- each line stands before all later ones, so none stands twice
+-- lines of which each stands before all later ones; none stands twice
 abbrev pub InOrder : List TableLine → Type 0
 InOrder [] = Unit {0}
 InOrder (l ∷ ls) = Each (Before l) ls × InOrder ls
@@ -34,22 +34,18 @@ InOrder (l ∷ ls) = Each (Before l) ls × InOrder ls
 abbrev pub line_told : Answer → TableLine
 line_told a = record { client = a.client; seq = a.seq; place = a.place; index = a.index; view = a.view; reply = a.reply }
 
--- a reply tells an execution of a list
+-- a reply that tells an execution of a list
 abbrev pub IsExecuted : {S : Type 0} → Meaning S → View → List Batch → Answer → Type 0
 IsExecuted m view list a = HasLine (executions m view list) (line_told a)
 
--- a message that is a reply tells an execution of a list
-abbrev pub ReplyRight : {S : Type 0} → Meaning S → View → List Batch → AnyMessage → Type 0
-ReplyRight m view list (Plain (Ask q)) = Unit {0}
-ReplyRight m view list (Plain (Propose p)) = Unit {0}
-ReplyRight m view list (Plain (Vote b)) = Unit {0}
-ReplyRight m view list (Plain (Reply a)) = IsExecuted m view list a.statement
-ReplyRight m view list (Change x) = Unit {0}
+-- a message that tells an execution of a list, if it is a reply
+abbrev pub ReplyRight : {S : Type 0} → Meaning S → View → List Batch → Message → Type 0
+ReplyRight m view list x = IfSome (reply_in x) (λ a. IsExecuted m view list a.statement)
 
--- so does each reply that a node holds
+-- a node of which each held reply tells an execution of a list
 abbrev pub HeldRight : {S : Type 0} → Meaning S → View → List Batch → Node S → Type 0
 HeldRight m view list n = Each (λ h. ReplyRight m view list h.message) n.held
 
--- each reply that a node holds tells an execution of the batches that its book decides
+-- a node of which each held reply tells an execution of the batches that its book decides
 abbrev pub HoldsExecuted : {S : Type 0} → Meaning S → View → Node S → Type 0
 HoldsExecuted m view n = HeldRight m view (decided_of n.entries) n

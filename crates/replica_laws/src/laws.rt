@@ -1,5 +1,5 @@
 //! The laws of one node.
-ghost use Rattle.std.specs.Prelude.{◌≡◌, ◌<◌, ◌^◌, ℕ, true, List};
+ghost use Rattle.std.specs.Prelude.{◌≡◌, ◌<◌, ◌≤◌, ◌^◌, max, ℕ, true, List};
 ghost use Rattle.smart_base.specs.Lists.{Each};
 ghost use Rattle.smart_base.specs.Views.{View, is_view};
 ghost use Rattle.smart_statements.specs.Spelling.{IsSigner};
@@ -7,29 +7,32 @@ ghost use Rattle.smart_statements.specs.Batches.{Batch};
 ghost use Rattle.smart_statements.specs.declared.entry.NodeEvent.{NodeEvent};
 ghost use Rattle.smart_service.specs.declared.table.TableLine.{TableLine};
 ghost use Rattle.vote_book.specs.Entries.{FitsEntry};
+ghost use Rattle.vote_book.specs.declared.entry.LogEntry.{LogEntry};
 ghost use Rattle.replica_rules.specs.Replicas.{executions};
-ghost use Rattle.node_rules.specs.Steps.{opened};
+ghost use Rattle.node_rules.specs.Nodes.{Node};
+ghost use Rattle.node_rules.specs.Steps.{step_of, opened};
+ghost use Rattle.node_rules.specs.Reopening.{reopened};
 ghost use Rattle.node_rules.specs.Kept.{node_after};
-ghost use Rattle.replica_laws.specs.Books.{AcceptsOnce, DeliversInOrder};
+ghost use Rattle.replica_laws.specs.Books.{passing, begins, AcceptsOnce, DeliversInOrder};
 ghost use Rattle.replica_laws.specs.Lines.{HasLine, InOrder, HoldsExecuted};
 ghost use Rattle.replica_laws.specs.Sending.{LeavesFirm, HoldsOwn, IsByteEvent, HoldsGenuine};
 
 use smart_service::service::Service;
 
-/// Whatever comes, in whatever order, a node accepts at most one batch for a slot.
+/// A node accepts at most one batch in a slot, whatever comes in whatever order.
 pub fn accepts_once<S: Service>()
     ensures { (secret : List ℕ) (id : ℕ) (view : View) (period : ℕ) (events : List NodeEvent) → AcceptsOnce (node_after S.meaning (opened S.meaning secret id view period) events).entries }
 {}
 
-/// Whatever comes, a node's replica is the state after its decided batches in order, but for the
-/// last where it waits.
+/// A node's replica is the state after its decided batches, in order, whatever comes. If a batch
+/// waits, the replica lacks it.
 pub fn delivers_in_order<S: Service>()
     ensures { (secret : List ℕ) (id : ℕ) (view : View) (period : ℕ) (events : List NodeEvent) → DeliversInOrder S.meaning view (node_after S.meaning (opened S.meaning secret id view period) events) }
 {}
 
-/// Whatever batches are delivered, in whatever order, a client's request of a number is executed
-/// at most once: two executions of it are one. And no execution is told twice: all executions
-/// stand in the order of their places and indices, and the numbers of each client rise.
+/// A client's request of a number is executed at most once, whatever batches are delivered (state
+/// machine replication). Executions stand in the order of their places and indices, each once. The
+/// numbers of each client's executions rise.
 pub fn executes_once<S: Service>()
     ensures one { (view : View) (list : List Batch) (a b : TableLine) → HasLine (executions S.meaning view list) a → HasLine (executions S.meaning view list) b →
         a.client ≡ b.client → a.seq ≡ b.seq → a ≡ b }
@@ -38,35 +41,54 @@ pub fn executes_once<S: Service>()
 
 /// Whatever comes, each reply that a node holds tells an execution of the batches that its book
 /// decides: the reply of that execution, to that client and number, at that place and index, in that
-/// view.
+/// view. So it is of a node that has been opened, and of one that has been reopened, from whatever
+/// entries.
 pub fn replies_tell_executions<S: Service>()
-    ensures { (secret : List ℕ) (id : ℕ) (view : View) (period : ℕ) (events : List NodeEvent) → HoldsExecuted S.meaning view (node_after S.meaning (opened S.meaning secret id view period) events) }
+    ensures opened { (secret : List ℕ) (id : ℕ) (view : View) (period : ℕ) (events : List NodeEvent) → HoldsExecuted S.meaning view (node_after S.meaning (opened S.meaning secret id view period) events) }
+    ensures reopened { (secret : List ℕ) (id : ℕ) (view : View) (period : ℕ) (entries : List LogEntry) (events : List NodeEvent) →
+        HoldsExecuted S.meaning view (node_after S.meaning (reopened S.meaning secret id view period entries) events) }
 {}
 
-/// A vote leaves only when its entry is firm, a reply only when firm entries make its place or a later
-/// one, and a report only when its promise is, behind entries that are what the report says. Of the
-/// other messages nothing is said. Whatever comes to a node that has let nothing go yet, each vote, report
-/// and reply that would leave it now rests on firm entries.
+/// No step begins a regency that the book has begun, whatever the book is: of each regency of a view a
+/// step leaves at most as many beginnings as there were, or one where there was none. So a node that has
+/// been opened begins each regency once at most, whatever comes. One that has been reopened, from
+/// whatever entries, begins none of those that they begin, and each other once at most.
+pub fn a_regency_begins_once<S: Service>()
+    ensures step { (n : Node S) (event : NodeEvent) (view regency : ℕ) →
+        passing (begins view regency) (step_of S.meaning n event).node.entries ≤ max 1 (passing (begins view regency) n.entries) }
+    ensures opened { (secret : List ℕ) (id : ℕ) (view : View) (period : ℕ) (events : List NodeEvent) (number regency : ℕ) →
+        passing (begins number regency) (node_after S.meaning (opened S.meaning secret id view period) events).entries ≤ 1 }
+    ensures reopened { (secret : List ℕ) (id : ℕ) (view : View) (period : ℕ) (entries : List LogEntry) (events : List NodeEvent) (number regency : ℕ) →
+        passing (begins number regency) (node_after S.meaning (reopened S.meaning secret id view period entries) events).entries ≤ max 1 (passing (begins number regency) entries) }
+{}
+
+/// A vote leaves only after its entry is firm. A reply leaves only after firm entries make its place
+/// or a later one. A report leaves only after its promise is firm, and firm entries before that are
+/// what it says. For other messages nothing is claimed. That replies wait for the log is Dura-SMaRt's
+/// (USENIX ATC 2013); that votes and reports do is this project's own rule.
+///
+/// Whatever comes to a node that has let nothing go yet, each vote, report and reply that would leave
+/// it now rests on firm entries.
 pub fn votes_leave_when_firm<S: Service>()
     ensures { (secret : List ℕ) (id : ℕ) (view : View) (period : ℕ) (events : List NodeEvent) → LeavesFirm (node_after S.meaning (opened S.meaning secret id view period) events) }
 {}
 
-/// Whatever comes, each message that a node holds names it as its signer, but for a client's request
-/// that it passes on to one member. A reply goes to the client that it names, and a report to one
-/// member.
+/// A message that a node holds names the node as its signer, whatever comes. The exception is a
+/// client's request that it passes on to one member. A reply goes to the client that it names, and a
+/// report to one member.
 pub fn holds_its_own<S: Service>()
     ensures { (secret : List ℕ) (id : ℕ) (view : View) (period : ℕ) (events : List NodeEvent) → HoldsOwn id (node_after S.meaning (opened S.meaning secret id view period) events) }
 {}
 
-/// Whatever bytes come to a node, each message that it holds bears its signer's tag, and so does each
-/// request of a batch in it and each report of a collect. And it is read from its bytes as itself: the
-/// beginning of a regency too, where no report in it that no place was decided bears evidence.
+/// A message that a node holds bears its signer's tag, whatever bytes come. Each request of a batch
+/// in it and each report of a SYNC bears its signer's tag too. Its bytes are read as itself. A SYNC
+/// is read as itself if no report in it with last place 0 bears evidence.
 pub fn what_is_held_is_read<S: Service>()
     ensures { (secret : List ℕ) (id : ℕ) (view : View) (period : ℕ) (events : List NodeEvent) → IsSigner 1 id → is_view view ≡ true → Each IsByteEvent events →
         HoldsGenuine (node_after S.meaning (opened S.meaning secret id view period) events) }
 {}
 
-/// Whatever bytes come to a node, each entry of its book has a spelling, so that a disk can hold it.
+/// An entry of a node's book has a spelling that a disk can hold, whatever bytes come.
 pub fn what_is_recorded_has_a_spelling<S: Service>()
     ensures { (secret : List ℕ) (id : ℕ) (view : View) (period : ℕ) (events : List NodeEvent) → IsSigner 1 id → is_view view ≡ true → period < 2 ^ 32 → Each IsByteEvent events →
         Each FitsEntry (node_after S.meaning (opened S.meaning secret id view period) events).entries }

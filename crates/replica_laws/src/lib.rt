@@ -1,7 +1,7 @@
-//! What holds of one node, whatever comes to it: it accepts and writes once for a slot and rests on
-//! quorums, delivers its decided batches in order, executes each request once, and what it holds is
-//! its own, rests on its book and is read from its bytes. The laws speak of the definitions alone, and
-//! stand on functions with empty bodies.
+//! The laws of one node, whatever comes to it. It accepts once in a slot, delivers its decided
+//! batches in order, and executes each request once. What it holds is its own, rests on its book and
+//! is read from its bytes. Each law is a function with an empty body, and speaks of definitions
+//! alone.
 #![tactic(auto)]
 
 pub mod laws;

@@ -1,4 +1,4 @@
--- What a list of batches makes of the service and its clients.
+-- What a list of batches makes of the service and its clients (state machine replication).
 use Rattle.std.specs.Prelude.{ℕ, zero, suc, ◌+◌, ◌-◌, ◌==◌, Bool, ◌&&◌, List, [], ◌∷◌, ◌++◌, if◌then◌else◌, Option, Some, None, option_map, slice_get, take}
 use Rattle.std.specs.Option.{option_to_list, option_and_then}
 use Rattle.smart_base.specs.Views.{View, present}
@@ -9,16 +9,16 @@ use Rattle.smart_service.specs.Tables.{last_seq, with_line}
 use Rattle.smart_service.specs.declared.table.TableLine.{TableLine}
 use Rattle.smart_service.specs.declared.replica.Replica.{Replica}
 
--- a request is executed where its number is its client's next; any other is passed over
+-- a request that is executed: its number is its client's next; any other request is passed over
 abbrev pub is_next : List TableLine → Request → Bool
 is_next table q = q.seq == last_seq table q.client + 1
 
--- the line that an executed request makes
+-- the line of the table of clients that an executed request makes
 abbrev pub line_of : {S : Type 0} → Meaning S → Replica S → ℕ → Request → TableLine
 line_of m r index q =
     record { client = q.client; seq = q.seq; place = r.place; index = index; view = (present r.views).number; reply = m.reply r.service q.op }
 
--- the replica after a request
+-- the replica after a request; a request that is not its client's next changes nothing
 unfoldable pub execute : {S : Type 0} → Meaning S → Replica S → ℕ → Request → Replica S
 execute m r index q =
     if is_next r.table q
@@ -34,12 +34,12 @@ execute_all m r index (q ∷ qs) = execute_all m (execute m r index q.statement)
 abbrev pub line_made : {S : Type 0} → Meaning S → Replica S → ℕ → Request → Option TableLine
 line_made m r index q = if is_next r.table q then Some (line_of m r index q) else None
 
--- the lines of the requests that are executed, in order
+-- the lines of the executed requests among those that stand from an index on, in order
 abbrev pub lines_of : {S : Type 0} → Meaning S → Replica S → ℕ → Batch → List TableLine
 lines_of m r index [] = []
 lines_of m r index (q ∷ qs) = option_to_list (line_made m r index q.statement) ++ lines_of m (execute m r index q.statement) (index + 1) qs
 
--- the replica at the next place, before its batch
+-- the replica at the next place, before the batch there
 abbrev pub at_next : {S : Type 0} → Replica S → Replica S
 at_next r = record { service = r.service; table = r.table; views = r.views; place = r.place + 1 }
 
@@ -47,7 +47,7 @@ at_next r = record { service = r.service; table = r.table; views = r.views; plac
 unfoldable pub delivered : {S : Type 0} → Meaning S → Replica S → Batch → Replica S
 delivered m r batch = execute_all m (at_next r) 0 batch
 
--- the lines of the requests of one more batch that are executed
+-- the lines of the executed requests of one more batch, in order
 unfoldable pub executed_lines : {S : Type 0} → Meaning S → Replica S → Batch → List TableLine
 executed_lines m r batch = lines_of m (at_next r) 0 batch
 
@@ -83,20 +83,20 @@ abbrev pub answer : {S : Type 0} → Meaning S → View → List Batch → ℕ �
 answer m view list place index =
     option_map (λ line. line.reply) (first_line (λ line. (line.place == place) && (line.index == index)) (executions m view list))
 
--- the place and the index where a client's request of a number is executed, if it is
+-- the place and the index at which a client's request of a number is executed, if it is
 abbrev pub place_of : {S : Type 0} → Meaning S → View → List Batch → ℕ → ℕ → Option (ℕ × ℕ)
 place_of m view list client seq =
     option_map (λ line. (line.place, line.index)) (first_line (λ line. (line.client == client) && (line.seq == seq)) (executions m view list))
 
--- the batch at a place of a list, which counts from 1
+-- the batch at a place of a list; places count from 1
 abbrev pub batch_at : List Batch → ℕ → Option Batch
 batch_at list zero = None
 batch_at list (suc k) = slice_get list k
 
--- the request at a place and an index
+-- the request at a place and an index; indices count from 0
 abbrev pub request_at : List Batch → ℕ → ℕ → Option Request
 request_at list place index = option_and_then (λ batch. option_map (λ q. q.statement) (slice_get batch index)) (batch_at list place)
 
--- the view in force at a place: the present one after the places before it
+-- the view in force at a place: the present one after all earlier places
 abbrev pub view_at : {S : Type 0} → Meaning S → View → List Batch → ℕ → View
 view_at m view list place = present (state m view (take (place - 1) list)).views

@@ -10,15 +10,15 @@ use Rattle.replica_rules.specs.Pools.{offered}
 use Rattle.request_pool.specs.declared.pool.Offer.{Offer}
 use Rattle.request_pool.specs.declared.pool.Offer.TheVariants.{Kept, Replaced, Old, Ahead, BadTag, Stranger}
 
--- the clients of requests, in their order
+-- the clients of requests, in order
 abbrev pub clients_of : List (SignedBy Request) → List ℕ
 clients_of pool = map (λ q. q.statement.client) pool
 
--- whether a pool has a request of a client
+-- a client of whom a pool has a request
 abbrev pub has_client : List (SignedBy Request) → ℕ → Bool
 has_client pool client = list_any (λ old. old.statement.client == client) pool
 
--- the answer to a request, where its client's last executed request has a number: the first reason not to keep it, or where it goes
+-- the answer to an offered request, by the number of its client's last executed one: the first reason not to keep it, or where it waits
 abbrev pub offer_of : List ℕ → List (SignedBy Request) → SignedBy Request → ℕ → Offer
 offer_of secret pool q last =
     if not (is_verified requests secret q) then BadTag
@@ -28,7 +28,7 @@ offer_of secret pool q last =
     else if has_client pool q.statement.client then Replaced
     else Kept
 
--- the pool behind an answer
+-- the pool after an answer
 abbrev pub pool_after : Offer → List (SignedBy Request) → SignedBy Request → List (SignedBy Request)
 pool_after Kept pool q = offered pool q
 pool_after Replaced pool q = offered pool q

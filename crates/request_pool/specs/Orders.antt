@@ -1,7 +1,7 @@
 -- Lists within lists.
 use Rattle.std.specs.Prelude.{◌≡◌, ◌⊎◌, List, [], ◌∷◌}
 
--- the values of a list are among another's, in their order there
+-- a list whose values are among another's, in their order there
 abbrev pub IsSubsequence : {A : Type 0} → List A → List A → Type 0
 IsSubsequence [] ys = Unit {0}
 IsSubsequence (x ∷ xs) [] = ⊥

@@ -13,7 +13,7 @@ use smart_statements::statement::Request;
 use std::alloc::{AllocError, Global};
 use std::marker::Model;
 
-/// The bytes of a batch before its requests.
+/// The number of a batch's bytes before its requests.
 const HEAD_BYTES: usize = 2;
 
 /// A batch that grows, with the number of its bytes.
@@ -37,7 +37,7 @@ impl Model for Gathering {
 }
 
 impl Gathering {
-    /// The batch of one request.
+    /// The batch of one request. Error: want of memory.
     fn begin(alloc: Global, first: Signed<Request>) -> Result<Gathering, AllocError>
         ensures { IfOk result (λ g. g ≡ first ∷ []) }
     {
@@ -64,7 +64,8 @@ impl Gathering {
         Ok(())
     }
 
-    /// Adds requests that may stand beside others, up to the first that would pass a limit.
+    /// Adds requests that may stand beside others, up to the first that would pass a limit. Error:
+    /// want of memory.
     fn fill(
         &mut self,
         alloc: Global,
@@ -92,7 +93,7 @@ impl Gathering {
     }
 }
 
-/// Whether a client asked after places before this one alone.
+/// Whether a request states an earlier place than this one.
 fn is_due(request: &Signed<Request>, place: Place) -> bool
     ensures { result ≡ nat_lt request.now.statement.after place }
 {
@@ -105,7 +106,7 @@ fn is_managers(request: &Signed<Request>) -> bool
     request.statement().client.get() == 0
 }
 
-/// The batch that begins with a request, of those behind it.
+/// The batch that begins with a request, of those after it. Error: want of memory.
 fn batch_from(
     alloc: Global,
     first: &Signed<Request>,
@@ -121,7 +122,7 @@ fn batch_from(
     Ok(gathering.into_batch())
 }
 
-/// The batch for a place.
+/// The batch for a place, if there is one. Error: want of memory.
 #[tactic(auto, unfolding(replica_rules::specs::Pools::gathered))]
 pub fn gathered(
     alloc: Global,

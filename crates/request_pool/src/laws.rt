@@ -1,4 +1,4 @@
-//! Laws of a pool and of what is gathered from it. They speak of the definitions alone.
+//! Laws of a pool and of what is gathered from it. They speak of definitions alone.
 ghost use Rattle.std.specs.Prelude.{◌≡◌, ◌≤◌, ℕ, List, [], ◌∷◌, true, false, Some, None, length, nat_lt};
 ghost use Rattle.std.specs.List.{list_any};
 ghost use Rattle.smart_base.specs.Lists.{Each, Distinct};
@@ -23,28 +23,28 @@ pub fn what_is_gathered_is_in_order()
     ensures { (pool : List (SignedBy Request)) (place : ℕ) (batch : Batch) → gathered pool place ≡ Some batch → IsSubsequence batch pool }
 {}
 
-/// Nothing is gathered for a place only where no client asked after earlier places alone.
+/// Nothing is gathered for a place only if no request states an earlier place.
 pub fn what_may_stand_is_gathered()
     ensures { (pool : List (SignedBy Request)) (place : ℕ) → gathered pool place ≡ None → list_any (λ q. nat_lt q.statement.after place) pool ≡ false }
 {}
 
-/// A client has one request in a pool, whatever is offered and settled, and in what is gathered
-/// from it.
+/// A client has one request in a pool, whatever is offered and settled, and in what is gathered from
+/// it.
 pub fn a_client_has_one_request()
     ensures offered { (pool : List (SignedBy Request)) (q : SignedBy Request) → Distinct (clients_of pool) → Distinct (clients_of (offered pool q)) }
     ensures settled { (table : List TableLine) (pool : List (SignedBy Request)) → Distinct (clients_of pool) → Distinct (clients_of (settled table pool)) }
     ensures gathered { (pool : List (SignedBy Request)) (place : ℕ) (batch : Batch) → Distinct (clients_of pool) → gathered pool place ≡ Some batch → Distinct (clients_of batch) }
 {}
 
-/// Sound requests stay so, whatever is offered, where a request that is offered is small enough
-/// alone, and whatever is settled.
+/// Sound requests stay sound, whatever is settled, and whatever is offered if it is small enough
+/// alone.
 pub fn a_pool_stays_sound()
     ensures offered { (secret : List ℕ) (pool : List (SignedBy Request)) (q : SignedBy Request) (last : ℕ) → length (batch_text (q ∷ [])) ≤ 262144 →
         Each (IsSound secret) pool → Each (IsSound secret) (pool_after (offer_of secret pool q last) pool q) }
     ensures settled { (secret : List ℕ) (table : List TableLine) (pool : List (SignedBy Request)) → Each (IsSound secret) pool → Each (IsSound secret) (settled table pool) }
 {}
 
-/// A request that has a spelling is small enough alone.
+/// A request that has bytes is small enough alone.
 pub fn a_spelled_request_is_small()
     ensures { (q : SignedBy Request) → FitsSigned requests FitsRequest q → length (batch_text (q ∷ [])) ≤ 262144 }
 {}

@@ -1,5 +1,5 @@
-//! The requests that wait to be proposed: one for each client, in the order in which their clients
-//! came.
+//! The pool: requests that wait to be proposed, one for each client, in the order in which the
+//! clients came.
 #![tactic(auto)]
 
 mod gather;

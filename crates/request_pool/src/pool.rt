@@ -19,18 +19,18 @@ use std::marker::Model;
 /// The greatest number of a client.
 const CLIENTS: u16 = 1024;
 
-/// What becomes of a request that is offered: it is kept, or the first reason not to.
+/// The answer to an offered request: it is kept, or the first reason not to keep it.
 #[derive(Clone, Copy, Debug, PartialEq, Eq)]
 pub enum Offer {
-    /// It waits behind all others.
+    /// It waits after all others.
     Kept,
-    /// It waits in the position of the request that its client had there.
+    /// It waits at the position of its client's earlier request.
     Replaced,
     /// Its number is at most that of its client's last executed request.
     Old,
     /// Its number is not yet its client's next.
     Ahead,
-    /// Its tag is not its signer's.
+    /// Its tag is not the one that its signer makes.
     BadTag,
     /// There is no such client.
     Stranger,
@@ -73,8 +73,8 @@ impl RequestPool {
         }
     }
 
-    /// Offers a request, where its client's last executed request has the number `last`, 0 if none
-    /// was executed. It is kept where it is its client's next.
+    /// Offers a request to the pool, which keeps it if it is its client's next. `last` is the number
+    /// of its client's last executed request, 0 if there is none. Error: want of memory.
     pub fn offer(
         &mut self,
         ring: &Ring,
@@ -106,8 +106,8 @@ impl RequestPool {
         }
     }
 
-    /// Puts a request in the position of its client's, which it replaces, or at the end. Answers
-    /// whether there was one.
+    /// Puts a request at the position of its client's earlier one, which it replaces, or at the end.
+    /// Tells whether there was one. Error: want of memory.
     fn put(&mut self, request: Signed<Request>) -> Result<bool, AllocError>
         ensures replaced { IfOk result (λ replaced. replaced ≡ has_client self.old request.statement.client) }
         ensures pool { OnOk result (self.new ≡ offered self.old request) }
@@ -118,16 +118,16 @@ impl RequestPool {
         Ok(old.is_some())
     }
 
-    /// A batch for a place, of the requests that their clients asked after earlier places alone: as
-    /// many from the first on as it may hold. A request of the view manager stands alone, and is
-    /// passed over where another comes first.
+    /// The batch for a place, if there is one: as many requests as it may hold, from the first on,
+    /// that state an earlier place. A request of the view manager stands alone; it is passed over if
+    /// another one comes first. Error: want of memory.
     pub fn gather(&self, place: Place) -> Result<Option<Batch>, AllocError>
         ensures { IfOk result (λ batch. batch ≡ gathered self.now place) }
     {
         gathered(*self.requests.allocator(), self.as_slice(), place)
     }
 
-    /// Keeps the requests that are still their client's next.
+    /// Keeps only the requests that are still their client's next.
     pub fn settle(&mut self, table: &ClientTable)
         ensures { self.new ≡ settled table.now self.old }
     {
@@ -141,14 +141,14 @@ impl RequestPool {
         );
     }
 
-    /// The request that has waited longest.
+    /// The oldest request, if there is one.
     pub fn oldest(&self) -> Option<&Signed<Request>>
         ensures { option_copied result ≡ slice_get self.now 0 }
     {
         self.as_slice().first()
     }
 
-    /// The requests in their order.
+    /// The requests, in order.
     pub fn as_slice(&self) -> &[Signed<Request>]
         ensures value { result.now ≡ self.now }
         ensures one_each { Distinct (clients_of result.now) }

@@ -6,7 +6,7 @@ use smart_base::view::View;
 use std::alloc::Global;
 use std::process::Abort;
 use world_core::world::World;
-use world_script::reading::line_of;
+use world_script::reading::read_line;
 
 /// Members 1 to 4, of which one may be faulty.
 fn group(alloc: Global) -> Option<View> {
@@ -21,9 +21,9 @@ fn group(alloc: Global) -> Option<View> {
 
 /// Plays a line of a script, and says whether it was played.
 fn is_played(alloc: Global, world: &mut World<Lock>, text: &str) -> bool {
-    match line_of(alloc, text.as_bytes()) {
-        Ok(Ok(line)) => !world.is_over() && world.play(line).is_ok(),
-        _ => false,
+    match read_line(alloc, text.as_bytes()) {
+        Ok(line) => !world.over() && world.play(line).is_ok(),
+        Err(_) => false,
     }
 }
 

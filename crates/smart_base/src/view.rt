@@ -202,6 +202,14 @@ impl Views {
         Ok(Views { list })
     }
 
+    /// These views, in their order. It takes no memory.
+    pub fn from_vec(list: Vec<View>) -> Self
+        requires { 0 < length list.items }
+        ensures { result ≡ list.items }
+    {
+        Views { list }
+    }
+
     /// All of them, in their order.
     pub fn as_slice(&self) -> &[View]
         ensures value { result.now ≡ self.now }

@@ -11,24 +11,43 @@ use Rattle.smart_base.specs.FieldLaws.{u8_law}
 use Rattle.smart_statements.specs.Spelling.{signed, FitsSigned, FitsProposal, FitsBallot, FitsAnswer}
 use Rattle.smart_statements.specs.Kinds.{proposals, ballots, answers, requests}
 use Rattle.smart_statements.specs.Reading.{signed_at, batch_at}
-use Rattle.smart_statements.specs.Batches.{batch_text}
-use Rattle.smart_messages.specs.Messages.{kind, content, spelling, FitsContent, Fits, ask_at, propose_at, vote_at, reply_at, body_at, is_kind, message_kind_at, message_at, decoded}
+use Rattle.smart_statements.specs.Batches.{batch_text, FitsBatch}
+use Rattle.smart_statements.specs.SignedLists.{optional, FitsOptional, optional_at}
+use Rattle.smart_statements.specs.SignedListLaws.{optional_law}
+use Rattle.smart_statements.specs.Reports.{reports, FitsReport}
+use Rattle.smart_statements.specs.ReportLaws.{report_law}
+use Rattle.smart_messages.specs.Regencies.{stops, FitsStop, syncs, FitsSync}
+use Rattle.smart_messages.specs.RegencyLaws.{stop_law, sync_law}
+use Rattle.smart_messages.specs.Messages.{kind, content, spelling, FitsContent, Fits, ask_at, propose_at, vote_at, stop_message_at, stop_data_at, sync_message_at, reply_at, body_at, is_kind, message_kind_at, message_at, decoded}
 use Rattle.smart_messages.specs.declared.message.Message.{Message}
 use Rattle.smart_messages.specs.declared.message.Message.TheVariants.{Ask, Propose, Vote, Reply}
+use Rattle.smart_messages.specs.declared.message.Message.TheVariants as changes
 use Rattle.smart_statements.specs.Statements.{proposal_law, ballot_law, answer_law, signed_law}
 use Rattle.smart_statements.proofs.Batches.{ask_law, batch_law, start}
 use Rattle.smart_statements.proofs.Branches.{picked}
 
 -- ---- the parts of messages
 
-pub head_law : Law (FitsSigned proposals (λ signer. FitsProposal)) (signed proposals) (signed_at proposals)
+head_law : Law (FitsSigned proposals (λ signer. FitsProposal)) (signed proposals) (signed_at proposals)
 head_law = signed_law proposals (λ signer. FitsProposal) (omega arith) proposal_law
 
-pub vote_law : Law (FitsSigned ballots (λ signer. FitsBallot)) (signed ballots) (signed_at ballots)
+vote_law : Law (FitsSigned ballots (λ signer. FitsBallot)) (signed ballots) (signed_at ballots)
 vote_law = signed_law ballots (λ signer. FitsBallot) (omega arith) ballot_law
 
-pub reply_law : Law (FitsSigned answers (λ signer. FitsAnswer)) (signed answers) (signed_at answers)
+reply_law : Law (FitsSigned answers (λ signer. FitsAnswer)) (signed answers) (signed_at answers)
 reply_law = signed_law answers (λ signer. FitsAnswer) (omega arith) answer_law
+
+stop_part : Law (FitsSigned stops (λ signer. FitsStop)) (signed stops) (signed_at stops)
+stop_part = signed_law stops (λ signer. FitsStop) (omega arith) stop_law
+
+report_part : Law (FitsSigned reports (λ signer. FitsReport)) (signed reports) (signed_at reports)
+report_part = signed_law reports (λ signer. FitsReport) (omega arith) report_law
+
+sync_part : Law (FitsSigned syncs (λ signer. FitsSync)) (signed syncs) (signed_at syncs)
+sync_part = signed_law syncs (λ signer. FitsSync) (omega arith) sync_law
+
+batch_part : Law (FitsOptional FitsBatch) (optional batch_text) (optional_at (batch_at requests))
+batch_part = optional_law FitsBatch batch_text (batch_at requests) batch_law
 
 -- ---- messages, kind by kind
 
@@ -67,23 +86,55 @@ propose_takes c y bs e =
     subst (λ (y : Message × Cut). IsTaken 2 c y.0 y.1) (ok_is (Propose (record { head = a.0.0; batch = b.0.0 }), b.0.1) y b.2)
     ((refl, (t.0, u.0)), spelled-then c (signed proposals a.0.0) a.0.1 (batch_text b.0.0) b.0.1 t.1 u.1)
 
-last_of : (a b c d : Bool) → (a || b || c || d) ≡ true → a ≡ false → b ≡ false → c ≡ false → d ≡ true
-last_of true b c d e p q r = absurd cc
-last_of false true c d e p q r = absurd cc
-last_of false false true d e p q r = absurd cc
-last_of false false false d e p q r = e
+stop_takes : (c : Cut) (y : Message × Cut) → IsBytes c.left → stop_message_at c ≡ Ok y → IsTaken 4 c y.0 y.1
+unfolding stop_message_at
+stop_takes c y bs e =
+    let b = bind_ok (signed_at stops c) (λ s. Ok (changes.Stop s.0, s.1)) y e in
+    let t = stop_part.takes c b.0 bs b.1 in
+    subst (λ (y : Message × Cut). IsTaken 4 c y.0 y.1) (ok_is (changes.Stop b.0.0, b.0.1) y b.2) ((refl, t.0), t.1)
 
-pub body_takes : (k : ℕ) → is_kind k ≡ true → (c : Cut) (y : Message × Cut) → IsBytes c.left → body_at k c ≡ Ok y → IsTaken k c y.0 y.1
+stop_data_takes : (c : Cut) (y : Message × Cut) → IsBytes c.left → stop_data_at c ≡ Ok y → IsTaken 5 c y.0 y.1
+unfolding stop_data_at
+stop_data_takes c y bs e =
+    let a = bind_ok (signed_at reports c)
+    (λ r. optional_at (batch_at requests) r.1 >>= λ b. Ok (changes.StopData (record { head = r.0; batch = b.0 }), b.1)) y e in
+    let b = bind_ok (optional_at (batch_at requests) a.0.1) (λ b. Ok (changes.StopData (record { head = a.0.0; batch = b.0 }), b.1)) y a.2 in
+    let t = report_part.takes c a.0 bs a.1 in
+    let u = batch_part.takes a.0.1 b.0 (spelled-bytes c (signed reports a.0.0) a.0.1 bs t.1) b.1 in
+    subst (λ (y : Message × Cut). IsTaken 5 c y.0 y.1) (ok_is (changes.StopData (record { head = a.0.0; batch = b.0.0 }), b.0.1) y b.2)
+    ((refl, (t.0, u.0)), spelled-then c (signed reports a.0.0) a.0.1 (optional batch_text b.0.0) b.0.1 t.1 u.1)
+
+sync_takes : (c : Cut) (y : Message × Cut) → IsBytes c.left → sync_message_at c ≡ Ok y → IsTaken 6 c y.0 y.1
+unfolding sync_message_at
+sync_takes c y bs e =
+    let b = bind_ok (signed_at syncs c) (λ s. Ok (changes.Sync s.0, s.1)) y e in
+    let t = sync_part.takes c b.0 bs b.1 in
+    subst (λ (y : Message × Cut). IsTaken 6 c y.0 y.1) (ok_is (changes.Sync b.0.0, b.0.1) y b.2) ((refl, t.0), t.1)
+
+last_of : (a b c d e f g : Bool) → (a || b || c || d || e || f || g) ≡ true → a ≡ false → b ≡ false → c ≡ false → d ≡ false → e ≡ false → f ≡ false → g ≡ true
+last_of true b c d e f g one p q r s t u = absurd cc
+last_of false true c d e f g one p q r s t u = absurd cc
+last_of false false true d e f g one p q r s t u = absurd cc
+last_of false false false true e f g one p q r s t u = absurd cc
+last_of false false false false true f g one p q r s t u = absurd cc
+last_of false false false false false true g one p q r s t u = absurd cc
+last_of false false false false false false g one p q r s t u = one
+
+body_takes : (k : ℕ) → is_kind k ≡ true → (c : Cut) (y : Message × Cut) → IsBytes c.left → body_at k c ≡ Ok y → IsTaken k c y.0 y.1
 unfolding body_at
 body_takes k known c y bs e =
     picked (eqb k 1) k 1 _ _ y refl e (λ same one. subst (λ (k : ℕ). IsTaken k c y.0 y.1) (sym same) (ask_takes c y bs one)) λ n1 e2.
     picked (eqb k 2) k 2 _ _ y refl e2 (λ same one. subst (λ (k : ℕ). IsTaken k c y.0 y.1) (sym same) (propose_takes c y bs one)) λ n2 e3.
     picked (eqb k 3) k 3 _ _ y refl e3 (λ same one. subst (λ (k : ℕ). IsTaken k c y.0 y.1) (sym same) (vote_takes c y bs one)) λ n3 e4.
-    subst (λ (k : ℕ). IsTaken k c y.0 y.1) (sym (eqb-true k 8 (last_of (eqb k 1) (eqb k 2) (eqb k 3) (eqb k 8) known n1 n2 n3)))
-    (reply_takes c y bs e4)
+    picked (eqb k 4) k 4 _ _ y refl e4 (λ same one. subst (λ (k : ℕ). IsTaken k c y.0 y.1) (sym same) (stop_takes c y bs one)) λ n4 e5.
+    picked (eqb k 5) k 5 _ _ y refl e5 (λ same one. subst (λ (k : ℕ). IsTaken k c y.0 y.1) (sym same) (stop_data_takes c y bs one)) λ n5 e6.
+    picked (eqb k 6) k 6 _ _ y refl e6 (λ same one. subst (λ (k : ℕ). IsTaken k c y.0 y.1) (sym same) (sync_takes c y bs one)) λ n6 e7.
+    subst (λ (k : ℕ). IsTaken k c y.0 y.1)
+    (sym (eqb-true k 8 (last_of (eqb k 1) (eqb k 2) (eqb k 3) (eqb k 4) (eqb k 5) (eqb k 6) (eqb k 8) known n1 n2 n3 n4 n5 n6)))
+    (reply_takes c y bs e7)
 
-pub content_again : (c : Cut) (m : Message) (d : Cut) → FitsContent m → Spelled c (content m) d → body_at (kind m) c ≡ Ok (m, d)
-unfolding body_at ask_at propose_at vote_at reply_at
+content_again : (c : Cut) (m : Message) (d : Cut) → FitsContent m → Spelled c (content m) d → body_at (kind m) c ≡ Ok (m, d)
+unfolding body_at ask_at propose_at vote_at stop_message_at stop_data_at sync_message_at reply_at
 content_again c (Ask a) d h s = bind_is (signed_at requests c) (λ a. Ok (Ask a.0, a.1)) (a, d) (ask_law.again c a d h s)
 content_again c (Vote a) d h s = bind_is (signed_at ballots c) (λ a. Ok (Vote a.0, a.1)) (a, d) (vote_law.again c a d h s)
 content_again c (Reply a) d h s = bind_is (signed_at answers c) (λ a. Ok (Reply a.0, a.1)) (a, d) (reply_law.again c a d h s)
@@ -93,11 +144,23 @@ content_again c (Propose p) d h s =
     (head_law.again c p.head m h.0 (spelled-front c (signed proposals p.head) (batch_text p.batch) d s))
     ∙ bind_is (batch_at requests m) (λ b. Ok (Propose (record { head = p.head; batch = b.0 }), b.1)) (p.batch, d)
     (batch_law.again m p.batch d h.1 (spelled-back c (signed proposals p.head) (batch_text p.batch) d s))
+content_again c (changes.Stop s) d h p = bind_is (signed_at stops c) (λ s. Ok (changes.Stop s.0, s.1)) (s, d) (stop_part.again c s d h p)
+content_again c (changes.Sync s) d h p = bind_is (signed_at syncs c) (λ s. Ok (changes.Sync s.0, s.1)) (s, d) (sync_part.again c s d h p)
+content_again c (changes.StopData r) d h p =
+    let m = middle c (signed reports r.head) (optional batch_text r.batch) d in
+    bind_is (signed_at reports c) (λ r. optional_at (batch_at requests) r.1 >>= λ b. Ok (changes.StopData (record { head = r.0; batch = b.0 }), b.1))
+    (r.head, m)
+    (report_part.again c r.head m h.0 (spelled-front c (signed reports r.head) (optional batch_text r.batch) d p))
+    ∙ bind_is (optional_at (batch_at requests) m) (λ b. Ok (changes.StopData (record { head = r.head; batch = b.0 }), b.1)) (r.batch, d)
+    (batch_part.again m r.batch d h.1 (spelled-back c (signed reports r.head) (optional batch_text r.batch) d p))
 
-pub kind_fits : (m : Message) → (kind m < 2 ^ 8) × (is_kind (kind m) ≡ true)
+kind_fits : (m : Message) → (kind m < 2 ^ 8) × (is_kind (kind m) ≡ true)
 kind_fits (Ask a) = (omega arith, refl)
 kind_fits (Propose p) = (omega arith, refl)
 kind_fits (Vote v) = (omega arith, refl)
+kind_fits (changes.Stop s) = (omega arith, refl)
+kind_fits (changes.StopData r) = (omega arith, refl)
+kind_fits (changes.Sync s) = (omega arith, refl)
 kind_fits (Reply s) = (omega arith, refl)
 
 body_law : (k : ℕ) → (k < 2 ^ 8) × (is_kind k ≡ true) → Law (λ m. (Unit {0} × (kind m ≡ k)) × FitsContent m) content (body_at k)
@@ -116,7 +179,7 @@ content_law =
     (ranged_law (λ n. n < 2 ^ 8) (to_be_bytes w8) (number_at w8) is_kind u8_law) body_law)
     (λ m h. h.1.1) (λ m h. (tt, (kind_fits m, h)))
 
-pub message_law : Law Fits spelling (limited 1048576 message_at)
+message_law : Law Fits spelling (limited 1048576 message_at)
 message_law =
     refit _ Fits spelling (limited 1048576 message_at) (limited_law FitsContent spelling message_at 1048576 content_law)
     (λ m h. record { content_fits = h.0; bytes_fit = h.1 }) (λ m h. (h.content_fits, h.bytes_fit))

@@ -1,4 +1,4 @@
 pub mod Messages
 pub mod Regencies
 pub mod RegencyLaws
-pub mod RegencyMessages
+pub mod Statements

@@ -1,29 +1,51 @@
--- Messages: their spelling, which have one, and how they are read.
-use Rattle.std.specs.Prelude.{ℕ, ◌≤◌, List, ◌++◌, length, Bool, Result, Ok, ◌==◌, ◌||◌, if◌then◌else◌}
+-- Messages: their bytes, which messages have bytes, how they are read, and what stands in them.
+use Rattle.std.specs.Prelude.{ℕ, ◌≤◌, List, ◌++◌, length, Bool, false, Option, Some, None, Result, Ok, ◌==◌, ◌||◌, if◌then◌else◌}
 use Rattle.std.specs.Int.{w8}
 use Rattle.smart_base.specs.Cuts.{Cut, Read, ◌>>=◌, number_at, ranged, limited, whole}
 use Rattle.smart_base.specs.Spelling.{u8}
-use Rattle.smart_statements.specs.Batches.{batch_text, FitsBatch}
+use Rattle.smart_statements.specs.Forms.{SignedBy}
+use Rattle.smart_statements.specs.Batches.{Batch, batch_text, FitsBatch}
 use Rattle.smart_statements.specs.Kinds.{proposals, ballots, answers, requests}
 use Rattle.smart_statements.specs.Spelling.{signed, FitsSigned, FitsProposal, FitsBallot, FitsAnswer, FitsRequest}
 use Rattle.smart_statements.specs.Reading.{signed_at, batch_at}
+use Rattle.smart_statements.specs.SignedLists.{optional, FitsOptional, optional_at}
+use Rattle.smart_statements.specs.Reports.{reports, FitsReport}
+use Rattle.smart_statements.specs.declared.statement.Request.{Request}
+use Rattle.smart_statements.specs.declared.statement.Slot.{Slot}
+use Rattle.smart_statements.specs.declared.statement.Ballot.{Ballot}
+use Rattle.smart_statements.specs.declared.statement.Answer.{Answer}
+use Rattle.smart_messages.specs.Regencies.{stops, FitsStop, syncs, FitsSync}
+use Rattle.smart_messages.specs.declared.regency.Stop.{Stop}
+use Rattle.smart_messages.specs.declared.regency.Sync.{Sync}
+use Rattle.smart_messages.specs.declared.regency.Reported.{Reported}
+use Rattle.smart_messages.specs.declared.message.Proposed.{Proposed}
 use Rattle.smart_messages.specs.declared.message.Message.{Message}
 use Rattle.smart_messages.specs.declared.message.Message.TheVariants.{Ask, Propose, Vote, Reply}
+use Rattle.smart_messages.specs.declared.message.Message.TheVariants as changes
 
 -- ---- the spelling
 
+-- the first byte of a message
 abbrev pub kind : Message → ℕ
 kind (Ask a) = 1
 kind (Propose p) = 2
 kind (Vote v) = 3
+kind (changes.Stop s) = 4
+kind (changes.StopData r) = 5
+kind (changes.Sync s) = 6
 kind (Reply r) = 8
 
+-- the bytes of a message after the first one
 abbrev pub content : Message → List ℕ
 content (Ask a) = signed requests a
 content (Propose p) = signed proposals p.head ++ batch_text p.batch
 content (Vote v) = signed ballots v
+content (changes.Stop s) = signed stops s
+content (changes.StopData r) = signed reports r.head ++ optional batch_text r.batch
+content (changes.Sync s) = signed syncs s
 content (Reply r) = signed answers r
 
+-- the bytes of a message: it has one spelling
 unfoldable pub spelling : Message → List ℕ
 spelling m = u8 (kind m) ++ content m
 
@@ -33,8 +55,12 @@ abbrev pub FitsContent : Message → Type 0
 FitsContent (Ask a) = FitsSigned requests FitsRequest a
 FitsContent (Propose p) = FitsSigned proposals (λ signer. FitsProposal) p.head × FitsBatch p.batch
 FitsContent (Vote v) = FitsSigned ballots (λ signer. FitsBallot) v
+FitsContent (changes.Stop s) = FitsSigned stops (λ signer. FitsStop) s
+FitsContent (changes.StopData r) = FitsSigned reports (λ signer. FitsReport) r.head × FitsOptional FitsBatch r.batch
+FitsContent (changes.Sync s) = FitsSigned syncs (λ signer. FitsSync) s
 FitsContent (Reply r) = FitsSigned answers (λ signer. FitsAnswer) r
 
+-- a message that has bytes: each field is within its limits, and all are at most 1,048,576 bytes
 pub record Fits (m : Message) : Type 0 where
   pub content_fits : FitsContent m
   pub bytes_fit : length (spelling m) ≤ 1048576
@@ -57,6 +83,22 @@ vote_at c = do
   v ← signed_at ballots c
   Ok (Vote v.0, v.1)
 
+unfoldable pub stop_message_at : Cut → Read Message
+stop_message_at c = do
+  s ← signed_at stops c
+  Ok (changes.Stop s.0, s.1)
+
+unfoldable pub stop_data_at : Cut → Read Message
+stop_data_at c = do
+  r ← signed_at reports c
+  b ← optional_at (batch_at requests) r.1
+  Ok (changes.StopData (record { head = r.0; batch = b.0 }), b.1)
+
+unfoldable pub sync_message_at : Cut → Read Message
+sync_message_at c = do
+  s ← signed_at syncs c
+  Ok (changes.Sync s.0, s.1)
+
 unfoldable pub reply_at : Cut → Read Message
 reply_at c = do
   r ← signed_at answers c
@@ -67,10 +109,14 @@ body_at kind c =
     if kind == 1 then ask_at c
     else if kind == 2 then propose_at c
     else if kind == 3 then vote_at c
+    else if kind == 4 then stop_message_at c
+    else if kind == 5 then stop_data_at c
+    else if kind == 6 then sync_message_at c
     else reply_at c
 
+-- a byte with which a message begins
 abbrev pub is_kind : ℕ → Bool
-is_kind k = k == 1 || k == 2 || k == 3 || k == 8
+is_kind k = k == 1 || k == 2 || k == 3 || k == 4 || k == 5 || k == 6 || k == 8
 
 abbrev pub message_kind_at : Cut → Read ℕ
 message_kind_at = ranged is_kind (number_at w8)
@@ -80,6 +126,65 @@ message_at c = do
   k ← message_kind_at c
   body_at k.0 k.1
 
--- the message of these bytes, or the lowest offset of a field that is none, or of a byte left over
+-- the message that bytes are, or the lowest offset of a field that is none, or of a byte left over
 unfoldable pub decoded : List ℕ → Result Message ℕ
 decoded bytes = whole (limited 1048576 message_at) (record { at = 0; left = bytes })
+
+-- ---- a message as one of a kind
+
+-- the request that a message is, if it is one
+abbrev pub request_in : Message → Option (SignedBy Request)
+request_in (Ask q) = Some q
+request_in _ = None
+
+-- the PROPOSE that a message is, if it is one
+abbrev pub proposal_in : Message → Option Proposed
+proposal_in (Propose p) = Some p
+proposal_in _ = None
+
+-- the vote that a message is, if it is one
+abbrev pub vote_in : Message → Option (SignedBy Ballot)
+vote_in (Vote b) = Some b
+vote_in _ = None
+
+-- the STOP that a message is, if it is one
+abbrev pub stop_in : Message → Option (SignedBy Stop)
+stop_in (changes.Stop s) = Some s
+stop_in _ = None
+
+-- the STOPDATA that a message is, if it is one
+abbrev pub report_in : Message → Option Reported
+report_in (changes.StopData r) = Some r
+report_in _ = None
+
+-- the SYNC that a message is, if it is one
+abbrev pub sync_in : Message → Option (SignedBy Sync)
+sync_in (changes.Sync s) = Some s
+sync_in _ = None
+
+-- the reply that a message is, if it is one
+abbrev pub reply_in : Message → Option (SignedBy Answer)
+reply_in (Reply a) = Some a
+reply_in _ = None
+
+-- the slot of a PROPOSE or of a vote
+abbrev pub slot_of : Message → Option Slot
+slot_of (Propose p) = Some p.head.statement.slot
+slot_of (Vote b) = Some b.statement.slot
+slot_of _ = None
+
+-- the batch of a PROPOSE, or of the lock in a STOPDATA
+abbrev pub batch_in : Message → Option Batch
+batch_in (Propose p) = Some p.batch
+batch_in (changes.StopData r) = r.batch
+batch_in _ = None
+
+-- a value that is there and passes a test
+abbrev pub some_of : {A : Type 0} → (A → Bool) → Option A → Bool
+some_of wanted None = false
+some_of wanted (Some x) = wanted x
+
+-- the value, if it is there and passes a test
+abbrev pub kept_if : {A : Type 0} → (A → Bool) → Option A → Option A
+kept_if wanted None = None
+kept_if wanted (Some x) = if wanted x then Some x else None

@@ -1,4 +1,4 @@
--- What members state to change the regency, and what they state of views.
+-- The statements of a leader change, and those of views.
 use Rattle.std.specs.Prelude.{◌≡◌, ℕ, ◌<◌, ◌^◌, true, List, ◌++◌, Ok}
 use Rattle.std.specs.Int.{w32}
 use Rattle.smart_base.specs.Cuts.{Cut, Read, ◌>>=◌, number_at}
@@ -15,6 +15,7 @@ use Rattle.smart_messages.specs.declared.regency.ViewInfo.{ViewInfo}
 
 -- ---- stops
 
+-- the bytes of a STOP
 abbrev pub stop : Stop → List ℕ
 stop s = u8 4 ++ (u32 s.view ++ u32 s.regency)
 
@@ -29,11 +30,13 @@ stop_at signer c = do
   r ← number_at w32 v.1
   Ok (record { view = v.0; regency = r.0 }, r.1)
 
+-- STOP as a kind of statement
 abbrev pub stops : Form Stop
 stops = record { kind = member_kind; spell = stop; read = stop_at }
 
 -- ---- what a leader begins its regency with
 
+-- the bytes of a SYNC
 abbrev pub sync : Sync → List ℕ
 sync s = u8 6 ++ (u32 s.view ++ (u32 s.regency ++ listed reports s.collect))
 
@@ -50,11 +53,13 @@ sync_at signer c = do
   l ← list_at reports r.1
   Ok (record { view = v.0; regency = r.0; collect = l.0 }, l.1)
 
+-- SYNC as a kind of statement
 abbrev pub syncs : Form Sync
 syncs = record { kind = member_kind; spell = sync; read = sync_at }
 
 -- ---- views
 
+-- the bytes of a view's statement
 abbrev pub view_info : ViewInfo → List ℕ
 view_info i = u8 10 ++ view_text i.view
 
@@ -67,5 +72,6 @@ view_info_at signer c = do
   v ← view_at k.1
   Ok (record { view = v.0 }, v.1)
 
+-- a member's statement of a view, as a kind of statement
 abbrev pub view_infos : Form ViewInfo
 view_infos = record { kind = member_kind; spell = view_info; read = view_info_at }

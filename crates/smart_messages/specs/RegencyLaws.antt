@@ -1,4 +1,4 @@
--- The laws of what members state to change the regency, and of views: what is read is what is spelled.
+-- The laws of the statements of a leader change, and of views: what is read is what is spelled.
 use Rattle.std.proofs.Common.{◌≡◌, ℕ, ◌+◌, ◌*◌, ◌^◌, ◌<◌, true, List, [], ◌∷◌, length, refl, sym, arith}
 use Rattle.std.specs.List.{flat_map}
 use Rattle.std.specs.Int.{w8, w32, to_be_bytes}

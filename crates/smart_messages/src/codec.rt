@@ -1,22 +1,28 @@
-//! The one spelling of each message, and how messages are read.
+//! The bytes of messages, and how messages are read.
 ghost use Rattle.std.specs.Prelude.{◌≡◌, ◌++◌, IfOk, OnOk, OnErr, Ok};
 ghost use Rattle.smart_base.specs.Cuts.{Gives, GivesAll, Takes, limited};
 ghost use Rattle.smart_base.specs.Spelling.{Extends};
 ghost use Rattle.smart_statements.specs.Batches.{batch_text};
-ghost use Rattle.smart_statements.specs.Kinds.{proposals};
+ghost use Rattle.smart_statements.specs.Kinds.{proposals, requests};
+ghost use Rattle.smart_statements.specs.Reading.{batch_at};
+ghost use Rattle.smart_statements.specs.Reports.{reports};
+ghost use Rattle.smart_statements.specs.SignedLists.{optional, optional_at};
 ghost use Rattle.smart_statements.specs.Spelling.{signed};
-ghost use Rattle.smart_messages.specs.Messages.{Fits, kind, content, spelling, ask_at, propose_at, vote_at, reply_at, body_at, is_kind, message_kind_at, message_at, decoded};
+ghost use Rattle.smart_messages.specs.Messages.{Fits, kind, content, spelling, ask_at, propose_at, vote_at, stop_message_at, stop_data_at, sync_message_at, reply_at, body_at, is_kind, message_kind_at, message_at, decoded};
 
 use crate::message::{Message, Proposed};
+use crate::regency::{Reported, Stop, Sync};
 use smart_base::cursor::Cursor;
 use smart_base::fault::{ReadError, Unread};
 use smart_base::field::put_u8;
 use smart_statements::batch::Batch;
+use smart_statements::optional::take_flag;
+use smart_statements::report::Report;
 use smart_statements::signed::Signed;
 use smart_statements::statement::{Answer, Ballot, Proposal, Request};
 use std::alloc::{AllocError, Global};
 
-/// The most bytes that a message has.
+/// The greatest length of a message, in bytes.
 pub const MESSAGE_BYTES: usize = 1_048_576;
 
 #[tactic(auto, unfolding(crate::specs::Messages::ask_at))]
@@ -42,6 +48,39 @@ fn read_vote(alloc: Global, cut: &mut Cursor<'_>) -> Result<Message, ReadError>
     Ok(Message::Vote(Signed::<Ballot>::read(alloc, cut)?))
 }
 
+#[tactic(auto, unfolding(crate::specs::Messages::stop_message_at))]
+fn read_stop(alloc: Global, cut: &mut Cursor<'_>) -> Result<Message, ReadError>
+    ensures { Gives result cut.new (stop_message_at cut.old) }
+{
+    Ok(Message::Stop(Signed::<Stop>::read(alloc, cut)?))
+}
+
+#[tactic(auto, unfolding(smart_statements::specs::SignedLists::optional_at, smart_statements::specs::SignedLists::some_at))]
+fn read_batch(alloc: Global, cut: &mut Cursor<'_>) -> Result<Option<Batch>, ReadError>
+    ensures { Gives result cut.new (optional_at (batch_at requests) cut.old) }
+{
+    if take_flag(cut)? == 0 {
+        return Ok(None);
+    }
+    Ok(Some(Batch::read(alloc, cut)?))
+}
+
+#[tactic(auto, unfolding(crate::specs::Messages::stop_data_at))]
+fn read_stop_data(alloc: Global, cut: &mut Cursor<'_>) -> Result<Message, ReadError>
+    ensures { Gives result cut.new (stop_data_at cut.old) }
+{
+    let head = Signed::<Report>::read(alloc, cut)?;
+    let batch = read_batch(alloc, cut)?;
+    Ok(Message::StopData(Reported { head, batch }))
+}
+
+#[tactic(auto, unfolding(crate::specs::Messages::sync_message_at))]
+fn read_sync(alloc: Global, cut: &mut Cursor<'_>) -> Result<Message, ReadError>
+    ensures { Gives result cut.new (sync_message_at cut.old) }
+{
+    Ok(Message::Sync(Signed::<Sync>::read(alloc, cut)?))
+}
+
 #[tactic(auto, unfolding(crate::specs::Messages::reply_at))]
 fn read_reply(alloc: Global, cut: &mut Cursor<'_>) -> Result<Message, ReadError>
     ensures { Gives result cut.new (reply_at cut.old) }
@@ -49,24 +88,27 @@ fn read_reply(alloc: Global, cut: &mut Cursor<'_>) -> Result<Message, ReadError>
     Ok(Message::Reply(Signed::<Answer>::read(alloc, cut)?))
 }
 
-/// Reads what stands behind a message's first byte.
+/// Reads what comes after a message's first byte.
 #[tactic(auto, unfolding(crate::specs::Messages::body_at))]
-pub fn read_body(alloc: Global, kind: u8, cut: &mut Cursor<'_>) -> Result<Message, ReadError>
+fn read_body(alloc: Global, kind: u8, cut: &mut Cursor<'_>) -> Result<Message, ReadError>
     ensures { Gives result cut.new (body_at kind cut.old) }
 {
     match kind {
         1 => read_ask(alloc, cut),
         2 => read_propose(alloc, cut),
         3 => read_vote(alloc, cut),
+        4 => read_stop(alloc, cut),
+        5 => read_stop_data(alloc, cut),
+        6 => read_sync(alloc, cut),
         _ => read_reply(alloc, cut),
     }
 }
 
-/// Whether this is the first byte of such a message.
-pub fn is_message_kind(kind: u8) -> bool
+/// Whether a byte is the first of a message.
+fn is_message_kind(kind: u8) -> bool
     ensures { result ≡ is_kind kind }
 {
-    kind == 1 || kind == 2 || kind == 3 || kind == 8
+    kind == 1 || kind == 2 || kind == 3 || kind == 4 || kind == 5 || kind == 6 || kind == 8
 }
 
 #[tactic(auto, unfolding(smart_base::specs::Cuts::ranged))]
@@ -91,7 +133,7 @@ fn read_message(alloc: Global, cut: &mut Cursor<'_>) -> Result<Message, ReadErro
     Ok(message)
 }
 
-/// A field that ends past the limit of a message's bytes cannot be read.
+/// Reads a message within the limit; a field that ends past the limit cannot be read.
 #[tactic(auto, unfolding(smart_base::specs::Cuts::limited))]
 fn read_limited(alloc: Global, cut: &mut Cursor<'_>) -> Result<Message, ReadError>
     ensures { Gives result cut.new (limited 1048576 message_at cut.old) }
@@ -115,7 +157,8 @@ fn read_all(alloc: Global, bytes: &[u8]) -> Result<Message, ReadError>
     Ok(message)
 }
 
-/// The message that these bytes are, all of them.
+/// The message that these bytes are, all of them. Errors: the lowest offset of a field that is none,
+/// or of a byte left over; want of memory.
 pub fn decode(alloc: Global, bytes: &[u8]) -> Result<Message, ReadError>
     // What is read is spelled so.
     ensures found { IfOk result (λ m. Fits m × (bytes.now ≡ spelling m)) }
@@ -135,6 +178,9 @@ fn kind(message: &Message) -> u8
         Message::Ask(_) => 1,
         Message::Propose(_) => 2,
         Message::Vote(_) => 3,
+        Message::Stop(_) => 4,
+        Message::StopData(_) => 5,
+        Message::Sync(_) => 6,
         Message::Reply(_) => 8,
     }
 }
@@ -148,7 +194,32 @@ fn put_proposed(out: &mut Vec<u8>, proposed: &Proposed) -> Result<(), AllocError
     Ok(())
 }
 
-/// Adds the bytes that stand behind the first one.
+fn put_batch(out: &mut Vec<u8>, batch: &Option<Batch>) -> Result<(), AllocError>
+    ensures text { OnOk result (out.new.items ≡ out.old.items ++ optional batch_text batch.now) }
+    ensures err { OnErr result (Extends out.old.items out.new.items) }
+{
+    match batch {
+        None => {
+            put_u8(out, 0)?;
+        }
+        Some(batch) => {
+            put_u8(out, 1)?;
+            batch.put(out)?;
+        }
+    }
+    Ok(())
+}
+
+fn put_reported(out: &mut Vec<u8>, reported: &Reported) -> Result<(), AllocError>
+    ensures text { OnOk result (out.new.items ≡ out.old.items ++ (signed reports reported.now.head ++ optional batch_text reported.now.batch)) }
+    ensures err { OnErr result (Extends out.old.items out.new.items) }
+{
+    reported.head.put(out)?;
+    put_batch(out, &reported.batch)?;
+    Ok(())
+}
+
+/// Adds the bytes after the first one.
 fn put_content(out: &mut Vec<u8>, message: &Message) -> Result<(), AllocError>
     ensures text { OnOk result (out.new.items ≡ out.old.items ++ content message.now) }
     ensures err { OnErr result (Extends out.old.items out.new.items) }
@@ -157,13 +228,16 @@ fn put_content(out: &mut Vec<u8>, message: &Message) -> Result<(), AllocError>
         Message::Ask(ask) => ask.put(out),
         Message::Propose(proposed) => put_proposed(out, proposed),
         Message::Vote(vote) => vote.put(out),
+        Message::Stop(stop) => stop.put(out),
+        Message::StopData(reported) => put_reported(out, reported),
+        Message::Sync(sync) => sync.put(out),
         Message::Reply(reply) => reply.put(out),
     }
 }
 
-/// Adds the message's bytes.
+/// Adds the bytes of a message. Error: want of memory.
 #[tactic(auto, unfolding(crate::specs::Messages::spelling))]
-pub fn put_message(out: &mut Vec<u8>, message: &Message) -> Result<(), AllocError>
+fn put_message(out: &mut Vec<u8>, message: &Message) -> Result<(), AllocError>
     ensures text { OnOk result (out.new.items ≡ out.old.items ++ spelling message.now) }
     ensures err { OnErr result (Extends out.old.items out.new.items) }
 {
@@ -172,7 +246,7 @@ pub fn put_message(out: &mut Vec<u8>, message: &Message) -> Result<(), AllocErro
     Ok(())
 }
 
-/// The one spelling of the message.
+/// The bytes of a message. Error: want of memory.
 pub fn encode(alloc: Global, message: &Message) -> Result<Vec<u8>, AllocError>
     ensures { IfOk result (λ v. v.items ≡ spelling message.now) }
 {

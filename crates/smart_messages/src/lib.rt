@@ -1,9 +1,9 @@
-//! What members and clients send each other, and the one spelling of each message.
+//! The messages that members and clients send each other, and the bytes of each.
 #![tactic(auto)]
 
-pub mod any;
 pub mod codec;
 pub mod laws;
 pub mod message;
+pub mod party;
 pub mod regency;
-pub mod regency_codec;
+pub mod standing;

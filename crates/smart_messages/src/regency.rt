@@ -1,4 +1,4 @@
-//! What members state, and send each other, to change the regency.
+//! The statements and messages of a leader change.
 ghost use Rattle.smart_messages.specs.Regencies.{FitsStop, stops, FitsSync, syncs, FitsViewInfo, view_infos};
 ghost use Rattle.smart_messages.specs.RegencyLaws.{stop_law, sync_law, view_info_law};
 
@@ -16,7 +16,7 @@ use smart_statements::signed::{MEMBER, Signed, Statement, within_limit};
 use smart_statements::signed_list::SignedList;
 use std::alloc::{AllocError, Global};
 
-/// A member asks for a regency of a view, whose leader then takes over (Mod-SMaRt, EDCC 2012).
+/// A member's wish for a regency of a view (STOP of Mod-SMaRt, EDCC 2012).
 pub struct Stop {
     pub view: ViewNo,
     pub regency: Regency,
@@ -32,8 +32,8 @@ impl Drop for Stop {
     }
 }
 
-/// What the leader of a regency begins it with: the reports that it has collected, from which
-/// everyone draws the same choice (Mod-SMaRt, EDCC 2012).
+/// The reports with which the leader of a regency begins it (SYNC of Mod-SMaRt, EDCC 2012). Everyone
+/// makes the same choice of them.
 pub struct Sync {
     pub view: ViewNo,
     pub regency: Regency,
@@ -51,7 +51,8 @@ impl Drop for Sync {
     }
 }
 
-/// A member tells a client the view in force (BFT-SMaRt, DSN 2014).
+/// A member's statement of the view in force, for a client (BFT-SMaRt, DSN 2014). INTERIM(views):
+/// nobody makes one.
 pub struct ViewInfo {
     pub view: View,
 }
@@ -63,19 +64,11 @@ impl Drop for ViewInfo {
     }
 }
 
-/// A member's report, and the batch on which it is locked.
+/// A member's report, with the batch of its lock (STOPDATA of Mod-SMaRt, EDCC 2012).
 #[derive(Drop)]
 pub struct Reported {
     pub head: Signed<Report>,
     pub batch: Option<Batch>,
-}
-
-/// The messages that change the regency (the synchronisation phase of Mod-SMaRt, EDCC 2012).
-#[derive(Drop)]
-pub enum RegencyMessage {
-    Stop(Signed<Stop>),
-    StopData(Reported),
-    Sync(Signed<Sync>),
 }
 
 impl Statement for Stop {
@@ -204,17 +197,5 @@ impl Duplicate for Reported {
             head: self.head.duplicate(alloc)?,
             batch: duplicate_optional(alloc, &self.batch)?,
         })
-    }
-}
-
-impl Duplicate for RegencyMessage {
-    fn duplicate(&self, alloc: Global) -> Result<RegencyMessage, AllocError> {
-        match self {
-            RegencyMessage::Stop(stop) => Ok(RegencyMessage::Stop(stop.duplicate(alloc)?)),
-            RegencyMessage::StopData(reported) => Ok(RegencyMessage::StopData(reported.duplicate(
-                alloc,
-            )?)),
-            RegencyMessage::Sync(sync) => Ok(RegencyMessage::Sync(sync.duplicate(alloc)?)),
-        }
     }
 }

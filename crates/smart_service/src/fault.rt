@@ -1,15 +1,15 @@
-//! Why no service was restored.
+//! The reasons for which no service was restored.
 ghost use Rattle.std.specs.Prelude.{◌≡◌};
 ghost use Rattle.smart_service.specs.declared.fault.RestoreError.TheVariants.{NoMemory};
 
 use std::alloc::{AllocError, AllocFailed};
 
-/// Why no service was restored.
+/// The reason for which no service was restored.
 #[derive(Debug, Drop)]
 pub enum RestoreError {
-    /// Memory ran out.
+    /// Want of memory.
     NoMemory,
-    /// The bytes are no snapshot.
+    /// The bytes are the snapshot of no state.
     BadSnapshot,
 }
 

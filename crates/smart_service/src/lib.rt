@@ -1,4 +1,4 @@
-//! What is replicated: a sequential service, and what a member keeps of it and its clients.
+//! The service that is replicated, and what a member keeps of it and its clients.
 #![tactic(auto)]
 
 pub mod fault;

@@ -1,9 +1,10 @@
-//! A member's copy of what is replicated.
+//! A member's replica.
 use crate::table::ClientTable;
 use smart_base::number::Place;
 use smart_base::view::Views;
 
-/// The service, the table of its clients, the views so far and the number of batches delivered.
+/// A member's replica: the service, the table of clients, the views so far, and the number of
+/// delivered batches.
 pub struct Replica<S> {
     pub service: S,
     pub table: ClientTable,

@@ -1,4 +1,4 @@
-//! A service that is replicated.
+//! The service that is replicated.
 ghost use Rattle.std.specs.Prelude.{◌≡◌, ◌≤◌, ℕ, List, length, Some, IfOk, OnOk, OnErr};
 ghost use Rattle.smart_base.specs.Cuts.{IsBytes};
 ghost use Rattle.smart_base.specs.Lists.{Each};
@@ -9,30 +9,33 @@ use smart_base::bytes::Payload;
 use smart_base::sequence::Bytes;
 use std::alloc::{AllocError, Global};
 
-/// A sequential service: its replies follow from its state and the operation alone
-/// (state machine replication), and its state can be written down and read again.
+/// A sequential service. Its replies follow from its state and the operation alone (state machine
+/// replication). Its state has bytes from which it can be restored.
 pub trait Service: Drop {
-    /// Its first state, the state and the reply after an operation, and how states are written down.
+    /// The meaning: the first state, the state and the reply after an operation, and the bytes of
+    /// states.
     ghost meaning: { Meaning Self };
 
-    /// The states that the service comes to.
+    /// The valid states: those that the service reaches.
     ghost valid: { Self → Type 0 };
 
-    /// The service before any operation.
+    /// The service before any operation. Error: want of memory.
     fn first(alloc: Global) -> Result<Self, AllocError>
         ensures { IfOk result (λ s. s ≡ Meaning.first meaning) };
 
-    /// Runs an operation and gives its reply. Where memory runs out the state stays.
+    /// Runs an operation, which may change the state. Gives the reply, at most 4,096 printable bytes.
+    /// Error: want of memory; the state is unchanged then.
     fn run(&mut self, alloc: Global, op: &[u8]) -> Result<Payload, AllocError>
         ensures reply { IfOk result (λ reply. reply ≡ Meaning.reply meaning self.old op.now) }
         ensures state { OnOk result (self.new ≡ Meaning.next meaning self.old op.now) }
         ensures err { OnErr result (self.new ≡ self.old) };
 
-    /// The state in bytes.
+    /// The bytes of the state, at most 12,000,000. Error: want of memory.
     fn snapshot(&self, alloc: Global) -> Result<Bytes, AllocError>
         ensures { IfOk result (λ bytes. bytes ≡ Meaning.snapshot meaning self.now) };
 
-    /// The service whose state the bytes are, if they are one.
+    /// The service whose state the bytes are. Errors: `BadSnapshot` if they are no state's bytes;
+    /// want of memory.
     fn restore(alloc: Global, bytes: &[u8]) -> Result<Self, RestoreError>
         ensures { Restores result (Meaning.restore meaning bytes.now) };
 

@@ -1,4 +1,4 @@
-//! What is kept of each client.
+//! The table of clients.
 ghost use Rattle.std.specs.Prelude.{◌≡◌, ◌≤◌, ◌==◌, ◌+◌, [], length, option_copied, OnOk, OnErr, IfOk, IfErr};
 ghost use Rattle.smart_service.specs.Tables.{last_seq, line_for, with_line, Ascends, lines_before, Found, Missing};
 
@@ -9,8 +9,8 @@ use smart_base::number::{Place, ViewNo};
 use std::alloc::{AllocError, Global};
 use std::marker::Model;
 
-/// A client's last executed request: where it stands in the list, the number of the view in force
-/// there, and the reply.
+/// A client's last executed request: its place in the list, the number of the view in force there,
+/// and its reply.
 #[derive(Drop)]
 pub struct TableLine {
     pub client: ClientId,
@@ -35,7 +35,7 @@ impl Duplicate for TableLine {
     }
 }
 
-/// A line for each client that had a request executed, ascending by client.
+/// The table of clients: a line for each client that had a request executed, by ascending client.
 pub struct ClientTable {
     lines: Vec<TableLine>,
 }
@@ -59,7 +59,7 @@ impl Model for ClientTable {
     ghost invariant = { λ t. Ascends t.lines.items };
 }
 
-/// How many lines stand before a client's, by binary search.
+/// The number of lines before a client's, by binary search.
 fn lines_before(lines: &[TableLine], client: ClientId) -> usize
     requires { Ascends lines.now }
     ensures place { result ≡ lines_before lines.now client }
@@ -68,7 +68,7 @@ fn lines_before(lines: &[TableLine], client: ClientId) -> usize
     lines.partition_point(|line| line.client < client)
 }
 
-/// Where a client's line stands, or else where it belongs.
+/// The index of a client's line, or else the index at which it belongs.
 fn place_of(lines: &[TableLine], client: ClientId) -> Result<usize, usize>
     requires { Ascends lines.now }
     ensures found { IfOk result (Found lines.now client) }
@@ -117,14 +117,30 @@ impl ClientTable {
         }
     }
 
-    /// The line of a client's last executed request, if one was.
+    /// The table of these lines. It takes no memory.
+    pub fn from_vec(lines: Vec<TableLine>) -> Self
+        requires { Ascends lines.items }
+        ensures { result ≡ lines.items }
+    {
+        ClientTable { lines }
+    }
+
+    /// All lines, ascending by client.
+    pub fn as_slice(&self) -> &[TableLine]
+        ensures value { result.now ≡ self.now }
+        ensures order { Ascends result.now }
+    {
+        self.lines.as_slice()
+    }
+
+    /// The line of a client's last executed request, if there is one.
     pub fn line(&self, client: ClientId) -> Option<&TableLine>
         ensures { option_copied result ≡ line_for self.now client }
     {
         line_of(self.lines.as_slice(), client)
     }
 
-    /// The number of a client's last executed request, 0 if none was.
+    /// The number of a client's last executed request; 0 if there is none.
     pub fn last_seq(&self, client: ClientId) -> u64
         ensures { result ≡ last_seq self.now client }
     {
@@ -134,7 +150,7 @@ impl ClientTable {
         }
     }
 
-    /// Whether a number is the one behind a client's last executed request.
+    /// Whether a number is the next after a client's last executed request.
     pub fn is_next(&self, client: ClientId, seq: u64) -> bool
         ensures { result ≡ (seq == last_seq self.now client + 1) }
     {
@@ -142,7 +158,8 @@ impl ClientTable {
         seq.checked_sub(last) == Some(1)
     }
 
-    /// Puts a client's line in place of its last. Without memory nothing has changed.
+    /// Puts a line in place of its client's earlier one. Error: want of memory; nothing has changed
+    /// then.
     pub fn put(&mut self, line: TableLine) -> Result<(), AllocError>
         ensures line { OnOk result (self.new ≡ with_line self.old line) }
         ensures err { OnErr result (self.new ≡ self.old) }

@@ -1,4 +1,4 @@
--- Batches: their text, and which have one.
+-- Batches: their bytes, and which batches have bytes.
 use Rattle.std.specs.Prelude.{ℕ, ◌<◌, ◌≤◌, List, ◌++◌, length}
 use Rattle.std.specs.List.{flat_map, AllByRecursion}
 use Rattle.smart_base.specs.Spelling.{u16}
@@ -7,11 +7,11 @@ use Rattle.smart_statements.specs.Kinds.{requests}
 use Rattle.smart_statements.specs.Spelling.{signed, FitsSigned, FitsRequest}
 use Rattle.smart_statements.specs.declared.statement.Request.{Request}
 
--- the requests of one place
+-- a batch: the requests of one place, in the order in which they are executed
 abbrev pub Batch : Type 0
 Batch = List (SignedBy Request)
 
--- a batch: its digest is taken over this text
+-- the bytes of a batch, over which its digest is taken
 unfoldable pub batch_text : Batch → List ℕ
 batch_text rs = u16 (length rs) ++ flat_map (signed requests) rs
 

@@ -1,4 +1,4 @@
--- Tests of equality on what messages hold.
+-- Tests of equality of fields.
 use Rattle.std.specs.Prelude.{◌==◌, Bool, true, false, ◌&&◌}
 use Rattle.smart_statements.specs.declared.statement.Slot.{Slot}
 use Rattle.smart_statements.specs.declared.statement.VoteKind.{VoteKind}

@@ -1,4 +1,4 @@
--- How each statement is read.
+-- The reading of each statement.
 use Rattle.std.specs.Prelude.{ℕ, List, Ok, nat_le, ◌==◌, ◌||◌, if◌then◌else◌}
 use Rattle.std.specs.Int.{w8, w16, w32, w64}
 use Rattle.smart_base.specs.Cuts.{Cut, Read, ◌>>=◌, ranged, number_at, sized_at, times_at, limited}
@@ -59,7 +59,7 @@ request_at signer c = do
   o ← payload_at a.1
   Ok (record { client = i.0; seq = s.0; after = a.0; op = o.0 }, o.1)
 
--- a signer's number
+-- a signer's number is read
 abbrev pub signer_at : ℕ → Cut → Read ℕ
 signer_at kind = ranged (λ i. nat_le (least_signer kind) i) (number_at w16)
 
@@ -71,7 +71,7 @@ signed_at f c = do
   t ← tag_at s.1
   Ok (record { signer = i.0; statement = s.0; tag = t.0 }, t.1)
 
--- 1 to 64 requests
+-- 1 to 64 requests are read
 unfoldable pub requests_at : Form Request → Cut → Read (List (SignedBy Request))
 requests_at f c = do
   n ← items_at 64 c

@@ -1,4 +1,4 @@
--- What a member reports to the leader of a regency: the last place that it has decided, with evidence, and its lock behind it.
+-- A member's report to a new leader: its last decided place with evidence, and its lock at the next place.
 use Rattle.std.specs.Prelude.{◌≡◌, ℕ, ◌<◌, ◌^◌, nat_lt, ◌==◌, Bool, ◌&&◌, ◌||◌, List, ◌++◌, length, Ok, if◌then◌else◌}
 use Rattle.std.specs.Int.{w8, w32, w64}
 use Rattle.smart_base.specs.Cuts.{Cut, Read, ◌>>=◌, ranged, number_at}
@@ -93,7 +93,7 @@ evidence Nothing = u8 0
 evidence (Decided p) = u8 1 ++ decision_proof p
 evidence (Marked m) = u8 2 ++ mark_certificate m
 
--- only the place before the first needs none
+-- evidence that has bytes; only last place 0 needs none
 abbrev pub FitsEvidence : ℕ → Evidence → Type 0
 FitsEvidence last Nothing = last ≡ 0
 FitsEvidence last (Decided p) = FitsDecisionProof p
@@ -145,7 +145,7 @@ lock_certificate_at c = do
 
 -- ---- reports
 
--- a place, or 0 before the first
+-- a last place is read: 0, or a place
 abbrev pub last_at : Cut → Read ℕ
 last_at = ranged (λ n. nat_lt n (2 ^ 63)) (number_at w64)
 

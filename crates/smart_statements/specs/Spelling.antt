@@ -1,4 +1,4 @@
--- The one spelling of each statement, and which statements have one.
+-- The bytes of each statement, and which statements have bytes.
 use Rattle.std.specs.Prelude.{◌≡◌, ℕ, ◌<◌, ◌≤◌, ◌^◌, List, ◌++◌, length}
 use Rattle.std.specs.Int.{w16, w32}
 use Rattle.smart_base.specs.Spelling.{u8, u16, u32, u64, behind, IsCount, IsTag, IsPayload}
@@ -58,7 +58,7 @@ pub record FitsAnswer (a : Answer) : Type 0 where
   pub seq_fits : IsCount a.seq
   pub reply_fits : IsPayload a.reply
 
--- a client's requests are signed by itself
+-- a request that has bytes; its client is its signer
 pub record FitsRequest (signer : ℕ) (r : Request) : Type 0 where
   pub client_is : r.client ≡ signer
   pub client_fits : r.client < 2 ^ 16

@@ -1,4 +1,4 @@
-//! The requests of one place.
+//! Batches: the requests of one place.
 ghost use Rattle.std.specs.Prelude.{◌≡◌, ◌<◌, ◌≤◌, [], ◌∷◌, ◌++◌, length, IfOk, OnOk, OnErr};
 ghost use Rattle.smart_base.specs.Cuts.{Gives};
 ghost use Rattle.smart_base.specs.Spelling.{Extends};
@@ -17,13 +17,14 @@ use smart_base::sequence::Sequence;
 use std::alloc::{AllocError, Global};
 use std::marker::Model;
 
-/// The most requests that a batch has.
+/// The greatest number of requests in a batch.
 pub const BATCH_REQUESTS: u16 = 64;
 
-/// The most bytes that a batch has.
+/// The greatest length of a batch, in bytes.
 pub const BATCH_BYTES: usize = 262_144;
 
-/// The requests of one place, in the order in which they are executed: 1 to 64.
+/// A batch: 1 to 64 signed requests of one place, in the order in which they are executed; at most
+/// 262,144 bytes.
 pub struct Batch {
     list: Sequence<Signed<Request>>,
 }
@@ -56,7 +57,7 @@ impl Batch {
         Batch { list }
     }
 
-    /// The batch of one request.
+    /// The batch of one request. Error: want of memory.
     pub fn single(alloc: Global, request: Signed<Request>) -> Result<Batch, AllocError>
         ensures { IfOk result (λ batch. batch ≡ request ∷ []) }
     {
@@ -83,7 +84,7 @@ impl Batch {
         self.list.as_slice()
     }
 
-    /// The requests as a list. It takes no memory.
+    /// The requests as a list. It needs no memory.
     pub fn into_list(self) -> Sequence<Signed<Request>>
         ensures { result ≡ self }
     {
@@ -91,7 +92,7 @@ impl Batch {
         list
     }
 
-    /// Adds the batch's bytes.
+    /// Adds the bytes of the batch. Error: want of memory.
     #[tactic(auto, unfolding(crate::specs::Batches::batch_text))]
     pub fn put(&self, out: &mut Vec<u8>) -> Result<(), AllocError>
         ensures text { OnOk result (out.new.items ≡ out.old.items ++ batch_text self.now) }
@@ -102,7 +103,7 @@ impl Batch {
         Ok(())
     }
 
-    /// The batch's bytes, over which its digest is taken.
+    /// The bytes of the batch, over which its digest is taken. Error: want of memory.
     pub fn text(&self, alloc: Global) -> Result<Vec<u8>, AllocError>
         ensures { IfOk result (λ text. text.items ≡ batch_text self.now) }
     {
@@ -111,7 +112,8 @@ impl Batch {
         Ok(out)
     }
 
-    /// Reads a batch. A field that ends past its limit of bytes cannot be read.
+    /// Reads a batch. Errors: a field that is none, or that ends past the batch's limit of bytes;
+    /// want of memory.
     #[tactic(auto, unfolding(crate::specs::Reading::batch_at, smart_base::specs::Cuts::limited))]
     pub fn read(alloc: Global, cut: &mut Cursor<'_>) -> Result<Batch, ReadError>
         ensures exact { Gives result cut.new (batch_at requests cut.old) }

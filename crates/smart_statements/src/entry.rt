@@ -1,15 +1,15 @@
-//! What happens to a member's node.
+//! The events of a member's node.
 use smart_base::sequence::Bytes;
 
-/// What happens to a member's node.
+/// An event of a member's node.
 #[derive(Drop)]
 pub enum NodeEvent {
-    /// The bytes of a message come.
+    /// The bytes of a message arrive.
     Arrive(Bytes),
     /// Time passes.
     Tick,
-    /// The batch that waits, if one does, is to be delivered.
+    /// The waiting batch, if there is one, is to be delivered.
     Deliver,
-    /// So many entries that were made in this life are firm: no crash loses them.
+    /// So many entries of this life are firm, which means that no crash loses them.
     Firm(u64),
 }

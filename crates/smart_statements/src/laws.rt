@@ -5,13 +5,13 @@ ghost use Rattle.smart_statements.specs.Forms.{Form};
 
 use crate::signed::Statement;
 
-/// Batches with one text are one batch, so that what names the text names the batch.
+/// Batches with the same bytes are one batch. What names the bytes therefore names the batch.
 pub fn batches_with_one_text_are_one()
     ensures { (a b : Batch) → FitsBatch a → FitsBatch b → batch_text a ≡ batch_text b → a ≡ b }
 {}
 
-/// Statements of one signer with one text are one statement, so that a tag over the text is over
-/// this statement alone.
+/// Statements of one signer with the same bytes are one statement. A tag over the bytes is therefore
+/// over this statement alone.
 pub fn statements_with_one_text_are_one<S: Statement>()
     ensures { (signer : ℕ) (a b : S) → S.fits signer a → S.fits signer b → Form.spell S.form a ≡ Form.spell S.form b → a ≡ b }
 {}

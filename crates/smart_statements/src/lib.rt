@@ -1,5 +1,5 @@
-//! What members and clients state and sign, lists of it, batches of requests and reports, and the
-//! one spelling of each; and what happens to a member's node.
+//! The statements of members and clients, signed, in lists, batches and reports, with the bytes of
+//! each. Also the events of a node.
 #![tactic(auto)]
 
 pub mod batch;

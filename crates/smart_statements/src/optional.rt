@@ -8,7 +8,7 @@ use smart_base::duplicate::Duplicate;
 use smart_base::fault::Unread;
 use std::alloc::{AllocError, Global};
 
-/// The byte that says whether a value is there: 1, or 0.
+/// Reads the byte that tells whether a value is there: 1 or 0.
 #[tactic(auto, unfolding(smart_base::specs::Cuts::ranged))]
 pub fn take_flag(cut: &mut Cursor<'_>) -> Result<u8, Unread>
     ensures flag { Takes result cut.new (flag_at cut.old) }
@@ -24,7 +24,7 @@ pub fn take_flag(cut: &mut Cursor<'_>) -> Result<u8, Unread>
     }
 }
 
-/// A copy of what is there.
+/// A copy of an optional value. Error: want of memory.
 pub fn duplicate_optional<T: Duplicate>(
     alloc: Global,
     value: &Option<T>,

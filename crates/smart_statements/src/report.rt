@@ -1,4 +1,4 @@
-//! What a member reports to the leader of a regency.
+//! The report of a member to a new leader.
 ghost use Rattle.std.specs.Prelude.{◌≡◌, ◌++◌, OnOk, OnErr};
 ghost use Rattle.smart_base.specs.Cuts.{Gives, Takes};
 ghost use Rattle.smart_base.specs.Spelling.{Extends};
@@ -18,15 +18,15 @@ use smart_base::field::{put_u8, put_u32, put_u64, take_count, take_digest, take_
 use smart_base::number::{Place, Regency, ViewNo};
 use std::alloc::{AllocError, Global};
 
-/// What a member's replica is after a place: the digest of its snapshot (Dura-SMaRt, USENIX ATC
-/// 2013; that members sign it is this project's own rule).
+/// A mark: the digest of a member's snapshot after a place (Dura-SMaRt, USENIX ATC 2013; the
+/// signature is this project's own). INTERIM(checkpoints): nobody makes one.
 #[derive(Drop)]
 pub struct Mark {
     pub place: Place,
     pub digest: Digest32,
 }
 
-/// A quorum has accepted the batch of a digest, in a view and a regency.
+/// A decision proof: a quorum's ACCEPTs for a digest, in a view and a regency (Mod-SMaRt, EDCC 2012).
 pub struct DecisionProof {
     pub view: ViewNo,
     pub regency: Regency,
@@ -46,7 +46,7 @@ impl Drop for DecisionProof {
     }
 }
 
-/// More members of a view than may be faulty have the same replica, by its digest.
+/// A certificate of marks: more than f members of a view have marked one digest.
 pub struct MarkCertificate {
     pub view: ViewNo,
     pub digest: Digest32,
@@ -64,8 +64,8 @@ impl Drop for MarkCertificate {
     }
 }
 
-/// A quorum has written for the batch of a digest in a regency, so that a member has accepted it
-/// there: the member is locked on it (Mod-SMaRt, EDCC 2012).
+/// A lock: a quorum's WRITEs for a digest in a regency, after which a member accepted its batch there
+/// (Mod-SMaRt, EDCC 2012).
 pub struct LockCertificate {
     pub regency: Regency,
     pub digest: Digest32,
@@ -83,20 +83,20 @@ impl Drop for LockCertificate {
     }
 }
 
-/// What shows that a place is decided.
+/// Evidence that a place is decided.
 #[derive(Drop)]
 pub enum Evidence {
-    /// Nothing is: there is no place before the first.
+    /// No evidence, for last place 0.
     Nothing,
     /// A decision proof.
     Decided(DecisionProof),
-    /// Marks of replicas that have executed it.
+    /// Marks of replicas that have executed the place.
     Marked(MarkCertificate),
 }
 
-/// What a member reports as it promises a regency of a view: the last place that it has decided (0
-/// before the first), with evidence, and the batch that it has accepted behind it, in the greatest
-/// regency (Mod-SMaRt, EDCC 2012).
+/// A report for a regency of a view (STOPDATA of Mod-SMaRt, EDCC 2012). It has the last place that
+/// the member has decided, 0 before the first, with evidence. Its lock, if there is one, is the
+/// accept of the greatest regency at the next place.
 pub struct Report {
     pub view: ViewNo,
     pub regency: Regency,
@@ -231,7 +231,7 @@ impl LockCertificate {
     }
 }
 
-/// The kind of evidence: only the place before the first needs none.
+/// Reads the kind of evidence; only last place 0 needs none.
 #[tactic(auto, unfolding(smart_base::specs::Cuts::ranged))]
 fn take_evidence_kind(cut: &mut Cursor<'_>, last: Place) -> Result<u8, Unread>
     ensures { Takes result cut.new (evidence_kind_at last cut.old) }
@@ -301,7 +301,7 @@ impl Evidence {
     }
 }
 
-/// A place, or 0 before the first.
+/// Reads a last place: 0, or a place.
 #[tactic(auto, unfolding(smart_base::specs::Cuts::ranged))]
 fn take_last(cut: &mut Cursor<'_>) -> Result<Place, Unread>
     ensures { Takes result cut.new (last_at cut.old) }

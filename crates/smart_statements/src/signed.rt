@@ -1,4 +1,4 @@
-//! A statement, its bytes and the tag over them.
+//! Signed statements: a statement, its bytes, and the tag over them.
 ghost use Rattle.std.specs.Prelude.{◌≡◌, ◌+◌, ◌++◌, ◌<◌, ◌^◌, ◌⊎◌, ℕ, List, length, OnOk, OnErr, IfOk, IfErr};
 ghost use Rattle.smart_base.specs.declared.keys.SignRefused.TheVariants.{NoMemory};
 ghost use Rattle.smart_base.specs.Cuts.{Gives, Takes};
@@ -19,10 +19,10 @@ use smart_base::sequence::Bytes;
 use std::alloc::{AllocError, Global};
 use std::marker::Model;
 
-/// The kind of those signers that are members.
+/// The kind of signers that are members.
 pub const MEMBER: u8 = 1;
 
-/// The kind of those signers that are clients.
+/// The kind of signers that are clients.
 pub const CLIENT: u8 = 2;
 
 /// A kind of statement.
@@ -36,12 +36,11 @@ pub trait Statement: Duplicate {
     fn kind() -> u8
         ensures { result ≡ Form.kind form };
 
-    /// Reads a statement beside its signer's number.
+    /// Reads a statement for its signer's number. Errors: a field that is none; want of memory.
     fn read(alloc: Global, signer: u16, cut: &mut Cursor<'_>) -> Result<Self, ReadError>
         ensures { Gives result cut.new (Form.read form signer cut.old) };
 
-    /// Adds the statement's bytes. One whose text has 2^32 bytes or more is beyond the memory that a
-    /// statement may take.
+    /// Adds the bytes of the statement. Error: want of memory, also for 2^32 bytes or more.
     fn put(&self, out: &mut Vec<u8>) -> Result<(), AllocError>
         ensures text { OnOk result (out.new.items ≡ out.old.items ++ Form.spell form self.now) }
         ensures small { OnOk result (length (Form.spell form self.now) < 2 ^ 32) }
@@ -51,8 +50,8 @@ pub trait Statement: Duplicate {
     ghost agree: { (signer : ℕ) → Law (fits signer) (Form.spell form) (Form.read form signer) };
 }
 
-/// Refuses, as want of memory is refused, a statement's text of 2^32 bytes or more behind the first
-/// `before` bytes: its length would need more than four bytes.
+/// Refuses a statement's bytes after the first `before` ones if they are 2^32 or more, as their
+/// length needs more than four bytes. The answer is want of memory.
 pub fn within_limit(out: &Vec<u8>, before: usize) -> Result<(), AllocError>
     ensures { OnOk result (length out.now.items < before + 2 ^ 32) }
 {
@@ -63,14 +62,15 @@ pub fn within_limit(out: &Vec<u8>, before: usize) -> Result<(), AllocError>
     }
 }
 
-/// Which statements of a kind are read.
+/// A selection of the statements of a kind.
 pub trait Selection<S: Statement> {
     ghost form: { Self → Form S };
 
     // Which of them have a spelling.
     ghost fits: { Self → ℕ → S → Type 0 };
 
-    /// Reads one of them beside its signer's number.
+    /// Reads a selected statement for its signer's number. Errors: a field that is none; want of
+    /// memory.
     fn read(&self, alloc: Global, signer: u16, cut: &mut Cursor<'_>) -> Result<S, ReadError>
         ensures { Gives result cut.new (Form.read (form self.now) signer cut.old) };
 
@@ -101,8 +101,8 @@ impl<S: Statement> Selection<S> for Every {
     }
 }
 
-/// A statement with its signer and the tag over it. Its bytes are kept beside it, so that a check
-/// of the tag encodes nothing.
+/// A signed statement: its signer's number, the statement, and the tag over its bytes. The bytes are
+/// kept, so a check of the tag encodes nothing.
 pub struct Signed<S: Statement> {
     signer: u16,
     statement: S,
@@ -134,7 +134,7 @@ impl<S: Statement> Model for Signed<S> {
     ghost invariant = { λ s. (s.kept ≡ Form.spell S.form s.statement) × (length s.kept < 2 ^ 32) };
 }
 
-/// The party of a kind and a number.
+/// The party of a kind of signer and a number.
 fn party_of(kind: u8, number: u16) -> Party
     ensures { result ≡ party_of kind number }
 {
@@ -145,7 +145,7 @@ fn party_of(kind: u8, number: u16) -> Party
     }
 }
 
-/// A signer's number: a member's is at least 1.
+/// Reads a signer's number; a member's is at least 1.
 #[tactic(auto, unfolding(smart_base::specs::Cuts::ranged))]
 fn take_signer(cut: &mut Cursor<'_>, kind: u8) -> Result<u16, Unread>
     ensures { Takes result cut.new (signer_at kind cut.old) }
@@ -160,8 +160,8 @@ fn take_signer(cut: &mut Cursor<'_>, kind: u8) -> Result<u16, Unread>
 }
 
 impl<S: Statement> Signed<S> {
-    /// Signs a statement. It is refused for want of memory, or where the key refuses. What the key
-    /// makes from then on it could have made before.
+    /// Signs a statement. Errors: want of memory; the key refuses. What the key makes later it could
+    /// have made before.
     pub fn seal<K: Signer>(
         alloc: Global,
         key: &mut K,
@@ -204,14 +204,14 @@ impl<S: Statement> Signed<S> {
         &self.tag
     }
 
-    /// The statement's bytes, over which the tag is.
+    /// The bytes of the statement, over which the tag is.
     pub fn bytes(&self) -> &[u8]
         ensures { result.now ≡ Form.spell S.form self.now.statement }
     {
         self.kept.as_slice()
     }
 
-    /// Whether the tag is the signer's.
+    /// Whether the tag is the one that the signer makes.
     pub fn verifies<V: Verifier>(&self, keys: &V) -> bool
         ensures { result ≡ V.verified keys.now (party_of (Form.kind S.form) self.now.signer) (Form.spell S.form self.now.statement) self.now.tag }
     {
@@ -222,7 +222,7 @@ impl<S: Statement> Signed<S> {
         )
     }
 
-    /// How many bytes `put` adds. It takes no memory.
+    /// The number of bytes that `put` adds. It needs no memory.
     pub fn text_len(&self) -> usize
         ensures value { result ≡ length (signed S.form self.now) }
         ensures small { result < 2 ^ 33 }
@@ -230,7 +230,7 @@ impl<S: Statement> Signed<S> {
         9 + self.kept.len() + self.tag.as_slice().len()
     }
 
-    /// Adds the bytes of all.
+    /// Adds the bytes of the signed statement. Error: want of memory.
     pub fn put(&self, out: &mut Vec<u8>) -> Result<(), AllocError>
         ensures text { OnOk result (out.new.items ≡ out.old.items ++ signed S.form self.now) }
         ensures err { OnErr result (Extends out.old.items out.new.items) }
@@ -244,7 +244,7 @@ impl<S: Statement> Signed<S> {
         Ok(())
     }
 
-    /// Reads a signed statement.
+    /// Reads a signed statement. Errors: a field that is none; want of memory.
     pub fn read(alloc: Global, cut: &mut Cursor<'_>) -> Result<Signed<S>, ReadError>
         ensures exact { Gives result cut.new (signed_at S.form cut.old) }
         ensures unchanged { OnErr result (cut.new ≡ cut.old) }
@@ -252,7 +252,7 @@ impl<S: Statement> Signed<S> {
         Signed::<S>::read_selected(alloc, &Every, cut)
     }
 
-    /// Reads a signed statement of some that its kind has.
+    /// Reads a signed statement of a selection. Errors: a field that is none; want of memory.
     #[tactic(auto, unfolding(crate::specs::Reading::signed_at, smart_base::specs::Cuts::sized_at, smart_base::specs::Cuts::whole))]
     pub fn read_selected<W: Selection<S>>(
         alloc: Global,

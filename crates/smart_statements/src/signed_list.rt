@@ -18,7 +18,7 @@ use smart_base::sequence::Sequence;
 use std::alloc::{AllocError, Global};
 use std::marker::Model;
 
-/// Signed statements of one kind: at most 65,535, so that their count has two bytes.
+/// A list of signed statements of one kind: at most 65,535, as their count has two bytes.
 pub struct SignedList<S: Statement> {
     items: Sequence<Signed<S>>,
 }
@@ -87,7 +87,7 @@ impl<S: Statement> SignedList<S> {
         self.items.as_slice()
     }
 
-    /// The statements as a list. It takes no memory.
+    /// The statements as a list. It needs no memory.
     pub fn into_list(self) -> Sequence<Signed<S>>
         ensures value { result ≡ self }
         ensures small { length result < 2 ^ 16 }
@@ -96,7 +96,7 @@ impl<S: Statement> SignedList<S> {
         items
     }
 
-    /// Adds the bytes of the count and of each statement.
+    /// Adds the bytes of the count and of each statement. Error: want of memory.
     pub fn put(&self, out: &mut Vec<u8>) -> Result<(), AllocError>
         ensures text { OnOk result (out.new.items ≡ out.old.items ++ listed S.form self.now) }
         ensures err { OnErr result (Extends out.old.items out.new.items) }
@@ -106,7 +106,7 @@ impl<S: Statement> SignedList<S> {
         Ok(())
     }
 
-    /// Reads a list.
+    /// Reads a list. Errors: a field that is none; want of memory.
     pub fn read(alloc: Global, cut: &mut Cursor<'_>) -> Result<SignedList<S>, ReadError>
         ensures exact { Gives result cut.new (list_at S.form cut.old) }
         ensures unchanged { OnErr result (cut.new ≡ cut.old) }
@@ -116,7 +116,7 @@ impl<S: Statement> SignedList<S> {
 }
 
 impl SignedList<Ballot> {
-    /// Reads a list of votes of one kind alone.
+    /// Reads a list of votes of one kind alone. Errors: a field that is none; want of memory.
     pub fn read_votes(
         alloc: Global,
         kind: VoteKind,
@@ -145,7 +145,7 @@ fn read_selected<S: Statement, W: Selection<S>>(
     Ok(SignedList { items })
 }
 
-/// Adds the bytes of each of the statements.
+/// Adds the bytes of each statement. Error: want of memory.
 pub fn put_each<S: Statement>(out: &mut Vec<u8>, items: &[Signed<S>]) -> Result<(), AllocError>
     ensures text { OnOk result (out.new.items ≡ out.old.items ++ flat_map (signed S.form) items.now) }
     ensures err { OnErr result (Extends out.old.items out.new.items) }
@@ -156,7 +156,8 @@ pub fn put_each<S: Statement>(out: &mut Vec<u8>, items: &[Signed<S>]) -> Result<
     Ok(())
 }
 
-/// Reads so many signed statements, one behind the other.
+/// Reads so many signed statements, one after the other. Errors: a field that is none; want of
+/// memory.
 pub fn read_each<S: Statement, W: Selection<S>>(
     alloc: Global,
     which: &W,

@@ -1,4 +1,4 @@
-//! What members and clients state.
+//! The statements of members and clients.
 ghost use Rattle.std.specs.Prelude.{◌≡◌, ◌++◌, OnOk, OnErr};
 ghost use Rattle.smart_base.specs.Cuts.{Takes};
 ghost use Rattle.smart_base.specs.Spelling.{Extends};
@@ -22,8 +22,8 @@ use smart_base::name::ClientId;
 use smart_base::number::{Place, Regency, ViewNo};
 use std::alloc::{AllocError, Global};
 
-/// An instance of consensus at a regency: a place of the list, tried in a view at a regency
-/// (Mod-SMaRt, EDCC 2012).
+/// A slot: an instance of consensus in one regency (Mod-SMaRt, EDCC 2012). It has a view, a place of
+/// the list and a regency.
 #[derive(Clone, Copy, Debug, PartialEq, Eq)]
 pub struct Slot {
     pub view: ViewNo,
@@ -38,8 +38,8 @@ pub enum VoteKind {
     Accept,
 }
 
-/// What a client asks for: its request number `seq`, counted from 1, an operation of the service,
-/// and the greatest place that the client knew when it asked.
+/// A client's request. `seq` is its number, from 1. `after` is the greatest place that the client
+/// knew when it asked, 0 if it knew none. `op` is the service's operation, at most 4,096 bytes.
 pub struct Request {
     pub client: ClientId,
     pub seq: u64,
@@ -59,14 +59,14 @@ impl Drop for Request {
     }
 }
 
-/// A leader's batch for a slot, by its digest.
+/// A leader's proposal for a slot: the digest of a batch.
 #[derive(Drop)]
 pub struct Proposal {
     pub slot: Slot,
     pub digest: Digest32,
 }
 
-/// A member's vote for the batch of a slot.
+/// A member's vote in a slot, for the digest of a batch.
 #[derive(Drop)]
 pub struct Ballot {
     pub kind: VoteKind,
@@ -74,8 +74,8 @@ pub struct Ballot {
     pub digest: Digest32,
 }
 
-/// A member's reply to an executed request: where the request stands in the list, the view in
-/// force there, and what the service answered.
+/// A member's reply to an executed request. It has the request's place in the list, the view in force
+/// there, and the service's answer.
 pub struct Answer {
     pub view: ViewNo,
     pub place: Place,
@@ -208,7 +208,7 @@ impl Statement for Ballot {
     }
 }
 
-/// The votes of this kind alone.
+/// The selection of votes of one kind.
 impl Selection<Ballot> for VoteKind {
     ghost use Rattle.std.specs.Prelude.{refl};
 

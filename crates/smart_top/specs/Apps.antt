@@ -20,35 +20,35 @@ use Rattle.smart_top.specs.declared.app.AppPlay.TheVariants as plays
 use Rattle.smart_top.specs.declared.status.Refusal.{Refusal}
 use Rattle.smart_top.specs.declared.status.Refusal.TheVariants as refusals
 
--- how the world of each service goes on
+-- the course of the world of each service
 pub record Courses : Type 0 where
   pub count : Course Count
   pub kv : Course (List Entry)
 
--- as the definitions say it: nodes keep all arrivals
+-- the courses of whole nodes, as the definitions state them
 abbrev pub node_courses : Courses
 node_courses = record { count = course_of counting; kv = course_of keeping }
 
--- as cores do it, which keep only what still matters
+-- the courses of cores, which keep only what they still need
 abbrev pub core_courses : Courses
 core_courses = record { count = core_course counting; kv = core_course keeping }
 
--- a play of one service
+-- the play of one service
 
 -- the play at the end of the header
 abbrev pub play_begun : {S : Type 0} → Meaning S → View → Play S
 play_begun m view = record { group = view; lines = []; world = begun m view; over = false }
 
--- the play behind one more line
+-- the play after one more line
 abbrev pub play_after : {S : Type 0} → Course S → Play S → Line → Play S
 play_after course p line = record { group = p.group; lines = p.lines ++ line ∷ []; world = rested (line_played course p.world line); over = false }
 
--- why a line is refused by which the world has ended
+-- the reason for which a line is refused that ended the world
 abbrev pub refusal_of : Ending → Refusal
 refusal_of (endings.Premise which) = refusals.Premise which
 refusal_of endings.Limit = refusals.Limit
 
--- what the line told by which the world came to be, unless the world has ended there
+-- what a line told that led to a world, unless it ended the world
 abbrev pub answer_until : {S : Type 0} → World S → Option Ending → Result (List OutLine) Refusal
 answer_until w None = Ok w.told
 answer_until w (Some ending) = Err (refusal_of ending)
@@ -56,18 +56,18 @@ answer_until w (Some ending) = Err (refusal_of ending)
 abbrev pub answer_in : {S : Type 0} → World S → Result (List OutLine) Refusal
 answer_in w = answer_until w w.ending
 
--- what a line tells, or why it is refused. It is played where all that it names is there
+-- what a line tells, or why it is refused; it is played only if everything that it names is there
 abbrev pub play_answer : {S : Type 0} → Course S → Play S → Line → Result (List OutLine) Refusal
 play_answer course p line = if is_there p.world line then answer_in (line_played course p.world line) else Err (refusals.Script kinds.Refer)
 
 -- the play of the service that the header names
 
--- at the end of the header
+-- the play at the end of the header
 abbrev pub app_begun : App → View → AppPlay
 app_begun apps.Count view = plays.Count (play_begun counting view)
 app_begun apps.Kv view = plays.Kv (play_begun keeping view)
 
--- behind one more line
+-- the play after one more line
 abbrev pub app_after : Courses → AppPlay → Line → AppPlay
 app_after courses (plays.Count p) line = plays.Count (play_after courses.count p line)
 app_after courses (plays.Kv p) line = plays.Kv (play_after courses.kv p line)
@@ -77,12 +77,12 @@ abbrev pub app_answer : Courses → AppPlay → Line → Result (List OutLine) R
 app_answer courses (plays.Count p) line = play_answer courses.count p line
 app_answer courses (plays.Kv p) line = play_answer courses.kv p line
 
--- whether it is over
+-- a play that is over
 abbrev pub is_over : AppPlay → Bool
 is_over (plays.Count p) = p.over
 is_over (plays.Kv p) = p.over
 
--- how many messages left
+-- the number of messages that were sent or injected
 abbrev pub sent_count : AppPlay → ℕ
 sent_count (plays.Count p) = length p.world.sent
 sent_count (plays.Kv p) = length p.world.sent

@@ -1,4 +1,4 @@
--- What a run of `world` has read and written, by how it ends.
+-- What a run of `world` has read and written, by its status.
 use Rattle.smart_base.specs.Lists.{same_bytes}
 use Rattle.std.specs.Prelude.{Bool, false, ◌∷◌, codes, ℕ, ◌≡◌, List, [], ◌++◌, Option, Some, None, take, ◌⊎◌}
 use Rattle.std.specs.Io.KnownBytes.{Appends, Consumes, IsAtEnd}
@@ -20,45 +20,46 @@ use Rattle.smart_top.specs.declared.app.AppPlay.TheVariants as plays
 use Rattle.smart_top.specs.declared.status.Status.{Status}
 use Rattle.smart_top.specs.declared.status.Status.TheVariants as ends
 
--- the input is what the source had left, where it tells
+-- an input that is what its source had left, if the source tells it
 abbrev pub IsLeft : Option (List ℕ) → List ℕ → Type 0
 IsLeft None input = Unit {0}
 IsLeft (Some left) input = left ≡ input
 
--- the world of a play is the one behind its lines, and one list holds after each of them
+-- a play whose world is the one after its lines, and in which one list holds after each line
 pub record OneListOf {S : Type 0} (m : Meaning S) (p : Play S) : Type 0 where
   pub stands : p.world ≡ world_after (course_of m) (begun m p.group) p.lines
   pub throughout : OneListThroughout m p.group p.lines
 
--- one list holds of a play, over its service
+-- a play of either service in which one list holds
 abbrev pub OneListIn : AppPlay → Type 0
 OneListIn (plays.Count p) = OneListOf counting p
 OneListIn (plays.Kv p) = OneListOf keeping p
 
--- one list holds of what was played, once the header is whole
+-- one list holds in what was played, if the header was whole
 abbrev pub OneListHolds : Option AppPlay → Type 0
 OneListHolds None = Unit {0}
 OneListHolds (Some p) = OneListIn p
 
--- what a play of a service tells: the header's line, and then what the lines that were played tell
+-- what a play of a service tells: the header's line, then what the played lines tell
 abbrev pub play_told : {S : Type 0} → App → Meaning S → Play S → List OutLine
 play_told app m p = header_line p.group app ∷ lines_told (course_of m) (begun m p.group) p.lines
 
+-- what a play tells, by its service
 abbrev pub app_told : AppPlay → List OutLine
 app_told (plays.Count p) = play_told apps.Count counting p
 app_told (plays.Kv p) = play_told apps.Kv keeping p
 
--- what was played tells, once the header is whole
+-- what was played tells, if the header was whole
 abbrev pub all_told : Option AppPlay → List OutLine
 all_told None = []
 all_told (Some p) = app_told p
 
--- lines of a script tell what their play tells, and one list holds of it
+-- script lines that tell what their play tells, and in whose play one list holds
 pub record ArePlayed (lines : List (List ℕ)) : Type 0 where
   pub tell : told_after node_courses unread lines ≡ all_told (reading_after node_courses unread lines).play
   pub one_list : OneListHolds (reading_after node_courses unread lines).play
 
--- a run that the input has ended: its status is the one that this input has, and it has written the input's transcript
+-- a run that its input ended: its status is that of the input, and it has written the input's transcript
 pub record Ends (left written written' : Option (List ℕ)) (status : Status) : Type 0 where
   pub input : List ℕ
   pub is_left : IsLeft left input
@@ -66,7 +67,7 @@ pub record Ends (left written written' : Option (List ℕ)) (status : Status) : 
   pub text : Appends written written' (text_of (transcript node_courses input))
   pub played : ArePlayed (script_lines input)
 
--- a run that has written the transcript of the whole lines that it has read, of which none was refused
+-- a run that has written the transcript of the whole lines that it read, none of which was refused
 pub record WroteAllRead (left left' written written' : Option (List ℕ)) : Type 0 where
   pub read : List ℕ
   pub consumed : Consumes left left' read
@@ -84,7 +85,7 @@ pub record WroteLines (left written written' : Option (List ℕ)) : Type 0 where
   pub text : Appends written written' (text_of (told_after node_courses unread front))
   pub played : ArePlayed front
 
--- a run that has written a front of its input's transcript
+-- a run that has written a prefix of its input's transcript
 pub record WroteFront (left written written' : Option (List ℕ)) : Type 0 where
   pub input : List ℕ
   pub is_left : IsLeft left input
@@ -92,7 +93,7 @@ pub record WroteFront (left written written' : Option (List ℕ)) : Type 0 where
   pub text : Appends written written' (take count (text_of (transcript node_courses input)))
   pub played : ArePlayed (script_lines input)
 
--- what a run has read and written, by its status. Where memory ran out it has written whole lines, or the sink wanted memory
+-- What a run has read and written, by its status. After want of memory it has written whole lines, unless the sink wanted memory.
 abbrev pub RunEnd : Option (List ℕ) → Option (List ℕ) → Option (List ℕ) → Option (List ℕ) → ℕ → ℕ → Status → Type 0
 RunEnd left left' written written' wants wants' ends.Ok = Ends left written written' ends.Ok × IsAtEnd left'
 RunEnd left left' written written' wants wants' ends.Words = ⊥
@@ -103,7 +104,7 @@ RunEnd left left' written written' wants wants' (ends.Premise line which) = Ends
 RunEnd left left' written written' wants wants' (ends.Limit line) = Ends left written written' (ends.Limit line)
 RunEnd left left' written written' wants wants' ends.NoMemory = WroteLines left written written' ⊎ (Rose wants wants' × WroteFront left written written')
 
--- words are a command where they are the one word `world`
+-- words that are the one command: `world`
 abbrev pub is_command : List (List ℕ) → Bool
 is_command [] = false
 is_command (word ∷ []) = same_bytes word (codes "world")

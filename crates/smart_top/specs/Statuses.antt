@@ -1,9 +1,9 @@
--- What a program answers for the status of its run.
+-- The exit status of a program, by the status of its run.
 use Rattle.std.specs.Prelude.{ℕ}
 use Rattle.smart_top.specs.declared.status.Status.{Status}
 use Rattle.smart_top.specs.declared.status.Status.TheVariants as ends
 
--- its exit status
+-- the exit status: 0 to 11
 abbrev pub code_of : Status → ℕ
 code_of ends.Ok = 0
 code_of ends.Words = 2

@@ -16,13 +16,13 @@ use world_rules::line::{App, Kind, Line, OutLine};
 /// A play, by its service.
 #[derive(Drop)]
 pub enum AppPlay {
-    /// Over a sum.
+    /// The play over a sum.
     Count(World<Count>),
-    /// Over values by keys.
+    /// The play over values by keys.
     Kv(World<KeyValueStore>),
 }
 
-/// Plays a line over a service, and gives what it tells or why it is refused.
+/// Plays a line over a service, and gives what it tells or why it is refused. Error: want of memory.
 fn play_line<S: Service>(
     world: &mut World<S>,
     line: Line,
@@ -42,7 +42,7 @@ fn play_line<S: Service>(
 }
 
 impl AppPlay {
-    /// The play of a service at the end of a header.
+    /// The play of a service at the end of a header. Error: want of memory.
     pub fn begin(alloc: Global, app: App, view: View) -> Result<AppPlay, AllocError>
         ensures begun { IfOk result (λ play. play ≡ app_begun app view) }
         ensures going { IfOk result (λ play. is_over play ≡ false) }
@@ -53,7 +53,7 @@ impl AppPlay {
         }
     }
 
-    /// Plays a line, and gives what it tells or why it is refused.
+    /// Plays a line, and gives what it tells or why it is refused. Error: want of memory.
     pub fn play(&mut self, line: Line) -> Result<Result<Sequence<OutLine>, Refusal>, AllocError>
         requires { is_over self.old ≡ false }
         ensures answer { IfOk result (λ answer. answer ≡ app_answer core_courses self.old line) }
@@ -66,7 +66,7 @@ impl AppPlay {
         }
     }
 
-    /// How many messages left.
+    /// The number of messages that were sent or injected.
     pub fn sent_count(&self) -> u64
         ensures { result ≡ sent_count self.now }
     {

@@ -1,4 +1,4 @@
-//! The bytes of a script, taken in pieces: each line is played when it ends, and what it tells is
+//! The bytes of a script, taken in pieces. Each line is played when it ends, and what it tells is
 //! written at once.
 ghost use Rattle.std.specs.Prelude.{◌≡◌, ◌≤◌, ◌++◌, [], ◌∷◌, List, ℕ, None, IfOk, IfErr, OnOk, OnErr, IsErrOf, Option, take};
 ghost use Rattle.std.specs.Io.KnownBytes.{Appends};
@@ -13,12 +13,12 @@ use smart_base::sequence::{Bytes, Sequence};
 use smart_io::stream::{Sink, write_all};
 use std::alloc::{AllocError, Global};
 use world_rules::line::OutLine;
-use world_text::text::text_of;
+use world_text::text::out_text;
 
-/// How many bytes a line may have.
+/// The greatest length of a line, in bytes.
 const LONGEST: usize = 65536;
 
-/// Why the taking of bytes stops.
+/// The reason for which the taking of bytes stopped.
 #[derive(Clone, Copy, Debug, PartialEq, Eq)]
 pub enum Halt {
     /// A line was refused.
@@ -27,7 +27,7 @@ pub enum Halt {
     WriteFault,
     /// The output wanted memory.
     SinkMemory,
-    /// Memory ran out.
+    /// Want of memory.
     NoMemory,
 }
 
@@ -50,7 +50,7 @@ pub struct Reader {
     pub line: Bytes,
 }
 
-/// Writes all bytes, and lets them go on.
+/// Writes all bytes, and flushes them.
 fn write_whole<O: Sink>(output: &mut O, bytes: &[u8]) -> Result<(), Fault>
     ensures ok { OnOk result (Appends (O.written output.old) (O.written output.new) bytes.now) }
     ensures err { OnErr result ((count : ℕ) × Appends (O.written output.old) (O.written output.new) (take count bytes.now)) }
@@ -63,7 +63,7 @@ fn write_whole<O: Sink>(output: &mut O, bytes: &[u8]) -> Result<(), Fault>
     }
 }
 
-/// Writes the text of lines, and lets it go on.
+/// Writes the text of lines, and flushes it.
 pub fn write_lines<O: Sink>(alloc: Global, output: &mut O, lines: &[OutLine]) -> Result<(), Halt>
     ensures ok { OnOk result (Appends (O.written output.old) (O.written output.new) (text_of lines.now)) }
     ensures err { OnErr result ((count : ℕ) × Appends (O.written output.old) (O.written output.new) (take count (text_of lines.now))) }
@@ -76,7 +76,7 @@ pub fn write_lines<O: Sink>(alloc: Global, output: &mut O, lines: &[OutLine]) ->
     if lines.is_empty() {
         return Ok(());
     }
-    let text = text_of(alloc, lines)?;
+    let text = out_text(alloc, lines)?;
     match write_whole(output, text.as_bytes()) {
         Ok(()) => Ok(()),
         Err(Fault::Failed) => Err(Halt::WriteFault),
@@ -84,7 +84,7 @@ pub fn write_lines<O: Sink>(alloc: Global, output: &mut O, lines: &[OutLine]) ->
     }
 }
 
-/// Ends the line that has begun: it is played, and what it tells is written.
+/// Ends the line that has begun: plays it, and writes what it tells.
 pub fn end_line<O: Sink>(reader: &mut Reader, output: &mut O) -> Result<(), Halt>
     requires { reader.old.script.refused ≡ None }
     ensures ok { OnOk result ((bytes : List ℕ) (written : Option (List ℕ)) → HasTaken core_courses bytes written (O.written output.old) reader.old.line reader.old.script → HasTaken core_courses (bytes ++ 10 ∷ []) written (O.written output.new) reader.new.line reader.new.script) }
@@ -105,8 +105,8 @@ pub fn end_line<O: Sink>(reader: &mut Reader, output: &mut O) -> Result<(), Halt
     Ok(())
 }
 
-/// Takes a byte: a line feed ends the line, any other comes to it. A line that gets too long is
-/// refused at once, since what follows changes nothing.
+/// Takes a byte. A line feed ends the line; any other byte is added to it. A line that becomes too
+/// long is refused at once, as what follows changes nothing.
 pub fn take_byte<O: Sink>(reader: &mut Reader, output: &mut O, byte: u8) -> Result<(), Halt>
     requires { reader.old.script.refused ≡ None }
     ensures ok { OnOk result ((bytes : List ℕ) (written : Option (List ℕ)) → HasTaken core_courses bytes written (O.written output.old) reader.old.line reader.old.script → HasTaken core_courses (bytes ++ byte ∷ []) written (O.written output.new) reader.new.line reader.new.script) }

@@ -1,4 +1,4 @@
-//! A script that is read line by line, each line played as it is read.
+//! A script that is read line by line; each line is played when it is read.
 ghost use Rattle.std.specs.Prelude.{◌≡◌, ◌+◌, ◌<◌, ◌≤◌, ◌^◌, [], false, None, Some, Ok, IfOk, OnOk};
 ghost use Rattle.world_rules.specs.Scripts.{app_line};
 ghost use Rattle.smart_top.specs.Apps.{core_courses, is_over};
@@ -12,7 +12,8 @@ use smart_base::view::View;
 use std::alloc::{AllocError, Global};
 use std::marker::Model;
 use world_rules::line::{Kind, Line, OutLine};
-use world_script::reading::{app_line, group_line, is_nothing, is_printed, is_short, line_of};
+use world_script::fault::LineFault;
+use world_script::reading::{is_nothing, is_printed, is_short, read_app, read_group, read_line};
 
 /// The greatest number of lines.
 const LINES: u64 = 1 << 20;
@@ -41,7 +42,7 @@ impl Model for Script {
 }
 
 impl Script {
-    /// A script of which nothing was read.
+    /// A script before its first line.
     pub fn new(alloc: Global) -> Self
         ensures { result ≡ unread }
     {
@@ -63,7 +64,7 @@ impl Script {
         Sequence::new(self.alloc)
     }
 
-    /// The line `group N F`.
+    /// Takes the line `group N F`.
     fn take_group(&mut self, view: Option<View>) -> Sequence<OutLine>
         requires open { self.old.refused ≡ None }
         requires room { self.old.count < 2 ^ 20 }
@@ -81,7 +82,7 @@ impl Script {
         }
     }
 
-    /// The line that names the service, behind which its play begins.
+    /// Takes the line that names the service, after which its play begins.
     fn take_app(&mut self, view: &View, bytes: &[u8]) -> Result<Sequence<OutLine>, AllocError>
         requires open { self.old.refused ≡ None }
         requires room { self.old.count < 2 ^ 20 }
@@ -89,7 +90,7 @@ impl Script {
         ensures told { IfOk result (λ told. told ≡ app_line_told view.now (app_line bytes.now)) }
         ensures taken { OnOk result (self.new ≡ app_taken self.old view.now (app_line bytes.now)) }
     {
-        let Some(app) = app_line(bytes) else {
+        let Some(app) = read_app(bytes) else {
             return Ok(self.refuse(Refusal::Script(Kind::Header)));
         };
         let mut told = Sequence::new(self.alloc);
@@ -104,7 +105,7 @@ impl Script {
         Ok(told)
     }
 
-    /// A line of the header that is no comment.
+    /// Takes a header line that is no comment.
     fn take_header_words(&mut self, bytes: &[u8]) -> Result<Sequence<OutLine>, AllocError>
         requires open { self.old.refused ≡ None }
         requires room { self.old.count < 2 ^ 20 }
@@ -114,7 +115,7 @@ impl Script {
     {
         match self.group.take() {
             None => {
-                let view = group_line(self.alloc, bytes)?;
+                let view = read_group(self.alloc, bytes)?;
                 Ok(self.take_group(view))
             }
             Some(view) => {
@@ -125,7 +126,7 @@ impl Script {
         }
     }
 
-    /// A line of the header.
+    /// Takes a header line.
     fn take_header_line(&mut self, bytes: &[u8]) -> Result<Sequence<OutLine>, AllocError>
         requires open { self.old.refused ≡ None }
         requires room { self.old.count < 2 ^ 20 }
@@ -146,7 +147,7 @@ impl Script {
         self.take_header_words(bytes)
     }
 
-    /// A line that has a meaning.
+    /// Takes a line that has a meaning.
     fn take_meant(&mut self, mut play: AppPlay, line: Line) -> Result<Sequence<OutLine>, AllocError>
         requires open { self.old.refused ≡ None }
         requires room { self.old.count < 2 ^ 20 }
@@ -166,7 +167,7 @@ impl Script {
         }
     }
 
-    /// A line behind the header.
+    /// Takes a line that follows the header.
     fn take_play_line(
         &mut self,
         play: AppPlay,
@@ -180,13 +181,15 @@ impl Script {
         ensures count { OnOk result (self.new.count ≡ (taken_at core_courses (record self.old { play = Some play }) bytes.now (Some play)).count) }
         ensures whole { OnOk result ((taken_at core_courses (record self.old { play = Some play }) bytes.now (Some play)).refused ≡ None → self.new ≡ taken_at core_courses (record self.old { play = Some play }) bytes.now (Some play)) }
     {
-        match line_of(self.alloc, bytes)? {
-            Err(kind) => Ok(self.refuse(Refusal::Script(kind))),
+        match read_line(self.alloc, bytes) {
+            Err(LineFault::NoMemory) => Err(AllocError),
+            Err(LineFault::Kind { kind }) => Ok(self.refuse(Refusal::Script(kind))),
             Ok(line) => self.take_meant(play, line),
         }
     }
 
-    /// Takes the next line, and gives what it tells. A play in which a line is refused is gone.
+    /// Takes the next line, and gives what it tells. After a refused line the play is gone. Error:
+    /// want of memory.
     #[tactic(auto, unfolding(crate::specs::Readings::line_taken, crate::specs::Readings::line_told))]
     pub fn take_line(&mut self, bytes: &[u8]) -> Result<Sequence<OutLine>, AllocError>
         requires { self.old.refused ≡ None }
@@ -204,14 +207,14 @@ impl Script {
         }
     }
 
-    /// Why the next line is refused, if it is.
+    /// The reason for which the next line is refused, if it is.
     pub fn refused(&self) -> Option<Refusal>
         ensures { result ≡ self.now.refused }
     {
         self.refused
     }
 
-    /// How many lines had a meaning.
+    /// The number of lines that had a meaning.
     pub fn count(&self) -> u64
         ensures value { result ≡ self.now.count }
         ensures small { result ≤ 2 ^ 20 }
@@ -219,7 +222,7 @@ impl Script {
         self.count
     }
 
-    /// What is told at the end of the input, where the header is whole.
+    /// What is told at the end of the input, if the header is whole. Error: want of memory.
     pub fn last_told(&self) -> Result<Sequence<OutLine>, AllocError>
         ensures { IfOk result (λ told. told ≡ end_told self.now.count self.now.play) }
     {
@@ -233,7 +236,7 @@ impl Script {
         Ok(told)
     }
 
-    /// How the script ends where the input does.
+    /// The status of the script if its input ends here.
     pub fn end(&self) -> Status
         ensures { result ≡ end_at self.now.count self.now.play }
     {

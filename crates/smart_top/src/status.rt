@@ -1,4 +1,4 @@
-//! How a run ends.
+//! The status of a run.
 ghost use Rattle.std.specs.Prelude.{◌≡◌};
 ghost use Rattle.smart_top.specs.Statuses.{code_of};
 
@@ -9,41 +9,40 @@ use world_rules::crash::NotAnImage;
 use world_rules::line::Kind;
 use world_rules::message::Premise;
 
-/// Why a script line is refused.
+/// The reason for which a script line is refused.
 #[derive(Clone, Copy, Debug, PartialEq, Eq)]
 pub enum Refusal {
     Script(Kind),
-    /// In its play something fails that the promises take for granted.
+    /// A premise of the promise does not hold in its play.
     Premise(Premise),
-    /// It would be a line past the greatest number of lines, or send a message past the greatest
-    /// number of messages.
+    /// The line would pass the greatest number of lines, 2^20, or send a message past the greatest
+    /// number, 2^24.
     Limit,
 }
 
-/// How a run ends. Lines are counted from 1.
+/// The status of a run. Lines are counted from 1.
 #[derive(Clone, Copy, Debug, PartialEq, Eq)]
 pub enum Status {
     /// The input was played to its end.
     Ok,
     /// The words are no command.
     Words,
-    /// This line of the script has no meaning, or the input ended before it while the header was
-    /// not whole.
+    /// This line of the script has no meaning, or the input ended before it with no whole header.
     Script { line: u64, kind: Kind },
     /// The input failed.
     ReadFault,
     /// The output failed.
     WriteFault,
-    /// In the play of this line something fails that the promises take for granted.
+    /// A premise of the promise does not hold in the play of this line.
     Premise { line: u64, which: Premise },
-    /// This line passes the number of lines or of messages.
+    /// This line would pass the greatest number of lines or of messages.
     Limit { line: u64 },
-    /// Memory ran out.
+    /// Want of memory.
     NoMemory,
 }
 
 impl Status {
-    /// The exit status of the program.
+    /// The exit status of the program: 0 to 11.
     pub fn code(self) -> u8
         ensures { result ≡ code_of self }
     {
@@ -74,7 +73,7 @@ fn kind_name(kind: Kind) -> &'static str {
     }
 }
 
-/// Says which premise fails: of a crash also the device and the byte that are wrong.
+/// Names the premise that does not hold; for a crash also the device and the byte that are wrong.
 fn push_premise(text: &mut String, which: Premise) -> Result<(), AllocError> {
     match which {
         Premise::TooManyFaulty => text.push_str("TooManyFaulty")?,
@@ -85,7 +84,7 @@ fn push_premise(text: &mut String, which: Premise) -> Result<(), AllocError> {
     Ok(())
 }
 
-/// What is said of a status; nothing of `Ok`.
+/// The text of a status; empty for `Ok`.
 fn text_of(alloc: Global, status: Status) -> Result<String, AllocError> {
     let mut text = String::new(alloc);
     match status {
@@ -108,7 +107,7 @@ fn text_of(alloc: Global, status: Status) -> Result<String, AllocError> {
     Ok(text)
 }
 
-/// Says on a sink how a run ended. A fault there changes nothing.
+/// Writes to a sink how a run ended. A failure there changes nothing.
 pub fn report<E: Sink>(alloc: Global, errors: &mut E, status: Status) {
     if let Ok(text) = text_of(alloc, status) {
         let _ = write_all(errors, text.as_bytes());

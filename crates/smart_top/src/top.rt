@@ -16,13 +16,13 @@ use smart_base::sequence::Sequence;
 use smart_io::stream::{Sink, Source};
 use std::alloc::Global;
 
-/// How many bytes are read at a time.
+/// The number of bytes that are read at a time.
 const PIECE: usize = 4096;
 
-/// More reads than any input takes: a script has fewer bytes.
+/// More reads than any input takes, as a script has fewer bytes.
 const READS: u64 = 1 << 37;
 
-/// The status of a script a line of which was refused, or that has ended.
+/// The status of a script that ended, or of which a line was refused.
 fn script_end(script: &Script) -> Status
     ensures { result ≡ end_of script.now }
 {
@@ -81,7 +81,7 @@ fn close<O: Sink>(reader: &Reader, output: &mut O) -> Status
     }
 }
 
-/// Ends a script where its input ends. The last line may lack its line feed.
+/// Ends a script at the end of its input. The last line may lack its line feed.
 fn finish<O: Sink>(reader: &mut Reader, output: &mut O) -> Status
     requires { reader.old.script.refused ≡ None }
     ensures ended { (bytes : List ℕ) (left left' written : Option (List ℕ)) (wants : ℕ) → IsLeft left bytes → IsAtEnd left'
@@ -99,8 +99,8 @@ fn finish<O: Sink>(reader: &mut Reader, output: &mut O) -> Status
     close(reader, output)
 }
 
-/// Reads a piece of the input and takes its bytes. Answers whether there was one: the input ends
-/// where there was none.
+/// Reads a piece of the input and takes its bytes. Answers whether there was a piece; if there was
+/// none, the input has ended.
 fn take_piece<I: Source, O: Sink>(
     reader: &mut Reader,
     input: &mut I,
@@ -131,8 +131,8 @@ fn take_piece<I: Source, O: Sink>(
     }
 }
 
-/// Plays the script of an input over the service that its header names, and writes its transcript: each line's as it is
-/// played. Neither the input nor the transcript is kept.
+/// Plays the script of an input over the service that its header names. Writes the transcript of each
+/// line when the line is played. Neither the input nor the transcript is kept.
 pub fn play_script<I: Source, O: Sink>(alloc: Global, input: &mut I, output: &mut O) -> Status
     ensures ended { RunEnd (I.left input.old) (I.left input.new) (O.written output.old) (O.written output.new) (O.wants output.old) (O.wants output.new) result }
     ensures read { result ≡ Status.ReadFault → Rose (I.faults input.old) (I.faults input.new) }
@@ -154,22 +154,26 @@ pub fn play_script<I: Source, O: Sink>(alloc: Global, input: &mut I, output: &mu
     unreachable!()
 }
 
-/// Runs the program: `world` reads a script from the input and writes its transcript to the
-/// output. Of a status other than `Ok` a line is said on `errors`, whose faults change nothing.
+/// Runs the program. `world` reads a script from the input and writes its transcript to the output.
+/// For each status other than `Ok` a line is written to `errors`; a failure there changes nothing.
 ///
-/// Whatever script is played, of deliveries in any order, losses, repeats, time that passes at any
-/// member, changes of the regency, up to f faulty members, rogue clients, and crashes of any members
-/// or of all at once, between any two device calls, with any image that the model of disks allows:
-/// - the members deliver fronts of one list of batches, which only grows,
-/// - each reply that a client accepts, if it is not rogue, is the service's answer at its request's
-///   one place in that list, past every place that the client knew when it asked,
-/// - whatever crashes leave of the devices, each member goes on from a front of that list: no entry
-///   of its own is damaged, and none that was firm is lost,
-/// - the place of such a reply is kept: whatever crashes leave of all devices at once, more than f
-///   members that are not faulty restore it.
+/// A script may deliver messages in any order, lose them and repeat them. It may let time pass at any
+/// member, change the regency, and declare up to f members faulty and any clients rogue. It may crash
+/// any members, or all at once, between any two device calls, with any image that the model of disks
+/// allows. Whatever script is played:
 ///
-/// A crash with any other image ends the play, as a forged statement, a collision and one faulty
-/// member too many do.
+/// - The members deliver prefixes of one list of batches, which only grows (state machine
+///   replication).
+/// - Each reply that a client accepts is the service's answer at its request's one place in that
+///   list. For a client that is not rogue, the place is later than every place that the client knew
+///   when it asked.
+/// - Whatever crashes leave of the devices, each member restarts from a prefix of that list. No entry
+///   of its own is damaged, and none that was firm is lost.
+/// - The place of each accepted reply is kept: whatever crashes leave of all devices at once, more
+///   than f members that are not faulty restore it.
+///
+/// The premises are checked. A crash with another image ends the play, and so does a forged
+/// statement, a collision of digests, and one faulty member too many.
 pub fn run<H, I: Source, O: Sink, E: Sink>(
     _rt: &H,
     alloc: Global,

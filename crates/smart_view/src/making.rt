@@ -65,7 +65,7 @@ fn sorted(mut members: Vec<MemberId>) -> Vec<MemberId>
     members
 }
 
-/// The view that members in any order make, or their first fault. It takes no memory.
+/// The view that members in any order make, or their first fault. It needs no memory.
 pub fn make(number: u32, start: u64, members: Vec<MemberId>, f: u8) -> Result<View, ViewFault>
     requires some { 1 ≤ start }
     requires small { start ≤ 2 ^ 63 }

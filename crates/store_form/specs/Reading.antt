@@ -1,11 +1,11 @@
--- How groups and checkpoints are read from left to right.
+-- The reading of groups and checkpoints, from left to right.
 use Rattle.std.specs.Prelude.{ℕ, List, Ok}
 use Rattle.std.specs.Int.{w64}
 use Rattle.smart_base.specs.Cuts.{Cut, Read, ◌>>=◌, number_at, text_at, bytes_at, anything, contents, whole, times_at}
 use Rattle.store_form.specs.Spelling.{Group}
 use Rattle.store_form.specs.declared.checkpoint.Checkpoint.{Checkpoint}
 
--- bytes from their first on
+-- bytes from the first on
 abbrev pub all_of : List ℕ → Cut
 all_of bytes = record { at = 0; left = bytes }
 

@@ -12,7 +12,7 @@ use smart_base::field::{put_text, put_u64};
 use smart_base::sequence::Bytes;
 use std::alloc::{AllocError, Global};
 
-/// A snapshot, and the number of its generation.
+/// A checkpoint: a snapshot, and the number of its generation.
 pub struct Checkpoint {
     pub generation: u64,
     pub snapshot: Bytes,
@@ -28,7 +28,7 @@ impl Drop for Checkpoint {
     }
 }
 
-/// A checkpoint that stands behind its gate.
+/// Reads the checkpoint after a slot's gate. Errors: a field that is none; want of memory.
 #[tactic(auto, unfolding(crate::specs::Reading::checkpoint_at))]
 pub fn take_checkpoint(alloc: Global, cut: &mut Cursor<'_>) -> Result<Checkpoint, ReadError>
     ensures exact { Gives result cut.new (checkpoint_at cut.old) }
@@ -44,7 +44,7 @@ pub fn take_checkpoint(alloc: Global, cut: &mut Cursor<'_>) -> Result<Checkpoint
     })
 }
 
-/// Adds what stands behind the gate of a slot with this snapshot.
+/// Adds the bytes after a slot's gate, with this snapshot. Error: want of memory.
 #[tactic(auto, unfolding(crate::specs::Spelling::checkpoint_text))]
 pub fn put_checkpoint(out: &mut Vec<u8>, generation: u64, snapshot: &[u8]) -> Result<(), AllocError>
     requires { length snapshot.now < 2 ^ 32 }

@@ -1,12 +1,12 @@
-//! How a call of a log or of a slot ends.
+//! The end of a call of a log or of a slot.
 use std::alloc::AllocError;
 
-/// Why a call of a log did not do its work.
+/// The reason for which a call of a log or of a slot did not do its work.
 #[derive(Clone, Copy, Debug, PartialEq, Eq)]
 pub enum LogFault {
-    /// The disk has failed, in this call or, where the log is closed, in an earlier one.
+    /// The disk has failed: in this call, or, if `closed`, in an earlier one.
     Disk { closed: bool },
-    /// Memory ran out, in this call or in the one that closed the log.
+    /// Want of memory: in this call, or in the one that closed the log.
     NoMemory,
 }
 
@@ -14,9 +14,9 @@ pub enum LogFault {
 #[derive(Clone, Copy, Debug, PartialEq, Eq)]
 pub enum State {
     Open,
-    /// The disk has failed.
+    /// A failure of the disk closed it.
     Failed,
-    /// Memory ran out inside a device call.
+    /// Want of memory inside a device call closed it.
     NoMemory,
 }
 
@@ -24,7 +24,7 @@ impl State {
     ghost use Rattle.std.specs.Prelude.{◌≡◌, OnErr, IsErrOf, false};
     ghost use Rattle.store_form.specs.Ends.{Closes};
 
-    /// What whatever is closed answers.
+    /// What a closed log answers; an open one takes the call.
     pub fn check(self) -> Result<(), LogFault>
         ensures closes { Closes result self self }
         ensures not_now { IsErrOf result (LogFault.Disk false) → ⊥ }

@@ -14,7 +14,7 @@ use smart_base::field::{copied, put_text, put_u64};
 use smart_base::sequence::{Bytes, Sequence};
 use std::alloc::{AllocError, Global};
 
-/// An entry behind its length.
+/// Reads an entry after its length. Errors: a field that is none; want of memory.
 #[tactic(auto, unfolding(smart_base::specs::Cuts::contents))]
 pub fn take_entry(alloc: Global, cut: &mut Cursor<'_>) -> Result<Bytes, ReadError>
     ensures exact { Gives result cut.new (entry_at cut.old) }
@@ -50,7 +50,7 @@ fn take_payload(alloc: Global, cut: &mut Cursor<'_>) -> Result<Sequence<Bytes>, 
     take_entries(alloc, count, cut)
 }
 
-/// A length of 64 bits and that many bytes; the fault is at the length.
+/// Reads a length of 64 bits and that many bytes. The fault is at the length.
 #[tactic(auto, unfolding(smart_base::specs::Cuts::text_at, smart_base::specs::Cuts::ranged))]
 fn take_field<'a>(cut: &mut Cursor<'a>) -> Result<Cursor<'a>, Unread>
     ensures { Takes result cut.new (text_at w64 anything cut.old) }
@@ -64,7 +64,7 @@ fn take_field<'a>(cut: &mut Cursor<'a>) -> Result<Cursor<'a>, Unread>
     Ok(field)
 }
 
-/// The entries of a group that stands behind its gate.
+/// Reads the entries of a group after its gate. Errors: a field that is none; want of memory.
 #[tactic(auto, unfolding(crate::specs::Reading::group_at, smart_base::specs::Cuts::whole))]
 pub fn take_group(alloc: Global, cut: &mut Cursor<'_>) -> Result<Sequence<Bytes>, ReadError>
     ensures exact { Gives result cut.new (group_at cut.old) }
@@ -101,7 +101,7 @@ fn payload_of(alloc: Global, entries: &[Bytes]) -> Result<Vec<u8>, AllocError>
     Ok(text)
 }
 
-/// Adds what stands behind the gate of the group of these entries.
+/// Adds the bytes after the gate of a group with these entries. Error: want of memory.
 #[tactic(auto, unfolding(crate::specs::Spelling::group_text))]
 pub fn put_group(alloc: Global, out: &mut Vec<u8>, entries: &[Bytes]) -> Result<(), AllocError>
     requires { Each IsEntry entries.now }

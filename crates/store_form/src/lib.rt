@@ -1,5 +1,5 @@
-//! How a store spells what it writes, groups of entries and checkpoints, each in one spelling, and how
-//! its calls end.
+//! The bytes that a store writes, for groups of entries and for checkpoints, and the ends of its
+//! calls. Each value has one spelling.
 #![tactic(auto)]
 
 pub mod checkpoint;

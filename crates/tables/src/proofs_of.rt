@@ -13,8 +13,9 @@ use smart_base::view::View;
 use smart_base::view_bytes::read_view;
 use smart_keys::hash::Sha;
 use smart_keys::ring::Ring;
-use smart_messages::any::{AnyMessage, decode_any};
-use smart_messages::regency::{RegencyMessage, Sync};
+use smart_messages::codec::decode;
+use smart_messages::message::Message;
+use smart_messages::regency::Sync;
 use smart_statements::batch::Batch;
 use std::alloc::{AllocError, Global};
 use std::io::Write;
@@ -106,9 +107,9 @@ pub fn told_of_votes(alloc: Global, heads: &[Vec<u8>], bytes: &[u8]) -> Result<S
 }
 
 /// What begins a regency, if a message does.
-fn sync_of(message: &AnyMessage) -> Option<&Sync> {
+fn sync_of(message: &Message) -> Option<&Sync> {
     match message {
-        AnyMessage::Change(RegencyMessage::Sync(sync)) => Some(sync.statement()),
+        Message::Sync(sync) => Some(sync.statement()),
         _ => None,
     }
 }
@@ -116,7 +117,7 @@ fn sync_of(message: &AnyMessage) -> Option<&Sync> {
 fn check_sync(
     alloc: Global,
     views: &[View],
-    message: &AnyMessage,
+    message: &Message,
 ) -> Result<Result<(), CertFault>, RowFault> {
     let sync = sync_of(message).ok_or(RowFault::Word)?;
     if views.is_empty() {
@@ -130,7 +131,7 @@ fn check_sync(
 /// The first fault of the reports with which a regency begins, where these views are known.
 pub fn told_of_collect(alloc: Global, heads: &[Vec<u8>], bytes: &[u8]) -> Result<String, RowFault> {
     let views = views_of(alloc, heads)?;
-    match decode_any(alloc, bytes) {
+    match decode(alloc, bytes) {
         Ok(message) => {
             let checked = check_sync(alloc, views.as_slice(), &message);
             drop(message);
@@ -140,7 +141,7 @@ pub fn told_of_collect(alloc: Global, heads: &[Vec<u8>], bytes: &[u8]) -> Result
     }
 }
 
-fn choice_of(message: &AnyMessage) -> Result<Choice, RowFault> {
+fn choice_of(message: &Message) -> Result<Choice, RowFault> {
     let sync = sync_of(message).ok_or(RowFault::Word)?;
     Ok(choice(sync.collect.as_slice()))
 }
@@ -159,7 +160,7 @@ fn told_choice(alloc: Global, choice: Choice) -> Result<String, RowFault> {
 
 /// What the reports with which a regency begins leave to it.
 pub fn told_of_choice(alloc: Global, bytes: &[u8]) -> Result<String, RowFault> {
-    match decode_any(alloc, bytes) {
+    match decode(alloc, bytes) {
         Ok(message) => {
             let choice = choice_of(&message);
             drop(message);

@@ -2,7 +2,6 @@
 use crate::fault::RowFault;
 use smart_base::cursor::Cursor;
 use smart_base::fault::ReadError;
-use smart_messages::any::{AnyMessage, decode_any, encode_any};
 use smart_messages::codec::{decode, encode};
 use smart_messages::message::Message;
 use smart_messages::regency::ViewInfo;
@@ -31,23 +30,6 @@ fn told_spelling(alloc: Global, spelling: &[u8], bytes: &[u8]) -> Result<String,
         "otherwise"
     };
     Ok(String::from_str(alloc, told)?)
-}
-
-fn any_again(alloc: Global, message: &AnyMessage, bytes: &[u8]) -> Result<String, RowFault> {
-    let spelling = encode_any(alloc, message)?;
-    told_spelling(alloc, spelling.as_slice(), bytes)
-}
-
-/// What `decode_any` and `encode_any` make of bytes.
-pub fn told_of_any(alloc: Global, bytes: &[u8]) -> Result<String, RowFault> {
-    match decode_any(alloc, bytes) {
-        Ok(message) => {
-            let told = any_again(alloc, &message, bytes);
-            drop(message);
-            told
-        }
-        Err(error) => told_fault(alloc, error),
-    }
 }
 
 fn message_again(alloc: Global, message: &Message, bytes: &[u8]) -> Result<String, RowFault> {

@@ -2,16 +2,14 @@
 use crate::admission::told_of_book;
 use crate::fault::RowFault;
 use crate::proofs_of::{told_of_choice, told_of_collect, told_of_votes};
-use crate::spelling::{told_of_any, told_of_entry, told_of_message, told_of_view};
+use crate::spelling::{told_of_entry, told_of_message, told_of_view};
 use std::alloc::Global;
 
 /// What a table's rows are about.
 #[derive(Clone, Copy)]
 pub enum Table {
-    /// The bytes of messages of any kind.
+    /// The bytes of messages.
     Messages,
-    /// The bytes of messages that change no regency.
-    Orders,
     /// The bytes of a book's entries.
     Entries,
     /// The bytes of a view that a member tells a client.
@@ -27,9 +25,8 @@ pub enum Table {
 }
 
 /// All tables, in the order in which they are tried.
-pub const TABLES: [Table; 8] = [
+pub const TABLES: [Table; 7] = [
     Table::Messages,
-    Table::Orders,
     Table::Entries,
     Table::Views,
     Table::Admission,
@@ -43,7 +40,6 @@ impl Table {
     pub fn name(self) -> &'static str {
         match self {
             Table::Messages => "messages",
-            Table::Orders => "orders",
             Table::Entries => "entries",
             Table::Views => "views",
             Table::Admission => "admission",
@@ -56,8 +52,7 @@ impl Table {
     /// What the call makes of bytes behind the other parts of a row, as a row says it.
     pub fn told(self, alloc: Global, heads: &[Vec<u8>], bytes: &[u8]) -> Result<String, RowFault> {
         match self {
-            Table::Messages => told_of_any(alloc, bytes),
-            Table::Orders => told_of_message(alloc, bytes),
+            Table::Messages => told_of_message(alloc, bytes),
             Table::Entries => told_of_entry(alloc, bytes),
             Table::Views => told_of_view(alloc, bytes),
             Table::Admission => told_of_book(alloc, heads, bytes),

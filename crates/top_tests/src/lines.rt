@@ -2,11 +2,16 @@
 use std::alloc::Global;
 use std::process::Abort;
 use world_rules::line::Kind;
-use world_script::reading::line_of;
+use world_script::fault::LineFault;
+use world_script::reading::read_line;
 
 /// What is wrong with a line.
 fn fault(rt: &impl Abort, alloc: Global, bytes: &[u8]) -> Option<Kind> {
-    line_of(alloc, bytes).expect(rt, "there is memory").err()
+    let kind = match read_line(alloc, bytes).err()? {
+        LineFault::Kind { kind } => Some(kind),
+        LineFault::NoMemory => None,
+    };
+    Some(kind.expect(rt, "there is memory"))
 }
 
 /// The least and the greatest numbers of each word, and numbers past them.

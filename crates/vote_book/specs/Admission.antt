@@ -1,4 +1,4 @@
--- The test of an entry: whether a book admits it.
+-- The test whether a book admits an entry.
 use Rattle.std.specs.Prelude.{ℕ, ◌+◌, ◌-◌, ◌==◌, nat_le, nat_lt, Bool, true, false, not, ◌&&◌, ◌||◌, List, length, Option, None, Some}
 use Rattle.std.specs.List.{list_any}
 use Rattle.smart_base.specs.Lists.{same_bytes}
@@ -12,7 +12,7 @@ use Rattle.vote_book.specs.Books.{Book, pushed, restored_of, place_made, latest_
 
 -- ---- what an entry is to a later one
 
--- a write in a slot
+-- an entry that is a WRITE in a slot
 abbrev pub writes_in : Slot → LogEntry → Bool
 writes_in slot (Opened o) = false
 writes_in slot (Wrote w) = same_slot w.slot slot
@@ -23,7 +23,7 @@ writes_in slot (Decided d) = false
 writes_in slot (Installed i) = false
 writes_in slot (Marked m) = false
 
--- an accept in a slot
+-- an entry that is an ACCEPT in a slot
 abbrev pub accepts_in : Slot → LogEntry → Bool
 accepts_in slot (Opened o) = false
 accepts_in slot (Wrote w) = false
@@ -38,15 +38,15 @@ abbrev pub is_number : ℕ → Option ℕ → Bool
 is_number n None = false
 is_number n (Some m) = m == n
 
--- an entry makes a place
+-- an entry that makes a place
 abbrev pub makes : ℕ → LogEntry → Bool
 makes place e = is_number place (place_made e)
 
--- a slot is of an earlier view than a promise, or of its view and an earlier regency
+-- a slot below a promise: of an earlier view, or of its view and an earlier regency
 abbrev pub is_below : Slot → Promise → Bool
 is_below slot promise = nat_lt slot.view promise.view || (slot.view == promise.view && nat_lt slot.regency promise.regency)
 
--- a promise that a vote in a slot would break
+-- an entry that is a promise which a vote in a slot would break
 abbrev pub forbids : Slot → LogEntry → Bool
 forbids slot (Opened o) = false
 forbids slot (Wrote w) = false
@@ -57,16 +57,17 @@ forbids slot (Decided d) = false
 forbids slot (Installed i) = false
 forbids slot (Marked m) = false
 
--- a bound, if there is one, is the digest
+-- a bound that allows a digest: there is none, or it is the digest
 abbrev pub allows : Option (List ℕ) → List ℕ → Bool
 allows None digest = true
 allows (Some bound) digest = same_bytes digest bound
 
--- a start from which a vote for a digest in a slot may come
+-- a beginning that lets a vote for a digest in a slot stand after it
 abbrev pub lets : Slot → List ℕ → Start → Bool
 lets slot digest start =
     start.view == slot.view && (start.regency == slot.regency && (nat_le start.base slot.place && (not (start.base == slot.place) || allows start.bound digest)))
 
+-- an entry that is such a beginning
 abbrev pub begins : Slot → List ℕ → LogEntry → Bool
 begins slot digest (Opened o) = false
 begins slot digest (Wrote w) = false
@@ -79,25 +80,28 @@ begins slot digest (Marked m) = false
 
 -- ---- the test
 
+-- the test of a vote
 abbrev pub may_vote : List LogEntry → Slot → List ℕ → Bool
 may_vote before slot digest =
     (nat_le slot.place 1 || list_any (makes (slot.place - 1)) before)
     && (not (list_any (forbids slot) before) && (slot.regency == 0 || list_any (begins slot digest) before))
 
--- a decision of a place may stand behind the latest one
+-- the test of a decided place, by the latest one
 abbrev pub follows : ℕ → Option ℕ → ℕ → Bool
 follows opening None place = nat_le place (opening + 1)
 follows opening (Some latest) place = place == latest + 1
 
--- a place is above all that are made, by the latest of them and the greatest
+-- a place above all that are made, by the latest and the greatest of them
 abbrev pub is_above : Option ℕ → ℕ → ℕ → Bool
 is_above None last place = true
 is_above (Some latest) last place = nat_lt last place
 
+-- the test of an installed place
 abbrev pub may_install : ℕ → ℕ → List LogEntry → ℕ → Bool
 may_install opening restored before place =
     is_above (latest_made before) (last_made before) place && (not (nat_lt (length before) restored) || nat_le place opening)
 
+-- the test of an entry
 abbrev pub admits : ℕ → ℕ → List LogEntry → LogEntry → Bool
 admits opening restored before (Opened o) = true
 admits opening restored before (Wrote w) = may_vote before w.slot w.digest && not (list_any (writes_in w.slot) before)
@@ -108,6 +112,6 @@ admits opening restored before (Decided d) = follows opening (latest_made before
 admits opening restored before (Installed i) = may_install opening restored before i.place
 admits opening restored before (Marked m) = true
 
--- a book admits an entry, as the book with it counts what is restored
+-- the test of an entry at the end of a book; the book with the entry counts what is restored
 abbrev pub admits_next : Book → LogEntry → Bool
 admits_next b e = admits b.opening (restored_of (pushed b e)) b.entries e

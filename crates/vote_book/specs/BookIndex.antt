@@ -1,4 +1,4 @@
--- What a book keeps beside its entries, so that it judges the next one without walking them.
+-- What a book keeps beside its entries, to judge the next one without walking them.
 use Rattle.std.specs.Prelude.{◌≡◌, ℕ, ◌+◌, ◌<◌, nat_eq, ◌==◌, nat_lt, nat_le, max, Bool, true, false, ◌&&◌, ◌||◌, List, [], ◌∷◌, ◌++◌, length, filter, slice_get, Option, None, Some, IfSome, if◌then◌else◌}
 use Rattle.std.specs.List.{list_any}
 use Rattle.smart_base.specs.Lists.{or_else}
@@ -24,16 +24,16 @@ has_slot keys slot = list_any (is_key slot) keys
 abbrev pub has_place : List ℕ → ℕ → Bool
 has_place places place = list_any (nat_eq place) places
 
--- a slot is below the greatest promise, if there is one
+-- a slot below the greatest promise, if there is one
 abbrev pub is_promised : Option Promise → Slot → Bool
 is_promised None slot = false
 is_promised (Some promise) slot = is_below slot promise
 
--- a promise is of an earlier view than another, or of its view and no later regency
+-- a promise that is kept if another is: of an earlier view, or of its view and no later regency
 abbrev pub is_kept_with : Promise → Promise → Bool
 is_kept_with promise other = nat_lt promise.view other.view || (promise.view == other.view && nat_le promise.regency other.regency)
 
--- whoever keeps the greatest promise keeps another
+-- a promise that is kept if the greatest one is
 abbrev pub covers : Option Promise → Promise → Bool
 covers None promise = false
 covers (Some greatest) promise = is_kept_with promise greatest
@@ -50,7 +50,7 @@ abbrev pub is_greater : Option OpenAccept → OpenAccept → Bool
 is_greater None accept = true
 is_greater (Some greatest) accept = nat_lt greatest.slot.regency accept.slot.regency
 
--- the one of greater regency, the first of equals
+-- the accept of the greater regency; of equals the first
 abbrev pub greater_open : Option OpenAccept → Option OpenAccept → Option OpenAccept
 greater_open None right = right
 greater_open (Some a) None = Some a
@@ -63,7 +63,7 @@ abbrev pub greatest_open : ℕ → ℕ → List OpenAccept → Option OpenAccept
 greatest_open view place [] = None
 greatest_open view place (x ∷ xs) = greater_open (open_for view place x) (greatest_open view place xs)
 
--- an entry's accept, where it stands at an index
+-- the accept that an entry at an index is, if it is one
 abbrev pub accept_at : ℕ → LogEntry → List OpenAccept
 accept_at index (Opened o) = []
 accept_at index (Wrote w) = []
@@ -74,12 +74,12 @@ accept_at index (Decided d) = []
 accept_at index (Installed i) = []
 accept_at index (Marked m) = []
 
--- the accepts of entries that stand from an index on
+-- the accepts among entries from an index on
 abbrev pub accepts_from : ℕ → List LogEntry → List OpenAccept
 accepts_from index [] = []
 accepts_from index (e ∷ es) = accept_at index e ++ accepts_from (index + 1) es
 
--- the accepts that are open behind an entry at an index, by those before it and the last place before it
+-- the open accepts after an entry at an index, by those before it and the last place before it
 abbrev pub open_behind : ℕ → ℕ → LogEntry → List OpenAccept → List OpenAccept
 open_behind index last (Opened o) accepts = accepts
 open_behind index last (Wrote w) accepts = accepts
@@ -101,7 +101,7 @@ as_accept (Some (Decided d)) = None
 as_accept (Some (Installed i)) = None
 as_accept (Some (Marked m)) = None
 
--- the accept of an index
+-- the accept at an index
 abbrev pub accept_found : List LogEntry → Option OpenAccept → Option Accept
 accept_found entries None = None
 accept_found entries (Some x) = as_accept (slice_get entries x.index)
@@ -112,14 +112,14 @@ abbrev pub entry_at : Option ℕ → List LogEntry → Option LogEntry
 entry_at None entries = None
 entry_at (Some index) entries = slice_get entries index
 
--- the index of the entry that made the last place, behind an entry at an index that makes a place or none
+-- the index of the entry that made the last place, after an entry at an index that makes a place or none
 abbrev pub maker_behind : ℕ → Option ℕ → ℕ → Option ℕ → Option ℕ → Option ℕ
 maker_behind index latest last None maker = maker
 maker_behind index latest last (Some place) maker = if is_above latest last place then Some index else maker
 
 -- ---- the index
 
--- what an index says is what these entries say
+-- an index that says what these entries say
 pub record IsIndexOf (entries : List LogEntry) (x : BookIndex) : Type 0 where
   pub written : (slot : Slot) → has_slot x.written slot ≡ list_any (writes_in slot) entries
   pub accepted : (slot : Slot) → has_slot x.accepted slot ≡ list_any (accepts_in slot) entries
@@ -133,7 +133,7 @@ pub record IsIndexOf (entries : List LogEntry) (x : BookIndex) : Type 0 where
   pub maker_within : IfSome x.maker (λ index. index < length entries)
   pub pending : x.pending ≡ filter (is_open (last_made entries)) (accepts_from 0 entries)
 
--- an index says of one more entry, at an index of the list, what it is to a later one
+-- an index that says, of one more entry, what that is to a later one
 pub record Adds (index : ℕ) (entry : LogEntry) (old new : BookIndex) : Type 0 where
   pub written : (slot : Slot) → has_slot new.written slot ≡ (has_slot old.written slot || writes_in slot entry)
   pub accepted : (slot : Slot) → has_slot new.accepted slot ≡ (has_slot old.accepted slot || accepts_in slot entry)

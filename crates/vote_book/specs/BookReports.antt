@@ -1,4 +1,4 @@
--- What a member reports of its book: the last place that is made, what shows that it is, and the batch on which the member is locked behind it.
+-- A member's report of its book: the last made place, its evidence, and the batch on which the member is locked at the next place.
 use Rattle.std.specs.Prelude.{◌≡◌, ℕ, ◌+◌, ◌≤◌, ◌==◌, nat_lt, ◌&&◌, List, [], ◌∷◌, Option, None, Some, option_map, find, if◌then◌else◌}
 use Rattle.smart_statements.specs.Batches.{Batch}
 use Rattle.smart_statements.specs.declared.report.Evidence.{Evidence}
@@ -17,7 +17,7 @@ use Rattle.vote_book.specs.Admission.{makes}
 abbrev pub last_maker : List LogEntry → Option LogEntry
 last_maker entries = find (makes (last_made entries)) entries
 
--- what an entry shows of the place that it makes, by the digests that name batches
+-- the evidence that an entry gives for the place that it makes
 abbrev pub evidence_by : (Batch → List ℕ) → LogEntry → Evidence
 evidence_by digest_of (Decided d) = evidence.Decided (record { view = d.slot.view; regency = d.slot.regency; digest = digest_of d.batch; accepts = d.accepts })
 evidence_by digest_of (Installed i) = evidence.Marked (record { view = i.view; digest = i.digest; marks = i.marks })
@@ -34,7 +34,7 @@ evidence_of digest_of (Some maker) = evidence_by digest_of maker
 
 -- ---- the lock
 
--- an entry as an accept for a place of a view
+-- the accept for a place of a view that an entry is, if it is one
 abbrev pub accept_for : ℕ → ℕ → LogEntry → Option Accept
 accept_for view place (Accepted a) = if a.slot.view == view && a.slot.place == place then Some a else None
 accept_for view place (Opened o) = None
@@ -45,22 +45,22 @@ accept_for view place (Decided d) = None
 accept_for view place (Installed i) = None
 accept_for view place (Marked m) = None
 
--- the one of greater regency, the first of equals
+-- the accept of the greater regency; of equals the first
 abbrev pub greater : Option Accept → Option Accept → Option Accept
 greater None right = right
 greater (Some a) None = Some a
 greater (Some a) (Some b) = if nat_lt a.slot.regency b.slot.regency then Some b else Some a
 
--- the accept of greatest regency for a place of a view
+-- the accept of the greatest regency for a place of a view
 abbrev pub greatest_accept : ℕ → ℕ → List LogEntry → Option Accept
 greatest_accept view place [] = None
 greatest_accept view place (e ∷ es) = greater (accept_for view place e) (greatest_accept view place es)
 
--- the member is locked on the batch that it accepted, in the greatest regency of a view, at the place behind the last
+-- the member's lock: its accept of the greatest regency of a view, at the place after the last made one
 abbrev pub lock_of : ℕ → List LogEntry → Option Accept
 lock_of view entries = greatest_accept view (last_made entries + 1) entries
 
--- an accept of the entries for a place of a view, than which none of theirs for it is of greater regency
+-- an accept among entries for a place of a view; no other of theirs for that place is of a greater regency
 pub record IsGreatestAccept (view place : ℕ) (entries : List LogEntry) (a : Accept) : Type 0 where
   pub there : Among (Accepted a) entries
   pub view_is : a.slot.view ≡ view
@@ -72,7 +72,7 @@ certificate_of a = record { regency = a.slot.regency; digest = a.digest; writes 
 
 -- ---- the report
 
--- A report says of the entries before its promise what they are (Mod-SMaRt, EDCC 2012; evidence by marks is this project's own).
+-- A report that is what the entries before its promise are (Mod-SMaRt, EDCC 2012; evidence by marks is this project's own).
 pub record Reports (digest_of : Batch → List ℕ) (report : Report) (before : List LogEntry) : Type 0 where
   pub last : report.last ≡ last_made before
   pub evidence : report.evidence ≡ evidence_of digest_of (last_maker before)

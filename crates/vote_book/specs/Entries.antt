@@ -1,4 +1,4 @@
--- The entries of a book: their spelling, which have one, and how they are read.
+-- The entries of a book: their bytes, which entries have bytes, and how they are read.
 use Rattle.std.specs.Prelude.{◌≡◌, ℕ, ◌<◌, ◌≤◌, ◌^◌, nat_lt, nat_le, ◌==◌, true, ◌&&◌, List, ◌++◌, length, Result, Ok, if◌then◌else◌}
 use Rattle.std.specs.Int.{w8, w16, w32}
 use Rattle.smart_base.specs.Cuts.{Cut, Read, ◌>>=◌, number_at, ranged, whole}
@@ -59,7 +59,7 @@ write_at c = do
   d ← digest_at s.1
   Ok (record { slot = s.0; digest = d.0 }, d.1)
 
--- with the writes that it rests on
+-- the bytes of an accept, with its WRITEs
 abbrev pub accept : Accept → List ℕ
 accept a = slot a.slot ++ (a.digest ++ (listed (votes_of votes.Write) a.writes ++ batch_text a.batch))
 
@@ -101,7 +101,7 @@ pub record FitsStart (s : Start) : Type 0 where
   pub base_fits : (1 ≤ s.base) × (s.base ≤ 2 ^ 63)
   pub bound_fits : FitsOptional (λ d. length d ≡ 32) s.bound
 
--- a base is in the range of the first places of views
+-- a beginning is read; its base is in the range of the first places of views
 unfoldable pub regency_start_at : Cut → Read Start
 regency_start_at c = do
   v ← number_at w32 c
@@ -112,7 +112,7 @@ regency_start_at c = do
 
 -- ---- decisions
 
--- with the accepts that it rests on
+-- the bytes of a decision, with its ACCEPTs
 abbrev pub decision : Decision → List ℕ
 decision d = slot d.slot ++ (batch_text d.batch ++ listed (votes_of votes.Accept) d.accepts)
 
@@ -147,7 +147,7 @@ installation_at c = do
   l ← list_at marks v.1
   Ok (record { place = p.0; digest = d.0; view = v.0; marks = l.0 }, l.1)
 
--- the mark of the member whose book it is
+-- the bytes of a mark of the book's member
 abbrev pub own_mark : Mark → List ℕ
 own_mark m = u64 m.place ++ m.digest
 
@@ -182,7 +182,7 @@ entry_content (Marked m) = own_mark m
 unfoldable pub entry_text : LogEntry → List ℕ
 entry_text e = u8 (entry_kind e) ++ entry_content e
 
--- which entries have a spelling
+-- an entry that has bytes
 abbrev pub FitsEntry : LogEntry → Type 0
 FitsEntry (Opened o) = FitsOpening o
 FitsEntry (Wrote w) = FitsWrite w
@@ -193,7 +193,7 @@ FitsEntry (Decided d) = FitsDecision d
 FitsEntry (Installed i) = FitsInstallation i
 FitsEntry (Marked m) = FitsMark m
 
--- an entry of a kind, by the reader of what that kind holds
+-- an entry of a kind is read, by the reader of what that kind holds
 unfoldable pub read_as : {A : Type 0} → (A → LogEntry) → (Cut → Read A) → Cut → Read LogEntry
 read_as entry f c = do
   x ← f c
@@ -218,6 +218,6 @@ entry_at c = do
   k ← entry_kind_at c
   content_at k.0 k.1
 
--- the entry of these bytes, or the lowest offset of a field that is none, or of a byte left over
+-- the entry that bytes are, or the lowest offset of a field that is none, or of a byte left over
 unfoldable pub entry_decoded : List ℕ → Result LogEntry ℕ
 entry_decoded bytes = whole entry_at (record { at = 0; left = bytes })

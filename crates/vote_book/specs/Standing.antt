@@ -1,4 +1,4 @@
--- What a book says of a regency and of a slot, to a member that comes to it: where the regency first began, and what the member voted there.
+-- What a book says of a regency and of a slot: where the regency first began, and what the member voted there.
 use Rattle.std.specs.Prelude.{ℕ, ◌==◌, nat_eq, ◌&&◌, List, [], ◌∷◌, Option, None, Some, if◌then◌else◌}
 use Rattle.std.specs.List.{list_any}
 use Rattle.std.specs.Map.{lookup}
@@ -10,7 +10,7 @@ use Rattle.vote_book.specs.declared.entry.LogEntry.TheVariants.{Opened, Wrote, A
 use Rattle.vote_book.specs.Admission.{writes_in, accepts_in}
 use Rattle.vote_book.specs.declared.votes.OwnVotes.{OwnVotes}
 
--- a start, where it is of this regency of a view
+-- a beginning, if it is of this regency of a view
 abbrev pub start_of : ℕ → ℕ → Start → Option Start
 start_of view regency s = if s.view == view && s.regency == regency then Some s else None
 
@@ -29,10 +29,10 @@ abbrev pub first_start : ℕ → ℕ → List LogEntry → Option Start
 first_start view regency [] = None
 first_start view regency (e ∷ es) = or_else (start_by view regency e) (first_start view regency es)
 
--- that of starts under their views and regencies
+-- the beginning of a regency of a view among beginnings under their views and regencies
 abbrev pub start_under : ℕ → ℕ → List ((ℕ × ℕ) × Start) → Option Start
 start_under view regency starts = lookup (λ k. nat_eq view k.0 && nat_eq regency k.1) starts
 
--- what the member has voted in a slot
+-- the member's votes in a slot
 abbrev pub own_votes : Slot → List LogEntry → OwnVotes
 own_votes slot entries = record { wrote = list_any (writes_in slot) entries; accepted = list_any (accepts_in slot) entries }

@@ -23,12 +23,11 @@ use smart_statements::statement::Slot;
 use std::alloc::{AllocError, Global};
 use std::marker::Model;
 
-/// The entries of a member's present life, oldest first: those that its disks restored, then those
-/// that it made. It may have any entries; those of a member that keeps the rules are admitted, each
-/// by the ones before it.
+/// The book of a member's present life: the entries that its disks restored, then those that it made.
+/// It may have any entries. If the member keeps the rules, those before an entry admit it.
 pub struct Book {
     opening: Place,
-    /// How many entries were restored, once it is known.
+    /// The number of restored entries, after it is known.
     restored: Option<usize>,
     entries: Vec<LogEntry>,
     index: BookIndex,
@@ -59,8 +58,8 @@ impl Model for Book {
 }
 
 impl Book {
-    /// The book of no entry, behind the replica of a place, 0 if there is none. What is pushed
-    /// first is restored.
+    /// A book without entries, after the replica of a place; 0 if there is none. Entries that are
+    /// pushed now are restored. It needs no memory.
     pub fn begin(alloc: Global, place: Place) -> Self
         ensures { result ≡ begun place }
     {
@@ -72,7 +71,7 @@ impl Book {
         }
     }
 
-    /// From the first call on, what is pushed is not restored.
+    /// Ends the restored part: entries that are pushed from the first call on are not restored.
     pub fn end_restored(&mut self)
         ensures { self.new ≡ ended self.old }
     {
@@ -81,7 +80,7 @@ impl Book {
         }
     }
 
-    /// Adds an entry behind the others, whether it is admitted or not.
+    /// Adds an entry at the end, whether it is admitted or not. Error: want of memory.
     pub fn push(&mut self, entry: LogEntry) -> Result<(), AllocError>
         ensures ok { OnOk result (self.new ≡ pushed self.old entry) }
         ensures err { OnErr result (self.new ≡ self.old) }
@@ -93,15 +92,15 @@ impl Book {
         Ok(())
     }
 
-    /// The entries.
+    /// The entries, oldest first.
     pub fn pushed(&self) -> &[LogEntry]
         ensures { result.now ≡ self.now.entries }
     {
         self.entries.as_slice()
     }
 
-    /// Whether an entry may stand behind the others, but for what its certificate and its batch are.
-    /// It takes no memory, and walks none of them but the starts of regencies, from the newest on.
+    /// Whether the book admits an entry at its end. Certificates and batches are judged elsewhere. It
+    /// needs no memory, and walks only the beginnings of regencies, from the newest on.
     pub fn admits(&self, entry: &LogEntry) -> bool
         ensures { result ≡ admits_next self.now entry.now }
     {
@@ -151,22 +150,22 @@ impl Book {
         self.index.has_begun(slot, digest)
     }
 
-    /// Whether there is a write in a slot.
+    /// Whether there is a WRITE in a slot.
     pub fn has_written(&self, slot: &Slot) -> bool
         ensures { result ≡ list_any (writes_in slot.now) self.now.entries }
     {
         self.index.written.has(slot)
     }
 
-    /// Whether there is an accept in a slot.
+    /// Whether there is an ACCEPT in a slot.
     pub fn has_accepted(&self, slot: &Slot) -> bool
         ensures { result ≡ list_any (accepts_in slot.now) self.now.entries }
     {
         self.index.accepted.has(slot)
     }
 
-    /// What the member has voted in a regency of a view at a place, which may be past the last that
-    /// there is. It takes no memory, and walks no entries.
+    /// The member's votes at a place, in a regency of a view; the place may be past the last that
+    /// there is. It needs no memory, and walks no entries.
     pub fn votes_at(&self, view: ViewNo, place: u64, regency: Regency) -> OwnVotes
         ensures { result ≡ own_votes (record { view = view; place = place; regency = regency }) self.now.entries }
     {
@@ -188,7 +187,8 @@ impl Book {
         self.index.accepted.has_at(view, place, regency)
     }
 
-    /// The first beginning of a regency of a view. It takes no memory, and walks no entries.
+    /// The first beginning of a regency of a view, if there is one. It needs no memory, and walks no
+    /// entries.
     pub fn start_in(&self, view: ViewNo, regency: Regency) -> Option<&Start>
         ensures { option_copied result ≡ first_start view regency self.now.entries }
     {
@@ -217,15 +217,15 @@ impl Book {
         self.index.is_above_made(place)
     }
 
-    /// The greatest place that is decided or installed, 0 if there is none.
+    /// The greatest place that is decided or installed; 0 if there is none.
     pub fn last(&self) -> Place
         ensures { result ≡ last_made self.now.entries }
     {
         self.index.last
     }
 
-    /// The entry that made the last place, the first that did: what shows that it is decided. It
-    /// takes no memory, and walks no entries.
+    /// The first entry that made the last place: the evidence that it is decided. It needs no memory,
+    /// and walks no entries.
     pub fn last_maker(&self) -> Option<&LogEntry>
         ensures { option_copied result ≡ last_maker self.now.entries }
     {
@@ -233,9 +233,9 @@ impl Book {
         self.entries.get(index)
     }
 
-    /// The accept of greatest regency in a view for the place behind the last, if there is one: the
-    /// batch on which the member is locked (Mod-SMaRt, EDCC 2012). It takes no memory, and walks the
-    /// accepts past the last place alone.
+    /// The member's lock, if it has one (Mod-SMaRt, EDCC 2012): its accept of the greatest regency in
+    /// a view, at the place after the last. It needs no memory, and walks only accepts past the last
+    /// place.
     pub fn lock(&self, view: ViewNo) -> Option<&Accept>
         ensures { option_copied result ≡ lock_of view self.now.entries }
     {
@@ -245,15 +245,15 @@ impl Book {
         }
     }
 
-    /// The lock by the index of its entry.
+    /// The lock, by the index of its entry.
     fn open_lock(&self, view: ViewNo) -> Option<OpenAccept>
         ensures { accept_found self.now.entries result ≡ lock_of view self.now.entries }
     {
         self.index.pending.greatest(view, self.index.last.get() + 1)
     }
 
-    /// The accept at an index among those in a view for a place past the last, in the order of the
-    /// entries. It takes no memory, and walks the accepts past the last place alone.
+    /// The accept at an index among those for a place past the last, in a view. It needs no memory,
+    /// and walks only accepts past the last place.
     pub fn accept_for(&self, view: ViewNo, place: Place, index: usize) -> Option<&Accept>
         requires { last_made self.now.entries < place }
         ensures { option_copied result ≡ slice_get (filter_map (accept_for view place) self.now.entries) index }
@@ -264,7 +264,7 @@ impl Book {
         }
     }
 
-    /// The same by the index of its entry.
+    /// That accept, by the index of its entry.
     fn open_for(&self, view: ViewNo, place: Place, index: usize) -> Option<OpenAccept>
         requires { last_made self.now.entries < place }
         ensures { accept_found self.now.entries result ≡ slice_get (filter_map (accept_for view place) self.now.entries) index }
@@ -272,7 +272,7 @@ impl Book {
         self.index.pending.nth(view, place.get(), index)
     }
 
-    /// The accept of an index, if there is one.
+    /// The accept at an index, if there is one.
     fn accept_at(&self, index: usize) -> Option<&Accept>
         ensures { option_copied result ≡ as_accept (slice_get self.now.entries index) }
     {
@@ -283,7 +283,7 @@ impl Book {
     }
 }
 
-/// An entry as an accept.
+/// The accept that an entry is, if it is one.
 fn accept_of(entry: &LogEntry) -> Option<&Accept>
     ensures { option_copied result ≡ as_accept (Some entry.now) }
 {

@@ -1,4 +1,4 @@
-//! The one spelling of each entry of a book, and how entries are read.
+//! The bytes of entries, and how entries are read.
 ghost use Rattle.std.specs.Prelude.{◌≡◌, ◌++◌, ℕ, List, IfOk, OnOk, Ok};
 ghost use Rattle.smart_base.specs.Cuts.{IsBytes, Gives, GivesAll, Takes};
 ghost use Rattle.smart_base.specs.Fields.{digest_at};
@@ -24,7 +24,7 @@ use smart_statements::signed_list::SignedList;
 use smart_statements::statement::{Ballot, Slot, VoteKind};
 use std::alloc::{AllocError, Global};
 
-/// A member's number: at least 1.
+/// Reads a member's number, which is at least 1.
 #[tactic(auto, unfolding(smart_base::specs::Cuts::ranged))]
 fn take_member(cut: &mut Cursor<'_>) -> Result<MemberId, Unread>
     ensures { Takes result cut.new (member_at cut.old) }
@@ -155,7 +155,7 @@ impl Promise {
     }
 }
 
-/// A place, or the one behind the last: from 1 to 2^63.
+/// Reads a base: a place, or the one after the last, from 1 to 2^63.
 #[tactic(auto, unfolding(smart_base::specs::Cuts::ranged))]
 fn take_base(cut: &mut Cursor<'_>) -> Result<u64, Unread>
     ensures { Takes result cut.new (start_at cut.old) }
@@ -345,7 +345,8 @@ fn read_all(alloc: Global, bytes: &[u8]) -> Result<LogEntry, ReadError>
     Ok(entry)
 }
 
-/// The entry that these bytes are, all of them.
+/// The entry that these bytes are, all of them. Errors: the lowest offset of a field that is none, or
+/// of a byte left over; want of memory.
 pub fn decode_entry(alloc: Global, bytes: &[u8]) -> Result<LogEntry, ReadError>
     // What is read is spelled so.
     ensures found { IfOk result (λ e. FitsEntry e × (bytes.now ≡ entry_text e)) }
@@ -373,7 +374,7 @@ fn entry_kind(entry: &LogEntry) -> u8
     }
 }
 
-/// Adds the bytes that stand behind the first one.
+/// Adds the bytes after the first one.
 fn put_content(out: &mut Vec<u8>, entry: &LogEntry) -> Result<(), AllocError>
     ensures { OnOk result (out.new.items ≡ out.old.items ++ entry_content entry.now) }
 {
@@ -389,7 +390,7 @@ fn put_content(out: &mut Vec<u8>, entry: &LogEntry) -> Result<(), AllocError>
     }
 }
 
-/// Adds the entry's bytes.
+/// Adds the bytes of an entry. Error: want of memory.
 #[tactic(auto, unfolding(crate::specs::Entries::entry_text))]
 fn put_entry(out: &mut Vec<u8>, entry: &LogEntry) -> Result<(), AllocError>
     ensures { OnOk result (out.new.items ≡ out.old.items ++ entry_text entry.now) }
@@ -399,7 +400,7 @@ fn put_entry(out: &mut Vec<u8>, entry: &LogEntry) -> Result<(), AllocError>
     Ok(())
 }
 
-/// The one spelling of the entry.
+/// The bytes of an entry. Error: want of memory.
 pub fn encode_entry(alloc: Global, entry: &LogEntry) -> Result<Vec<u8>, AllocError>
     ensures { IfOk result (λ v. v.items ≡ entry_text entry.now) }
 {
@@ -408,7 +409,7 @@ pub fn encode_entry(alloc: Global, entry: &LogEntry) -> Result<Vec<u8>, AllocErr
     Ok(out)
 }
 
-/// An entry has one spelling: it is read as the entry, and what is read as the entry is it.
+/// An entry has one spelling: its bytes are read as the entry, and no other bytes are.
 pub fn an_entry_has_one_spelling()
     ensures read { (e : LogEntry) → FitsEntry e → entry_decoded (entry_text e) ≡ Ok e }
     ensures alone { (bytes : List ℕ) (e : LogEntry) → IsBytes bytes → entry_decoded bytes ≡ Ok e → FitsEntry e × (bytes ≡ entry_text e) }

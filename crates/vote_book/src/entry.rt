@@ -1,4 +1,4 @@
-//! What a member writes into its log before a message that rests on it leaves.
+//! The entries that a member writes into its log before a message that rests on them leaves.
 ghost use Rattle.std.specs.Prelude.{◌≡◌, IfOk};
 
 use smart_base::bytes::Digest32;
@@ -12,7 +12,8 @@ use smart_statements::signed_list::SignedList;
 use smart_statements::statement::{Ballot, Slot};
 use std::alloc::{AllocError, Global};
 
-/// How a book begins: whose it is, every how many places its group marks one, and the first view.
+/// The opening of a book: its member, the number of places from one mark to the next, and the group's
+/// first view.
 pub struct Opening {
     pub member: MemberId,
     pub period: u32,
@@ -30,7 +31,7 @@ impl Drop for Opening {
     }
 }
 
-/// A write: the member has voted for a batch in a slot, in the first phase (Mod-SMaRt, EDCC 2012).
+/// A WRITE: the member has voted for a digest in a slot, in the first phase (Mod-SMaRt, EDCC 2012).
 pub struct Write {
     pub slot: Slot,
     pub digest: Digest32,
@@ -43,7 +44,7 @@ impl Drop for Write {
     }
 }
 
-/// An accept: the member has voted for a batch in a slot, in the second phase, since a quorum wrote
+/// An ACCEPT: the member has voted for a digest in a slot, in the second phase, after a quorum wrote
 /// for it (Mod-SMaRt, EDCC 2012).
 pub struct Accept {
     pub slot: Slot,
@@ -71,8 +72,8 @@ pub struct Promise {
     pub regency: Regency,
 }
 
-/// A regency has begun: the member may vote in it from the place `base` on (1 to 2^63), and there for
-/// the batch `bound` alone, if there is one.
+/// The beginning of a regency. The member may vote in it from place `base` on, which is 1 to 2^63. At
+/// the base it may vote for `bound` alone, if there is one.
 pub struct Start {
     pub view: ViewNo,
     pub regency: Regency,
@@ -92,7 +93,7 @@ impl Drop for Start {
     }
 }
 
-/// A batch is decided in a slot, since a quorum accepted it.
+/// A decision: a quorum accepted a batch in a slot.
 pub struct Decision {
     pub slot: Slot,
     pub batch: Batch,
@@ -110,7 +111,8 @@ impl Drop for Decision {
     }
 }
 
-/// The replica of a place was taken over from other members, who had marked it.
+/// An installation: the replica after a place was taken over from other members, who had marked it.
+/// INTERIM(transfer): nobody makes one.
 pub struct Installation {
     pub place: Place,
     pub digest: Digest32,
@@ -130,8 +132,8 @@ impl Drop for Installation {
     }
 }
 
-/// An entry of a member's book. Logging batches and replies is Dura-SMaRt's (USENIX ATC 2013); that
-/// votes, promises and marks are logged before they leave is this project's own rule.
+/// An entry of a member's book. That batches and replies are logged is Dura-SMaRt's (USENIX ATC
+/// 2013). That votes, promises and marks are logged before they leave is this project's own rule.
 #[derive(Drop)]
 pub enum LogEntry {
     Opened(Opening),

@@ -1,4 +1,4 @@
-//! A member's book: its entries, their one spelling, and which entries it admits.
+//! A member's book: its entries, their bytes, and which entries it admits.
 #![tactic(auto)]
 
 pub mod book;

@@ -1,5 +1,5 @@
-//! What a member has voted.
-/// What a member has voted in a slot.
+//! A member's votes.
+/// A member's votes in a slot.
 #[derive(Clone, Copy, Debug, PartialEq, Eq)]
 pub struct OwnVotes {
     pub wrote: bool,

@@ -3,19 +3,18 @@ use Rattle.std.specs.Prelude.{ℕ, Option, Some, None}
 use Rattle.smart_statements.specs.Forms.{SignedBy}
 use Rattle.smart_statements.specs.declared.statement.Request.{Request}
 use Rattle.smart_messages.specs.declared.message.Message.TheVariants.{Ask}
-use Rattle.smart_messages.specs.declared.any.AnyMessage.TheVariants.{Plain}
 use Rattle.node_rules.specs.declared.node.Target.TheVariants as targets
 use Rattle.client_quorum.specs.declared.client.Client.{Client}
 use Rattle.world_rules.specs.Worlds.{World, telling, sends, client_repeats}
 use Rattle.world_rules.specs.declared.line.OutLine.TheVariants as outs
 use Rattle.world_rules.specs.declared.message.Origin.TheVariants as origins
 
--- a client sends a signed request, or is idle
+-- the world after a client sent a signed request, or was told idle
 abbrev pub repeats_by : {S : Type 0} → World S → ℕ → Option (SignedBy Request) → World S
 repeats_by w id None = telling w (outs.IdleClient id)
-repeats_by w id (Some q) = sends w (origins.Client id) targets.View (Plain (Ask q))
+repeats_by w id (Some q) = sends w (origins.Client id) targets.View (Ask q)
 
--- a client that is not rogue sends its request that waits
+-- the world after a client that is not rogue sent its waiting request again
 abbrev pub repeats_found : {S : Type 0} → World S → Option Client → World S
 repeats_found w None = w
 repeats_found w (Some c) = client_repeats w c c.waiting

@@ -4,7 +4,6 @@ ghost use Rattle.std.specs.List.{flat_map};
 ghost use Rattle.world_rules.specs.Secrets.{group_secret};
 ghost use Rattle.client_quorum.specs.Clients.{after_heard};
 ghost use Rattle.world_rules.specs.Clients.{heard};
-ghost use Rattle.smart_messages.specs.declared.any.AnyMessage.TheVariants as messages;
 ghost use Rattle.smart_messages.specs.declared.message.Message.TheVariants as plains;
 ghost use Rattle.world_rules.specs.Worlds.{sends, acceptance_in, told_heard, client_takes, asks, repeats, learns, tells, shown_client};
 ghost use Rattle.world_clients.specs.Replies.{takes_reply};
@@ -19,7 +18,6 @@ use smart_base::name::ClientId;
 use smart_base::number::Place;
 use smart_base::view::View;
 use smart_keys::ring::Ring;
-use smart_messages::any::AnyMessage;
 use smart_messages::message::Message;
 use smart_service::service::Service;
 use smart_statements::signed::Signed;
@@ -65,7 +63,7 @@ fn keep_accepted(accepted: &mut Vec<Acceptance>, heard: Heard) -> Result<(), All
     Ok(())
 }
 
-/// A client hears a reply: what it tells and accepts is added.
+/// Hears a reply at a client; what the client tells and accepts is added. Error: want of memory.
 fn hear_reply(
     alloc: Global,
     view: &View,
@@ -87,7 +85,7 @@ fn hear_reply(
     Ok(())
 }
 
-/// Tells the greatest place that a client knows, if it has asked.
+/// Tells the greatest place that a client knows, if it has asked. Error: want of memory.
 fn show_client(told: &mut Vec<OutLine>, client: &Client) -> Result<(), AllocError>
     ensures { OnOk result (told.new.items ≡ told.old.items ++ shown_client client.now) }
 {
@@ -100,7 +98,7 @@ fn show_client(told: &mut Vec<OutLine>, client: &Client) -> Result<(), AllocErro
     Ok(())
 }
 
-/// Tells what all clients that asked have seen.
+/// Tells the greatest place of each client that has asked. Error: want of memory.
 pub fn show_clients(told: &mut Vec<OutLine>, clients: &[Client]) -> Result<(), AllocError>
     ensures { OnOk result (told.new.items ≡ told.old.items ++ flat_map shown_client clients.now) }
 {
@@ -110,7 +108,7 @@ pub fn show_clients(told: &mut Vec<OutLine>, clients: &[Client]) -> Result<(), A
     Ok(())
 }
 
-/// The client at an index hears a reply, or ignores what is none.
+/// Hears a reply at the client at an index, or ignores what is none. Error: want of memory.
 #[tactic(auto, unfolding(crate::specs::Replies::takes_reply, world_rules::specs::Worlds::hearing))]
 fn takes_reply<S: Service>(
     world: &mut WorldState<S>,
@@ -145,7 +143,8 @@ fn takes_reply<S: Service>(
     Ok(())
 }
 
-/// The client at an index hears the bytes of a message. It reads replies alone.
+/// Hears the bytes of a message at the client at an index, which reads replies alone. Error: want of
+/// memory.
 #[tactic(auto, using(crate::proofs::Hearing::takes_bytes))]
 pub fn client_takes<S: Service>(
     world: &mut WorldState<S>,
@@ -159,7 +158,8 @@ pub fn client_takes<S: Service>(
     Ok(())
 }
 
-/// The client at an index asks, if it is not rogue and none of its requests waits.
+/// Lets the client at an index ask, if it is not rogue and none of its requests waits. Error: want of
+/// memory.
 #[tactic(auto, unfolding(world_rules::specs::Worlds::asks))]
 pub fn ask<S: Service>(world: &mut WorldState<S>, i: usize, op: &Payload) -> Result<(), AllocError>
     ensures { OnOk result (world.new ≡ asks i op.now world.old) }
@@ -192,7 +192,8 @@ pub fn ask<S: Service>(world: &mut WorldState<S>, i: usize, op: &Payload) -> Res
     }
 }
 
-/// The client at an index sends its request that waits once more, unless it is rogue.
+/// Lets the client at an index send its waiting request again, unless it is rogue. Error: want of
+/// memory.
 #[tactic(auto, unfolding(world_rules::specs::Worlds::repeats))]
 pub fn repeat<S: Service>(world: &mut WorldState<S>, i: usize) -> Result<(), AllocError>
     ensures { OnOk result (world.new ≡ repeats i world.old) }
@@ -208,7 +209,7 @@ pub fn repeat<S: Service>(world: &mut WorldState<S>, i: usize) -> Result<(), All
     repeat_waiting(world, i)
 }
 
-/// The client sends the request that waits, if one does.
+/// Sends the waiting request of a client, if there is one. Error: want of memory.
 #[tactic(auto, using(crate::proofs::Asking::repeats_waiting))]
 fn repeat_waiting<S: Service>(world: &mut WorldState<S>, i: usize) -> Result<(), AllocError>
     requires { i < length world.old.clients }
@@ -232,32 +233,33 @@ fn send_again<S: Service>(
     }
 }
 
-/// A client's request leaves.
+/// Sends a client's request. Error: want of memory.
 fn send_ask<S: Service>(
     world: &mut WorldState<S>,
     client: ClientId,
     request: Signed<Request>,
 ) -> Result<(), AllocError>
-    ensures { OnOk result (world.new ≡ sends world.old (Origin.Client client) Target.View (messages.Plain (plains.Ask request))) }
+    ensures { OnOk result (world.new ≡ sends world.old (Origin.Client client) Target.View (plains.Ask request)) }
 {
-    let message = AnyMessage::Plain(Message::Ask(request));
+    let message = Message::Ask(request);
     world.send(Origin::Client(client), Target::View, message)
 }
 
-/// The client at an index is told of a place.
+/// Tells the client at an index of a place. Error: want of memory.
 fn learn<S: Service>(world: &mut WorldState<S>, place: Place, i: usize) -> Result<(), AllocError>
     ensures { OnOk result (world.new ≡ learns world.old place i (slice_get world.old.clients i)) }
 {
     if i >= world.clients.len() {
         return Ok(());
     }
-    world.clients[i].tell(place);
+    world.clients[i].told(place);
     let (client, place) = (world.clients[i].id, world.clients[i].seen);
     world.tell(OutLine::Learned { client, place })?;
     Ok(())
 }
 
-/// A client is told of the greatest place that another knows, unless that other is rogue.
+/// Tells a client of the greatest place that another one knows, unless that other one is rogue.
+/// Error: want of memory.
 #[tactic(auto, unfolding(world_rules::specs::Worlds::tells))]
 pub fn tell_client<S: Service>(
     world: &mut WorldState<S>,

@@ -1,4 +1,4 @@
-//! Messages that arrive at those that a line names.
+//! Messages that arrive at the parties that a line names.
 ghost use Rattle.std.specs.Prelude.{◌≡◌, OnOk};
 ghost use Rattle.smart_statements.specs.declared.entry.NodeEvent.TheVariants.{Arrive};
 ghost use Rattle.world_rules.specs.Worlds.{core_course, arrives, arrives_at, give_number};
@@ -13,7 +13,7 @@ use world_ledger::content::content_bytes;
 use world_nodes::deliveries::member_takes;
 use world_state::state::WorldState;
 
-/// Bytes, and their arrival, come to a member's node or to a client.
+/// Brings bytes, and their arrival, to a member's node or to a client. Error: want of memory.
 fn arrive<S: Service>(
     world: &mut WorldState<S>,
     bytes: &[u8],
@@ -44,7 +44,7 @@ fn arrive_at<S: Service>(
     Ok(())
 }
 
-/// The message of a number arrives at each of some, in order.
+/// Brings the message of a number to each of some parties, in order. Error: want of memory.
 pub fn give_number<S: Service>(
     world: &mut WorldState<S>,
     number: u64,

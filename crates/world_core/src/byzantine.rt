@@ -1,4 +1,4 @@
-//! Who breaks the rules: faulty members, rogue clients, and what a script injects.
+//! Faulty members, rogue clients, and what a script injects.
 ghost use Rattle.std.specs.Prelude.{◌≡◌, OnOk, Some, length, filter};
 ghost use Rattle.world_rules.specs.Premises.{is_among, too_many};
 ghost use Rattle.world_rules.specs.Worlds.{declares_faulty, declares_rogue, injects_content, injects};
@@ -13,7 +13,7 @@ use world_rules::line::Injection;
 use world_rules::message::{Content, Ending, Origin, Premise, Sent};
 use world_state::state::{WorldState, let_go};
 
-/// How many of a view's members are faulty.
+/// The number of a view's members that are faulty.
 fn count_faulty(view: &View, faulty: &[MemberId]) -> usize
     ensures { result ≡ length (filter (is_among faulty.now) view.now.members) }
 {
@@ -23,14 +23,14 @@ fn count_faulty(view: &View, faulty: &[MemberId]) -> usize
         .count()
 }
 
-/// Whether more of a view's members are faulty than may be.
+/// Whether more than f of a view's members are faulty.
 fn too_many(view: &View, faulty: &[MemberId]) -> bool
     ensures { result ≡ too_many view.now faulty.now }
 {
     (view.f() as usize) < count_faulty(view, faulty)
 }
 
-/// A member is faulty from now on, unless that would be too many.
+/// Declares a member faulty, unless more than f would be.
 #[tactic(auto, unfolding(world_rules::specs::Worlds::declares_faulty))]
 pub fn declare_faulty<S: Service>(
     world: &mut WorldState<S>,
@@ -49,7 +49,7 @@ pub fn declare_faulty<S: Service>(
     Ok(())
 }
 
-/// A client is rogue from now on.
+/// Declares a client rogue.
 #[tactic(auto, unfolding(world_rules::specs::Worlds::declares_rogue))]
 pub fn declare_rogue<S: Service>(
     world: &mut WorldState<S>,
@@ -64,7 +64,7 @@ pub fn declare_rogue<S: Service>(
     Ok(())
 }
 
-/// What the script injects takes a number, unless it is forged.
+/// Gives the next number to what the script injects, unless it is forged.
 fn inject_content<S: Service>(world: &mut WorldState<S>, content: Content) -> Result<(), AllocError>
     ensures { OnOk result (world.new ≡ injects_content world.old (Some content)) }
 {
@@ -89,7 +89,7 @@ fn inject_content<S: Service>(world: &mut WorldState<S>, content: Content) -> Re
     world.post(sent)
 }
 
-/// The script injects a message.
+/// Injects a message. Error: want of memory.
 #[tactic(auto, unfolding(world_rules::specs::Worlds::injects))]
 pub fn inject<S: Service>(world: &mut WorldState<S>, form: &Injection) -> Result<(), AllocError>
     ensures { OnOk result (world.new ≡ injects form.now world.old) }

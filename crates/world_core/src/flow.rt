@@ -1,4 +1,4 @@
-//! Messages that flow to those that they are for.
+//! Messages that flow to their targets.
 ghost use Rattle.std.specs.Prelude.{◌≡◌, IfOk, OnOk, Some, false};
 ghost use Rattle.world_rules.specs.Repeats.{until_rest};
 ghost use Rattle.world_rules.specs.Premises.{bytes_of};
@@ -15,7 +15,7 @@ use world_nodes::events::{give_all, give_one, settle_all};
 use world_rules::message::Sent;
 use world_state::state::WorldState;
 
-/// Whom a message is for, and its bytes.
+/// The target of a message, and its bytes.
 fn letter(alloc: Global, sent: &Sent) -> Result<(Option<Target>, Bytes), AllocError>
     ensures to { IfOk result (λ l. l.0 ≡ sent.now.to) }
     ensures bytes { IfOk result (λ l. l.1 ≡ bytes_of sent.now.content) }
@@ -24,7 +24,7 @@ fn letter(alloc: Global, sent: &Sent) -> Result<(Option<Target>, Bytes), AllocEr
     Ok((sent.to, bytes))
 }
 
-/// Bytes come to the listed members, or to a client.
+/// Brings bytes to the listed members, or to a client. Error: want of memory.
 fn reach<S: Service>(
     world: &mut WorldState<S>,
     members: &[MemberId],
@@ -40,8 +40,8 @@ fn reach<S: Service>(
     }
 }
 
-/// Bytes come to those of the listed that they are for, or to their client. What is for nobody is
-/// passed over.
+/// Brings bytes to their targets among the listed members, or to their client. What is for nobody
+/// goes nowhere. Error: want of memory.
 fn go<S: Service>(
     world: &mut WorldState<S>,
     members: &[MemberId],
@@ -56,8 +56,8 @@ fn go<S: Service>(
     }
 }
 
-/// The next message behind the mark, if there is one, is given to those of the listed that it
-/// is for, or to its client, in bytes.
+/// Brings the next message past the mark, if there is one, to its targets among the listed members,
+/// or to its client. Error: want of memory.
 #[tactic(auto, unfolding(world_rules::specs::Worlds::flow_once))]
 fn flow_once<S: Service>(
     world: &mut WorldState<S>,
@@ -76,7 +76,7 @@ fn flow_once<S: Service>(
     Ok(true)
 }
 
-/// Each message behind the mark is given, until none is left.
+/// Brings each message past the mark to its targets, until none is left. Error: want of memory.
 #[tactic(auto, using(world_nodes::proofs::Turns::rest_begins, world_nodes::proofs::Turns::rest_more, world_nodes::proofs::Turns::rest_done, world_nodes::proofs::Turns::rest_idle))]
 fn flow_rest<S: Service>(world: &mut WorldState<S>, members: &[MemberId]) -> Result<(), AllocError>
     ensures { OnOk result (world.new ≡ until_rest (flow_once (core_course S.meaning) members.now) world.old) }
@@ -89,7 +89,8 @@ fn flow_rest<S: Service>(world: &mut WorldState<S>, members: &[MemberId]) -> Res
     Ok(())
 }
 
-/// What is due at the listed happens, and then each message behind the mark is given.
+/// Settles the listed members, and then brings each message past the mark to its targets. Error: want
+/// of memory.
 pub fn flow<S: Service>(world: &mut WorldState<S>, members: &[MemberId]) -> Result<(), AllocError>
     ensures { OnOk result (world.new ≡ flows (core_course S.meaning) members.now world.old) }
 {

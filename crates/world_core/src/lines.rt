@@ -1,4 +1,4 @@
-//! Lines of a script.
+//! The lines of a script.
 ghost use Rattle.std.specs.Prelude.{◌≡◌, OnOk};
 ghost use Rattle.std.specs.List.{list_all};
 ghost use Rattle.world_rules.specs.Worlds.{core_course, shows};
@@ -47,7 +47,7 @@ fn has_parties<S: Service>(world: &WorldState<S>, parties: &[Party]) -> bool
     parties.iter().all(|party| has_party(world, party))
 }
 
-/// Whether all that a line names is there.
+/// Whether everything that a line names is there.
 #[tactic(auto, unfolding(world_rules::specs::Plays::is_there))]
 pub fn is_there<S: Service>(world: &WorldState<S>, line: &Line) -> bool
     ensures { result ≡ is_there world.now line.now }
@@ -79,7 +79,8 @@ pub fn is_there<S: Service>(world: &WorldState<S>, line: &Line) -> bool
     }
 }
 
-/// Tells where all members stand, and what all clients that asked have seen.
+/// Tells the place, view and regency of each member, and the greatest place that each client knows
+/// which has asked. Error: want of memory.
 fn show<S: Service>(world: &mut WorldState<S>) -> Result<(), AllocError>
     ensures { OnOk result (world.new ≡ shows world.old) }
 {
@@ -92,7 +93,7 @@ fn show<S: Service>(world: &mut WorldState<S>) -> Result<(), AllocError>
     Ok(())
 }
 
-/// Plays a line of a script.
+/// Plays a line of a script. Error: want of memory.
 #[tactic(auto, unfolding(world_rules::specs::Plays::line_played))]
 pub fn play<S: Service>(world: &mut WorldState<S>, line: &Line) -> Result<(), AllocError>
     ensures { OnOk result (world.new ≡ line_played (core_course S.meaning) world.old line.now) }

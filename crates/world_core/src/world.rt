@@ -23,16 +23,17 @@ use world_rules::line::{Line, OutLine};
 use world_rules::message::{Ending, Premise, Sent};
 use world_state::state::WorldState;
 
-/// Why a line was not played to its end. The play is over then, unless the line was not begun.
+/// The reason for which a line was not played to its end. The play is over then, unless the line was
+/// not begun.
 #[derive(Clone, Copy, Debug, PartialEq, Eq)]
 pub enum WorldEnd {
     /// The line names what is not there. It is not begun.
     Refer,
-    /// What the play takes for granted does not hold.
+    /// A premise does not hold.
     Premise(Premise),
     /// More messages would be sent than have numbers.
     Limit,
-    /// Memory ran out.
+    /// Want of memory.
     NoMemory,
 }
 
@@ -77,7 +78,7 @@ impl<S: Service> Model for World<S> {
     ghost invariant = { λ w. IsPlay (core_course S.meaning) S.meaning (record { group = w.group; lines = w.lines; world = w.state; over = w.over }) };
 }
 
-/// Plays a line that names what is there. Says why the play is over, where it is.
+/// Plays a line that names only what is there, and tells why the play is over, if it is.
 fn play_line<S: Service>(state: &mut WorldState<S>, line: &Line) -> Result<(), WorldEnd>
     ensures world { OnOk result (state.new ≡ line_played (core_course S.meaning) state.old line.now) }
     ensures going { OnOk result (state.new.ending ≡ None) }
@@ -94,7 +95,7 @@ fn play_line<S: Service>(state: &mut WorldState<S>, line: &Line) -> Result<(), W
 }
 
 impl<S: Service> World<S> {
-    /// The play at the end of a header.
+    /// The play at the end of a header. Error: want of memory.
     pub fn begin(alloc: Global, view: View) -> Result<Self, AllocError>
         ensures { IfOk result (λ w. w ≡ record { group = view; lines = []; world = begun S.meaning view; over = false }) }
     {
@@ -107,7 +108,7 @@ impl<S: Service> World<S> {
         })
     }
 
-    /// Plays a line, and gives what it tells.
+    /// Plays a line, and gives what it tells, or the reason for which it was not played.
     pub fn play(&mut self, line: Line) -> Result<Sequence<OutLine>, WorldEnd>
         requires { self.old.over ≡ false }
         ensures told { IfOk result (λ told. told ≡ (line_played (core_course S.meaning) self.old.world line).told) }
@@ -137,21 +138,21 @@ impl<S: Service> World<S> {
     }
 
     /// Whether the play is over. Until then it stands for its lines.
-    pub fn is_over(&self) -> bool
+    pub fn over(&self) -> bool
         ensures value { result ≡ self.now.over }
         ensures stands { IsPlay (core_course S.meaning) S.meaning self.now }
     {
         self.over
     }
 
-    /// The batch of each place that was decided.
+    /// The chosen list: the batch of each place that was decided.
     pub fn chosen(&self) -> &[Batch]
         ensures { result.now ≡ self.now.world.chosen }
     {
         self.state.chosen()
     }
 
-    /// All that was sent, injected messages too, in the order of their numbers.
+    /// Everything that was sent, injected messages too, in the order of their numbers.
     pub fn sent(&self) -> &[Sent]
         ensures { result.now ≡ self.now.world.sent }
     {
@@ -171,7 +172,7 @@ impl<S: Service> World<S> {
         find_host(self.state.hosts(), id)
     }
 
-    /// A member's book, if it is a member.
+    /// The book of a member, if it is one.
     pub fn book(&self, id: MemberId) -> Option<&[LogEntry]>
         ensures { option_copied result ≡ option_map (λ h. h.node.entries) (host_of self.now.world.hosts id) }
     {
@@ -181,7 +182,7 @@ impl<S: Service> World<S> {
         }
     }
 
-    /// The batches that a member delivered in this life, if it is a member.
+    /// The batches that steps of a member's present life delivered, if it is a member.
     pub fn delivered(&self, id: MemberId) -> Option<&[Delivery]>
         ensures { option_copied result ≡ option_map (λ h. h.delivered) (host_of self.now.world.hosts id) }
     {
@@ -191,7 +192,7 @@ impl<S: Service> World<S> {
         }
     }
 
-    /// The batches that a member delivered in earlier lives, if it is a member.
+    /// The batches that steps of a member's earlier lives delivered, if it is a member.
     pub fn earlier(&self, id: MemberId) -> Option<&[Delivery]>
         ensures { option_copied result ≡ option_map (λ h. h.earlier) (host_of self.now.world.hosts id) }
     {

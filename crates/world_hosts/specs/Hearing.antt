@@ -5,11 +5,11 @@ use Rattle.smart_statements.specs.declared.entry.NodeEvent.TheVariants.{Firm}
 use Rattle.node_rules.specs.declared.node.Fired.{Fired}
 use Rattle.world_rules.specs.Worlds.{Host}
 
--- how many entries of its life are firm, where more are than it knows
+-- the number of firm entries of its life, if they are more than the node knows
 abbrev pub firmness : {S : Type 0} → Host S → Option NodeEvent
 firmness h = if nat_lt h.node.firm h.store.firm then Some (Firm (h.store.firm - h.node.restored)) else None
 
--- no rule fired
+-- a step in which no rule fired
 abbrev pub is_idle : List Fired → Bool
 is_idle [] = true
 is_idle (rule ∷ rules) = false

@@ -1,4 +1,4 @@
--- The node that goes on from what a host's devices hold.
+-- The restart of a node from what a host's devices hold.
 use Rattle.std.specs.Prelude.{ℕ, List, Option, Some, None}
 use Rattle.smart_base.specs.Views.{View}
 use Rattle.smart_service.specs.Services.{Meaning}
@@ -15,21 +15,21 @@ use Rattle.world_rules.specs.declared.line.OutLine.TheVariants as outs
 abbrev pub held : {S : Type 0} → Host S → List (List ℕ)
 held h = (restores (bytes_held h.store)).entries
 
--- the node that goes on from entries, if none is damaged
+-- the node after a restart from entries, if none is damaged
 abbrev pub node_from : {S : Type 0} → Meaning S → View → ℕ → List (List ℕ) → Option ℕ → Option (Node S)
 node_from m view id restored (Some entry) = None
 node_from m view id restored None = Some (reopened m group_secret id view 1024 (entries_in restored))
 
--- the node that goes on from what a host's devices hold
+-- the node after a restart from what a host's devices hold
 abbrev pub node_in : {S : Type 0} → Meaning S → View → Host S → Option (Node S)
 node_in m view h = node_from m view h.node.id (held h) (damaged group_secret view (held h))
 
--- a host with the node that goes on, if there is one
+-- the host after a restart, if there is a node
 abbrev pub host_with : {S : Type 0} → Host S → Option (Node S) → Host S
 host_with h None = h
 host_with h (Some n) = host_resumed h n
 
--- what a node tells that goes on from so many entries
+-- what a restart from so many entries tells
 abbrev pub told_with : {S : Type 0} → ℕ → ℕ → Option (Node S) → Option OutLine
 told_with id count None = None
 told_with id count (Some n) = Some (outs.Restarted id n.replica.place count)

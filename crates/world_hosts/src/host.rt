@@ -30,12 +30,12 @@ use std::mem::drop;
 use vote_book::entry::LogEntry;
 use world_rules::line::OutLine;
 
-/// How often a place is marked.
+/// The number of places from one mark to the next.
 pub(crate) const PERIOD: u32 = 1024;
 
-/// A member's host: its node, the store of what its node writes down, which runs where the node does,
-/// the place from which the node went on in this life, and the batches that it delivered since, and in
-/// earlier lives.
+/// A member's host: its node, and the store of what the node writes, which runs if the node does. It
+/// has the place at which this life began, and the batches that steps delivered, in this life and in
+/// earlier ones.
 pub struct Host<S> {
     pub(crate) node: NodeCore<S>,
     pub(crate) store: MemberStore,
@@ -77,7 +77,8 @@ impl<S: Drop> Drop for Host<S> {
     }
 }
 
-/// What a node's step tells: why an arrival was dropped, or the rules that a transcript names.
+/// What a step of a node tells: the reason for which an arrival was dropped, or the rules that a
+/// transcript names.
 fn tell_step(
     told: &mut Vec<OutLine>,
     id: MemberId,
@@ -156,7 +157,7 @@ fn keep_deliveries(delivered: &mut Vec<Delivery>, fired: Sequence<Fired>) -> Res
     Ok(())
 }
 
-/// Adds the batch that waits for a place to the list, if the list ends before that place.
+/// Adds a waiting batch to the list, if the list ends before its place.
 fn choose(
     alloc: Global,
     chosen: &mut Vec<Batch>,
@@ -184,7 +185,7 @@ fn is_idle(fired: &[Fired]) -> bool
 }
 
 impl<S: Service> Host<S> {
-    /// A host whose node has opened its book, over devices that hold nothing.
+    /// The host of a new node, over devices that hold nothing. Error: want of memory.
     pub fn begin(alloc: Global, id: MemberId, view: View, ring: Ring) -> Result<Self, AllocError>
         ensures { IfOk result (λ h. h ≡ host_of_node (opened S.meaning ring id view 1024)) }
     {
@@ -231,21 +232,21 @@ impl<S: Service> Host<S> {
         self.store.runs()
     }
 
-    /// The batches that it delivered in this life.
+    /// The batches that steps of this life delivered.
     pub fn delivered(&self) -> &[Delivery]
         ensures { result.now ≡ self.now.delivered }
     {
         self.delivered.as_slice()
     }
 
-    /// The batches that it delivered in earlier lives.
+    /// The batches that steps of earlier lives delivered.
     pub fn earlier(&self) -> &[Delivery]
         ensures { result.now ≡ self.now.earlier }
     {
         self.earlier.as_slice()
     }
 
-    /// Whether it runs, and its store has a device call to make.
+    /// Whether its node runs, and its store has a device call to make.
     pub fn has_call(&self) -> bool
         ensures { result ≡ (self.now.up && call_due self.now.store) }
     {
@@ -259,7 +260,8 @@ impl<S: Service> Host<S> {
         self.node.waits()
     }
 
-    /// What its node has to hear: how many entries of its life are firm, where more are than it knows.
+    /// What its node has to hear: the number of firm entries of its life, if they are more than it
+    /// knows.
     fn firmness(&self) -> Option<NodeEvent>
         requires { self.now.up ≡ true }
         ensures { result ≡ firmness self.now }
@@ -271,7 +273,7 @@ impl<S: Service> Host<S> {
         None
     }
 
-    /// Where the node stands, or that it has stopped.
+    /// The line of the node's place, view and regency, or the line that its member has crashed.
     pub fn shown(&self) -> OutLine
         ensures { result ≡ stands self.now }
     {
@@ -289,8 +291,8 @@ impl<S: Service> Host<S> {
     }
 }
 
-/// The store of a host whose node runs makes its next device call, if there is one. What its node has
-/// to hear then is given.
+/// Makes the next device call of a running host's store, if there is one, and gives what its node has
+/// to hear then. Error: want of memory.
 #[tactic(auto, unfolding(world_rules::specs::Worlds::disk_called))]
 pub fn call_disk<S: Service>(host: &mut Host<S>) -> Result<Option<NodeEvent>, AllocError>
     requires { host.old.up ≡ true }
@@ -301,7 +303,7 @@ pub fn call_disk<S: Service>(host: &mut Host<S>) -> Result<Option<NodeEvent>, Al
     Ok(host.firmness())
 }
 
-/// The entries behind some others.
+/// The entries after the first ones.
 pub(crate) fn behind(entries: &[LogEntry], count: u64) -> &[LogEntry]
     ensures { result.now ≡ drop count entries.now }
 {
@@ -313,7 +315,7 @@ pub(crate) fn behind(entries: &[LogEntry], count: u64) -> &[LogEntry]
     rest
 }
 
-/// The index at which a member's host stands.
+/// The index of a member's host, if the member has one.
 pub fn host_index<S: Service>(hosts: &[Host<S>], member: MemberId) -> Option<usize>
     ensures { result ≡ host_index hosts.now member }
 {
@@ -327,7 +329,8 @@ pub fn is_among(members: &[MemberId], member: MemberId) -> bool
     members.iter().any(|x| *x == member)
 }
 
-/// Tells where a node stands, or that it has stopped, unless it is gone.
+/// Tells a node's place, view and regency, or that its member has crashed, unless the member is
+/// faulty.
 fn show_host<S: Service>(
     told: &mut Vec<OutLine>,
     faulty: &[MemberId],
@@ -341,7 +344,7 @@ fn show_host<S: Service>(
     Ok(())
 }
 
-/// Tells where all nodes stand that are not gone.
+/// Tells this of each node whose member is not faulty.
 pub fn show_hosts<S: Service>(
     told: &mut Vec<OutLine>,
     faulty: &[MemberId],
@@ -364,9 +367,9 @@ pub struct Left {
     pub idle: bool,
 }
 
-/// A host's node, which runs, takes an event. The messages that leave are given, what the step tells and the
-/// batch that it has chosen are added. A node that a want of memory broke takes none: it says once
-/// more that memory ran out.
+/// Takes an event at a running host's node, and gives the messages that leave. What the step tells
+/// and the batch that it has chosen are added. Error: want of memory. A node that want of memory
+/// broke takes no event, and answers want of memory again.
 pub fn step_host<S: Service>(
     alloc: Global,
     host: &mut Host<S>,

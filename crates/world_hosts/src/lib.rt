@@ -1,4 +1,4 @@
-//! A member's host: its node, and the store of what its node writes down.
+//! A member's host: its node, and the store of what the node writes.
 #![tactic(auto)]
 
 pub mod host;

@@ -1,4 +1,4 @@
-//! Hosts whose nodes stop, and go on from what their devices hold.
+//! Hosts that crash, and restart from what their devices hold.
 ghost use Rattle.std.specs.Prelude.{◌≡◌, ◌++◌, [], true, false, length, None, IfOk, IfErr, OnOk, OnErr, option_map};
 ghost use Rattle.durable_store.specs.Exact.{started, store_opened};
 ghost use Rattle.durable_store.specs.Restored.{restores};
@@ -25,8 +25,8 @@ use std::mem::{drop, replace};
 use world_rules::crash::{Image, Patch};
 use world_rules::line::OutLine;
 
-/// Stops a store. Its devices stay as they read, which a crash may leave of any, so that only memory
-/// can be wanting.
+/// Stops a store. Its devices stay as they read, which a crash may leave of any. Error: want of
+/// memory.
 fn stop(store: &mut MemberStore) -> Result<(), AllocError>
     requires { store.old.runs ≡ true }
     ensures { OnOk result (store.new ≡ record { runs = false; state = store_opened (bytes_held store.old.state) }) }
@@ -37,7 +37,7 @@ fn stop(store: &mut MemberStore) -> Result<(), AllocError>
     }
 }
 
-/// The entries that the devices of a store hold which has stopped. It runs then.
+/// Restarts a stopped store, and gives the entries that its devices hold. Error: want of memory.
 fn restored(store: &mut MemberStore) -> Result<Sequence<Bytes>, AllocError>
     requires { store.old.runs ≡ false }
     ensures runs { OnOk result (store.new ≡ record { runs = true; state = store.old.state }) }
@@ -49,7 +49,7 @@ fn restored(store: &mut MemberStore) -> Result<Sequence<Bytes>, AllocError>
     Ok(entries)
 }
 
-/// The node that goes on from entries, if none is damaged.
+/// The node after a restart from entries, if none is damaged. Error: want of memory.
 fn reopened<S: Service>(
     alloc: Global,
     id: MemberId,
@@ -70,8 +70,8 @@ fn reopened<S: Service>(
 }
 
 impl<S: Service> Host<S> {
-    /// Its node, which runs, stops, and this is left of its devices. What no crash leaves there is
-    /// refused, and changes nothing.
+    /// Crashes a running host, and leaves this of its devices. Errors: bytes that no crash leaves;
+    /// want of memory. Nothing has changed then.
     pub fn crash(&mut self, image: Image, patches: &[Patch]) -> Result<(), CrashFault>
         requires { self.old.up ≡ true }
         ensures right { OnOk result (wrong_images self.old.store (images_left image patches.now self.old.store) ≡ None) }
@@ -82,7 +82,8 @@ impl<S: Service> Host<S> {
         self.store.crash(image, patches)
     }
 
-    /// What a node that goes on has written down behind what was restored waits in the store.
+    /// Gives to the store what a restarted node has written after the restored entries. Error: want
+    /// of memory.
     fn give_opening(&mut self, node: &NodeCore<S>) -> Result<(), AllocError>
         requires { self.old.up ≡ true }
         ensures { OnOk result (self.new ≡ record self.old { store = started self.old.store (spelled_behind node.now.node.restored node.now.node.entries) }) }
@@ -90,14 +91,14 @@ impl<S: Service> Host<S> {
         self.store.write_down(behind(node.book(), node.restored()))
     }
 
-    /// A life ends: what was delivered in it was so earlier.
+    /// Ends a life: what was delivered in it counts as earlier.
     fn end_life(&mut self) -> Result<(), AllocError>
         ensures { OnOk result (self.new ≡ record self.old { delivered = []; earlier = self.old.earlier ++ self.old.delivered }) }
     {
         self.earlier.append(&mut self.delivered)
     }
 
-    /// Another node takes the place of the one before.
+    /// Puts another node in the place of the one before.
     fn take(&mut self, node: NodeCore<S>)
         ensures { self.new ≡ record self.old { node = node.node; resumed = node.node.replica.place } }
     {
@@ -106,7 +107,7 @@ impl<S: Service> Host<S> {
         drop(before);
     }
 
-    /// A node that goes on takes the place of the one before, over a store that runs again.
+    /// Puts a restarted node in the place of the one before, over a store that runs again.
     fn go_on(&mut self, node: NodeCore<S>) -> Result<(), AllocError>
         requires { self.old.up ≡ true }
         ensures { OnOk result (self.new ≡ host_resumed self.old node.node) }
@@ -123,7 +124,7 @@ impl<S: Service> Host<S> {
         Ok(())
     }
 
-    /// A node that goes on takes the place of the one before. Where there is none, the store stops again.
+    /// Puts a restarted node in the place of the one before. If there is none, the store stops again.
     fn go_on_with(&mut self, node: Option<NodeCore<S>>) -> Result<(), AllocError>
         requires up { self.old.up ≡ true }
         requires held { store_opened (bytes_held self.old.store) ≡ self.old.store }
@@ -135,7 +136,8 @@ impl<S: Service> Host<S> {
         }
     }
 
-    /// Its store, which has stopped, runs again. The entries that its devices hold are given.
+    /// Restarts the stopped store of a host, and gives the entries that its devices hold. Error: want
+    /// of memory.
     fn start(&mut self) -> Result<Sequence<Bytes>, AllocError>
         requires { self.old.up ≡ false }
         ensures host { OnOk result (self.new ≡ record self.old { up = true }) }
@@ -146,7 +148,7 @@ impl<S: Service> Host<S> {
     }
 }
 
-/// What a node that goes on from so many entries tells, if there is one.
+/// What a restart from so many entries tells, if there is a node.
 fn told<S: Service>(member: MemberId, entries: u64, node: &Option<NodeCore<S>>) -> Option<OutLine>
     ensures { result ≡ told_with member entries (option_map (λ n. n.node) node.now) }
 {
@@ -160,8 +162,8 @@ fn told<S: Service>(member: MemberId, entries: u64, node: &Option<NodeCore<S>>) 
     }
 }
 
-/// A host's node, which has stopped, goes on from what its devices hold, and what it tells is given.
-/// Where an entry is damaged the host stays as it is.
+/// Restarts a crashed host from what its devices hold, and gives what the restart tells. If an entry
+/// is damaged, the host stays as it is. Error: want of memory.
 pub fn resume<S: Service>(
     alloc: Global,
     host: &mut Host<S>,

@@ -4,18 +4,16 @@ ghost use Rattle.std.specs.List.{flat_map};
 ghost use Rattle.std.specs.Option.{option_and_then};
 ghost use Rattle.smart_statements.specs.Kinds.{requests, proposals, ballots};
 ghost use Rattle.smart_statements.specs.Reports.{reports};
-ghost use Rattle.smart_messages.specs.RegencyMessages.{any_spelling};
+ghost use Rattle.smart_messages.specs.Messages.{spelling};
 ghost use Rattle.smart_statements.specs.Spelling.{signed as signed_text};
 ghost use Rattle.replica_rules.specs.Seals.{signed, digest_of};
 ghost use Rattle.world_rules.specs.Secrets.{group_secret};
-ghost use Rattle.world_rules.specs.Injections.{content_at, request_in, request_at, requests_at, batch_in, report_in, reports_at, short_bytes, locked_at, report_bytes, sync_bytes, proposal_bytes, vote_bytes, injected_bytes, are_bytes, injected};
-ghost use Rattle.smart_messages.specs.declared.message.Message.TheVariants as plains;
-ghost use Rattle.smart_messages.specs.declared.any.AnyMessage.TheVariants as messages;
-ghost use Rattle.smart_messages.specs.declared.regency.RegencyMessage.TheVariants as changes;
+ghost use Rattle.world_rules.specs.Injections.{content_at, request_of, request_at, requests_at, batch_proposed, report_of, reports_at, short_bytes, locked_at, report_bytes, sync_bytes, proposal_bytes, vote_bytes, injected_bytes, are_bytes, injected};
+ghost use Rattle.smart_messages.specs.declared.message.Message.TheVariants as changes;
 ghost use Rattle.smart_messages.specs.Regencies.{stops};
 ghost use Rattle.world_injections.specs.Proposals.{is_proposable, proposable};
 ghost use Rattle.world_injections.specs.Sizes.{fits_report, fits_numbers};
-ghost use Rattle.world_injections.specs.Named.{asked_in, reported_in, locked_of};
+ghost use Rattle.world_injections.specs.Named.{locked_of};
 
 use crate::size::{batch_len, lock_len};
 use smart_base::bytes::{Digest32, Payload};
@@ -26,10 +24,10 @@ use smart_base::number::{Place, Regency, ViewNo};
 use smart_base::sequence::{Bytes, Sequence};
 use smart_keys::hash::Sha;
 use smart_keys::ring::Ring;
-use smart_messages::any::{AnyMessage, encode_any};
-use smart_messages::codec::MESSAGE_BYTES;
-use smart_messages::message::{Message, Proposed};
-use smart_messages::regency::{RegencyMessage, Reported, Stop, Sync};
+use smart_messages::codec::{MESSAGE_BYTES, encode};
+use smart_messages::message::{Message, Proposed, report_in, request_in};
+use smart_messages::party::party_of;
+use smart_messages::regency::{Reported, Stop, Sync};
 use smart_statements::batch::{BATCH_BYTES, BATCH_REQUESTS, Batch};
 use smart_statements::optional::duplicate_optional;
 use smart_statements::report::{Evidence, LockCertificate, Report};
@@ -38,8 +36,7 @@ use smart_statements::signed_list::SignedList;
 use smart_statements::statement::{Ballot, Proposal, Request, Slot, VoteKind};
 use std::alloc::{AllocError, Global};
 use std::mem::drop;
-use world_ledger::content::{batch_in, read_content};
-use world_ledger::party::party_of;
+use world_ledger::content::{batch_proposed, read_content};
 use world_rules::line::Injection;
 use world_rules::message::{Content, Sent};
 
@@ -76,49 +73,31 @@ fn content_at(sent: &[Sent], number: u64) -> Option<&Content>
 }
 
 /// The request that a content is.
-fn request_in(content: &Content) -> Option<&Signed<Request>>
-    ensures { option_copied result ≡ request_in content.now }
+fn request_of(content: &Content) -> Option<&Signed<Request>>
+    ensures { option_copied result ≡ request_of content.now }
 {
     match content {
-        Content::Message(AnyMessage::Plain(message)) => asked_in(message),
-        Content::Message(AnyMessage::Change(_)) | Content::Raw(_) => None,
-    }
-}
-
-fn asked_in(message: &Message) -> Option<&Signed<Request>>
-    ensures { option_copied result ≡ asked_in message.now }
-{
-    match message {
-        Message::Ask(request) => Some(request),
-        Message::Propose(_) | Message::Vote(_) | Message::Reply(_) => None,
+        Content::Message(message) => request_in(message),
+        Content::Raw(_) => None,
     }
 }
 
 /// The report that a content is.
-fn report_in(content: &Content) -> Option<&Reported>
-    ensures { option_copied result ≡ report_in content.now }
+fn report_of(content: &Content) -> Option<&Reported>
+    ensures { option_copied result ≡ report_of content.now }
 {
     match content {
-        Content::Message(AnyMessage::Change(message)) => reported_in(message),
-        Content::Message(AnyMessage::Plain(_)) | Content::Raw(_) => None,
-    }
-}
-
-fn reported_in(message: &RegencyMessage) -> Option<&Reported>
-    ensures { option_copied result ≡ reported_in message.now }
-{
-    match message {
-        RegencyMessage::StopData(reported) => Some(reported),
-        RegencyMessage::Stop(_) | RegencyMessage::Sync(_) => None,
+        Content::Message(message) => report_in(message),
+        Content::Raw(_) => None,
     }
 }
 
 fn report_at(sent: &[Sent], number: u64) -> Option<&Reported>
-    ensures { option_copied result ≡ option_and_then report_in (content_at sent.now number) }
+    ensures { option_copied result ≡ option_and_then report_of (content_at sent.now number) }
 {
     match content_at(sent, number) {
         None => None,
-        Some(content) => report_in(content),
+        Some(content) => report_of(content),
     }
 }
 
@@ -127,17 +106,17 @@ fn request_at(sent: &[Sent], number: u64) -> Option<&Signed<Request>>
 {
     match content_at(sent, number) {
         None => None,
-        Some(content) => request_in(content),
+        Some(content) => request_of(content),
     }
 }
 
 /// The batch that the message of a number proposes.
 fn batch_at(sent: &[Sent], number: u64) -> Option<&Batch>
-    ensures { option_copied result ≡ option_and_then batch_in (content_at sent.now number) }
+    ensures { option_copied result ≡ option_and_then batch_proposed (content_at sent.now number) }
 {
     match content_at(sent, number) {
         None => None,
-        Some(content) => batch_in(content),
+        Some(content) => batch_proposed(content),
     }
 }
 
@@ -301,10 +280,10 @@ fn digest_of(alloc: Global, batch: &Batch) -> Result<Digest32, AllocError>
     Ok(Sha::digest(text.as_slice()))
 }
 
-fn spelled(alloc: Global, message: AnyMessage) -> Result<Option<Bytes>, AllocError>
-    ensures { IfOk result (λ bytes. bytes ≡ Some (any_spelling message)) }
+fn spelled(alloc: Global, message: Message) -> Result<Option<Bytes>, AllocError>
+    ensures { IfOk result (λ bytes. bytes ≡ Some (spelling message)) }
 {
-    let bytes = encode_any(alloc, &message);
+    let bytes = encode(alloc, &message);
     drop(message);
     Ok(Some(Bytes::from_vec(bytes?)))
 }
@@ -318,7 +297,7 @@ fn ask_bytes(
     op: &Payload,
 ) -> Result<Option<Bytes>, AllocError>
     requires { ring.now ≡ group_secret }
-    ensures { IfOk result (λ bytes. bytes ≡ Some (any_spelling (messages.Plain (plains.Ask (signed requests group_secret client (record { client = client; seq = seq; after = after; op = op.now })))))) }
+    ensures { IfOk result (λ bytes. bytes ≡ Some (spelling (changes.Ask (signed requests group_secret client (record { client = client; seq = seq; after = after; op = op.now }))))) }
 {
     let request = Request {
         client,
@@ -327,7 +306,7 @@ fn ask_bytes(
         op: op.duplicate(alloc)?,
     };
     let signed = sealed(alloc, ring, client.get(), request)?;
-    spelled(alloc, AnyMessage::Plain(Message::Ask(signed)))
+    spelled(alloc, Message::Ask(signed))
 }
 
 fn proposal_bytes(
@@ -347,7 +326,7 @@ fn proposal_bytes(
             let digest = digest_of(alloc, &batch)?;
             let head = sealed(alloc, ring, signer.get(), Proposal { slot, digest })?;
             let message = Message::Propose(Proposed { head, batch });
-            spelled(alloc, AnyMessage::Plain(message))
+            spelled(alloc, message)
         }
     }
 }
@@ -362,7 +341,7 @@ fn vote_bytes(
     proposal: u64,
 ) -> Result<Option<Bytes>, AllocError>
     requires { ring.now ≡ group_secret }
-    ensures { IfOk result (λ bytes. bytes ≡ option_and_then (vote_bytes kind signer slot) (option_and_then batch_in (content_at sent.now proposal))) }
+    ensures { IfOk result (λ bytes. bytes ≡ option_and_then (vote_bytes kind signer slot) (option_and_then batch_proposed (content_at sent.now proposal))) }
 {
     match batch_at(sent, proposal) {
         None => Ok(None),
@@ -370,7 +349,7 @@ fn vote_bytes(
             let digest = digest_of(alloc, batch)?;
             let ballot = Ballot { kind, slot, digest };
             let signed = sealed(alloc, ring, signer.get(), ballot)?;
-            spelled(alloc, AnyMessage::Plain(Message::Vote(signed)))
+            spelled(alloc, Message::Vote(signed))
         }
     }
 }
@@ -387,10 +366,10 @@ fn short_bytes(bytes: Bytes) -> Option<Bytes>
 }
 
 /// The bytes of a message, if they are not more than a message has.
-fn short_spelling(alloc: Global, message: AnyMessage) -> Result<Option<Bytes>, AllocError>
-    ensures { IfOk result (λ bytes. bytes ≡ short_bytes (any_spelling message)) }
+fn short_spelling(alloc: Global, message: Message) -> Result<Option<Bytes>, AllocError>
+    ensures { IfOk result (λ bytes. bytes ≡ short_bytes (spelling message)) }
 {
-    let bytes = encode_any(alloc, &message);
+    let bytes = encode(alloc, &message);
     drop(message);
     Ok(short_bytes(Bytes::from_vec(bytes?)))
 }
@@ -403,10 +382,10 @@ fn stop_bytes(
     regency: Regency,
 ) -> Result<Option<Bytes>, AllocError>
     requires { ring.now ≡ group_secret }
-    ensures { IfOk result (λ bytes. bytes ≡ Some (any_spelling (messages.Change (changes.Stop (signed stops group_secret signer (record { view = view; regency = regency })))))) }
+    ensures { IfOk result (λ bytes. bytes ≡ Some (spelling (changes.Stop (signed stops group_secret signer (record { view = view; regency = regency }))))) }
 {
     let signed = sealed(alloc, ring, signer.get(), Stop { view, regency })?;
-    spelled(alloc, AnyMessage::Change(RegencyMessage::Stop(signed)))
+    spelled(alloc, Message::Stop(signed))
 }
 
 /// The lock of a report, and its batch: none, or those of the report of a number.
@@ -449,8 +428,8 @@ fn locked_bytes(
     };
     let batch = locked.batch;
     let head = sealed(alloc, ring, signer.get(), report)?;
-    let message = RegencyMessage::StopData(Reported { head, batch });
-    short_spelling(alloc, AnyMessage::Change(message))
+    let message = Message::StopData(Reported { head, batch });
+    short_spelling(alloc, message)
 }
 
 fn report_bytes(
@@ -509,7 +488,7 @@ fn collected_bytes(
         collect: SignedList::from_list(reports),
     };
     let signed = sealed(alloc, ring, signer.get(), sync)?;
-    short_spelling(alloc, AnyMessage::Change(RegencyMessage::Sync(signed)))
+    short_spelling(alloc, Message::Sync(signed))
 }
 
 fn sync_bytes(
@@ -587,7 +566,7 @@ fn injected_bytes(
         }
         Injection::Reply { signer, answer } => {
             let signed = sealed(alloc, ring, signer.get(), answer.duplicate(alloc)?)?;
-            spelled(alloc, AnyMessage::Plain(Message::Reply(signed)))
+            spelled(alloc, Message::Reply(signed))
         }
         Injection::Raw { bytes } => Ok(Some(bytes.duplicate(alloc)?)),
     }

@@ -29,8 +29,7 @@ use Rattle.replica_rules.specs.Seals.{is_verified}
 use Rattle.world_rules.specs.Secrets.{group_secret}
 use Rattle.world_rules.specs.Premises.{is_among}
 use Rattle.agreement_laws.proofs.Groups.{quorums_share}
-use Rattle.smart_messages.specs.declared.any.AnyMessage.TheVariants.{Plain}
-use Rattle.world_laws.proofs.Keeps.{HasMessage, ask_of, asked_by, by-posts, keeps-sends_all, KeepsAll, ReadsSent, heard_has, signed_by, from_node, from_client, from_script}
+use Rattle.world_laws.proofs.Keeps.{HasMessage, ask_of, asked_by, by-posts, keeps-sends_all, KeepsAll, ReadsSent, read_has, signed_by, from_node, from_client, from_script}
 use Rattle.replica_laws.specs.Lines.{line_told, IsExecuted}
 use Rattle.replica_laws.proofs.OnePlace.{place_of-line, answer-line}
 use Rattle.replica_laws.proofs.Executions.{executions-more, IsOfRequest, request-line, view-line}
@@ -87,7 +86,7 @@ pub record Telling {S : Type 0} (m : Meaning S) (w : World S) : Type 0 where
   pub reads : ReadsSent w
   pub keeps : Each (ClientKeeps (WasSent w.sent)) w.clients
   pub few : length (filter (is_among w.faulty) w.view.members) ≤ w.view.f
-  pub executed : (r : SignedBy Answer) → HasMessage w.sent (Plain (Reply r)) → is_verified answers group_secret r ≡ true → is_among w.faulty r.signer ≡ false → IsExecuted m w.view w.chosen r.statement
+  pub executed : (r : SignedBy Answer) → HasMessage w.sent (Reply r) → is_verified answers group_secret r ≡ true → is_among w.faulty r.signer ≡ false → IsExecuted m w.view w.chosen r.statement
 
 -- lines of the same numbers are one
 lines_one : (a b : TableLine) → a.client ≡ b.client → a.seq ≡ b.seq → a.place ≡ b.place → a.index ≡ b.index → a.view ≡ b.view → a.reply ≡ b.reply → a ≡ b
@@ -125,7 +124,7 @@ told_given {S = S} m w q a member (r ∷ rs) known correct kept is =
     ]
 
 -- of the members that gave the reply that a client accepts, one is not faulty
-told_accepted : {S : Type 0} (m : Meaning S) (w : World S) (c : Client) (a : SignedBy Answer) (acc : Acceptance) → Telling m w → HasMessage w.sent (Plain (Reply a)) → ClientKeeps (WasSent w.sent) c
+told_accepted : {S : Type 0} (m : Meaning S) (w : World S) (c : Client) (a : SignedBy Answer) (acc : Acceptance) → Telling m w → HasMessage w.sent (Reply a) → ClientKeeps (WasSent w.sent) c
     → Accepts w.view c a acc → IsTold m w.view w.chosen acc
 told_accepted {S = S} m w c a acc known has kept taken =
     let q : Request = taken.request in
@@ -139,7 +138,7 @@ told_accepted {S = S} m w c a acc known has kept taken =
     subst (IsTold m w.view w.chosen) (sym taken.is) (told_given m w q a.statement met.member replies known met.is.correct all met.left)
 
 -- what a client makes of a reply
-told-heard : {S : Type 0} (m : Meaning S) (w : World S) (c : Client) (a : SignedBy Answer) (h : Heard) → heard w.view c a ≡ h → Telling m w → HasMessage w.sent (Plain (Reply a)) → ClientKeeps (WasSent w.sent) c
+told-heard : {S : Type 0} (m : Meaning S) (w : World S) (c : Client) (a : SignedBy Answer) (h : Heard) → heard w.view c a ≡ h → Telling m w → HasMessage w.sent (Reply a) → ClientKeeps (WasSent w.sent) c
     → Each (IsTold m w.view w.chosen) w.accepted → Each (IsTold m w.view w.chosen) (w.accepted ++ acceptance_in h)
 told-heard m w c a (hears.Counted count need) is known has kept told = rw append-nil told
 told-heard m w c a (hears.Ignored why) is known has kept told = rw append-nil told
@@ -147,7 +146,7 @@ told-heard m w c a (hears.Accepted acc) is known has kept told =
     each_end (IsTold m w.view w.chosen) w.accepted acc told (told_accepted m w c a acc known has kept (accepts_waiting w.view c a acc is))
 
 -- a client hears a reply
-told-hearing : {S : Type 0} (m : Meaning S) (w : World S) (i : ℕ) (c : Client) (a : SignedBy Answer) → slice_get w.clients i ≡ Some c → Telling m w → HasMessage w.sent (Plain (Reply a)) → AcceptedTold m w
+told-hearing : {S : Type 0} (m : Meaning S) (w : World S) (i : ℕ) (c : Client) (a : SignedBy Answer) → slice_get w.clients i ≡ Some c → Telling m w → HasMessage w.sent (Reply a) → AcceptedTold m w
     → AcceptedTold m (hearing w i c a (heard w.view c a))
 unfolding hearing
 told-hearing m w i c a at known has told =
@@ -163,7 +162,7 @@ keeps-told m P telling k =
         crash = λ w i h left up at may p. (k.kept.crash w i h left up at may p.0, record { all = p.1.all });
         hear = λ w i c x a at has read p. (
           k.kept.hear w i c x a at has read p.0,
-          (let known = telling w p.0 in told-hearing m w i c a at known (heard_has w x (Reply a) known.reads has read) p.1),
+          (let known = telling w p.0 in told-hearing m w i c a at known (read_has w x (Reply a) known.reads has read) p.1),
         );
         ask = λ w i c op at free few brief p. (
           k.kept.ask w i c op at free few brief p.0,

@@ -12,7 +12,6 @@ use Rattle.smart_statements.specs.Kinds.{requests}
 use Rattle.smart_statements.specs.Batches.{Batch}
 use Rattle.smart_statements.specs.declared.statement.Request.{Request}
 use Rattle.smart_messages.specs.declared.message.Message.TheVariants.{Ask}
-use Rattle.smart_messages.specs.declared.any.AnyMessage.TheVariants.{Plain}
 use Rattle.smart_statements.specs.declared.entry.NodeEvent.{NodeEvent}
 use Rattle.smart_service.specs.Services.{Meaning}
 use Rattle.vote_book.specs.Books.{Among}
@@ -163,8 +162,8 @@ each_stands T place (q ∷ qs) each all =
     let here = and_true (request_fits group_secret place q) (list_all (request_fits group_secret place) qs) all in
     let outer = and_true (nat_le q.statement.client 1024 && nat_lt q.statement.after place) (is_verified requests group_secret q) here.0 in
     let inner = and_true (nat_le q.statement.client 1024) (nat_lt q.statement.after place) outer.0 in
-    let said : Among (Asked q) (statements group_secret (Plain (Ask q))) = says_message (Plain (Ask q)) (Asked q) (Asked q) (inl refl) (inl refl) each.0.0 in
-    ((each_among (λ s. Among s T) (statements group_secret (Plain (Ask q))) (Asked q) each.0.1 said, ltb-true q.statement.after place inner.1), each_stands T place qs each.1 here.1)
+    let said : Among (Asked q) (statements group_secret (Ask q)) = says_message (Ask q) (Asked q) (Asked q) (inl refl) (inl refl) each.0.0 in
+    ((each_among (λ s. Among s T) (statements group_secret (Ask q)) (Asked q) each.0.1 said, ltb-true q.statement.after place inner.1), each_stands T place qs each.1 here.1)
 
 -- so each of the batch that waits at a sound node
 waits-stand : {S : Type 0} (T : List Statement) (view : View) (n : Node S) (batch : Batch) → n.secret ≡ group_secret → IsSound T view n → n.waiting ≡ Some batch → Each (Stands T (next_place n)) batch
@@ -252,7 +251,7 @@ request_asked faulty rogue sent content q fine reads clients read there =
 asked-ask : {S : Type 0} (w : World S) (c : Client) (q : Request) → q.client ≡ c.id → RequestsAsked w → RequestsAsked (posts w (from_client c (signed_by c q)))
 asked-ask w c q own is =
     let s : Sent = from_client c (signed_by c q) in
-    let same : s ≡ sent_ask q = sym (ap (λ (id : ℕ). record { origin = origins.Client id; to = Some targets.View; content = contents.Message (Plain (Ask (signed requests group_secret id q))) }) own) in
+    let same : s ≡ sent_ask q = sym (ap (λ (id : ℕ). record { origin = origins.Client id; to = Some targets.View; content = contents.Message (Ask (signed requests group_secret id q)) }) own) in
     asked-posts w s
     (λ r there. inr (subst (HasAsked (w.sent ++ s ∷ [])) (sym (statement r (signed requests group_secret c.id q) (asks_alone (signed requests group_secret c.id q) (Asked r) there)))
     (subst (λ (t : Sent). HasAsked (w.sent ++ t ∷ []) q) (sym same) (asked_now w.sent q))))

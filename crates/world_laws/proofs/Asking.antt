@@ -7,7 +7,6 @@ use Rattle.smart_statements.specs.Forms.{SignedBy}
 use Rattle.smart_statements.specs.declared.statement.Request.{Request}
 use Rattle.smart_statements.specs.declared.statement.Answer.{Answer}
 use Rattle.smart_messages.specs.declared.message.Message.TheVariants.{Ask, Propose, Vote, Reply}
-use Rattle.smart_messages.specs.declared.any.AnyMessage.TheVariants.{Plain, Change}
 use Rattle.smart_service.specs.Services.{Meaning}
 use Rattle.node_rules.specs.Steps.{Outcome, leaving}
 use Rattle.node_rules.specs.declared.node.Held.{Held}
@@ -92,11 +91,8 @@ client_asks_one : (sent : List Sent) (c : Client) (new q : Request) → HasAsked
 client_asks_one sent c new q asked = elim (asks_one sent (from_client c (signed_by c new)) q asked) [ inl before ↦ inl before | inr now ↦ inr (sym (ap (λ (s : Sent). statement s.content new) now)) ]
   where
     statement : Content → Request → Request
-    statement (contents.Message (Plain (Ask a))) r = a.statement
-    statement (contents.Message (Plain (Propose p))) r = r
-    statement (contents.Message (Plain (Vote v))) r = r
-    statement (contents.Message (Plain (Reply a))) r = r
-    statement (contents.Message (Change m)) r = r
+    statement (contents.Message (Ask a)) r = a.statement
+    statement (contents.Message _) r = r
     statement (contents.Raw bytes) r = r
 
 -- messages leave

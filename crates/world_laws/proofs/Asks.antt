@@ -3,7 +3,6 @@ use Rattle.std.proofs.Common.{◌++◌, List, [], ◌∷◌, refl, Some, inl, in
 use Rattle.smart_statements.specs.Kinds.{requests}
 use Rattle.smart_statements.specs.declared.statement.Request.{Request}
 use Rattle.smart_messages.specs.declared.message.Message.TheVariants.{Ask}
-use Rattle.smart_messages.specs.declared.any.AnyMessage.TheVariants.{Plain}
 use Rattle.replica_rules.specs.Seals.{signed}
 use Rattle.vote_book.specs.Books.{Among}
 use Rattle.node_rules.specs.declared.node.Target.TheVariants as targets
@@ -17,7 +16,7 @@ use Rattle.world_laws.proofs.Keeps.{by-posts}
 
 -- what its client sends where it asks
 abbrev pub sent_ask : Request → Sent
-sent_ask q = record { origin = origins.Client q.client; to = Some targets.View; content = contents.Message (Plain (Ask (signed requests group_secret q.client q))) }
+sent_ask q = record { origin = origins.Client q.client; to = Some targets.View; content = contents.Message (Ask (signed requests group_secret q.client q)) }
 
 -- what was asked stays asked
 

@@ -15,7 +15,7 @@ use Rattle.std.proofs.Common.{◌≡◌, ℕ, zero, suc, ◌+◌, ◌≤◌, ◌
 use Rattle.std.specs.Prelude.{slice_get, slice_set}
 use Rattle.smart_base.specs.Lists.{Each}
 use Rattle.smart_base.specs.Views.{View, is_view}
-use Rattle.smart_messages.specs.declared.any.AnyMessage.{AnyMessage}
+use Rattle.smart_messages.specs.declared.message.Message.{Message}
 use Rattle.smart_statements.specs.declared.entry.NodeEvent.{NodeEvent}
 use Rattle.smart_statements.specs.declared.entry.NodeEvent.TheVariants.{Arrive, Tick, Deliver, Firm}
 use Rattle.smart_service.specs.Services.{Meaning}
@@ -40,7 +40,7 @@ use Rattle.world_laws.specs.Sending.{IsRested, Bears, IsBorneAt, IsBorne, SentFi
 use Rattle.world_laws.specs.Settling.{flow_begins, flow_goes, message_goes, node_goes, settles_present}
 use Rattle.world_laws.proofs.Lists.{each_set, each_get, repeated_keeps, each_from_keeps}
 use Rattle.world_laws.proofs.Stores.{Fits, IsTold, may-told, firm-grows, fits-called, fits-stepped, fits-opened}
-use Rattle.world_laws.proofs.Keeps.{after_call, called, ask_of, asked_by, by-posts, Keeps, KeepsLive, live, keeps-world_after, live-settle_once, live-settle, live-settle_all, live-flow_once, at_listed-keeps, signed_by, from_node, from_client, from_script, live-settles_present, IsDown, KeepsAll, with_host, node_resumed, entries_left, is-up}
+use Rattle.world_laws.proofs.Keeps.{after_call, called, ask_of, asked_by, by-posts, Keeps, KeepsCalm, live, calm, keeps-world_after, live-settle_once, live-settle, live-settle_all, live-flow_once, at_listed-keeps, signed_by, from_node, from_client, from_script, live-settles_present, IsDown, KeepsAll, with_host, node_resumed, entries_left, is-up}
 use Rattle.agreement_laws.proofs.Lists.{either, some_equal, each_end, either_by, not_false}
 use Rattle.smart_base.proofs.ViewFacts.{each-weaken}
 
@@ -114,7 +114,7 @@ record Later {S : Type 0} (n n' : Node S) : Type 0 where
   rests : NodeRests n'
 
 -- what rests on a book rests on a longer one
-rested-more : (xs ys : List LogEntry) → ((x : AnyMessage) → RestsOn xs x → RestsOn ys x) → (x : Content) → IsRested xs x → IsRested ys x
+rested-more : (xs ys : List LogEntry) → ((x : Message) → RestsOn xs x → RestsOn ys x) → (x : Content) → IsRested xs x → IsRested ys x
 rested-more xs ys more (contents.Message message) rests = more message rests
 rested-more xs ys more (contents.Raw bytes) rests = rests
 
@@ -222,8 +222,8 @@ keeps-borne m =
       same = λ w mark told is. record { hosts = is.hosts; sent = record { own = is.sent.own; borne = is.sent.borne } };
     }
 
-borne-live : {S : Type 0} (m : Meaning S) → KeepsLive (course_of m) Borne
-borne-live m = live (course_of m) Borne (keeps-borne m)
+borne-live : {S : Type 0} (m : Meaning S) → KeepsCalm (course_of m) Borne
+borne-live m = calm (course_of m) Borne (live (course_of m) Borne (keeps-borne m))
 
 -- a node goes on from a diary that is right
 borne-resumed : {S : Type 0} (m : Meaning S) (w : World S) (i : ℕ) (h : Host S) → IsDown w h → slice_get w.hosts i ≡ Some h → ChosenRight m w → Borne w

@@ -1,5 +1,5 @@
 -- The list of chosen batches: each is certified, and every host stands along it.
-use Rattle.std.proofs.Common.{◌≡◌, ◌⊎◌, inl, inr, ℕ, suc, ◌+◌, ◌^◌, ◌≤◌, ◌++◌, ◌==◌, true, false, List, [], ◌∷◌, length, refl, ◌∙◌, sym, arith, Option, Some, None, subst, take, length-append, eqb-true, eq-eqb, append-nil, ap}
+use Rattle.std.proofs.Common.{◌≡◌, ◌⊎◌, inl, inr, ℕ, zero, suc, ◌+◌, ◌-◌, ◌^◌, ◌≤◌, ◌++◌, ◌==◌, true, false, List, [], ◌∷◌, length, refl, ◌∙◌, sym, arith, Option, Some, None, subst, take, length-append, eqb-true, eq-eqb, append-nil, ap}
 use Rattle.std.specs.Prelude.{map, slice_get, IfSome}
 use Rattle.smart_base.specs.Lists.{Each}
 use Rattle.smart_base.specs.Views.{View, is_view}
@@ -8,7 +8,8 @@ use Rattle.smart_service.specs.Services.{Meaning}
 use Rattle.vote_book.specs.declared.entry.Decision.{Decision}
 use Rattle.vote_book.specs.declared.entry.LogEntry.{LogEntry}
 use Rattle.vote_book.specs.declared.entry.LogEntry.TheVariants.{Opened, Wrote, Accepted, Promised, Synced, Decided, Installed, Marked}
-use Rattle.replica_rules.specs.Replicas.{batch_at}
+use Rattle.replica_rules.specs.Replicas.{state, executed_lines, batch_at}
+use Rattle.smart_service.specs.declared.replica.Replica.{Replica}
 use Rattle.replica_rules.specs.Seals.{digest_of}
 use Rattle.node_rules.specs.declared.node.Delivery.{Delivery}
 use Rattle.node_rules.specs.Nodes.{Node, next_place, regency_of}
@@ -25,6 +26,7 @@ use Rattle.node_laws.proofs.Restored.{book_sound, front_sound, front_decided, bo
 use Rattle.world_rules.specs.Secrets.{group_secret}
 use Rattle.world_rules.specs.Premises.{is_among, too_many}
 use Rattle.world_rules.specs.Worlds.{Host, World, chosen_with}
+use Rattle.world_laws.specs.Promises.{IsChosenAt}
 use Rattle.node_rules.specs.Deliveries.{AtPlaces}
 use Rattle.world_rules.specs.declared.message.Sent.{Sent}
 use Rattle.node_rules.specs.Reopening.{decided_of}
@@ -34,17 +36,13 @@ use Rattle.world_rules.specs.Stated.{stated_in, stated, diary, Certified, AllCer
 use Rattle.world_laws.proofs.Stores.{Fits}
 use Rattle.world_laws.proofs.Lives.{Lasts}
 use Rattle.world_laws.proofs.Few.{FewHost, few-sent}
-use Rattle.world_laws.proofs.Fronts.{front-same, front-append, front-length, front-get, front-batch_at, batch_at-next}
+use Rattle.world_laws.proofs.Fronts.{front-same, front-append, front-length, front-get, front-take, front-batch_at, batch_at-next}
 use Rattle.world_laws.proofs.Certified.{DecidesOnce, Exact, certified-front, all_certified_more, certified-end, certified-get}
 use Rattle.world_laws.proofs.Grounded.{EntryMet, NodeMet, Grounded}
 use Rattle.world_laws.proofs.Witnessing.{HostStands, witnessing, AllShown, stated-end, stated-grows, among-all}
 use Rattle.world_laws.proofs.Unforged.{Unforged}
 use Rattle.vote_book.proofs.Reports.{get_last}
 use Rattle.smart_base.proofs.ViewFacts.{each-weaken}
-
--- a batch that was delivered is the list's batch at its place
-abbrev pub DeliveredIs : List Batch → Delivery → Type 0
-DeliveredIs chosen d = batch_at chosen d.place ≡ Some d.batch
 
 -- a book from which a member may go on, which decides what is certified, and no more than the list has
 pub record BookRight (sent : List Sent) (view : View) (chosen : List Batch) (es : List LogEntry) : Type 0 where
@@ -64,8 +62,8 @@ pub record HostRight {S : Type 0} (sent : List Sent) (m : Meaning S) (view : Vie
   pub within : length (decided_of h.node.entries) ≤ length chosen
   pub count : h.resumed + length h.delivered ≡ h.node.replica.place
   pub places : AtPlaces (h.resumed + 1) h.delivered
-  pub agrees : Each (DeliveredIs chosen) h.delivered
-  pub earlier : Each (DeliveredIs chosen) h.earlier
+  pub agrees : Each (IsChosenAt m view chosen) h.delivered
+  pub earlier : Each (IsChosenAt m view chosen) h.earlier
   pub diary : BookRight sent view chosen h.life.diary
   pub aside : BookRight sent view chosen h.life.aside
   pub few : FewHost sent h
@@ -223,13 +221,41 @@ pub waiting-at : {S : Type 0} (m : Meaning S) (view : View) (chosen : List Batch
 waiting-at m view chosen n batch d front at =
     batch_at-next chosen n.replica.place ∙ front-get (decided_of n.entries) chosen n.replica.place batch front (sym d.waiting ∙ at)
 
--- so is a batch that it delivers
+-- what stands at an index or a place, stands within the list
+get_low : (list : List Batch) (k : ℕ) (batch : Batch) → slice_get list k ≡ Some batch → k ≤ length list
+get_low [] k batch at = absurd (cc)
+get_low (b ∷ bs) zero batch at = omega arith
+get_low (b ∷ bs) (suc k) batch at = omega (arith, get_low bs k batch at)
+
+place_low : (list : List Batch) (place : ℕ) (batch : Batch) → batch_at list place ≡ Some batch → place - 1 ≤ length list
+place_low list zero batch at = absurd (cc)
+place_low list (suc k) batch at = omega (arith, get_low list k batch at)
+
+-- so is a batch that it delivers, with the number of its requests that are executed there
 pub due-agrees : {S : Type 0} (m : Meaning S) (view : View) (chosen : List Batch) (n : Node S) (d : Delivery) → DeliversInOrder m view n → take (length (decided_of n.entries)) chosen ≡ decided_of n.entries
-    → WasDue n d → DeliveredIs chosen d
-due-agrees m view chosen n d order front was =
-    subst (λ (k : ℕ). batch_at chosen k ≡ Some d.batch) (sym was.1) (waiting-at m view chosen n d.batch order front was.0)
+    → WasDue m n d → IsChosenAt m view chosen d
+due-agrees {S = S} m view chosen n d order front was =
+    let ds : List Batch = decided_of n.entries in
+    let before : n.replica.place ≡ d.place - 1 = omega (arith, was.place) in
+    let low : n.replica.place ≤ length ds = get_low ds n.replica.place d.batch (sym order.waiting ∙ was.batch) in
+    let same : n.replica ≡ state m view (take (d.place - 1) chosen) =
+    order.replica ∙ (ap (λ (bs : List Batch). state m view bs) (front-take ds chosen n.replica.place front low) ∙ ap (λ (k : ℕ). state m view (take k chosen)) before) in
+    record {
+      batch = subst (λ (k : ℕ). batch_at chosen k ≡ Some d.batch) (sym was.place) (waiting-at m view chosen n d.batch order front was.batch);
+      executed = was.executed ∙ ap (λ (r : Replica S). length (executed_lines m r d.batch)) same;
+    }
 
 -- the list grows
+
+-- what was delivered along it, was delivered along the longer one
+pub chosen_longer : {S : Type 0} (m : Meaning S) (view : View) (chosen more : List Batch) → take (length chosen) more ≡ chosen → (d : Delivery) → IsChosenAt m view chosen d → IsChosenAt m view more d
+chosen_longer m view chosen more front d is =
+    record {
+      batch = front-batch_at chosen more d.place d.batch front is.batch;
+      executed = is.executed
+          ∙ ap (λ (bs : List Batch). length (executed_lines m (state m view bs) d.batch)) (front-take chosen more (d.place - 1) front (place_low chosen d.place d.batch is.batch));
+    }
+
 pub book_longer : (sent : List Sent) (view : View) (chosen more : List Batch) → take (length chosen) more ≡ chosen → (es : List LogEntry) → BookRight sent view chosen es → BookRight sent view more es
 book_longer sent view chosen more front es b = record { sound = b.sound; decided = b.decided; within = omega (arith, b.within, front-length chosen more front) }
 
@@ -246,8 +272,8 @@ host_longer sent m view chosen more front h r =
       within = omega (arith, r.within, front-length chosen more front);
       count = r.count;
       places = r.places;
-      agrees = each-weaken (DeliveredIs chosen) (DeliveredIs more) (λ d at. front-batch_at chosen more d.place d.batch front at) h.delivered r.agrees;
-      earlier = each-weaken (DeliveredIs chosen) (DeliveredIs more) (λ d at. front-batch_at chosen more d.place d.batch front at) h.earlier r.earlier;
+      agrees = each-weaken (IsChosenAt m view chosen) (IsChosenAt m view more) (chosen_longer m view chosen more front) h.delivered r.agrees;
+      earlier = each-weaken (IsChosenAt m view chosen) (IsChosenAt m view more) (chosen_longer m view chosen more front) h.earlier r.earlier;
       diary = book_longer sent view chosen more front h.life.diary r.diary;
       aside = book_longer sent view chosen more front h.life.aside r.aside;
       few = r.few;

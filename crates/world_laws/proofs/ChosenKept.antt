@@ -22,7 +22,6 @@ use Rattle.smart_statements.specs.Batches.{Batch}
 use Rattle.smart_statements.specs.declared.statement.Request.{Request}
 use Rattle.smart_statements.specs.declared.statement.Answer.{Answer}
 use Rattle.smart_messages.specs.declared.message.Message.TheVariants.{Ask}
-use Rattle.smart_messages.specs.declared.any.AnyMessage.TheVariants.{Plain}
 use Rattle.smart_statements.specs.declared.entry.NodeEvent.{NodeEvent}
 use Rattle.smart_statements.specs.declared.entry.NodeEvent.TheVariants.{Arrive, Tick, Deliver, Firm}
 use Rattle.smart_service.specs.Services.{Meaning}
@@ -47,7 +46,7 @@ use Rattle.world_rules.specs.Worlds.{Course, course_of, Host, World, posts, send
 use Rattle.world_rules.specs.Plays.{world_after}
 use Rattle.world_rules.specs.Premises.{is_among, is_excused, is_forged, too_many}
 use Rattle.node_rules.specs.Deliveries.{AtPlaces}
-use Rattle.world_laws.specs.Promises.{IsNext, IsPrefix}
+use Rattle.world_laws.specs.Promises.{IsNext, IsChosenAt, IsPrefix}
 use Rattle.world_rules.specs.declared.line.Line.{Line}
 use Rattle.client_quorum.specs.declared.client.Client.{Client}
 use Rattle.client_quorum.specs.declared.client.Heard.{Heard}
@@ -67,13 +66,13 @@ use Rattle.world_laws.proofs.NoClash.{IsMet}
 use Rattle.world_laws.proofs.Grounded.{NodeMet, Grounded, grounded-exact, grounded-reads, keeps-grounded, grounded-begun, HostMet, grounded-resumes}
 use Rattle.world_laws.proofs.Unforged.{Unforged, keeps-unforged, fine_own}
 use Rattle.world_laws.proofs.Aligned.{Aligned, AllAligned}
-use Rattle.world_laws.proofs.Fronts.{front-take, front-batch_at}
+use Rattle.world_laws.proofs.Fronts.{front-take}
 use Rattle.world_laws.proofs.Certified.{Exact, DecidesOnce}
 use Rattle.world_laws.proofs.Stating.{IsSaid, message_says}
 use Rattle.replica_laws.proofs.Longer.{front_same, Longer, longer-step}
 use Rattle.world_laws.proofs.Stores.{Fits, IsTold, may-told, firm-grows, fits-stepped, fits-opened, firm-heard}
 use Rattle.world_laws.proofs.Witnessing.{stated_event, stated-grows, StatesShown, ShowsOwn, Firmer, firm_of, shown-faulty, shown-sent, shown-set, leave_shown}
-use Rattle.world_laws.proofs.Chosen.{DeliveredIs, HostRight, WorldRight, Based, ChosenRight, chosen-front, within-step, certified-step, decided-step, right-witnessed, right-once, host-front, waiting-at, due-agrees, host_longer, certified_sent, host_sent, BookRight, front_right, book_longer, none_right}
+use Rattle.world_laws.proofs.Chosen.{chosen_longer, HostRight, WorldRight, Based, ChosenRight, chosen-front, within-step, certified-step, decided-step, right-witnessed, right-once, host-front, waiting-at, due-agrees, host_longer, certified_sent, host_sent, BookRight, front_right, book_longer, none_right}
 use Rattle.node_rules.proofs.Rulewise.{ForEvent}
 
 -- messages leave
@@ -120,9 +119,9 @@ client_shows faulty x id [] who = tt
 client_shows faulty x id (h ∷ hs) who = (λ own correct. absurd (no_member id h.node.id (sym who ∙ own)), client_shows faulty x id hs who)
 
 -- what a client asks states its request alone
-pub asks_alone : (q : SignedBy Request) (x : Statement) → Among x (stated_in (contents.Message (Plain (Ask q)))) → x ≡ Asked q
+pub asks_alone : (q : SignedBy Request) (x : Statement) → Among x (stated_in (contents.Message (Ask q))) → x ≡ Asked q
 asks_alone q x there =
-    let is : IsSaid (Plain (Ask q)) x = message_says (Plain (Ask q)) x there in
+    let is : IsSaid (Ask q) x = message_says (Ask q) x there in
     one (Asked q) x (subst (λ (p : Statement). Among x (within p)) (only is.part (Asked q) is.said_there) is.inside)
   where
     only : (p s : Statement) → Among p (s ∷ []) → p ≡ s
@@ -133,7 +132,7 @@ asks_alone q x there =
     one s x (inl same) = same
     one s x (inr none) = absurd none
 
-ask_shows : {S : Type 0} (w : World S) (q : SignedBy Request) → StatesShown w.faulty (stated w.sent) w.hosts (contents.Message (Plain (Ask q)))
+ask_shows : {S : Type 0} (w : World S) (q : SignedBy Request) → StatesShown w.faulty (stated w.sent) w.hosts (contents.Message (Ask q))
 ask_shows w q x there = inr (client_shows w.faulty x q.signer w.hosts (ap (λ (s : Statement). signer_of s) (asks_alone q x there)))
 
 -- of who is excused nothing is said
@@ -239,11 +238,11 @@ host-stepped {S = S} m w i h event up at may came firm r =
       count = omega (arith, hr.count, (advances-step m h.node event).count, length-append h.delivered (flat_map delivery_in o.fired));
       places = places-append (h.resumed + 1) h.delivered (flat_map delivery_in o.fired) hr.places
           (subst (λ (k : ℕ). AtPlaces k (flat_map delivery_in o.fired)) (omega (arith, hr.count)) (advances-step m h.node event).places);
-      agrees = each_append (DeliveredIs more) h.delivered (flat_map delivery_in o.fired)
-          (each-weaken (DeliveredIs w.chosen) (DeliveredIs more) (λ x is. front-batch_at w.chosen more x.place x.batch front is) h.delivered hr.agrees)
-          (each-weaken (WasDue h.node) (DeliveredIs more) (λ x was. front-batch_at w.chosen more x.place x.batch front (due-agrees m w.view w.chosen h.node x hr.order own was))
+      agrees = each_append (IsChosenAt m w.view more) h.delivered (flat_map delivery_in o.fired)
+          (each-weaken (IsChosenAt m w.view w.chosen) (IsChosenAt m w.view more) (chosen_longer m w.view w.chosen more front) h.delivered hr.agrees)
+          (each-weaken (WasDue m h.node) (IsChosenAt m w.view more) (λ x was. chosen_longer m w.view w.chosen more front x (due-agrees m w.view w.chosen h.node x hr.order own was))
           (flat_map delivery_in o.fired) (due-step m h.node event));
-      earlier = each-weaken (DeliveredIs w.chosen) (DeliveredIs more) (λ x is. front-batch_at w.chosen more x.place x.batch front is) h.earlier hr.earlier;
+      earlier = each-weaken (IsChosenAt m w.view w.chosen) (IsChosenAt m w.view more) (chosen_longer m w.view w.chosen more front) h.earlier hr.earlier;
       diary = subst (λ (es : List LogEntry). BookRight w.sent w.view more es) (sym (lasts.up up)) (front_right w.sent w.view more n'.firm n'.entries book);
       aside = book_longer w.sent w.view w.chosen more front h.life.aside hr.aside;
       few = few-after m w.sent h o (few-step m w.sent h event came hr.few) (begun-step m h.node event hr.few.begun) (lasts.up up) hr.few;

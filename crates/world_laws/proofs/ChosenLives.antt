@@ -28,11 +28,12 @@ use Rattle.world_rules.specs.Stated.{stated, AllCertified}
 use Rattle.world_laws.proofs.Keeps.{entries_left, after_call}
 use Rattle.world_laws.proofs.Stores.{fits-called}
 use Rattle.world_laws.proofs.Lives.{texts, book_left, Lasts, Crashed, crashed, left-restored, held_book, lasts-called, lasts-crashed, Resumed, resumed, lasts-resumed, fits-resumed}
-use Rattle.world_laws.proofs.Reopens.{order_reopened}
+use Rattle.replica_laws.proofs.Resumed.{order_reopened}
 use Rattle.replica_laws.proofs.Sources.{from-reopened}
 use Rattle.world_laws.proofs.Few.{sources, few-called, few-crashed, begun-reopened, few-book}
 use Rattle.world_laws.proofs.Fitting.{FitHost, spelled-life}
-use Rattle.world_laws.proofs.Chosen.{BookRight, HostRight, DeliveredIs, front_right, none_right, own_right}
+use Rattle.world_laws.specs.Promises.{IsChosenAt}
+use Rattle.world_laws.proofs.Chosen.{BookRight, HostRight, front_right, none_right, own_right}
 use Rattle.agreement_laws.proofs.Lists.{either, each_append}
 
 -- ---- a device call
@@ -166,7 +167,7 @@ host_goes_on {S = S} sent m view chosen h down short r =
       count = omega arith;
       places = tt;
       agrees = tt;
-      earlier = each_append (DeliveredIs chosen) h.earlier h.delivered r.earlier r.agrees;
+      earlier = each_append (IsChosenAt m view chosen) h.earlier h.delivered r.earlier r.agrees;
       diary = r.diary;
       aside = r.aside;
       few = record {

@@ -48,6 +48,9 @@ use Rattle.world_rules.specs.Injections.{injected}
 use Rattle.world_rules.specs.declared.line.Injection.{Injection}
 use Rattle.world_rules.specs.declared.message.Content.{Content}
 use Rattle.std.proofs.lemmas.List.{length-map}
+use Rattle.client_quorum.specs.Clients.{reply_read}
+use Rattle.smart_statements.specs.Forms.{SignedBy}
+use Rattle.smart_statements.specs.declared.statement.Answer.{Answer}
 
 -- lists, choices and repeated steps
 
@@ -292,18 +295,15 @@ give_one_same m members bytes member w =
 -- clients
 
 -- a client hears a message, or bytes that are none
-client_hears_same : {S : Type 0} (w : World S) (i : ℕ) (c : Client) (read : Result Message ℕ) → client_hears (trimmed_world w) i c read ≡ trimmed_world (client_hears w i c read)
+client_hears_same : {S : Type 0} (w : World S) (i : ℕ) (c : Client) (read : Option (SignedBy Answer)) → client_hears (trimmed_world w) i c read ≡ trimmed_world (client_hears w i c read)
 unfolding hearing trimmed_world
-client_hears_same w i c (Err at) = refl
-client_hears_same w i c (Ok (Ask q)) = refl
-client_hears_same w i c (Ok (Propose p)) = refl
-client_hears_same w i c (Ok (Vote b)) = refl
-client_hears_same w i c (Ok (Reply a)) = refl
+client_hears_same w i c None = refl
+client_hears_same w i c (Some a) = refl
 
 -- a client that is found hears bytes
 hears_bytes_same : {S : Type 0} (w : World S) (i : ℕ) (bytes : List ℕ) (found : Option Client) → hears_bytes (trimmed_world w) i bytes found ≡ trimmed_world (hears_bytes w i bytes found)
 hears_bytes_same w i bytes None = refl
-hears_bytes_same w i bytes (Some c) = client_hears_same w i c (decoded bytes)
+hears_bytes_same w i bytes (Some c) = client_hears_same w i c (reply_read (decoded bytes))
 
 -- the client at an index hears bytes
 client_takes_same : {S : Type 0} (i : ℕ) (bytes : List ℕ) (w : World S) → client_takes i bytes (trimmed_world w) ≡ trimmed_world (client_takes i bytes w)

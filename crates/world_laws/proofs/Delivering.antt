@@ -33,7 +33,7 @@ use Rattle.world_rules.specs.declared.line.OutLine.{OutLine}
 use Rattle.world_rules.specs.declared.line.OutLine.TheVariants as outs
 use Rattle.world_rules.specs.declared.message.Sent.{Sent}
 use Rattle.world_laws.specs.Promises.{is_delivery, delivered_line, HasTold}
-use Rattle.world_laws.proofs.Keeps.{IsAside, ask_of, asked_by, by-posts, KeepsLives, live-line_played, signed_by, learned_line, after_call, with_host, entries_left, node_resumed, from_node, from_client, from_script, keeps-sends_all}
+use Rattle.world_laws.proofs.Keeps.{IsAside, ask_of, asked_by, by-posts, KeepsLives, live-line_played, signed_by, learned_line, resumed_line, after_call, with_host, entries_left, node_resumed, from_node, from_client, from_script, keeps-sends_all}
 use Rattle.replica_laws.proofs.Longer.{told_firm, longer-step}
 use Rattle.world_laws.proofs.ChosenLives.{named}
 use Rattle.world_laws.proofs.ChosenKept.{ids-set, hosts_ids}
@@ -80,7 +80,7 @@ none_aside id (outs.Ignored client why) aside = refl
 none_aside id (outs.Busy client seq) aside = refl
 none_aside id (outs.Absent member) aside = refl
 none_aside id (outs.Crashed member) aside = refl
-none_aside id (outs.Restarted member place entries) aside = refl
+none_aside id (outs.Restarted member place entries) aside = absurd aside
 none_aside id (outs.Down member) aside = refl
 none_aside id (outs.Idle member) aside = refl
 none_aside id (outs.IdleClient client) aside = refl
@@ -170,7 +170,7 @@ own_more before told lines id earlier delivered more own is =
     ∙ ap (λ (xs : List OutLine). before id ++ xs) (ap (λ (xs : List OutLine). said ++ xs) (sym own) ∙ sym (filter-append (is_delivery id) told lines)))))
 
 -- a node keeps its name
-named-step : {S : Type 0} (m : Meaning S) (n : Node S) (event : NodeEvent) → (step_of m n event).node.id ≡ n.id
+pub named-step : {S : Type 0} (m : Meaning S) (n : Node S) (event : NodeEvent) → (step_of m n event).node.id ≡ n.id
 named-step {S} m n event = (longer-step m n event).named ∙ told n event
   where
     told : (x : Node S) (e : NodeEvent) → (told_firm x e).id ≡ x.id
@@ -191,7 +191,7 @@ other_hosts {S = S} P Q id (g ∷ hs) none others each =
     no_other : true ≡ false → ⊥
     no_other is = cc
 
-set_others : {S : Type 0} (P Q : Host S → Type 0) (hs : List (Host S)) (i : ℕ) (h h' : Host S) → Distinct (map (λ (g : Host S). g.node.id) hs) → slice_get hs i ≡ Some h
+pub set_others : {S : Type 0} (P Q : Host S → Type 0) (hs : List (Host S)) (i : ℕ) (h h' : Host S) → Distinct (map (λ (g : Host S). g.node.id) hs) → slice_get hs i ≡ Some h
     → ((g : Host S) → (g.node.id ≡ h.node.id → ⊥) → P g → Q g) → (P h → Q h') → Each P hs → Each Q (slice_set hs i h')
 set_others P Q [] i h h' once at others own each = absurd (cc)
 set_others {S = S} P Q (g ∷ hs) zero h h' once at others own each =
@@ -250,8 +250,11 @@ keeps-deliveries {S = S} m before ids once =
         tell = λ w line aside is. record { hosts = all_more before w.told (line ∷ []) w.hosts (λ id. none_aside id line aside) is.hosts; names = is.names };
       };
       crash = λ w i h left on up at may is. told-set before ids w i h (host_crashed (course_of m) h left) once at refl refl is;
-      resume = λ w i h on down at is. told-set before ids w i h (host_resumed h (node_resumed (course_of m) w h)) once at (named m group_secret h.node.id w.view 1024 (entries_in (entries_left h))).name
-          (append-nil (h.earlier ++ h.delivered)) is;
+      resume = λ w i h on down at is.
+          let hosts : List (Host S) = slice_set w.hosts i (host_resumed h (node_resumed (course_of m) w h)) in
+          let set : AllTold before ids (record w { hosts = hosts }) =
+          told-set before ids w i h (host_resumed h (node_resumed (course_of m) w h)) once at (named m group_secret h.node.id w.view 1024 (entries_in (entries_left h))).name (append-nil (h.earlier ++ h.delivered)) is in
+          record { hosts = all_more before w.told (resumed_line (course_of m) w h ∷ []) hosts (λ id. refl) set.hosts; names = set.names };
     }
 
 -- behind lines

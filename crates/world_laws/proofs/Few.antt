@@ -1,8 +1,8 @@
 -- Books have few entries: each has a source among the bytes of what was sent, and no more than 2 ^ 24 messages are sent.
 use Rattle.std.proofs.Common.{◌≡◌, inl, inr, ℕ, ◌+◌, ◌^◌, ◌<◌, ◌≤◌, ◌++◌, List, [], ◌∷◌, length, map, take, refl, ap, ◌∙◌, sym, arith, subst, length-append, Result, Ok, Err}
 use Rattle.smart_base.specs.Views.{View}
-use Rattle.smart_messages.specs.RegencyMessages.{any_decoded}
-use Rattle.smart_messages.specs.declared.any.AnyMessage.{AnyMessage}
+use Rattle.smart_messages.specs.Messages.{decoded}
+use Rattle.smart_messages.specs.declared.message.Message.{Message}
 use Rattle.smart_statements.specs.declared.entry.NodeEvent.{NodeEvent}
 use Rattle.smart_statements.specs.declared.entry.NodeEvent.TheVariants.{Arrive, Tick, Deliver, Firm}
 use Rattle.smart_service.specs.Services.{Meaning}
@@ -37,19 +37,19 @@ abbrev pub sources : List Sent → List (List ℕ)
 sources sent = map (λ s. bytes_of s.content) sent
 
 -- a source stays one where more is sent
-pub source-more : (sent : List Sent) (s : Sent) (m : AnyMessage) → HasSource (sources sent) m → HasSource (sources (sent ++ s ∷ [])) m
+pub source-more : (sent : List Sent) (s : Sent) (m : Message) → HasSource (sources sent) m → HasSource (sources (sent ++ s ∷ [])) m
 source-more [] s m has = absurd has
 source-more (t ∷ sent) s m (inl here) = inl here
 source-more (t ∷ sent) s m (inr later) = inr (source-more sent s m later)
 
 -- what a content that was sent is read as has one
-pub source-sent : (sent : List Sent) (x : Content) (m : AnyMessage) → HasContent sent x → any_decoded (bytes_of x) ≡ Ok m → HasSource (sources sent) m
+pub source-sent : (sent : List Sent) (x : Content) (m : Message) → HasContent sent x → decoded (bytes_of x) ≡ Ok m → HasSource (sources sent) m
 source-sent [] x m has read = absurd has
-source-sent (s ∷ sent) x m (inl same) read = inl (ap (λ (c : Content). any_decoded (bytes_of c)) same ∙ read)
+source-sent (s ∷ sent) x m (inl same) read = inl (ap (λ (c : Content). decoded (bytes_of c)) same ∙ read)
 source-sent (s ∷ sent) x m (inr later) read = inr (source-sent sent x m later read)
 
 -- of what bytes are read as
-pub by_read : (bytes : List (List ℕ)) (came : List ℕ) (read : Result AnyMessage ℕ) → any_decoded came ≡ read → ((m : AnyMessage) → any_decoded came ≡ Ok m → HasSource bytes m)
+pub by_read : (bytes : List (List ℕ)) (came : List ℕ) (read : Result Message ℕ) → decoded came ≡ read → ((m : Message) → decoded came ≡ Ok m → HasSource bytes m)
     → ForRead (λ m. HasSource bytes m) read
 by_read bytes came (Ok m) is has = has m is
 by_read bytes came (Err at) is has = tt
@@ -57,7 +57,7 @@ by_read bytes came (Err at) is has = tt
 -- and so has what comes
 pub may-have : {S : Type 0} (w : World S) (h : Host S) (event : NodeEvent) → MayCome w h event → ForEvent (λ m. HasSource (sources w.sent) m) event
 may-have w h (Arrive bytes) may =
-    by_read (sources w.sent) bytes (any_decoded bytes) refl (λ m read. source-sent w.sent may.content m may.has (sym (ap (λ (b : List ℕ). any_decoded b) may.spelled) ∙ read))
+    by_read (sources w.sent) bytes (decoded bytes) refl (λ m read. source-sent w.sent may.content m may.has (sym (ap (λ (b : List ℕ). decoded b) may.spelled) ∙ read))
 may-have w h Tick may = tt
 may-have w h Deliver may = tt
 may-have w h (Firm count) may = tt

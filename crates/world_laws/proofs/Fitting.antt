@@ -1,25 +1,24 @@
 -- Each message that is sent in a play over a view is read as itself, and its statements bear the tags of their signers.
-use Rattle.std.proofs.Common.{◌≡◌, ap, sym, ◌∙◌, ℕ, zero, suc, ◌+◌, ◌*◌, ◌^◌, ◌<◌, ◌≤◌, ◌&&◌, true, List, [], ◌∷◌, length, refl, subst, Some, None, nat_lt, nat_le, inl, inr, arith, Result, Ok, Err}
+use Rattle.std.proofs.Common.{◌≡◌, ap, sym, ◌∙◌, ℕ, zero, suc, ◌+◌, ◌*◌, ◌^◌, ◌<◌, ◌≤◌, ◌&&◌, true, List, [], ◌∷◌, length, refl, subst, Some, None, nat_lt, nat_le, inl, inr, arith, Result, Ok, Err, length-append, Bool, Option}
 use Rattle.std.proofs.lemmas.Bool.{ltb-true, leb-true}
 use Rattle.std.specs.Prelude.{slice_get}
 use Rattle.smart_base.specs.Lists.{Each}
 use Rattle.smart_base.specs.Views.{View, ascends, is_view}
 use Rattle.smart_statements.specs.Forms.{SignedBy}
-use Rattle.smart_messages.specs.RegencyMessages.{any_spelling, FitsAny, any_decoded}
-use Rattle.smart_messages.specs.declared.any.AnyMessage.{AnyMessage}
+use Rattle.smart_messages.specs.Messages.{spelling, Fits, decoded, FitsContent, reply_in}
+use Rattle.smart_messages.specs.declared.message.Message.{Message}
 use Rattle.smart_statements.specs.Spelling.{IsSigner, FitsRequest}
+use Rattle.smart_statements.specs.Spelling as spells
 use Rattle.smart_messages.proofs.Messages.{spelling_is}
-use Rattle.smart_messages.proofs.AnyMessages.{any_spelling_is}
 use Rattle.smart_statements.specs.declared.statement.Request.{Request}
 use Rattle.smart_statements.specs.declared.statement.Answer.{Answer}
-use Rattle.smart_messages.specs.declared.message.Message.TheVariants.{Reply, Ask}
-use Rattle.smart_messages.specs.declared.any.AnyMessage.TheVariants.{Plain, Change}
+use Rattle.smart_messages.specs.declared.message.Message.TheVariants.{Reply, Ask, Propose, Vote}
 use Rattle.smart_statements.specs.declared.entry.NodeEvent.{NodeEvent}
 use Rattle.smart_statements.specs.declared.entry.NodeEvent.TheVariants.{Arrive, Tick, Deliver, Firm}
 use Rattle.smart_service.specs.Services.{Meaning}
 use Rattle.node_rules.specs.Steps.{Outcome, step_of, leaving}
 use Rattle.node_rules.specs.declared.node.Held.{Held}
-use Rattle.client_quorum.specs.Clients.{request_of, asking, learning, after_heard}
+use Rattle.client_quorum.specs.Clients.{request_of, asking, learning, after_heard, reply_read}
 use Rattle.world_rules.specs.Clients.{heard}
 use Rattle.world_rules.specs.Worlds.{course_of, Host, Life, World, host_crashed, host_resumed, posts, sends_all, host_after, stepped, hearing, hosts_from, clients_from, begun}
 use Rattle.client_quorum.specs.declared.client.Client.{Client}
@@ -28,15 +27,15 @@ use Rattle.client_quorum.specs.declared.client.Heard.TheVariants as hears
 use Rattle.world_rules.specs.declared.message.Origin.{Origin}
 use Rattle.world_rules.specs.declared.message.Origin.TheVariants as origins
 use Rattle.world_rules.specs.declared.message.Sent.{Sent}
-use Rattle.world_laws.specs.Sending.{AllGenuine, IsReadIfShort, IsHeardAs, IsReadAs, IsGenuineContent, IsGenuineFrom}
+use Rattle.world_laws.specs.Sending.{AllGenuine, IsReadIfShort, IsHeardAs, IsReadAs, IsGenuineContent, IsGenuineFrom, orders}
 use Rattle.world_laws.proofs.Lists.{each_set, each_get}
-use Rattle.world_laws.proofs.Keeps.{with_host, entries_left, node_resumed, after_call, change-unheard, MayCome, read_whole, FitsParts, parts_fit, long_unread, ask_of, asked_by, Keeps, by-posts, ReadsSent, signed_by, OwnWaits, from_node, from_client, HasContent, IsRead, heard_has, from_script}
-use Rattle.smart_statements.specs.Kinds.{requests}
+use Rattle.world_laws.proofs.Keeps.{with_host, entries_left, node_resumed, after_call, MayCome, read_whole, read_fits, long_unread, ask_of, asked_by, Keeps, by-posts, ReadsSent, signed_by, OwnWaits, from_node, from_client, HasContent, IsRead, read_has, from_script}
+use Rattle.smart_statements.specs.Kinds.{requests, proposals, ballots, answers}
 use Rattle.smart_statements.specs.Statements.{request_small}
-use Rattle.smart_messages.specs.declared.regency.RegencyMessage.TheVariants as changes
+use Rattle.smart_messages.specs.declared.message.Message.TheVariants as changes
 use Rattle.replica_rules.specs.Seals.{signed}
 use Rattle.world_rules.specs.Secrets.{group_secret}
-use Rattle.replica_laws.proofs.Genuine.{FitsHeld, IsGood, good-genuine, signed-verified, signed-fits, ask-good}
+use Rattle.replica_laws.proofs.Genuine.{IsGood, signed-length, good-genuine, signed-verified, signed-fits, ask-good}
 use Rattle.replica_laws.proofs.FitNodes.{IsBrief, FitsEvent, fit-released}
 use Rattle.replica_laws.proofs.FitNodes as nodes
 use Rattle.replica_laws.proofs.FitBooks.{FitBook, spelled-step, spelled-opened}
@@ -54,6 +53,7 @@ use Rattle.smart_base.proofs.SameLists.{and_true}
 use Rattle.agreement_laws.proofs.Lists.{some_equal, each_end, each_both}
 use Rattle.smart_base.proofs.ViewFacts.{each-weaken}
 use Rattle.node_rules.proofs.Rulewise.{ForRead}
+use Rattle.smart_statements.specs.Batches.{batch_text}
 
 -- what a client sends has a spelling
 pub record FitClient (c : Client) : Type 0 where
@@ -62,21 +62,14 @@ pub record FitClient (c : Client) : Type 0 where
   pub waits : (q : Request) → c.waiting ≡ Some q → FitsRequest c.id q
 
 -- a request that a client asks, with its tag
-abbrev signed_as : ℕ → Request → AnyMessage
-signed_as id q = Plain (Ask (signed requests group_secret id q))
+abbrev signed_as : ℕ → Request → Message
+signed_as id q = Ask (signed requests group_secret id q)
 
 -- it has a spelling and bears its tag
 pub client-good : (id : ℕ) (q : Request) → FitsRequest id q → IsGood group_secret (signed_as id q)
 client-good id q fits =
     ask-good group_secret (signed requests group_secret id q)
     (signed-fits requests FitsRequest group_secret id q (omega arith, subst (λ (k : ℕ). k < 2 ^ 16) fits.client_is fits.client_fits) fits (request_small q fits.op_fits)) (signed-verified requests group_secret id q)
-
--- a message that is held has parts that have spellings
-parts-fit : (m : AnyMessage) → FitsHeld m → FitsParts m
-parts-fit (Plain m) fits = fits
-parts-fit (Change (changes.Stop s)) fits = fits.content_fits
-parts-fit (Change (changes.StopData r)) fits = fits.content_fits
-parts-fit (Change (changes.Sync s)) fits = fits
 
 -- what a node or a client sends is a message that has a spelling and bears its signers' tags
 abbrev pub IsTaggedContent : Content → Type 0
@@ -125,10 +118,10 @@ fit-owns w is i c q at waits = ((each_get FitClient w.clients i c is.clients at)
 
 -- what may come
 pub may-fit : {S : Type 0} {m : Meaning S} (w : World S) (h : Host S) (event : NodeEvent) → AllFit m w → MayCome w h event → FitsEvent event
-may-fit w h (Arrive bytes) is may = by (any_decoded bytes) refl
+may-fit w h (Arrive bytes) is may = by (decoded bytes) refl
   where
-    by : (read : Result AnyMessage ℕ) → any_decoded bytes ≡ read → ForRead FitsAny read
-    by (Ok y) at = read_whole may.content y (fit-reads w is may.content may.has) (sym (ap (λ b. any_decoded b) may.spelled) ∙ at)
+    by : (read : Result Message ℕ) → decoded bytes ≡ read → ForRead Fits read
+    by (Ok y) at = read_whole may.content y (fit-reads w is may.content may.has) (sym (ap (λ b. decoded b) may.spelled) ∙ at)
     by (Err e) at = tt
 may-fit w h Tick is may = tt
 may-fit w h Deliver is may = tt
@@ -149,7 +142,7 @@ fit-posts {S = S} {m = m} w s read tagged is =
 -- messages of a node leave
 fit-sends_all : {S : Type 0} {m : Meaning S} (id : ℕ) (w : World S) (held : List Held) → Each (λ h. IsGood group_secret h.message) held → AllFit m w → AllFit m (sends_all id w held)
 fit-sends_all id w [] each is = is
-fit-sends_all id w (h ∷ hs) each is = fit-sends_all id (posts w (from_node id h)) hs each.1 (fit-posts w (from_node id h) (parts-fit h.message each.0.fits) each.0 is)
+fit-sends_all id w (h ∷ hs) each is = fit-sends_all id (posts w (from_node id h)) hs each.1 (fit-posts w (from_node id h) each.0.fits each.0 is)
 
 -- a host's node takes an event
 fit-after : {S : Type 0} (m : Meaning S) (h : Host S) (o : Outcome S) → FitBook m group_secret o.node → FitHost m h → FitHost m (host_after (course_of m) h o)
@@ -196,8 +189,8 @@ fit-after_heard c a (hears.Accepted acceptance) low is = record { named = is.nam
 fit-after_heard c a (hears.Ignored why) low is = is
 
 -- the place of a reply
-reply-low : (a : SignedBy Answer) → FitsParts (Plain (Reply a)) → a.statement.place < 2 ^ 63
-reply-low a fits = fits.content_fits.statement_fits.place_fits.1
+reply-low : (a : SignedBy Answer) → FitsContent (Reply a) → a.statement.place < 2 ^ 63
+reply-low a fits = fits.statement_fits.place_fits.1
 
 -- each event keeps that all has a spelling
 pub keeps-fit : {S : Type 0} (m : Meaning S) → IsBrief m → Keeps (course_of m) (AllFit m)
@@ -217,7 +210,7 @@ keeps-fit {S = S} m brief =
           record {
             hosts = is.hosts;
             clients = each_set FitClient w.clients i (after_heard c a (heard w.view c a)) is.clients
-                (fit-after_heard c a (heard w.view c a) (reply-low a (fit-reads w is (contents.Message (Plain (Reply a))) (heard_has w x (Reply a) (fit-reads w is) has read))) (each_get FitClient w.clients i c is.clients at));
+                (fit-after_heard c a (heard w.view c a) (reply-low a (fit-reads w is (contents.Message (Reply a)) (read_has w x (Reply a) (fit-reads w is) has read))) (each_get FitClient w.clients i c is.clients at));
             sent = is.sent;
             tagged = is.tagged;
           };
@@ -225,7 +218,7 @@ keeps-fit {S = S} m brief =
           let fit = each_get FitClient w.clients i c is.clients at in
           let new : FitsRequest c.id (request_of c op) = record { client_is = refl; client_fits = fit.named; seq_fits = (omega arith, few); after_fits = fit.seen; op_fits = brief } in
           let good : IsGood group_secret (ask_of c op) = client-good c.id (request_of c op) new in
-          fit-posts (asked_by w i c op) (from_client c (ask_of c op)) (parts-fit (ask_of c op) good.fits) good
+          fit-posts (asked_by w i c op) (from_client c (ask_of c op)) good.fits good
           (record {
             hosts = is.hosts;
             clients = each_set FitClient w.clients i (asking c (request_of c op)) is.clients (record { named = fit.named; seen = fit.seen; waits = one_waits c.id (request_of c op) new });
@@ -234,7 +227,7 @@ keeps-fit {S = S} m brief =
           });
       again = λ w i c q at waits is.
           let good : IsGood group_secret (signed_by c q) = client-good c.id q ((each_get FitClient w.clients i c is.clients at).waits q waits) in
-          fit-posts w (from_client c (signed_by c q)) (parts-fit (signed_by c q) good.fits) good is;
+          fit-posts w (from_client c (signed_by c q)) good.fits good is;
       learn = λ w i j c d at other is.
           let fit = each_get FitClient w.clients i c is.clients at in
           record {
@@ -291,18 +284,51 @@ fit-begun m view is =
 
 -- what is read
 
+-- a message that orders requests is short
+ordering-short : (m : Message) → FitsContent m → orders m ≡ true → length (spelling m) ≤ 1048576
+unfolding spelling
+ordering-short (Ask q) fits is =
+    let long = signed-length requests q in
+    let text : length (spells.request q.statement) ≡ 23 + length q.statement.op = omega arith in
+    omega (arith, long, text, fits.statement_fits.op_fits, fits.tag_fits)
+ordering-short (Propose p) fits is =
+    let long = signed-length proposals p.head in
+    let text : length (spells.proposal p.head.statement) ≡ 17 + length p.head.statement.digest = omega arith in
+    omega (arith, long, text, fits.0.statement_fits.digest_fits, fits.0.tag_fits, fits.1.bytes_fit, length-append (spells.signed proposals p.head) (batch_text p.batch))
+ordering-short (Vote b) fits is =
+    let long = signed-length ballots b in
+    let text : length (spells.ballot b.statement) ≡ 17 + length b.statement.digest = omega arith in
+    omega (arith, long, text, fits.statement_fits.digest_fits, fits.tag_fits)
+ordering-short (Reply a) fits is =
+    let long = signed-length answers a in
+    let text : length (spells.answer a.statement) ≡ 29 + length a.statement.reply = omega arith in
+    omega (arith, long, text, fits.statement_fits.reply_fits, fits.tag_fits)
+ordering-short _ fits is = absurd (cc)
+
 -- so it is read
-reads-short : (m : AnyMessage) → FitsParts m → IsReadIfShort m
-reads-short m fits = record { short = λ short. any_spelling_is m (parts_fit m fits short); long = λ long. long_unread (any_spelling m) long }
+reads-short : (m : Message) → FitsContent m → IsReadIfShort m
+reads-short m fits = record {
+  ordering = λ is. spelling_is m (record { content_fits = fits; bytes_fit = ordering-short m fits is });
+  short = λ short. spelling_is m (record { content_fits = fits; bytes_fit = short });
+  long = λ long. long_unread (spelling m) long;
+}
 
 reads-as : (x : Content) → IsRead x → IsReadAs x
 reads-as (contents.Message message) fits = reads-short message fits
-reads-as (contents.Raw bytes) none = none.unread
+reads-as (contents.Raw bytes) none = none
+
+-- a message that is not read is no reply
+unread-reply : (m : Message) (at : ℕ) → FitsContent m → decoded (spelling m) ≡ Err at → None ≡ reply_in m
+unread-reply (Reply a) at fits is = let own : decoded (spelling (Reply a)) ≡ Ok (Reply a) = (reads-short (Reply a) fits).ordering refl in absurd (cc)
+unread-reply _ at fits is = refl
+
+heard-by : (m : Message) (read : Result Message ℕ) → FitsContent m → decoded (spelling m) ≡ read → reply_read read ≡ reply_in m
+heard-by m (Ok y) fits is = let own : decoded (spelling m) ≡ Ok m = spelling_is m (read_fits m y fits is) in let same : y ≡ m = cc in ap reply_in same
+heard-by m (Err at) fits is = unread-reply m at fits is
 
 heard-as : (x : Content) → IsRead x → IsHeardAs x
-heard-as (contents.Message (Plain m)) fits = spelling_is m fits
-heard-as (contents.Message (Change m)) fits = λ y read. change-unheard m y read
-heard-as (contents.Raw bytes) none = none.unheard
+heard-as (contents.Message m) fits = heard-by m (decoded (spelling m)) fits refl
+heard-as (contents.Raw bytes) none = ap reply_read none.unread
 
 -- and what nodes and clients sent is genuine
 genuine_content : (x : Content) → IsTaggedContent x → IsGenuineContent x

@@ -60,7 +60,7 @@ with_two true false c d e f ea eb is = absurd (cc)
 with_two false b c d e f ea eb is = absurd (cc)
 
 -- a member gave the accepted reply where the client keeps one of its that is equal
-kept_reply : (Given : SignedBy Answer → Type 0) (test : ℕ → Bool) (q : Request) (a : Answer) → ((r : SignedBy Answer) → Given r → is_verified kinds.answers group_secret r ≡ true → r.statement.client ≡ q.client → is_reply (acceptance q a) (Reply r) ≡ true → test r.signer ≡ true)
+kept_reply : (Given : SignedBy Answer → Type 0) (test : ℕ → Bool) (q : Request) (a : Answer) → ((r : SignedBy Answer) → Given r → is_verified kinds.answers group_secret r ≡ true → r.statement.client ≡ q.client → is_reply (acceptance q a) r ≡ true → test r.signer ≡ true)
     → (member : ℕ) (replies : List (SignedBy Answer)) → Each (IsKept Given (Some q)) replies → has_answer replies a member ≡ true → test member ≡ true
 kept_reply Given test q a gives member [] kept is = absurd (cc)
 kept_reply Given test q a gives member (r ∷ rs) kept is =
@@ -103,7 +103,7 @@ keeps_heard Given v c a given kept = by (why_ignored v c a) c.waiting refl refl
         (each_end (IsKept Given c.waiting) c.replies a kept (kept_last Given v c a q given (counts_where_not_ignored v c a q waits fine)))
 
 -- what a client accepts, a quorum gave
-pub quorum_gave : (Given : SignedBy Answer → Type 0) (test : Acceptance → ℕ → Bool) → ((q : Request) (a : Answer) (r : SignedBy Answer) → Given r → is_verified kinds.answers group_secret r ≡ true → r.statement.client ≡ q.client → is_reply (acceptance q a) (Reply r) ≡ true → test (acceptance q a) r.signer ≡ true)
+pub quorum_gave : (Given : SignedBy Answer → Type 0) (test : Acceptance → ℕ → Bool) → ((q : Request) (a : Answer) (r : SignedBy Answer) → Given r → is_verified kinds.answers group_secret r ≡ true → r.statement.client ≡ q.client → is_reply (acceptance q a) r ≡ true → test (acceptance q a) r.signer ≡ true)
     → (v : View) (c : Client) (a : SignedBy Answer) (acc : Acceptance) → Given a → ClientKeeps Given c → Accepts v c a acc → quorum v ≤ length (filter (test acc) v.members)
 quorum_gave Given test gives v c a acc given kept taken =
     let q : Request = taken.request in
@@ -168,8 +168,8 @@ quorum_given view c q answers a acc is =
       stated = ap (λ (b : Acceptance). b.view) taken.is ∙ taken.counts.view;
       enough = quorum_gave Given (has_given (answers ++ a ∷ []))
           (λ q' a' r among tagged own is_it.
-          among (λ x. (x.signer == r.signer) && is_verified kinds.answers group_secret x && is_reply (acceptance q' a') (Reply x))
-          (and_from ((r.signer == r.signer) && is_verified kinds.answers group_secret r) (is_reply (acceptance q' a') (Reply r))
+          among (λ x. (x.signer == r.signer) && is_verified kinds.answers group_secret x && is_reply (acceptance q' a') x)
+          (and_from ((r.signer == r.signer) && is_verified kinds.answers group_secret r) (is_reply (acceptance q' a') r)
           (and_from (r.signer == r.signer) (is_verified kinds.answers group_secret r) (eq-eqb r.signer r.signer refl) tagged) is_it))
           view client a acc parts.1 kept.0 taken;
     }

@@ -1,6 +1,6 @@
 -- In a play each batch that a node holds was in a message that was sent, and is the only one of its digest.
 use Rattle.std.proofs.Common.{◌≡◌, ℕ, ◌^◌, ◌<◌, ◌++◌, ◌==◌, ◌+◌, ◌&&◌, true, false, not, List, [], ◌∷◌, length, refl, sym, subst, inl, inr, Option, Some, None}
-use Rattle.std.specs.Prelude.{option_map, slice_get}
+use Rattle.std.specs.Prelude.{option_map, slice_get, IfSome}
 use Rattle.std.specs.List.{list_any, filter_map}
 use Rattle.smart_base.specs.Lists.{Each}
 use Rattle.smart_base.specs.Views.{View, is_view}
@@ -13,9 +13,7 @@ use Rattle.smart_messages.specs.declared.regency.Sync.{Sync}
 use Rattle.smart_messages.specs.declared.message.Proposed.{Proposed}
 use Rattle.smart_messages.specs.declared.message.Message.{Message}
 use Rattle.smart_messages.specs.declared.message.Message.TheVariants.{Ask, Propose, Vote, Reply}
-use Rattle.smart_messages.specs.declared.regency.RegencyMessage.TheVariants as changes
-use Rattle.smart_messages.specs.declared.any.AnyMessage.{AnyMessage}
-use Rattle.smart_messages.specs.declared.any.AnyMessage.TheVariants.{Plain, Change}
+use Rattle.smart_messages.specs.declared.message.Message.TheVariants as changes
 use Rattle.smart_statements.specs.declared.entry.NodeEvent.{NodeEvent}
 use Rattle.smart_statements.specs.declared.entry.NodeEvent.TheVariants.{Arrive, Tick, Deliver, Firm}
 use Rattle.smart_service.specs.Services.{Meaning}
@@ -31,7 +29,7 @@ use Rattle.replica_rules.specs.Replicas.{is_next, delivered}
 use Rattle.replica_rules.specs.Pools.{offered, settled}
 use Rattle.node_rules.specs.Rules.{reply_of, replying, lines_to_answer, deliver_batch, delivers, proposing, propose_batch, proposes, writing, write_batch, writes, votable, written, accepting, accept_batch, accepts, deciding, decide_batch, decides, answering, answer_line, answers_again}
 use Rattle.node_rules.specs.Nodes.{Node, view_of, regency_of, next_place, open_slot, is_open, holding}
-use Rattle.node_rules.specs.Arrivals.{noted, kept_plain, kept_change, kept}
+use Rattle.node_rules.specs.Arrivals.{noted, kept}
 use Rattle.node_rules.specs.Changes.{adopts_by, adopts, adoption, asks_next, joining, joins, promising, promise_next, promises, leading, lead_with, leads, timing, passes_on, presses, times}
 use Rattle.node_rules.specs.Steps.{Outcome, step_of, leaving}
 use Rattle.node_rules.specs.declared.node.Target.TheVariants as targets
@@ -57,6 +55,8 @@ use Rattle.world_rules.specs.Secrets.{group_secret}
 use Rattle.world_laws.proofs.NoClash.{HasBatch, IsMet, has-left, has-right, met-grows, TextsExact, texts-end, met-exact}
 use Rattle.agreement_laws.proofs.Lists.{some_equal, each_among, each_append, either, each_end}
 use Rattle.smart_base.proofs.ViewFacts.{each-weaken}
+use Rattle.node_rules.specs.declared.node.Asked.{Asked}
+use Rattle.smart_messages.specs.Messages.{proposal_in}
 
 -- a node
 
@@ -71,14 +71,7 @@ for_batch-weaker P Q weaker (Some batch) p = weaker batch p
 
 -- a proposal's batch was met
 abbrev pub ProposalMet : (Batch → Type 0) → Message → Type 0
-ProposalMet M (Ask q) = Unit {0}
-ProposalMet M (Propose p) = M p.batch
-ProposalMet M (Vote b) = Unit {0}
-ProposalMet M (Reply a) = Unit {0}
-
-abbrev pub MessageMet : (Batch → Type 0) → AnyMessage → Type 0
-MessageMet M (Plain m) = ProposalMet M m
-MessageMet M (Change m) = Unit {0}
+ProposalMet M m = IfSome (proposal_in m) (λ p. M p.batch)
 
 -- and an entry's
 abbrev pub EntryMet : (Batch → Type 0) → LogEntry → Type 0
@@ -101,23 +94,21 @@ pub record NodeMet {S : Type 0} (M : Batch → Type 0) (n : Node S) : Type 0 whe
 met-replying : {S : Type 0} (M : Batch → Type 0) (n : Node S) (lines : List TableLine) → NodeMet M n → NodeMet M (replying n lines)
 met-replying M n [] is = is
 met-replying M n (l ∷ ls) is =
-    met-replying M (holding n (targets.Client l.client) (Plain (reply_of n.secret n.id l))) ls (record { arrivals = is.arrivals; entries = is.entries; waiting = is.waiting })
+    met-replying M (holding n (targets.Client l.client) (reply_of n.secret n.id l)) ls (record { arrivals = is.arrivals; entries = is.entries; waiting = is.waiting })
 
 -- an arrival is kept
-met-kept : {S : Type 0} (M : Batch → Type 0) (n : Node S) (message : AnyMessage) → MessageMet M message → NodeMet M n → NodeMet M (kept n message)
-unfolding kept_plain kept_change
-met-kept {S = S} M n (Plain (Ask q)) met is =
+met-kept : {S : Type 0} (M : Batch → Type 0) (n : Node S) (message : Message) → ProposalMet M message → NodeMet M n → NodeMet M (kept n message)
+unfolding kept
+met-kept {S = S} M n (Ask q) met is =
     either (λ (x : Node S). NodeMet M x) (is_next n.replica.table q.statement) (record n { pool = offered n.pool q }) n
     (record { arrivals = is.arrivals; entries = is.entries; waiting = is.waiting }) is
-met-kept M n (Plain (Propose p)) met is = record { arrivals = each_end (ProposalMet M) n.arrivals (Propose p) is.arrivals met; entries = is.entries; waiting = is.waiting }
-met-kept M n (Plain (Vote b)) met is = record { arrivals = each_end (ProposalMet M) n.arrivals (Vote b) is.arrivals tt; entries = is.entries; waiting = is.waiting }
-met-kept M n (Plain (Reply a)) met is = is
-met-kept M n (Change (changes.Stop s)) met is = record { arrivals = is.arrivals; entries = is.entries; waiting = is.waiting }
-met-kept M n (Change (changes.StopData r)) met is = record { arrivals = is.arrivals; entries = is.entries; waiting = is.waiting }
-met-kept M n (Change (changes.Sync s)) met is = record { arrivals = is.arrivals; entries = is.entries; waiting = is.waiting }
+met-kept M n (Propose p) met is = record { arrivals = each_end (ProposalMet M) n.arrivals (Propose p) is.arrivals met; entries = is.entries; waiting = is.waiting }
+met-kept M n (Vote b) met is = record { arrivals = each_end (ProposalMet M) n.arrivals (Vote b) is.arrivals tt; entries = is.entries; waiting = is.waiting }
+met-kept M n (Reply a) met is = is
+met-kept M n _ met is = record { arrivals = is.arrivals; entries = is.entries; waiting = is.waiting }
 
 -- a node is told that it is behind
-met-noted : {S : Type 0} (M : Batch → Type 0) (n : Node S) (message : AnyMessage) → NodeMet M n → NodeMet M (noted n message)
+met-noted : {S : Type 0} (M : Batch → Type 0) (n : Node S) (message : Message) → NodeMet M n → NodeMet M (noted n message)
 unfolding noted
 met-noted M n message is = record { arrivals = is.arrivals; entries = is.entries; waiting = is.waiting }
 
@@ -127,9 +118,9 @@ unfolding answer_line
 met-answer_line M n None is = is
 met-answer_line M n (Some line) is = record { arrivals = is.arrivals; entries = is.entries; waiting = is.waiting }
 
-met-answers_again : {S : Type 0} (M : Batch → Type 0) (n : Node S) (message : AnyMessage) → NodeMet M n → NodeMet M (answers_again n message)
+met-answers_again : {S : Type 0} (M : Batch → Type 0) (n : Node S) (asked : Option Asked) → NodeMet M n → NodeMet M (answers_again n asked)
 unfolding answers_again
-met-answers_again M n message is = met-answer_line M n (answering n message) is
+met-answers_again M n asked is = met-answer_line M n (answering n asked) is
 
 -- a batch is delivered
 met-deliver_batch : {S : Type 0} (M : Batch → Type 0) (m : Meaning S) (n : Node S) (batch : Option Batch) → NodeMet M n → NodeMet M (deliver_batch m n batch)
@@ -229,13 +220,11 @@ met-accepts M n is = met-accept_batch M n (accepting n) (accepting-met M n is) i
 -- what is known for a place
 
 named-proposed : (M : Batch → Type 0) (number place regency : ℕ) (m : Message) (x : Named) → ProposalMet M m → named_in number place regency m ≡ Some x → M x.batch
-named-proposed M number place regency (Ask q) x met at = absurd (cc)
 named-proposed M number place regency (Propose p) x met at =
     let it : Named = record { digest = p.head.statement.digest; batch = p.batch } in
     let same : it ≡ x = some_equal it x (guard _ (Some it) x at).1 in
     subst (λ (y : Named). M y.batch) same met
-named-proposed M number place regency (Vote b) x met at = absurd (cc)
-named-proposed M number place regency (Reply a) x met at = absurd (cc)
+named-proposed M number place regency _ x met at = absurd (cc)
 
 named-accepted : (M : Batch → Type 0) (view place : ℕ) (e : LogEntry) (x : Named) (o : Option accept.Accept) → EntryMet M e → accept_for view place e ≡ o
     → option_map (λ (a : accept.Accept). record { digest = a.digest; batch = a.batch }) o ≡ Some x → M x.batch
@@ -285,9 +274,9 @@ met-rules M = record {
   by_decides = met-decides M;
 }
 
-met-step : {S : Type 0} (M : Batch → Type 0) (m : Meaning S) (n : Node S) (event : NodeEvent) → ForEvent (MessageMet M) event → NodeMet M n → NodeMet M (step_of m n event).node
+met-step : {S : Type 0} (M : Batch → Type 0) (m : Meaning S) (n : Node S) (event : NodeEvent) → ForEvent (ProposalMet M) event → NodeMet M n → NodeMet M (step_of m n event).node
 met-step {S = S} M m n event may is =
-    keeps_step m (λ (x : Node S). NodeMet M x) (MessageMet M) n event
+    keeps_step m (λ (x : Node S). NodeMet M x) (ProposalMet M) n event
     (record {
       by_rules = met-rules M;
       by_times = met-times M;
@@ -300,10 +289,8 @@ met-step {S = S} M m n event may is =
 -- more counts as met
 
 proposal-weaker : (M N : Batch → Type 0) → ((batch : Batch) → M batch → N batch) → (message : Message) → ProposalMet M message → ProposalMet N message
-proposal-weaker M N weaker (Ask q) met = tt
 proposal-weaker M N weaker (Propose p) met = weaker p.batch met
-proposal-weaker M N weaker (Vote b) met = tt
-proposal-weaker M N weaker (Reply a) met = tt
+proposal-weaker M N weaker _ met = tt
 
 entry-weaker : (M N : Batch → Type 0) → ((batch : Batch) → M batch → N batch) → (e : LogEntry) → EntryMet M e → EntryMet N e
 entry-weaker M N weaker (Opened o) met = tt
@@ -395,7 +382,7 @@ met-stepped {S = S} m w i h o at met is =
     })
 
 -- a message that was sent
-has-met : (sent : List Sent) (p : Proposed) → HasMessage sent (Plain (Propose p)) → IsMet sent p.batch
+has-met : (sent : List Sent) (p : Proposed) → HasMessage sent (Propose p) → IsMet sent p.batch
 has-met [] p has = absurd has
 has-met (s ∷ sent) p has =
     elim has [
@@ -403,16 +390,13 @@ has-met (s ∷ sent) p has =
       | inr later ↦ has-right (batches s.content) (met sent) p.batch (has-met sent p later)
     ]
 
-message-met : (sent : List Sent) (message : AnyMessage) → HasMessage sent message → MessageMet (IsMet sent) message
-message-met sent (Plain (Ask q)) has = tt
-message-met sent (Plain (Propose p)) has = has-met sent p has
-message-met sent (Plain (Vote b)) has = tt
-message-met sent (Plain (Reply a)) has = tt
-message-met sent (Change m) has = tt
+message-met : (sent : List Sent) (message : Message) → HasMessage sent message → ProposalMet (IsMet sent) message
+message-met sent (Propose p) has = has-met sent p has
+message-met sent _ has = tt
 
 -- what may come
-event-met : {S : Type 0} (w : World S) (h : Host S) (event : NodeEvent) → MayRead w h event → ForEvent (MessageMet (IsMet w.sent)) event
-event-met w h (Arrive bytes) may = comes-as w.sent bytes (ForRead (MessageMet (IsMet w.sent))) (message-met w.sent) (λ at. tt) may
+event-met : {S : Type 0} (w : World S) (h : Host S) (event : NodeEvent) → MayRead w h event → ForEvent (ProposalMet (IsMet w.sent)) event
+event-met w h (Arrive bytes) may = comes-as w.sent bytes (ForRead (ProposalMet (IsMet w.sent))) (message-met w.sent) (λ at. tt) may
 event-met w h Tick may = tt
 event-met w h Deliver may = tt
 event-met w h (Firm count) may = tt

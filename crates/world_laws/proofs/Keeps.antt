@@ -12,17 +12,12 @@ use Rattle.smart_base.specs.Laws.{bind_is}
 use Rattle.smart_base.specs.Lists.{or_else, Each}
 use Rattle.smart_statements.specs.Forms.{SignedBy}
 use Rattle.smart_statements.specs.Kinds.{requests}
-use Rattle.smart_messages.specs.Messages.{Fits, spelling, decoded, message_at, is_kind, body_at}
-use Rattle.smart_messages.specs.RegencyMessages.{FitsAny, FitsChangeContent, any_at, any_spelling, any_decoded, change_spelling, change_kind, change_content}
+use Rattle.smart_messages.specs.Messages.{Fits, spelling, decoded, message_at, is_kind, body_at, FitsContent, kind, content}
 use Rattle.smart_messages.proofs.Messages.{decoded_is, spelling_is}
-use Rattle.smart_messages.proofs.AnyMessages.{decoded_any_is, any_spelling_is}
-use Rattle.smart_messages.specs.declared.any.AnyMessage.{AnyMessage}
-use Rattle.smart_messages.specs.declared.any.AnyMessage.TheVariants.{Plain, Change}
-use Rattle.smart_messages.specs.declared.regency.RegencyMessage.{RegencyMessage}
-use Rattle.smart_messages.specs.declared.regency.RegencyMessage.TheVariants as changes
+use Rattle.smart_messages.specs.declared.message.Message.{Message}
+use Rattle.smart_messages.specs.declared.message.Message.TheVariants as changes
 use Rattle.smart_statements.specs.declared.statement.Request.{Request}
 use Rattle.smart_statements.specs.declared.statement.Answer.{Answer}
-use Rattle.smart_messages.specs.declared.message.Message.{Message}
 use Rattle.smart_messages.specs.declared.message.Message.TheVariants.{Ask, Propose, Vote, Reply}
 use Rattle.smart_statements.specs.declared.entry.NodeEvent.{NodeEvent}
 use Rattle.smart_statements.specs.declared.entry.NodeEvent.TheVariants.{Arrive, Tick, Deliver, Firm}
@@ -43,7 +38,7 @@ use Rattle.node_rules.specs.declared.node.Target.TheVariants as targets
 use Rattle.world_rules.specs.Secrets.{group_secret}
 use Rattle.world_rules.specs.Premises.{is_among, too_many, is_forged, collides, bytes_of}
 use Rattle.world_rules.specs.Injections.{content_by, content_of, are_bytes, content_from, injected_bytes, injected}
-use Rattle.client_quorum.specs.Clients.{request_of, asking, learning}
+use Rattle.client_quorum.specs.Clients.{request_of, asking, learning, reply_read}
 use Rattle.world_rules.specs.Clients.{heard}
 use Rattle.world_rules.specs.Worlds.{Course, Host, World, is_up, remembered, life_called, host_crashed, crashes_with, host_crashes, crashes, host_resumed, resumes_from, host_resumes, resumes, restart_at, at_host, summary, telling, posts, sends_all, told_drop, told_fired, host_after, chosen_with, stepped, is_gone, is_rogue, host_takes, node_takes, disk_called, hears_firm, host_calls, calls_disk, takes_due, settle_once, settle, told_absent, settle_present, settle_all, gives, give_all, hearing, client_hears, hears_bytes, client_takes, client_asks, ask_found, asks, client_repeats, repeat_found, repeats, learns, learns_from, tells, goes, flow_sent, flow_once, is_listed, where_listed, at_listed, each_listed, host_index, at_index, at_member, arrives, arrives_at, sent_arrives, give_number, told_idle, telling_all, host_tries, tries_at, tries_each, give_one, shown_host, shown_client, shows, declares_faulty, declares_rogue, injects_content, injects}
 use Rattle.world_rules.specs.Repeats.{repeated}
@@ -81,7 +76,7 @@ abbrev pub from_node : ℕ → Held → Sent
 from_node id h = record { origin = origins.Node id; to = Some h.to; content = contents.Message h.message }
 
 -- what a client sends
-abbrev pub from_client : Client → AnyMessage → Sent
+abbrev pub from_client : Client → Message → Sent
 from_client c message = record { origin = origins.Client c.id; to = Some targets.View; content = contents.Message message }
 
 -- what a script injects
@@ -94,7 +89,7 @@ HasContent [] content = ⊥
 HasContent (s ∷ sent) content = (s.content ≡ content) ⊎ HasContent sent content
 
 -- a message was sent
-abbrev pub HasMessage : List Sent → AnyMessage → Type 0
+abbrev pub HasMessage : List Sent → Message → Type 0
 HasMessage sent message = HasContent sent (contents.Message message)
 
 -- bytes are those of a content that was sent
@@ -115,27 +110,17 @@ MayCome w h Tick = Unit {0}
 MayCome w h Deliver = Unit {0}
 MayCome w h (Firm count) = Hears h count
 
--- bytes are read as no message, neither by a node nor by a client
-pub record IsNone (bytes : List ℕ) : Type 0 where
-  pub unread : IsUnread bytes
-  pub unheard : (m : Message) → decoded bytes ≡ Ok m → ⊥
-
--- the parts of a message have spellings; those that order requests have at most 1,048,576 bytes
-abbrev pub FitsParts : AnyMessage → Type 0
-FitsParts (Plain m) = Fits m
-FitsParts (Change m) = FitsChangeContent m
-
 -- how a content is read: a message whose parts have spellings, if it is not too long, from it as itself, and bytes that are none, not at all
 abbrev pub IsRead : Content → Type 0
-IsRead (contents.Message message) = FitsParts message
-IsRead (contents.Raw bytes) = IsNone bytes
+IsRead (contents.Message message) = FitsContent message
+IsRead (contents.Raw bytes) = IsUnread bytes
 
 -- a request of a client, with its tag
-abbrev pub signed_by : Client → Request → AnyMessage
-signed_by c q = Plain (Ask (signed requests group_secret c.id q))
+abbrev pub signed_by : Client → Request → Message
+signed_by c q = Ask (signed requests group_secret c.id q)
 
 -- the request that a client asks, with its tag
-abbrev pub ask_of : Client → List ℕ → AnyMessage
+abbrev pub ask_of : Client → List ℕ → Message
 ask_of c op = signed_by c (request_of c op)
 
 -- the world in which a client has asked and its request has not left
@@ -164,6 +149,10 @@ entries_left h = (restores (bytes_held h.store)).entries
 
 abbrev pub node_resumed : {S : Type 0} → Course S → World S → Host S → Node S
 node_resumed course w h = reopened course.meaning group_secret h.node.id w.view 1024 (entries_in (entries_left h))
+
+-- what it tells
+abbrev pub resumed_line : {S : Type 0} → Course S → World S → Host S → OutLine
+resumed_line course w h = outs.Restarted h.node.id (node_resumed course w h).replica.place (length (entries_left h))
 
 -- a host's node runs, or its member has crashed; it is not gone
 abbrev pub IsUp : {S : Type 0} → World S → Host S → Type 0
@@ -200,7 +189,7 @@ IsBeside (outs.Stands member place number regency) = Unit {0}
 IsBeside (outs.Seen client place) = Unit {0}
 IsBeside (outs.End lines messages) = Unit {0}
 
--- a transcript line that tells of no delivery either
+-- a transcript line that tells of no delivery and no restart either
 abbrev pub IsAside : OutLine → Type 0
 IsAside (outs.Group members faulty app) = Unit {0}
 IsAside (outs.Sent number origin summary) = Unit {0}
@@ -215,7 +204,7 @@ IsAside (outs.Ignored client why) = Unit {0}
 IsAside (outs.Busy client seq) = Unit {0}
 IsAside (outs.Absent member) = Unit {0}
 IsAside (outs.Crashed member) = Unit {0}
-IsAside (outs.Restarted member place entries) = Unit {0}
+IsAside (outs.Restarted member place entries) = ⊥
 IsAside (outs.Down member) = Unit {0}
 IsAside (outs.Idle member) = Unit {0}
 IsAside (outs.IdleClient client) = Unit {0}
@@ -239,7 +228,7 @@ aside_beside (outs.Ignored client why) aside = tt
 aside_beside (outs.Busy client seq) aside = tt
 aside_beside (outs.Absent member) aside = tt
 aside_beside (outs.Crashed member) aside = tt
-aside_beside (outs.Restarted member place entries) aside = tt
+aside_beside (outs.Restarted member place entries) aside = absurd aside
 aside_beside (outs.Down member) aside = tt
 aside_beside (outs.Idle member) aside = tt
 aside_beside (outs.IdleClient client) aside = tt
@@ -311,7 +300,7 @@ pub record KeepsLive {S : Type 0} (course : Course S) (P : World S → Type 0) :
       → P (record w { faulty = faulty; rogue = rogue; ending = ending })
   -- a flow goes on to the message behind the mark
   pub mark : (w : World S) (s : Sent) → w.ending ≡ None → slice_get w.sent w.mark ≡ Some s → P w → P (record w { mark = w.mark + 1 })
-  -- a line is told that tells of no place that a client knows and of no delivery, and nothing else changes
+  -- a line is told that tells of no place that a client knows, of no delivery and of no restart, and nothing else changes
   pub tell : (w : World S) (line : OutLine) → IsAside line → P w → P (telling w line)
 
 -- a fact that crashes keep, too, and nodes that go on
@@ -320,8 +309,71 @@ pub record KeepsLives {S : Type 0} (course : Course S) (P : World S → Type 0) 
   -- the node of a host stops, and a crash leaves this of its devices
   pub crash : (w : World S) (i : ℕ) (h : Host S) (left : Images) → w.ending ≡ None → IsUp w h → slice_get w.hosts i ≡ Some h → MayLeave h.store left → P w
       → P (with_host w i (host_crashed course h left))
-  -- a node goes on from what its devices hold
-  pub resume : (w : World S) (i : ℕ) (h : Host S) → w.ending ≡ None → IsDown w h → slice_get w.hosts i ≡ Some h → P w → P (with_host w i (host_resumed h (node_resumed course w h)))
+  -- a node goes on from what its devices hold, and tells that
+  pub resume : (w : World S) (i : ℕ) (h : Host S) → w.ending ≡ None → IsDown w h → slice_get w.hosts i ≡ Some h → P w
+      → P (telling (with_host w i (host_resumed h (node_resumed course w h))) (resumed_line course w h))
+
+-- the same of all that happens but that somebody is declared faulty or rogue
+pub record KeepsCalm {S : Type 0} (course : Course S) (P : World S → Type 0) : Type 0 where
+  -- the node of a host takes an event
+  pub event : (w : World S) (i : ℕ) (h : Host S) (event : NodeEvent) → w.ending ≡ None → IsUp w h → slice_get w.hosts i ≡ Some h → MayCome w h event → P w
+      → P (stepped course w i h (course.step h.node event))
+  -- the store of a host makes a device call
+  pub disk : (w : World S) (i : ℕ) (h : Host S) → w.ending ≡ None → IsUp w h → slice_get w.hosts i ≡ Some h → P w → P (called course w i h)
+  -- a client hears the bytes of a content that are read as a reply
+  pub hear : (w : World S) (i : ℕ) (c : Client) (x : Content) (a : SignedBy Answer) → w.ending ≡ None → slice_get w.clients i ≡ Some c → HasContent w.sent x → decoded (bytes_of x) ≡ Ok (Reply a)
+      → P w → P (hearing w i c a (heard w.view c a))
+  -- a client asks
+  pub ask : (w : World S) (i : ℕ) (c : Client) (op : List ℕ) → w.ending ≡ None → slice_get w.clients i ≡ Some c → c.waiting ≡ None → c.last + 1 < 2 ^ 63 → length op ≤ 4096 → P w
+      → P (posts (asked_by w i c op) (from_client c (ask_of c op)))
+  -- a client sends the request that waits once more
+  pub again : (w : World S) (i : ℕ) (c : Client) (q : Request) → w.ending ≡ None → slice_get w.clients i ≡ Some c → c.waiting ≡ Some q → P w → P (posts w (from_client c (signed_by c q)))
+  -- a client learns of the greatest place that another knows, and tells what it knows then
+  pub learn : (w : World S) (i j : ℕ) (c d : Client) → w.ending ≡ None → slice_get w.clients i ≡ Some c → slice_get w.clients j ≡ Some d → P w
+      → P (telling (learned_by w i c d.seen) (learned_line c d.seen))
+  -- a script injects what is not forged
+  pub inject : (w : World S) (x : Content) → w.ending ≡ None → IsRead x → is_forged w.faulty w.rogue w.sent x ≡ false → P w → P (posts w (from_script x))
+  -- the play ends
+  pub end : (w : World S) (ending : Ending) → w.ending ≡ None → P w → P (record w { ending = Some ending })
+  -- a flow goes on to the message behind the mark
+  pub mark : (w : World S) (s : Sent) → w.ending ≡ None → slice_get w.sent w.mark ≡ Some s → P w → P (record w { mark = w.mark + 1 })
+  -- a line is told that tells of no place that a client knows, of no delivery and of no restart, and nothing else changes
+  pub tell : (w : World S) (line : OutLine) → IsAside line → P w → P (telling w line)
+
+pub record KeepsCalmLives {S : Type 0} (course : Course S) (P : World S → Type 0) : Type 0 where
+  pub calm : KeepsCalm course P
+  -- the node of a host stops, and a crash leaves this of its devices
+  pub crash : (w : World S) (i : ℕ) (h : Host S) (left : Images) → w.ending ≡ None → IsUp w h → slice_get w.hosts i ≡ Some h → MayLeave h.store left → P w
+      → P (with_host w i (host_crashed course h left))
+  -- a node goes on from what its devices hold, and tells that
+  pub resume : (w : World S) (i : ℕ) (h : Host S) → w.ending ≡ None → IsDown w h → slice_get w.hosts i ≡ Some h → P w
+      → P (telling (with_host w i (host_resumed h (node_resumed course w h))) (resumed_line course w h))
+
+-- the play ends
+pub ends : {S : Type 0} (w : World S) (ending : Ending) → Declares w w.faulty w.rogue (Some ending)
+ends w ending = record { more_faulty = λ member is. is; more_rogue = λ client is. is; few = λ is. is; over = λ none. absurd (some_none none) }
+  where
+    some_none : Some ending ≡ None → ⊥
+    some_none same = cc
+
+-- what is kept whoever is declared, is kept where nobody is
+pub calm : {S : Type 0} (course : Course S) (P : World S → Type 0) → KeepsLive course P → KeepsCalm course P
+calm course P k =
+    record {
+      event = k.event;
+      disk = k.disk;
+      hear = k.hear;
+      ask = k.ask;
+      again = k.again;
+      learn = k.learn;
+      inject = k.inject;
+      end = λ w ending on p. k.declare w w.faulty w.rogue (Some ending) on (ends w ending) p;
+      mark = k.mark;
+      tell = k.tell;
+    }
+
+pub calm_lives : {S : Type 0} (course : Course S) (P : World S → Type 0) → KeepsLives course P → KeepsCalmLives course P
+calm_lives course P k = record { calm = calm course P k.live; crash = k.crash; resume = k.resume }
 
 -- what each event keeps whatever was said of the ending, it keeps while nothing has ended the play
 pub live : {S : Type 0} (course : Course S) (P : World S → Type 0) → Keeps course P → KeepsLive course P
@@ -345,7 +397,7 @@ lives course P k =
     record {
       live = live course P k.kept;
       crash = λ w i h left on up at may p. k.kept.crash w i h left up at may p;
-      resume = λ w i h on down at p. k.resume w i h down at p;
+      resume = λ w i h on down at p. k.kept.same (with_host w i (host_resumed h (node_resumed course w h))) w.mark (w.told ++ resumed_line course w h ∷ []) (k.resume w i h down at p);
     }
 
 -- messages leave
@@ -402,7 +454,7 @@ unfolding hearing
 has-hearing w i c a h x has = has
 
 -- the same while nothing has ended the play
-pub live-carries : {S : Type 0} (course : Course S) (P : World S → Type 0) (x : Content) → KeepsLive course P → KeepsLive course (λ w. P w × HasContent w.sent x)
+pub live-carries : {S : Type 0} (course : Course S) (P : World S → Type 0) (x : Content) → KeepsCalm course P → KeepsCalm course (λ w. P w × HasContent w.sent x)
 live-carries course P x k =
     record {
       event = λ w i h event on up at may p. (k.event w i h event on up at may p.0, has-stepped course w i h (course.step h.node event) x p.1);
@@ -412,7 +464,7 @@ live-carries course P x k =
       again = λ w i c q on at waits p. (k.again w i c q on at waits p.0, has-posts x w (from_client c (signed_by c q)) p.1);
       learn = λ w i j c d on at other p. (k.learn w i j c d on at other p.0, p.1);
       inject = λ w y on read fine p. (k.inject w y on read fine p.0, has-posts x w (from_script y) p.1);
-      declare = λ w faulty rogue ending on how p. (k.declare w faulty rogue ending on how p.0, p.1);
+      end = λ w ending on p. (k.end w ending on p.0, p.1);
       mark = λ w s on at p. (k.mark w s on at p.0, p.1);
       tell = λ w line aside p. (k.tell w line aside p.0, p.1);
     }
@@ -429,13 +481,13 @@ pub is-up : {S : Type 0} (w : World S) (h : Host S) → is_up w h ≡ true → I
 is-up w h is = let both = and_true h.up (not (is_gone w h.node.id)) is in (both.0, not_true (is_gone w h.node.id) both.1)
 
 -- a host that is found takes an event
-live-host_takes : {S : Type 0} (course : Course S) (P : World S → Type 0) → KeepsLive course P → (i : ℕ) (event : NodeEvent) (w : World S) (found : Option (Host S))
+live-host_takes : {S : Type 0} (course : Course S) (P : World S → Type 0) → KeepsCalm course P → (i : ℕ) (event : NodeEvent) (w : World S) (found : Option (Host S))
     → w.ending ≡ None → slice_get w.hosts i ≡ found → ((h : Host S) → found ≡ Some h → MayCome w h event) → P w → P (host_takes course i event w found)
 live-host_takes course P k i event w None on at may p = p
 live-host_takes course P k i event w (Some h) on at may p = either_by P (not (is_up w h)) w _ (λ not_up. p) (λ up. k.event w i h event on (is-up w h (not_false (is_up w h) up)) at (may h refl) p)
 
 -- the node at an index takes an event
-live-node_takes : {S : Type 0} (course : Course S) (P : World S → Type 0) → KeepsLive course P → (i : ℕ) (event : NodeEvent) (w : World S)
+live-node_takes : {S : Type 0} (course : Course S) (P : World S → Type 0) → KeepsCalm course P → (i : ℕ) (event : NodeEvent) (w : World S)
     → ((h : Host S) → slice_get w.hosts i ≡ Some h → MayCome w h event) → P w → P (node_takes course i event w)
 unfolding node_takes
 live-node_takes course P k i event w may p = either_by P (is_some w.ending) w _ (λ over. p) (λ on. live-host_takes course P k i event w (slice_get w.hosts i) (none_is w.ending on) refl may p)
@@ -467,7 +519,7 @@ stepped-set {S = S} course w i g h o =
     (leaving o.node.firm o.node.held)) (set_again w.hosts i g (host_after course h o))
 
 -- a node hears what is firm behind a call
-live-hears_firm : {S : Type 0} (course : Course S) (P : World S → Type 0) → KeepsLive course P → (i : ℕ) (w : World S) (h : Host S) → w.ending ≡ None → IsUp w h
+live-hears_firm : {S : Type 0} (course : Course S) (P : World S → Type 0) → KeepsCalm course P → (i : ℕ) (w : World S) (h : Host S) → w.ending ≡ None → IsUp w h
     → slice_get w.hosts i ≡ Some h → P w → P (hears_firm course i w (disk_called course h))
 unfolding disk_called
 live-hears_firm course P k i w h on up at p =
@@ -479,7 +531,7 @@ live-hears_firm course P k i w h on up at p =
     (λ known. k.disk w i h on up at p)
 
 -- the store of a host that is found makes a call, if there is one
-live-host_calls : {S : Type 0} (course : Course S) (P : World S → Type 0) → KeepsLive course P → (i : ℕ) (w : World S) (found : Option (Host S)) → w.ending ≡ None → slice_get w.hosts i ≡ found
+live-host_calls : {S : Type 0} (course : Course S) (P : World S → Type 0) → KeepsCalm course P → (i : ℕ) (w : World S) (found : Option (Host S)) → w.ending ≡ None → slice_get w.hosts i ≡ found
     → P w → P (host_calls course i w found)
 live-host_calls course P k i w None on at p = p
 live-host_calls course P k i w (Some h) on at p =
@@ -487,25 +539,25 @@ live-host_calls course P k i w (Some h) on at p =
     (λ up. either P (call_due h.store) _ w (live-hears_firm course P k i w h on (is-up w h (not_false (is_up w h) up)) at p) p)
 
 -- the store at an index does
-pub live-calls_disk : {S : Type 0} (course : Course S) (P : World S → Type 0) → KeepsLive course P → (i : ℕ) (w : World S) → P w → P (calls_disk course i w)
+pub live-calls_disk : {S : Type 0} (course : Course S) (P : World S → Type 0) → KeepsCalm course P → (i : ℕ) (w : World S) → P w → P (calls_disk course i w)
 unfolding calls_disk
 live-calls_disk course P k i w p = either_by P (is_some w.ending) w _ (λ over. p) (λ on. live-host_calls course P k i w (slice_get w.hosts i) (none_is w.ending on) refl p)
 
 -- what is due
 
 -- a host that is found takes what is due
-live-takes_due : {S : Type 0} (course : Course S) (P : World S → Type 0) → KeepsLive course P → (i : ℕ) (w : World S) (found : Option (Host S)) → P w → P (takes_due course i w found)
+live-takes_due : {S : Type 0} (course : Course S) (P : World S → Type 0) → KeepsCalm course P → (i : ℕ) (w : World S) (found : Option (Host S)) → P w → P (takes_due course i w found)
 live-takes_due course P k i w None p = p
 live-takes_due course P k i w (Some h) p =
     either P (call_due h.store) _ _ (live-calls_disk course P k i w p) (either P (is_some h.node.waiting) _ w (live-node_takes course P k i Deliver w (λ g at. tt) p) p)
 
 -- a node settles once
-pub live-settle_once : {S : Type 0} (course : Course S) (P : World S → Type 0) → KeepsLive course P → (i : ℕ) (w : World S) → P w → P (settle_once course i w)
+pub live-settle_once : {S : Type 0} (course : Course S) (P : World S → Type 0) → KeepsCalm course P → (i : ℕ) (w : World S) → P w → P (settle_once course i w)
 unfolding settle_once
 live-settle_once course P k i w p = live-takes_due course P k i w (slice_get w.hosts i) p
 
 -- a node settles
-pub live-settle : {S : Type 0} (course : Course S) (P : World S → Type 0) → KeepsLive course P → (i : ℕ) (w : World S) → P w → P (settle course i w)
+pub live-settle : {S : Type 0} (course : Course S) (P : World S → Type 0) → KeepsCalm course P → (i : ℕ) (w : World S) → P w → P (settle course i w)
 live-settle course P k i w p = until_rest_keeps P (settle_once course i) (live-settle_once course P k i) w p
 
 -- members that a line lists
@@ -541,7 +593,7 @@ at_member-keeps P f keeps tells member w p =
 
 -- lines that are told
 
-pub live-telling_all : {S : Type 0} (course : Course S) (P : World S → Type 0) → KeepsLive course P → (w : World S) (lines : List OutLine) → Each IsAside lines → P w → P (telling_all w lines)
+pub live-telling_all : {S : Type 0} (course : Course S) (P : World S → Type 0) → KeepsCalm course P → (w : World S) (lines : List OutLine) → Each IsAside lines → P w → P (telling_all w lines)
 live-telling_all course P k w [] aside p = subst (λ (told : List OutLine). P (record w { told = told })) (sym (append-nil w.told)) p
 live-telling_all course P k w (l ∷ ls) aside p =
     subst (λ (told : List OutLine). P (record w { told = told })) (append_assoc w.told (l ∷ []) ls) (live-telling_all course P k (telling w l) ls aside.1 (k.tell w l aside.0 p))
@@ -552,39 +604,39 @@ absent-aside [] id = tt
 absent-aside (m ∷ ms) id = (tt, tt)
 
 -- a node that is found settles, unless it is gone
-live-settle_present : {S : Type 0} (course : Course S) (P : World S → Type 0) → KeepsLive course P → (members : List ℕ) (i : ℕ) (w : World S) (found : Option (Host S)) → P w
+live-settle_present : {S : Type 0} (course : Course S) (P : World S → Type 0) → KeepsCalm course P → (members : List ℕ) (i : ℕ) (w : World S) (found : Option (Host S)) → P w
     → P (settle_present course members i w found)
 live-settle_present course P k members i w None p = p
 live-settle_present course P k members i w (Some h) p =
     either P (is_up w h) (settle course i w) _ (live-settle course P k i w p) (live-telling_all course P k w (told_absent members h.node.id) (absent-aside members h.node.id) p)
 
-pub live-settles_present : {S : Type 0} (course : Course S) (P : World S → Type 0) → KeepsLive course P → (members : List ℕ) (i : ℕ) (w : World S) → P w
+pub live-settles_present : {S : Type 0} (course : Course S) (P : World S → Type 0) → KeepsCalm course P → (members : List ℕ) (i : ℕ) (w : World S) → P w
     → P (settle_present course members i w (slice_get w.hosts i))
 live-settles_present course P k members i w p = live-settle_present course P k members i w (slice_get w.hosts i) p
 
 -- all listed nodes settle
-pub live-settle_all : {S : Type 0} (course : Course S) (P : World S → Type 0) → KeepsLive course P → (members : List ℕ) (w : World S) → P w → P (settle_all course members w)
+pub live-settle_all : {S : Type 0} (course : Course S) (P : World S → Type 0) → KeepsCalm course P → (members : List ℕ) (w : World S) → P w → P (settle_all course members w)
 live-settle_all course P k members w p = each_listed-keeps P members (λ i v. settle_present course members i v (slice_get v.hosts i)) (live-settles_present course P k members) w p
 
 -- the bytes of a content that was sent are given
 
 -- a node takes the bytes of a content that was sent, and settles
-live-gives : {S : Type 0} (course : Course S) (P : World S → Type 0) → KeepsLive course P → (x : Content) (i : ℕ) (w : World S)
+live-gives : {S : Type 0} (course : Course S) (P : World S → Type 0) → KeepsCalm course P → (x : Content) (i : ℕ) (w : World S)
     → P w × HasContent w.sent x → P (gives course (bytes_of x) i w) × HasContent (gives course (bytes_of x) i w).sent x
 unfolding gives
 live-gives {S = S} course P k x i w p =
     let Q : World S → Type 0 = λ v. P v × HasContent v.sent x in
-    let kq : KeepsLive course Q = live-carries course P x k in
+    let kq : KeepsCalm course Q = live-carries course P x k in
     live-settle course Q kq i (node_takes course i (Arrive (bytes_of x)) w)
     (live-node_takes course Q kq i (Arrive (bytes_of x)) w (λ h at. record { content = x; spelled = refl; has = p.1 }) p)
 
 -- all listed nodes take the bytes of a content that was sent
-live-give_all : {S : Type 0} (course : Course S) (P : World S → Type 0) → KeepsLive course P → (members : List ℕ) (x : Content) (w : World S) → HasContent w.sent x → P w → P (give_all course members (bytes_of x) w)
+live-give_all : {S : Type 0} (course : Course S) (P : World S → Type 0) → KeepsCalm course P → (members : List ℕ) (x : Content) (w : World S) → HasContent w.sent x → P w → P (give_all course members (bytes_of x) w)
 live-give_all {S = S} course P k members x w has p =
     (each_listed-keeps (λ (v : World S). P v × HasContent v.sent x) members (gives course (bytes_of x)) (live-gives course P k x) w (p, has)).0
 
 -- the node of a member does, if it is listed
-live-give_one : {S : Type 0} (course : Course S) (P : World S → Type 0) → KeepsLive course P → (members : List ℕ) (x : Content) (member : ℕ) (w : World S) → HasContent w.sent x → P w
+live-give_one : {S : Type 0} (course : Course S) (P : World S → Type 0) → KeepsCalm course P → (members : List ℕ) (x : Content) (member : ℕ) (w : World S) → HasContent w.sent x → P w
     → P (give_one course members (bytes_of x) member w)
 live-give_one {S = S} course P k members x member w has p =
     let Q : World S → Type 0 = λ v. P v × HasContent v.sent x in
@@ -593,27 +645,25 @@ live-give_one {S = S} course P k members x member w has p =
 -- clients
 
 -- a client hears what its bytes are read as
-live-client_hears : {S : Type 0} (course : Course S) (P : World S → Type 0) → KeepsLive course P → (i : ℕ) (x : Content) (w : World S) (c : Client) (read : Result Message ℕ)
-    → w.ending ≡ None → slice_get w.clients i ≡ Some c → HasContent w.sent x → decoded (bytes_of x) ≡ read → P w → P (client_hears w i c read)
+live-client_hears : {S : Type 0} (course : Course S) (P : World S → Type 0) → KeepsCalm course P → (i : ℕ) (x : Content) (w : World S) (c : Client) (read : Result Message ℕ)
+    → w.ending ≡ None → slice_get w.clients i ≡ Some c → HasContent w.sent x → decoded (bytes_of x) ≡ read → P w → P (client_hears w i c (reply_read read))
 live-client_hears course P k i x w c (Err at) on here has is p = k.tell w _ tt p
-live-client_hears course P k i x w c (Ok (Ask q)) on here has is p = k.tell w _ tt p
-live-client_hears course P k i x w c (Ok (Propose o)) on here has is p = k.tell w _ tt p
-live-client_hears course P k i x w c (Ok (Vote b)) on here has is p = k.tell w _ tt p
 live-client_hears course P k i x w c (Ok (Reply a)) on here has is p = k.hear w i c x a on here has is p
+live-client_hears course P k i x w c (Ok _) on here has is p = k.tell w _ tt p
 
 -- a client that is found hears bytes
-live-hears_bytes : {S : Type 0} (course : Course S) (P : World S → Type 0) → KeepsLive course P → (i : ℕ) (x : Content) (w : World S) (found : Option Client)
+live-hears_bytes : {S : Type 0} (course : Course S) (P : World S → Type 0) → KeepsCalm course P → (i : ℕ) (x : Content) (w : World S) (found : Option Client)
     → w.ending ≡ None → slice_get w.clients i ≡ found → HasContent w.sent x → P w → P (hears_bytes w i (bytes_of x) found)
 live-hears_bytes course P k i x w None on at has p = p
 live-hears_bytes course P k i x w (Some c) on at has p = live-client_hears course P k i x w c (decoded (bytes_of x)) on at has refl p
 
 -- the client at an index hears bytes
-live-client_takes : {S : Type 0} (course : Course S) (P : World S → Type 0) → KeepsLive course P → (i : ℕ) (x : Content) (w : World S) → HasContent w.sent x → P w → P (client_takes i (bytes_of x) w)
+live-client_takes : {S : Type 0} (course : Course S) (P : World S → Type 0) → KeepsCalm course P → (i : ℕ) (x : Content) (w : World S) → HasContent w.sent x → P w → P (client_takes i (bytes_of x) w)
 unfolding client_takes
 live-client_takes course P k i x w has p = either_by P (is_some w.ending) w _ (λ over. p) (λ on. live-hears_bytes course P k i x w (slice_get w.clients i) (none_is w.ending on) refl has p)
 
 -- a client asks, or tells that it is busy
-live-client_asks : {S : Type 0} (course : Course S) (P : World S → Type 0) → KeepsLive course P → (w : World S) (i : ℕ) (c : Client) (op : List ℕ) (waiting : Option Request)
+live-client_asks : {S : Type 0} (course : Course S) (P : World S → Type 0) → KeepsCalm course P → (w : World S) (i : ℕ) (c : Client) (op : List ℕ) (waiting : Option Request)
     → w.ending ≡ None → slice_get w.clients i ≡ Some c → c.waiting ≡ waiting → P w → P (client_asks w i c op waiting)
 live-client_asks course P k w i c op (Some q) on at is p = k.tell w _ tt p
 live-client_asks course P k w i c op None on at is p =
@@ -623,47 +673,47 @@ live-client_asks course P k w i c op None on at is p =
     (λ not_may. p)
 
 -- a client that is found asks
-live-ask_found : {S : Type 0} (course : Course S) (P : World S → Type 0) → KeepsLive course P → (w : World S) (i : ℕ) (op : List ℕ) (found : Option Client)
+live-ask_found : {S : Type 0} (course : Course S) (P : World S → Type 0) → KeepsCalm course P → (w : World S) (i : ℕ) (op : List ℕ) (found : Option Client)
     → w.ending ≡ None → slice_get w.clients i ≡ found → P w → P (ask_found w i op found)
 live-ask_found course P k w i op None on at p = p
 live-ask_found course P k w i op (Some c) on at p = either P (is_rogue w c.id) _ _ (k.tell w (outs.IdleClient c.id) tt p) (live-client_asks course P k w i c op c.waiting on at refl p)
 
 -- the client at an index asks
-live-asks : {S : Type 0} (course : Course S) (P : World S → Type 0) → KeepsLive course P → (i : ℕ) (op : List ℕ) (w : World S) → P w → P (asks i op w)
+live-asks : {S : Type 0} (course : Course S) (P : World S → Type 0) → KeepsCalm course P → (i : ℕ) (op : List ℕ) (w : World S) → P w → P (asks i op w)
 unfolding asks
 live-asks course P k i op w p = either_by P (is_some w.ending) w _ (λ over. p) (λ on. live-ask_found course P k w i op (slice_get w.clients i) (none_is w.ending on) refl p)
 
 -- a client sends its request once more, or tells that it is idle
-live-client_repeats : {S : Type 0} (course : Course S) (P : World S → Type 0) → KeepsLive course P → (w : World S) (i : ℕ) (c : Client) (waiting : Option Request)
+live-client_repeats : {S : Type 0} (course : Course S) (P : World S → Type 0) → KeepsCalm course P → (w : World S) (i : ℕ) (c : Client) (waiting : Option Request)
     → w.ending ≡ None → slice_get w.clients i ≡ Some c → c.waiting ≡ waiting → P w → P (client_repeats w c waiting)
 live-client_repeats course P k w i c None on at is p = k.tell w _ tt p
 live-client_repeats course P k w i c (Some q) on at is p = k.again w i c q on at is p
 
 -- a client that is found does
-live-repeat_found : {S : Type 0} (course : Course S) (P : World S → Type 0) → KeepsLive course P → (w : World S) (i : ℕ) (found : Option Client)
+live-repeat_found : {S : Type 0} (course : Course S) (P : World S → Type 0) → KeepsCalm course P → (w : World S) (i : ℕ) (found : Option Client)
     → w.ending ≡ None → slice_get w.clients i ≡ found → P w → P (repeat_found w found)
 live-repeat_found course P k w i None on at p = p
 live-repeat_found course P k w i (Some c) on at p = either P (is_rogue w c.id) _ _ (k.tell w (outs.IdleClient c.id) tt p) (live-client_repeats course P k w i c c.waiting on at refl p)
 
 -- the client at an index does
-live-repeats : {S : Type 0} (course : Course S) (P : World S → Type 0) → KeepsLive course P → (i : ℕ) (w : World S) → P w → P (repeats i w)
+live-repeats : {S : Type 0} (course : Course S) (P : World S → Type 0) → KeepsCalm course P → (i : ℕ) (w : World S) → P w → P (repeats i w)
 unfolding repeats
 live-repeats course P k i w p = either_by P (is_some w.ending) w _ (λ over. p) (λ on. live-repeat_found course P k w i (slice_get w.clients i) (none_is w.ending on) refl p)
 
 -- a client that is found learns of the greatest place that another knows
-live-learns : {S : Type 0} (course : Course S) (P : World S → Type 0) → KeepsLive course P → (w : World S) (j : ℕ) (d : Client) (i : ℕ) (found : Option Client)
+live-learns : {S : Type 0} (course : Course S) (P : World S → Type 0) → KeepsCalm course P → (w : World S) (j : ℕ) (d : Client) (i : ℕ) (found : Option Client)
     → w.ending ≡ None → slice_get w.clients j ≡ Some d → slice_get w.clients i ≡ found → P w → P (learns w d.seen i found)
 live-learns course P k w j d i None on other at p = p
 live-learns course P k w j d i (Some c) on other at p = k.learn w i j c d on at other p
 
 -- if the other is found
-live-learns_from : {S : Type 0} (course : Course S) (P : World S → Type 0) → KeepsLive course P → (w : World S) (j : ℕ) (found : Option Client) (i : ℕ)
+live-learns_from : {S : Type 0} (course : Course S) (P : World S → Type 0) → KeepsCalm course P → (w : World S) (j : ℕ) (found : Option Client) (i : ℕ)
     → w.ending ≡ None → slice_get w.clients j ≡ found → P w → P (learns_from w found i)
 live-learns_from course P k w j None i on other p = p
 live-learns_from course P k w j (Some d) i on other p = either P (is_rogue w d.id) _ _ (k.tell w (outs.IdleClient d.id) tt p) (live-learns course P k w j d i (slice_get w.clients i) on other refl p)
 
 -- a client is told of the greatest place that another knows
-live-tells : {S : Type 0} (course : Course S) (P : World S → Type 0) → KeepsLive course P → (from to : ℕ) (w : World S) → P w → P (tells from to w)
+live-tells : {S : Type 0} (course : Course S) (P : World S → Type 0) → KeepsCalm course P → (from to : ℕ) (w : World S) → P w → P (tells from to w)
 unfolding tells
 live-tells course P k from to w p = either_by P (is_some w.ending) w _ (λ over. p) (λ on. live-learns_from course P k w from (slice_get w.clients from) to (none_is w.ending on) refl p)
 
@@ -676,7 +726,7 @@ has_at (t ∷ sent) zero s at = inl (ap (λ (x : Sent). x.content) (some_equal t
 has_at (t ∷ sent) (suc i) s at = inr (has_at sent i s at)
 
 -- a content goes to whom it is for
-pub live-goes : {S : Type 0} (course : Course S) (P : World S → Type 0) → KeepsLive course P → (members : List ℕ) (w : World S) (x : Content) (to : Option Target) → HasContent w.sent x → P w
+pub live-goes : {S : Type 0} (course : Course S) (P : World S → Type 0) → KeepsCalm course P → (members : List ℕ) (w : World S) (x : Content) (to : Option Target) → HasContent w.sent x → P w
     → P (goes course members w (bytes_of x) to)
 live-goes course P k members w x None has p = p
 live-goes course P k members w x (Some targets.View) has p = live-give_all course P k members x w has p
@@ -684,42 +734,42 @@ live-goes course P k members w x (Some (targets.Node id)) has p = live-give_one 
 live-goes course P k members w x (Some (targets.Client id)) has p = live-client_takes course P k id x w has p
 
 -- the message behind the mark goes, if there is one
-live-flow_sent : {S : Type 0} (course : Course S) (P : World S → Type 0) → KeepsLive course P → (members : List ℕ) (w : World S) (found : Option Sent) → w.ending ≡ None → slice_get w.sent w.mark ≡ found → P w
+live-flow_sent : {S : Type 0} (course : Course S) (P : World S → Type 0) → KeepsCalm course P → (members : List ℕ) (w : World S) (found : Option Sent) → w.ending ≡ None → slice_get w.sent w.mark ≡ found → P w
     → P (flow_sent course members w found)
 live-flow_sent course P k members w None on at p = p
 live-flow_sent course P k members w (Some s) on at p =
     live-goes course P k members (record w { mark = w.mark + 1 }) s.content s.to (has_at w.sent w.mark s at) (k.mark w s on at p)
 
 -- one turn of a flow
-pub live-flow_once : {S : Type 0} (course : Course S) (P : World S → Type 0) → KeepsLive course P → (members : List ℕ) (w : World S) → P w → P (flow_once course members w)
+pub live-flow_once : {S : Type 0} (course : Course S) (P : World S → Type 0) → KeepsCalm course P → (members : List ℕ) (w : World S) → P w → P (flow_once course members w)
 unfolding flow_once
 live-flow_once course P k members w p = either_by P (is_some w.ending) w _ (λ over. p) (λ on. live-flow_sent course P k members w (slice_get w.sent w.mark) (none_is w.ending on) refl p)
 
 -- deliveries one by one
 
 -- the bytes of a content that was sent arrive at a member or a client
-live-arrives : {S : Type 0} (course : Course S) (P : World S → Type 0) → KeepsLive course P → (x : Content) (to : Party) (w : World S) → P w × HasContent w.sent x
+live-arrives : {S : Type 0} (course : Course S) (P : World S → Type 0) → KeepsCalm course P → (x : Content) (to : Party) (w : World S) → P w × HasContent w.sent x
     → P (arrives course (bytes_of x) to w) × HasContent (arrives course (bytes_of x) to w).sent x
 live-arrives {S = S} course P k x (parties.Member id) w p =
     let Q : World S → Type 0 = λ v. P v × HasContent v.sent x in
-    let kq : KeepsLive course Q = live-carries course P x k in
+    let kq : KeepsCalm course Q = live-carries course P x k in
     at_member-keeps Q (λ i v. node_takes course i (Arrive (bytes_of x)) v)
     (λ i v q. live-node_takes course Q kq i (Arrive (bytes_of x)) v (λ h at. record { content = x; spelled = refl; has = q.1 }) q) kq.tell id w p
 live-arrives {S = S} course P k x (parties.Client id) w p = live-client_takes course (λ (v : World S). P v × HasContent v.sent x) (live-carries course P x k) id x w p.1 p
 
 -- and at each of some
-live-arrives_at : {S : Type 0} (course : Course S) (P : World S → Type 0) → KeepsLive course P → (x : Content) (tos : List Party) (w : World S) → P w × HasContent w.sent x
+live-arrives_at : {S : Type 0} (course : Course S) (P : World S → Type 0) → KeepsCalm course P → (x : Content) (tos : List Party) (w : World S) → P w × HasContent w.sent x
     → P (arrives_at course (bytes_of x) tos w)
 live-arrives_at course P k x [] w p = p.0
 live-arrives_at course P k x (to ∷ tos) w p = live-arrives_at course P k x tos (arrives course (bytes_of x) to w) (live-arrives course P k x to w p)
 
-live-sent_arrives : {S : Type 0} (course : Course S) (P : World S → Type 0) → KeepsLive course P → (i : ℕ) (tos : List Party) (w : World S) (found : Option Sent) → slice_get w.sent i ≡ found → P w
+live-sent_arrives : {S : Type 0} (course : Course S) (P : World S → Type 0) → KeepsCalm course P → (i : ℕ) (tos : List Party) (w : World S) (found : Option Sent) → slice_get w.sent i ≡ found → P w
     → P (sent_arrives course tos w found)
 live-sent_arrives course P k i tos w None at p = p
 live-sent_arrives course P k i tos w (Some s) at p = live-arrives_at course P k s.content tos w (p, has_at w.sent i s at)
 
 -- the message of a number does
-live-give_number : {S : Type 0} (course : Course S) (P : World S → Type 0) → KeepsLive course P → (number : ℕ) (tos : List Party) (w : World S) → P w → P (give_number course number tos w)
+live-give_number : {S : Type 0} (course : Course S) (P : World S → Type 0) → KeepsCalm course P → (number : ℕ) (tos : List Party) (w : World S) → P w → P (give_number course number tos w)
 live-give_number course P k number tos w p = live-sent_arrives course P k (number - 1) tos w (slice_get w.sent (number - 1)) refl p
 
 -- who is idle accepts nothing
@@ -741,7 +791,7 @@ try_may w h Deliver may = tt
 try_may w h (Firm count) may = absurd may
 
 -- a node delivers, or time passes there, or it tells that it is idle
-live-host_tries : {S : Type 0} (course : Course S) (P : World S → Type 0) → KeepsLive course P → (event : NodeEvent) → MayTry event → (i : ℕ) (w : World S) (found : Option (Host S)) → w.ending ≡ None
+live-host_tries : {S : Type 0} (course : Course S) (P : World S → Type 0) → KeepsCalm course P → (event : NodeEvent) → MayTry event → (i : ℕ) (w : World S) (found : Option (Host S)) → w.ending ≡ None
     → slice_get w.hosts i ≡ found → P w → P (host_tries course event i w found)
 live-host_tries course P k event may i w None on at p = p
 live-host_tries course P k event may i w (Some h) on at p =
@@ -749,11 +799,11 @@ live-host_tries course P k event may i w (Some h) on at p =
     (λ up. live-telling_all course P k (stepped course w i h (course.step h.node event)) (told_idle h.node.id (course.step h.node event).fired) (idle-aside h.node.id (course.step h.node event).fired)
     (k.event w i h event on (is-up w h (not_false (is_up w h) up)) at (try_may w h event may) p))
 
-live-tries_at : {S : Type 0} (course : Course S) (P : World S → Type 0) → KeepsLive course P → (event : NodeEvent) → MayTry event → (i : ℕ) (w : World S) → P w → P (tries_at course event i w)
+live-tries_at : {S : Type 0} (course : Course S) (P : World S → Type 0) → KeepsCalm course P → (event : NodeEvent) → MayTry event → (i : ℕ) (w : World S) → P w → P (tries_at course event i w)
 unfolding tries_at
 live-tries_at course P k event may i w p = either_by P (is_some w.ending) w _ (λ over. p) (λ on. live-host_tries course P k event may i w (slice_get w.hosts i) (none_is w.ending on) refl p)
 
-live-tries_each : {S : Type 0} (course : Course S) (P : World S → Type 0) → KeepsLive course P → (event : NodeEvent) → MayTry event → (members : List ℕ) (w : World S) → P w
+live-tries_each : {S : Type 0} (course : Course S) (P : World S → Type 0) → KeepsCalm course P → (event : NodeEvent) → MayTry event → (members : List ℕ) (w : World S) → P w
     → P (tries_each course event members w)
 live-tries_each course P k event may [] w p = p
 live-tries_each course P k event may (m ∷ ms) w p =
@@ -799,7 +849,7 @@ clients-aside [] = tt
 clients-aside (c ∷ cs) =
     each_append IsAside (shown_client c) (flat_map shown_client cs) (either (λ (lines : List OutLine). Each IsAside lines) (nat_lt 0 c.last) (outs.Seen c.id c.seen ∷ []) [] (tt, tt) tt) (clients-aside cs)
 
-live-shows : {S : Type 0} (course : Course S) (P : World S → Type 0) → KeepsLive course P → (w : World S) → P w → P (shows w)
+live-shows : {S : Type 0} (course : Course S) (P : World S → Type 0) → KeepsCalm course P → (w : World S) → P w → P (shows w)
 live-shows course P k w p =
     live-telling_all course P k w (flat_map (shown_host w.faulty) w.hosts ++ flat_map shown_client w.clients)
     (each_append IsAside (flat_map (shown_host w.faulty) w.hosts) (flat_map shown_client w.clients) (hosts-aside w.faulty w.hosts) (clients-aside w.clients)) p
@@ -814,13 +864,6 @@ among-end (x ∷ ids) more id is = or_more (x == id) (is_among ids id) (is_among
     or_more : (t a b : Bool) → (a ≡ true → b ≡ true) → (t || a) ≡ true → (t || b) ≡ true
     or_more true a b more is = refl
     or_more false a b more is = more is
-
--- the play ends
-ends : {S : Type 0} (w : World S) (ending : Ending) → Declares w w.faulty w.rogue (Some ending)
-ends w ending = record { more_faulty = λ member is. is; more_rogue = λ client is. is; few = λ is. is; over = λ none. absurd (some_none none) }
-  where
-    some_none : Some ending ≡ None → ⊥
-    some_none same = cc
 
 -- a member is declared faulty, or too many are
 live-declares_faulty : {S : Type 0} (course : Course S) (P : World S → Type 0) → KeepsLive course P → (member : ℕ) (w : World S) → P w → P (declares_faulty member w)
@@ -850,29 +893,13 @@ are-bytes [] are i = omega arith
 are-bytes (b ∷ bs) are zero = ltb-true b 256 (and_true (nat_lt b 256) (are_bytes bs) are).0
 are-bytes (b ∷ bs) are (suc i) = are-bytes bs (and_true (nat_lt b 256) (are_bytes bs) are).1 i
 
--- bytes that a node does not read, a client does not either
-unread-none : (bytes : List ℕ) (at : ℕ) → IsBytes bytes → any_decoded bytes ≡ Err at → IsNone bytes
-unread-none bytes at are is = record { unread = record { at = at; unread = is }; unheard = λ m heard. other m heard }
-  where
-    other : (m : Message) → decoded bytes ≡ Ok m → ⊥
-    other m heard =
-        let read : Fits m × (bytes ≡ spelling m) = decoded_is bytes m are heard in
-        let own : any_decoded (spelling m) ≡ Ok (Plain m) = any_spelling_is (Plain m) read.0 in
-        let here : any_decoded bytes ≡ Ok (Plain m) = ap (λ (b : List ℕ). any_decoded b) read.1 ∙ own in
-        let both : Err at ≡ Ok (Plain m) = sym is ∙ here in
-        cc
-
-fit_parts : (m : AnyMessage) → FitsAny m → FitsParts m
-fit_parts (Plain m) fits = fits
-fit_parts (Change m) fits = fits.content_fits
-
-read-content : (bytes : List ℕ) (read : Result AnyMessage ℕ) → IsBytes bytes → any_decoded bytes ≡ read → IsRead (content_by bytes read)
-read-content bytes (Ok message) are is = fit_parts message (decoded_any_is bytes message are is).0
-read-content bytes (Err at) are is = unread-none bytes at are is
+read-content : (bytes : List ℕ) (read : Result Message ℕ) → IsBytes bytes → decoded bytes ≡ read → IsRead (content_by bytes read)
+read-content bytes (Ok message) are is = (decoded_is bytes message are is).0.content_fits
+read-content bytes (Err at) are is = record { at = at; unread = is }
 
 read-from : (bytes : List ℕ) (t : Bool) (x : Content) → are_bytes bytes ≡ t → cond t (Some (content_of bytes)) None ≡ Some x → IsRead x
 unfolding content_of
-read-from bytes true x are is = subst IsRead (some_equal (content_of bytes) x is) (read-content bytes (any_decoded bytes) (record { below = are-bytes bytes are }) refl)
+read-from bytes true x are is = subst IsRead (some_equal (content_of bytes) x is) (read-content bytes (decoded bytes) (record { below = are-bytes bytes are }) refl)
 read-from bytes false x are is = absurd (cc)
 
 read-found : (found : Option (List ℕ)) (x : Content) → option_and_then content_from found ≡ Some x → IsRead x
@@ -883,13 +910,13 @@ pub injected-read : (sent : List Sent) (form : Injection) (x : Content) → inje
 injected-read sent form x is = read-found (injected_bytes sent form) x is
 
 -- a content that is made is injected, unless it is forged
-live-injects_content : {S : Type 0} (course : Course S) (P : World S → Type 0) → KeepsLive course P → (w : World S) (found : Option Content) → w.ending ≡ None
+live-injects_content : {S : Type 0} (course : Course S) (P : World S → Type 0) → KeepsCalm course P → (w : World S) (found : Option Content) → w.ending ≡ None
     → ((x : Content) → found ≡ Some x → IsRead x) → P w → P (injects_content w found)
 live-injects_content course P k w None on read p = p
 live-injects_content course P k w (Some x) on read p =
-    either_by P (is_forged w.faulty w.rogue w.sent x) _ _ (λ forged. k.declare w w.faulty w.rogue (Some (Premise Forged)) on (ends w (Premise Forged)) p) (λ fine. k.inject w x on (read x refl) fine p)
+    either_by P (is_forged w.faulty w.rogue w.sent x) _ _ (λ forged. k.end w (Premise Forged) on p) (λ fine. k.inject w x on (read x refl) fine p)
 
-live-injects : {S : Type 0} (course : Course S) (P : World S → Type 0) → KeepsLive course P → (form : Injection) (w : World S) → P w → P (injects form w)
+live-injects : {S : Type 0} (course : Course S) (P : World S → Type 0) → KeepsCalm course P → (form : Injection) (w : World S) → P w → P (injects form w)
 unfolding injects
 live-injects course P k form w p =
     either_by P (is_some w.ending) w _ (λ over. p) (λ on. live-injects_content course P k w (injected w.sent form) (none_is w.ending on) (injected-read w.sent form) p)
@@ -897,73 +924,116 @@ live-injects course P k form w p =
 -- crashes
 
 -- a node stops, or what is left is no image
-live-crashes_with : {S : Type 0} (course : Course S) (P : World S → Type 0) → KeepsLives course P → (i : ℕ) (w : World S) (h : Host S) (left : Images) (wrong : Option stores.NotAnImage) → wrong_images h.store left ≡ wrong
+live-crashes_with : {S : Type 0} (course : Course S) (P : World S → Type 0) → KeepsCalmLives course P → (i : ℕ) (w : World S) (h : Host S) (left : Images) (wrong : Option stores.NotAnImage) → wrong_images h.store left ≡ wrong
     → w.ending ≡ None → IsUp w h → slice_get w.hosts i ≡ Some h → P w → P (crashes_with course i w h left wrong)
-live-crashes_with course P k i w h left None is on up at p = k.live.tell (with_host w i (host_crashed course h left)) (outs.Crashed h.node.id) tt (k.crash w i h left on up at (may_leave h.store left is) p)
-live-crashes_with course P k i w h left (Some wrong) is on up at p = k.live.declare w w.faulty w.rogue (Some (Premise (NotAnImage wrong))) on (ends w (Premise (NotAnImage wrong))) p
+live-crashes_with course P k i w h left None is on up at p = k.calm.tell (with_host w i (host_crashed course h left)) (outs.Crashed h.node.id) tt (k.crash w i h left on up at (may_leave h.store left is) p)
+live-crashes_with course P k i w h left (Some wrong) is on up at p = k.calm.end w (Premise (NotAnImage wrong)) on p
 
-live-host_crashes : {S : Type 0} (course : Course S) (P : World S → Type 0) → KeepsLives course P → (image : Image) (patches : List Patch) (i : ℕ) (w : World S) (found : Option (Host S)) → w.ending ≡ None
+live-host_crashes : {S : Type 0} (course : Course S) (P : World S → Type 0) → KeepsCalmLives course P → (image : Image) (patches : List Patch) (i : ℕ) (w : World S) (found : Option (Host S)) → w.ending ≡ None
     → slice_get w.hosts i ≡ found → P w → P (host_crashes course image patches i w found)
 live-host_crashes course P k image patches i w None on at p = p
 live-host_crashes course P k image patches i w (Some h) on at p =
     let left : Images = images_left image patches h.store in
     either_by P (is_up w h) _ w (λ up. live-crashes_with course P k i w h left (wrong_images h.store left) refl on (is-up w h up) at p) (λ not_up. p)
 
-live-crashes : {S : Type 0} (course : Course S) (P : World S → Type 0) → KeepsLives course P → (image : Image) (patches : List Patch) (i : ℕ) (w : World S) → P w → P (crashes course image patches i w)
+live-crashes : {S : Type 0} (course : Course S) (P : World S → Type 0) → KeepsCalmLives course P → (image : Image) (patches : List Patch) (i : ℕ) (w : World S) → P w → P (crashes course image patches i w)
 unfolding crashes
 live-crashes course P k image patches i w p =
     either_by P (is_some w.ending) w _ (λ over. p) (λ on. live-host_crashes course P k image patches i w (slice_get w.hosts i) (none_is w.ending on) refl p)
 
 -- a node goes on, unless what its devices hold is damaged
-live-resumes_from : {S : Type 0} (course : Course S) (P : World S → Type 0) → KeepsLives course P → (i : ℕ) (w : World S) (h : Host S) (damage : Option ℕ) → w.ending ≡ None → IsDown w h
+live-resumes_from : {S : Type 0} (course : Course S) (P : World S → Type 0) → KeepsCalmLives course P → (i : ℕ) (w : World S) (h : Host S) (damage : Option ℕ) → w.ending ≡ None → IsDown w h
     → slice_get w.hosts i ≡ Some h → P w → P (resumes_from course i w h (entries_left h) damage)
 live-resumes_from course P k i w h (Some entry) on down at p = p
-live-resumes_from course P k i w h None on down at p =
-    let n = node_resumed course w h in
-    k.live.tell (with_host w i (host_resumed h n)) (outs.Restarted h.node.id n.replica.place (length (entries_left h))) tt (k.resume w i h on down at p)
+live-resumes_from course P k i w h None on down at p = k.resume w i h on down at p
 
-live-host_resumes : {S : Type 0} (course : Course S) (P : World S → Type 0) → KeepsLives course P → (i : ℕ) (w : World S) (found : Option (Host S)) → w.ending ≡ None → slice_get w.hosts i ≡ found → P w
+live-host_resumes : {S : Type 0} (course : Course S) (P : World S → Type 0) → KeepsCalmLives course P → (i : ℕ) (w : World S) (found : Option (Host S)) → w.ending ≡ None → slice_get w.hosts i ≡ found → P w
     → P (host_resumes course i w found)
 live-host_resumes course P k i w None on at p = p
 live-host_resumes course P k i w (Some h) on at p =
     either_by P (h.up || is_gone w h.node.id) w _ (λ up. p)
     (λ down. live-resumes_from course P k i w h (damaged group_secret w.view (entries_left h)) on (or_parts h.up (is_gone w h.node.id) down) at p)
 
-live-resumes : {S : Type 0} (course : Course S) (P : World S → Type 0) → KeepsLives course P → (i : ℕ) (w : World S) → P w → P (resumes course i w)
+live-resumes : {S : Type 0} (course : Course S) (P : World S → Type 0) → KeepsCalmLives course P → (i : ℕ) (w : World S) → P w → P (resumes course i w)
 unfolding resumes
 live-resumes course P k i w p = either_by P (is_some w.ending) w _ (λ over. p) (λ on. live-host_resumes course P k i w (slice_get w.hosts i) (none_is w.ending on) refl p)
 
-live-restart_at : {S : Type 0} (course : Course S) (P : World S → Type 0) → KeepsLives course P → (i : ℕ) (w : World S) (found : Option (Host S)) → P w → P (restart_at course i w found)
+live-restart_at : {S : Type 0} (course : Course S) (P : World S → Type 0) → KeepsCalmLives course P → (i : ℕ) (w : World S) (found : Option (Host S)) → P w → P (restart_at course i w found)
 live-restart_at course P k i w None p = p
 live-restart_at course P k i w (Some h) p =
-    either P (is_gone w h.node.id) _ _ (k.live.tell w (outs.Absent h.node.id) tt p) (either P h.up _ _ (k.live.tell w (outs.Idle h.node.id) tt p) (live-resumes course P k i w p))
+    either P (is_gone w h.node.id) _ _ (k.calm.tell w (outs.Absent h.node.id) tt p) (either P h.up _ _ (k.calm.tell w (outs.Idle h.node.id) tt p) (live-resumes course P k i w p))
 
 -- lines
+
+-- a line that declares nobody
+abbrev pub IsCalm : Line → Type 0
+IsCalm lines.Nothing = Unit {0}
+IsCalm (lines.Ask client op) = Unit {0}
+IsCalm (lines.Again client) = Unit {0}
+IsCalm (lines.Tell from to) = Unit {0}
+IsCalm (lines.Flow members) = Unit {0}
+IsCalm (lines.Give number to) = Unit {0}
+IsCalm (lines.Deliver members) = Unit {0}
+IsCalm (lines.Tick members) = Unit {0}
+IsCalm (lines.Settle member) = Unit {0}
+IsCalm (lines.Disk member count) = Unit {0}
+IsCalm (lines.Crash member image patches) = Unit {0}
+IsCalm (lines.CrashAll image) = Unit {0}
+IsCalm (lines.Restart member) = Unit {0}
+IsCalm lines.RestartAll = Unit {0}
+IsCalm lines.SettleAll = Unit {0}
+IsCalm lines.Show = Unit {0}
+IsCalm (lines.Faulty member) = ⊥
+IsCalm (lines.Rogue client) = ⊥
+IsCalm (lines.Inject form) = Unit {0}
+
+-- what happens by it
+pub calm-line_played : {S : Type 0} (course : Course S) (P : World S → Type 0) → KeepsCalmLives course P → (w : World S) (line : Line) → IsCalm line → P w → P (line_played course w line)
+unfolding line_played
+calm-line_played course P k w lines.Nothing is p = p
+calm-line_played course P k w (lines.Ask client op) is p = live-asks course P k.calm client op w p
+calm-line_played course P k w (lines.Again client) is p = live-repeats course P k.calm client w p
+calm-line_played course P k w (lines.Tell from to) is p = live-tells course P k.calm from to w p
+calm-line_played course P k w (lines.Flow members) is p = until_rest_keeps P (flow_once course members) (live-flow_once course P k.calm members) (settle_all course members w) (live-settle_all course P k.calm members w p)
+calm-line_played course P k w (lines.Give number to) is p = live-give_number course P k.calm number to w p
+calm-line_played course P k w (lines.Deliver members) is p = live-tries_each course P k.calm Deliver tt members w p
+calm-line_played course P k w (lines.Tick members) is p = live-tries_each course P k.calm Tick tt members w p
+calm-line_played course P k w (lines.Settle member) is p = at_member-keeps P (settle course) (live-settle course P k.calm) k.calm.tell member w p
+calm-line_played course P k w (lines.Disk member count) is p =
+    at_member-keeps P (λ i v. repeated (calls_disk course i) count v) (λ i v q. repeated_keeps P (calls_disk course i) (live-calls_disk course P k.calm i) count v q) k.calm.tell member w p
+calm-line_played course P k w (lines.Crash member image patches) is p = at_member-keeps P (crashes course image patches) (live-crashes course P k image patches) k.calm.tell member w p
+calm-line_played course P k w (lines.CrashAll image) is p = each_from_keeps P (crashes course image []) (live-crashes course P k image []) (length w.hosts) 0 w p
+calm-line_played course P k w (lines.Restart member) is p =
+    at_index-keeps P (λ i v. restart_at course i v (slice_get v.hosts i)) (λ i v q. live-restart_at course P k i v (slice_get v.hosts i) q) w (host_index w.hosts member) p
+calm-line_played course P k w lines.RestartAll is p = each_from_keeps P (resumes course) (live-resumes course P k) (length w.hosts) 0 w p
+calm-line_played course P k w lines.SettleAll is p = live-settle_all course P k.calm [] w p
+calm-line_played course P k w lines.Show is p = live-shows course P k.calm w p
+calm-line_played course P k w (lines.Faulty member) is p = absurd is
+calm-line_played course P k w (lines.Rogue client) is p = absurd is
+calm-line_played course P k w (lines.Inject form) is p = live-injects course P k.calm form w p
 
 -- a line of a script
 pub live-line_played : {S : Type 0} (course : Course S) (P : World S → Type 0) → KeepsLives course P → (w : World S) (line : Line) → P w → P (line_played course w line)
 unfolding line_played
-live-line_played course P k w lines.Nothing p = p
-live-line_played course P k w (lines.Ask client op) p = live-asks course P k.live client op w p
-live-line_played course P k w (lines.Again client) p = live-repeats course P k.live client w p
-live-line_played course P k w (lines.Tell from to) p = live-tells course P k.live from to w p
-live-line_played course P k w (lines.Flow members) p = until_rest_keeps P (flow_once course members) (live-flow_once course P k.live members) (settle_all course members w) (live-settle_all course P k.live members w p)
-live-line_played course P k w (lines.Give number to) p = live-give_number course P k.live number to w p
-live-line_played course P k w (lines.Deliver members) p = live-tries_each course P k.live Deliver tt members w p
-live-line_played course P k w (lines.Tick members) p = live-tries_each course P k.live Tick tt members w p
-live-line_played course P k w (lines.Settle member) p = at_member-keeps P (settle course) (live-settle course P k.live) k.live.tell member w p
-live-line_played course P k w (lines.Disk member count) p =
-    at_member-keeps P (λ i v. repeated (calls_disk course i) count v) (λ i v q. repeated_keeps P (calls_disk course i) (live-calls_disk course P k.live i) count v q) k.live.tell member w p
-live-line_played course P k w (lines.Crash member image patches) p = at_member-keeps P (crashes course image patches) (live-crashes course P k image patches) k.live.tell member w p
-live-line_played course P k w (lines.CrashAll image) p = each_from_keeps P (crashes course image []) (live-crashes course P k image []) (length w.hosts) 0 w p
-live-line_played course P k w (lines.Restart member) p =
-    at_index-keeps P (λ i v. restart_at course i v (slice_get v.hosts i)) (λ i v q. live-restart_at course P k i v (slice_get v.hosts i) q) w (host_index w.hosts member) p
-live-line_played course P k w lines.RestartAll p = each_from_keeps P (resumes course) (live-resumes course P k) (length w.hosts) 0 w p
-live-line_played course P k w lines.SettleAll p = live-settle_all course P k.live [] w p
-live-line_played course P k w lines.Show p = live-shows course P k.live w p
+live-line_played course P k w lines.Nothing p = calm-line_played course P (calm_lives course P k) w lines.Nothing tt p
+live-line_played course P k w (lines.Ask client op) p = calm-line_played course P (calm_lives course P k) w (lines.Ask client op) tt p
+live-line_played course P k w (lines.Again client) p = calm-line_played course P (calm_lives course P k) w (lines.Again client) tt p
+live-line_played course P k w (lines.Tell from to) p = calm-line_played course P (calm_lives course P k) w (lines.Tell from to) tt p
+live-line_played course P k w (lines.Flow members) p = calm-line_played course P (calm_lives course P k) w (lines.Flow members) tt p
+live-line_played course P k w (lines.Give number to) p = calm-line_played course P (calm_lives course P k) w (lines.Give number to) tt p
+live-line_played course P k w (lines.Deliver members) p = calm-line_played course P (calm_lives course P k) w (lines.Deliver members) tt p
+live-line_played course P k w (lines.Tick members) p = calm-line_played course P (calm_lives course P k) w (lines.Tick members) tt p
+live-line_played course P k w (lines.Settle member) p = calm-line_played course P (calm_lives course P k) w (lines.Settle member) tt p
+live-line_played course P k w (lines.Disk member count) p = calm-line_played course P (calm_lives course P k) w (lines.Disk member count) tt p
+live-line_played course P k w (lines.Crash member image patches) p = calm-line_played course P (calm_lives course P k) w (lines.Crash member image patches) tt p
+live-line_played course P k w (lines.CrashAll image) p = calm-line_played course P (calm_lives course P k) w (lines.CrashAll image) tt p
+live-line_played course P k w (lines.Restart member) p = calm-line_played course P (calm_lives course P k) w (lines.Restart member) tt p
+live-line_played course P k w lines.RestartAll p = calm-line_played course P (calm_lives course P k) w lines.RestartAll tt p
+live-line_played course P k w lines.SettleAll p = calm-line_played course P (calm_lives course P k) w lines.SettleAll tt p
+live-line_played course P k w lines.Show p = calm-line_played course P (calm_lives course P k) w lines.Show tt p
 live-line_played course P k w (lines.Faulty member) p = live-declares_faulty course P k.live member w p
 live-line_played course P k w (lines.Rogue client) p = live-declares_rogue course P k.live client w p
-live-line_played course P k w (lines.Inject form) p = live-injects course P k.live form w p
+live-line_played course P k w (lines.Inject form) p = calm-line_played course P (calm_lives course P k) w (lines.Inject form) tt p
 
 -- all lines of a script
 pub live-world_after : {S : Type 0} (course : Course S) (P : World S → Type 0) → KeepsLives course P → ((w : World S) → P w → P (rested w)) → (w : World S) (ls : List Line) → P w → P (world_after course w ls)
@@ -989,7 +1059,7 @@ OwnWaits w = (i : ℕ) (c : Client) (q : Request) → slice_get w.clients i ≡ 
 
 -- what bytes are read as was sent
 abbrev pub Comes : List Sent → List ℕ → Type 0
-Comes sent bytes = (x : AnyMessage) → any_decoded bytes ≡ Ok x → HasMessage sent x
+Comes sent bytes = (x : Message) → decoded bytes ≡ Ok x → HasMessage sent x
 
 -- what may come to a node: bytes that are read as a message that was sent, or as none, and what is firm in its host's store
 abbrev pub MayRead : {S : Type 0} → World S → Host S → NodeEvent → Type 0
@@ -999,17 +1069,17 @@ MayRead w h Deliver = Unit {0}
 MayRead w h (Firm count) = Hears h count
 
 -- what holds of each message that was sent, holds of what bytes that come are read as
-pub comes-as : (sent : List Sent) (bytes : List ℕ) (R : Result AnyMessage ℕ → Type 0) → ((x : AnyMessage) → HasMessage sent x → R (Ok x)) → ((at : ℕ) → R (Err at)) → Comes sent bytes → R (any_decoded bytes)
-comes-as sent bytes R ok err comes = by (any_decoded bytes) comes
+pub comes-as : (sent : List Sent) (bytes : List ℕ) (R : Result Message ℕ → Type 0) → ((x : Message) → HasMessage sent x → R (Ok x)) → ((at : ℕ) → R (Err at)) → Comes sent bytes → R (decoded bytes)
+comes-as sent bytes R ok err comes = by (decoded bytes) comes
   where
-    by : (read : Result AnyMessage ℕ) → ((x : AnyMessage) → read ≡ Ok x → HasMessage sent x) → R read
+    by : (read : Result Message ℕ) → ((x : Message) → read ≡ Ok x → HasMessage sent x) → R read
     by (Ok x) has = ok x (has x refl)
     by (Err at) has = err at
 
 -- bytes past the limit are read as none
 
-long_by : (bytes : List ℕ) → 1048576 < length bytes → (read : Result (AnyMessage × Cut) ℕ) → any_at (record { at = 0; left = take 1048576 bytes }) ≡ read → IsUnread bytes
-unfolding any_decoded whole limited
+long_by : (bytes : List ℕ) → 1048576 < length bytes → (read : Result (Message × Cut) ℕ) → message_at (record { at = 0; left = take 1048576 bytes }) ≡ read → IsUnread bytes
+unfolding decoded whole limited
 long_by bytes long (Err e) is = record { at = e; unread = rw is refl }
 long_by bytes long (Ok x) is =
     let k : ℕ = length (take 1048576 bytes) - length x.1.left in
@@ -1030,99 +1100,43 @@ long_by bytes long (Ok x) is =
     take_most (suc n) (x ∷ xs) = omega (arith, take_most n xs)
 
 pub long_unread : (bytes : List ℕ) → 1048576 < length bytes → IsUnread bytes
-long_unread bytes long = long_by bytes long (any_at (record { at = 0; left = take 1048576 bytes })) refl
+long_unread bytes long = long_by bytes long (message_at (record { at = 0; left = take 1048576 bytes })) refl
 
--- a message whose parts have spellings has one, if it is not too long
-pub parts_fit : (m : AnyMessage) → FitsParts m → length (any_spelling m) ≤ 1048576 → FitsAny m
-parts_fit (Plain m) fits short = fits
-parts_fit (Change m) fits short = record { content_fits = fits; bytes_fit = short }
-
--- so it has if its bytes are read
-pub read_fits : (m y : AnyMessage) → FitsParts m → any_decoded (any_spelling m) ≡ Ok y → FitsAny m
-read_fits m y fits read = by (nat_le (length (any_spelling m)) 1048576) refl
+-- a message whose parts have spellings has one, if its bytes are read
+pub read_fits : (m y : Message) → FitsContent m → decoded (spelling m) ≡ Ok y → Fits m
+read_fits m y fits read = by (nat_le (length (spelling m)) 1048576) refl
   where
     apart : (at : ℕ) → Err at ≡ Ok y → ⊥
     apart at same = cc
 
-    by : (t : Bool) → nat_le (length (any_spelling m)) 1048576 ≡ t → FitsAny m
-    by true is = parts_fit m fits (leb-true (length (any_spelling m)) 1048576 is)
-    by false is = let none : IsUnread (any_spelling m) = long_unread (any_spelling m) (leb-false (length (any_spelling m)) 1048576 is) in absurd (apart none.at (sym none.unread ∙ read))
+    by : (t : Bool) → nat_le (length (spelling m)) 1048576 ≡ t → Fits m
+    by true is = record { content_fits = fits; bytes_fit = leb-true (length (spelling m)) 1048576 is }
+    by false is = let none : IsUnread (spelling m) = long_unread (spelling m) (leb-false (length (spelling m)) 1048576 is) in absurd (apart none.at (sym none.unread ∙ read))
 
 -- what the bytes of a content are read as is that content
-pub read_is : (x : Content) (y : AnyMessage) → IsRead x → any_decoded (bytes_of x) ≡ Ok y → x ≡ contents.Message y
+pub read_is : (x : Content) (y : Message) → IsRead x → decoded (bytes_of x) ≡ Ok y → x ≡ contents.Message y
 read_is (contents.Message x) y fits read =
-    let own : any_decoded (any_spelling x) ≡ Ok x = any_spelling_is x (read_fits x y fits read) in
+    let own : decoded (spelling x) ≡ Ok x = spelling_is x (read_fits x y fits read) in
     let same : x ≡ y = cc in
-    ap (λ (z : AnyMessage). contents.Message z) same
-read_is (contents.Raw bytes) y is read = let none : any_decoded bytes ≡ Err is.unread.at = is.unread.unread in absurd (cc)
+    ap (λ (z : Message). contents.Message z) same
+read_is (contents.Raw bytes) y is read = let none : decoded bytes ≡ Err is.at = is.unread in absurd (cc)
 
 -- and it has a spelling
-pub read_whole : (x : Content) (y : AnyMessage) → IsRead x → any_decoded (bytes_of x) ≡ Ok y → FitsAny y
+pub read_whole : (x : Content) (y : Message) → IsRead x → decoded (bytes_of x) ≡ Ok y → Fits y
 read_whole (contents.Message x) y fits read =
-    let whole : FitsAny x = read_fits x y fits read in
-    let own : any_decoded (any_spelling x) ≡ Ok x = any_spelling_is x whole in
+    let whole : Fits x = read_fits x y fits read in
+    let own : decoded (spelling x) ≡ Ok x = spelling_is x whole in
     let same : x ≡ y = cc in
-    subst (λ (z : AnyMessage). FitsAny z) same whole
-read_whole (contents.Raw bytes) y is read = let none : any_decoded bytes ≡ Err is.unread.at = is.unread.unread in absurd (cc)
-
--- a client reads no message that changes the regency
-
--- where no kind of a client's message stands, none is read
-no_kind : (k : ℕ) (c d : Cut) → is_kind k ≡ false → number_at w8 c ≡ Ok (k, d) → message_at c ≡ Err c.at
-unfolding message_at ranged
-no_kind k c d none read =
-    let kind : ranged is_kind (number_at w8) c ≡ Err c.at = bind_is (number_at w8 c) (λ x. cond (is_kind x.0) (Ok x) (Err c.at)) (k, d) read ∙ ap (λ t. cond t (Ok (k, d)) (Err c.at)) none in
-    ap (λ r. r >>= λ x. body_at x.0 x.1) kind
-
-none_decoded : (bytes : List ℕ) (at : ℕ) → message_at (record { at = 0; left = take 1048576 bytes }) ≡ Err at → decoded bytes ≡ Err at
-unfolding decoded whole limited
-none_decoded bytes at message = rw message refl
-
--- a front of two lists goes past the first
-take_past : (n : ℕ) (xs ys : List ℕ) → length xs ≤ n → take n (xs ++ ys) ≡ xs ++ take (n - length xs) ys
-take_past n [] ys le = let same : n - 0 ≡ n = omega arith in rw same refl
-take_past zero (x ∷ xs) ys le = absurd (omega (arith, le))
-take_past (suc n) (x ∷ xs) ys le =
-    let less : suc n - length (x ∷ xs) ≡ n - length xs = omega arith in
-    rw less (ap (λ (zs : List ℕ). x ∷ zs) (take_past n xs ys (omega (arith, le))))
-
-none_read : (bytes rest : List ℕ) (k : ℕ) → k < 2 ^ 8 → is_kind k ≡ false → length (u8 k) ≤ 1048576 → bytes ≡ u8 k ++ rest → (y : Message) → decoded bytes ≡ Ok y → ⊥
-none_read bytes rest k low none short is y read =
-    let c : Cut = record { at = 0; left = take 1048576 bytes } in
-    let d : Cut = record { at = 0 + length (u8 k); left = take (1048576 - length (u8 k)) rest } in
-    let left : take 1048576 bytes ≡ u8 k ++ take (1048576 - length (u8 k)) rest = ap (λ (bs : List ℕ). take 1048576 bs) is ∙ take_past 1048576 (u8 k) rest short in
-    let number : number_at w8 c ≡ Ok (k, d) = u8_law.again c k d low (record { left = left; at = refl }) in
-    let message : message_at c ≡ Err 0 = no_kind k c d none number in
-    apart 0 y (sym (none_decoded bytes 0 message) ∙ read)
-  where
-    apart : (at : ℕ) (y : Message) → Err at ≡ Ok y → ⊥
-    apart at y same = cc
-
-pub change-unheard : (m : RegencyMessage) (y : Message) → decoded (change_spelling m) ≡ Ok y → ⊥
-unfolding change_spelling
-change-unheard m y is = none_read (change_spelling m) (change_content m) (change_kind m) (kinds m).0 (kinds m).1 (omega arith) refl y is
-  where
-    kinds : (m : RegencyMessage) → (change_kind m < 2 ^ 8) × (is_kind (change_kind m) ≡ false)
-    kinds (changes.Stop s) = (omega arith, refl)
-    kinds (changes.StopData r) = (omega arith, refl)
-    kinds (changes.Sync s) = (omega arith, refl)
-
--- what a client reads the bytes of a content as is that content
-pub heard_is : (x : Content) (y : Message) → IsRead x → decoded (bytes_of x) ≡ Ok y → x ≡ contents.Message (Plain y)
-heard_is (contents.Message (Plain x)) y fits read = let own : decoded (spelling x) ≡ Ok x = spelling_is x fits in let same : x ≡ y = cc in ap (λ (z : Message). contents.Message (Plain z)) same
-heard_is (contents.Message (Change x)) y fits read = absurd (change-unheard x y read)
-heard_is (contents.Raw bytes) y is read = absurd (is.unheard y read)
+    subst (λ (z : Message). Fits z) same whole
+read_whole (contents.Raw bytes) y is read = let none : decoded bytes ≡ Err is.at = is.unread in absurd (cc)
 
 -- so it was sent where the content was
-pub read_has : {S : Type 0} (w : World S) (x : Content) (y : AnyMessage) → ReadsSent w → HasContent w.sent x → any_decoded (bytes_of x) ≡ Ok y → HasMessage w.sent y
+pub read_has : {S : Type 0} (w : World S) (x : Content) (y : Message) → ReadsSent w → HasContent w.sent x → decoded (bytes_of x) ≡ Ok y → HasMessage w.sent y
 read_has w x y reads has read = subst (λ (z : Content). HasContent w.sent z) (read_is x y (reads x has) read) has
-
-pub heard_has : {S : Type 0} (w : World S) (x : Content) (y : Message) → ReadsSent w → HasContent w.sent x → decoded (bytes_of x) ≡ Ok y → HasMessage w.sent (Plain y)
-heard_has w x y reads has read = subst (λ (z : Content). HasContent w.sent z) (heard_is x y (reads x has) read) has
 
 -- what may come is read where what was sent is
 pub may_read : {S : Type 0} (w : World S) (h : Host S) (event : NodeEvent) → ReadsSent w → MayCome w h event → MayRead w h event
-may_read w h (Arrive bytes) reads may = λ x read. read_has w may.content x reads may.has (sym (ap (λ b. any_decoded b) may.spelled) ∙ read)
+may_read w h (Arrive bytes) reads may = λ x read. read_has w may.content x reads may.has (sym (ap (λ b. decoded b) may.spelled) ∙ read)
 may_read w h Tick reads may = tt
 may_read w h Deliver reads may = tt
 may_read w h (Firm count) reads may = may

@@ -12,7 +12,6 @@ use Rattle.smart_statements.specs.Kinds.{answers}
 use Rattle.smart_statements.specs.Batches.{Batch}
 use Rattle.smart_statements.specs.declared.statement.Answer.{Answer}
 use Rattle.smart_messages.specs.declared.message.Message.TheVariants.{Ask, Propose, Vote, Reply}
-use Rattle.smart_messages.specs.declared.any.AnyMessage.TheVariants.{Plain, Change}
 use Rattle.smart_service.specs.Services.{Meaning}
 use Rattle.smart_service.specs.declared.replica.Replica.{Replica}
 use Rattle.vote_book.specs.Books.{last_made}
@@ -194,25 +193,22 @@ reached_kept {S = S} m w i h left place at may r reached =
 -- a member has given the reply that was accepted
 record Given (sent : List Sent) (a : Acceptance) (member : ℕ) : Type 0 where
   reply : SignedBy Answer
-  there : HasMessage sent (Plain (Reply reply))
+  there : HasMessage sent (Reply reply)
   tagged : is_verified answers group_secret reply ≡ true
   signer : reply.signer ≡ member
   place : reply.statement.place ≡ a.place
 
 given_in : (a : Acceptance) (member : ℕ) (x : Content) → is_reply_of member a x ≡ true
-    → (r : SignedBy Answer) × ((x ≡ contents.Message (Plain (Reply r))) × ((is_verified answers group_secret r ≡ true) × ((r.signer ≡ member) × (r.statement.place ≡ a.place))))
+    → (r : SignedBy Answer) × ((x ≡ contents.Message (Reply r)) × ((is_verified answers group_secret r ≡ true) × ((r.signer ≡ member) × (r.statement.place ≡ a.place))))
 given_in a member (contents.Raw bytes) is = absurd (cc)
-given_in a member (contents.Message (Change c)) is = absurd (cc)
-given_in a member (contents.Message (Plain (Ask q))) is = absurd (cc)
-given_in a member (contents.Message (Plain (Propose p))) is = absurd (cc)
-given_in a member (contents.Message (Plain (Vote b))) is = absurd (cc)
-given_in a member (contents.Message (Plain (Reply r))) is =
-    let one = and_true ((r.signer == member) && is_verified answers group_secret r) (is_reply a (Reply r)) is in
+given_in a member (contents.Message (Reply r)) is =
+    let one = and_true ((r.signer == member) && is_verified answers group_secret r) (is_reply a r) is in
     let two = and_true (r.signer == member) (is_verified answers group_secret r) one.0 in
     let six = and_true _ _ one.1 in
     let five = and_true _ _ six.0 in
     let four = and_true _ (r.statement.place == a.place) five.0 in
     (r, (refl, (two.1, (eqb-true r.signer member two.0, eqb-true r.statement.place a.place four.1))))
+given_in a member (contents.Message _) is = absurd (cc)
 
 given_by : (faulty : List ℕ) (sent : List Sent) (a : Acceptance) (member : ℕ) → has_replied faulty sent a member ≡ true → Given sent a member
 given_by faulty [] a member is = absurd (cc)

@@ -33,5 +33,10 @@ pub mod Replies
 pub mod Accepted
 pub mod Told
 pub mod Delivering
+pub mod Restarting
 pub mod Kept
+pub mod Declared
+pub mod ClientNames
+pub mod Growing
+pub mod Teaching
 pub mod OneListLaw

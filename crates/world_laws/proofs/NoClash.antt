@@ -6,8 +6,7 @@ use Rattle.std.specs.List.{list_any}
 use Rattle.smart_base.specs.Lists.{Each, same_bytes}
 use Rattle.smart_statements.specs.Batches.{Batch, batch_text, FitsBatch}
 use Rattle.smart_messages.specs.declared.message.Message.TheVariants.{Ask, Propose, Vote, Reply}
-use Rattle.smart_messages.specs.declared.regency.RegencyMessage.TheVariants as changes
-use Rattle.smart_messages.specs.declared.any.AnyMessage.TheVariants.{Plain, Change}
+use Rattle.smart_messages.specs.declared.message.Message.TheVariants as changes
 use Rattle.smart_statements.specs.SignedLists.{FitsOptional}
 use Rattle.replica_rules.specs.Seals.{digest_of}
 use Rattle.world_rules.specs.Premises.{met, clash, collides, batches}
@@ -19,6 +18,7 @@ use Rattle.world_laws.proofs.Keeps.{IsRead}
 use Rattle.smart_statements.proofs.Batches.{batch_is}
 use Rattle.vote_book.proofs.Tested.{same_bytes_is, same_bytes_self}
 use Rattle.std.proofs.lemmas.Bool.{or_parts}
+use Rattle.smart_messages.specs.Messages.{batch_in}
 
 -- a batch is among batches
 abbrev pub HasBatch : List Batch → Batch → Type 0
@@ -84,13 +84,7 @@ one_there (Some x) a b ha hb = elim ha [ inl here ↦ elim hb [ inl there ↦ sy
 
 -- a content has one batch at most
 one_batch : (x : Content) (a b : Batch) → HasBatch (batches x) a → HasBatch (batches x) b → a ≡ b
-one_batch (contents.Message (Plain (Ask q))) a b ha hb = absurd ha
-one_batch (contents.Message (Plain (Propose p))) a b ha hb = elim ha [ inl here ↦ elim hb [ inl there ↦ sym here ∙ there | inr none ↦ absurd none ] | inr none ↦ absurd none ]
-one_batch (contents.Message (Plain (Vote v))) a b ha hb = absurd ha
-one_batch (contents.Message (Plain (Reply r))) a b ha hb = absurd ha
-one_batch (contents.Message (Change (changes.Stop x))) a b ha hb = absurd ha
-one_batch (contents.Message (Change (changes.StopData r))) a b ha hb = one_there r.batch a b ha hb
-one_batch (contents.Message (Change (changes.Sync x))) a b ha hb = absurd ha
+one_batch (contents.Message m) a b ha hb = one_there (batch_in m) a b ha hb
 one_batch (contents.Raw bytes) a b ha hb = absurd ha
 
 -- a batch of a content that does not collide, and one met before
@@ -132,13 +126,9 @@ met-fits (s ∷ sent) batch each is =
     elim (has-either (batches s.content) (met sent) batch is) [ inl here ↦ in_fits s.content each.0 here | inr later ↦ met-fits sent batch each.1 later ]
   where
     in_fits : (x : Content) → IsRead x → HasBatch (batches x) batch → FitsBatch batch
-    in_fits (contents.Message (Plain (Ask q))) fits has = absurd has
-    in_fits (contents.Message (Plain (Propose p))) fits has = elim has [ inl here ↦ subst (λ (b : Batch). FitsBatch b) here fits.content_fits.1 | inr none ↦ absurd none ]
-    in_fits (contents.Message (Plain (Vote v))) fits has = absurd has
-    in_fits (contents.Message (Plain (Reply r))) fits has = absurd has
-    in_fits (contents.Message (Change (changes.Stop x))) fits has = absurd has
-    in_fits (contents.Message (Change (changes.StopData r))) fits has = there_fits r.batch batch fits.1 has
-    in_fits (contents.Message (Change (changes.Sync x))) fits has = absurd has
+    in_fits (contents.Message (Propose p)) fits has = elim has [ inl here ↦ subst (λ (b : Batch). FitsBatch b) here fits.1 | inr none ↦ absurd none ]
+    in_fits (contents.Message (changes.StopData r)) fits has = there_fits r.batch batch fits.1 has
+    in_fits (contents.Message _) fits has = absurd has
     in_fits (contents.Raw bytes) unread has = absurd has
 
 -- so batches that were met are one where their digests are

@@ -8,9 +8,8 @@ use Rattle.smart_statements.specs.Forms.{SignedBy}
 use Rattle.smart_statements.specs.Batches.{Batch}
 use Rattle.smart_statements.specs.declared.statement.Answer.{Answer}
 use Rattle.smart_messages.specs.declared.message.Message.TheVariants.{Ask, Propose, Vote, Reply}
-use Rattle.smart_messages.specs.declared.regency.RegencyMessage.TheVariants as changes
-use Rattle.smart_messages.specs.declared.any.AnyMessage.{AnyMessage}
-use Rattle.smart_messages.specs.declared.any.AnyMessage.TheVariants.{Plain, Change}
+use Rattle.smart_messages.specs.declared.message.Message.TheVariants as changes
+use Rattle.smart_messages.specs.declared.message.Message.{Message}
 use Rattle.smart_service.specs.Services.{Meaning}
 use Rattle.vote_book.specs.Books.{Among}
 use Rattle.agreement_laws.specs.Statements as statements
@@ -20,7 +19,7 @@ use Rattle.world_rules.specs.Premises.{is_among}
 use Rattle.world_rules.specs.Stated.{stated}
 use Rattle.world_rules.specs.Worlds.{course_of, Host, World, begun}
 use Rattle.world_rules.specs.Plays.{lines_told}
-use Rattle.world_laws.specs.Promises.{AreRepliesRight, IsAnswered, IsKept, IsRightStatement, OneList, OneListThroughout, world_at}
+use Rattle.world_laws.specs.Promises.{AreRepliesRight, IsAnswered, IsKept, IsRightStatement, numbers_from, OneList, OneListThroughout, world_at}
 use Rattle.world_rules.specs.declared.line.Line.{Line}
 use Rattle.world_laws.proofs.Keeps.{KeepsAll, keeps-world_after}
 use Rattle.world_laws.proofs.Kept.{all_recover, replied_kept}
@@ -40,7 +39,12 @@ use Rattle.world_laws.proofs.Asking.{ClientsRight, right-after}
 use Rattle.world_laws.proofs.Accepted.{AcceptedTold, Telling, executed-right, keeps-told, told-begun, accepted-right}
 use Rattle.replica_laws.specs.Lines.{IsExecuted}
 use Rattle.world_laws.proofs.Told.{lines-answered, lines-tell_all}
+use Rattle.world_laws.proofs.Declared.{faulty-declared, rogue-declared}
+use Rattle.world_laws.proofs.ClientNames.{numbers-after}
+use Rattle.world_laws.proofs.Growing.{sent-grows, accepted-grows, diaries-grow}
+use Rattle.world_laws.proofs.Teaching.{has-taught}
 use Rattle.world_laws.proofs.Delivering.{deliveries-told}
+use Rattle.world_laws.proofs.Restarting.{restarts-told}
 use Rattle.world_laws.proofs.Witnessing.{members_same}
 use Rattle.world_laws.proofs.Past.{past-known}
 use Rattle.smart_base.proofs.ViewFacts.{each-weaken}
@@ -78,14 +82,14 @@ asked_right_if : {S : Type 0} (m : Meaning S) (w : World S) (batch : Option Batc
 asked_right_if m w None = tt
 asked_right_if m w (Some batch) = asked_right m w batch
 
-right_message : {S : Type 0} (m : Meaning S) (w : World S) (x : AnyMessage) → RequestsAsked w → ReplyRight m w.view w.chosen x → Each (IsRightStatement m w) (said x)
-right_message m w (Plain (Ask q)) requests right = (tt, tt)
-right_message m w (Plain (Propose p)) requests right = (tt, asked_right m w p.batch)
-right_message m w (Plain (Vote b)) requests right = (tt, tt)
-right_message m w (Plain (Reply a)) requests right = (executed-right m w a.statement requests right, tt)
-right_message m w (Change (changes.Stop s)) requests right = (tt, tt)
-right_message m w (Change (changes.StopData r)) requests right = (tt, asked_right_if m w r.batch)
-right_message m w (Change (changes.Sync s)) requests right = (tt, tt)
+right_message : {S : Type 0} (m : Meaning S) (w : World S) (x : Message) → RequestsAsked w → ReplyRight m w.view w.chosen x → Each (IsRightStatement m w) (said x)
+right_message m w (Ask q) requests right = (tt, tt)
+right_message m w (Propose p) requests right = (tt, asked_right m w p.batch)
+right_message m w (Vote b) requests right = (tt, tt)
+right_message m w (Reply a) requests right = (executed-right m w a.statement requests right, tt)
+right_message m w (changes.Stop s) requests right = (tt, tt)
+right_message m w (changes.StopData r) requests right = (tt, asked_right_if m w r.batch)
+right_message m w (changes.Sync s) requests right = (tt, tt)
 
 -- what members have stated that are not faulty is right
 right_stated : {S : Type 0} (m : Meaning S) (w : World S) → Heard m w → RequestsAsked w → (s : Statement) (member : ℕ) → Among s (stated w.sent) → signer_of s ≡ Member member → is_among w.faulty member ≡ false
@@ -124,10 +128,11 @@ told_right-at m brief view is ls k =
     ((((chosen-begun m view is, borne-begun m view), replies-begun m view), replied-begun m view), told-begun m view)
 
 -- one list holds after each line of a script
-one_list-of : {S : Type 0} (m : Meaning S) (w : World S) → RequestsAsked w → ClientsRight w → ToldRight m w → OneList m w
-one_list-of m w requests clients is =
+one_list-of : {S : Type 0} (m : Meaning S) (w : World S) → RequestsAsked w → ClientsRight w → map (λ c. c.id) w.clients ≡ numbers_from 1025 0 → ToldRight m w → OneList m w
+one_list-of m w requests clients numbers is =
     record {
       members = is.0.0.0.0.1.ids;
+      clients = numbers;
       hosts = chosen-prefix m w is.0.0.0.0;
       replied = all_replies_right m w is.0 requests;
       recovers = all_recover m w is.0.0.0.0;
@@ -140,7 +145,7 @@ one_list-of m w requests clients is =
 
 pub one_list-at : {S : Type 0} (m : Meaning S) → IsBrief m → (view : View) → is_view view ≡ true → (ls : List Line) (k : ℕ) → OneList m (world_at m view ls k)
 one_list-at m brief view is ls k =
-    one_list-of m (world_at m view ls k) (asked-after m brief view (take k ls) is) (right-after m (course_of m) view (take k ls)) (told_right-at m brief view is ls k)
+    one_list-of m (world_at m view ls k) (asked-after m brief view (take k ls) is) (right-after m (course_of m) view (take k ls)) (numbers-after m view (take k ls)) (told_right-at m brief view is ls k)
 
 -- each line that told of an accepted reply until then tells its answer
 pub told-at : {S : Type 0} (m : Meaning S) → IsBrief m → (view : View) → is_view view ≡ true → (ls : List Line) (k : ℕ)
@@ -152,10 +157,17 @@ pub one_list-throughout : {S : Type 0} (m : Meaning S) → IsBrief m → (view :
 one_list-throughout m brief view is ls = record {
   one_list = one_list-at m brief view is ls;
   viewed = λ k. view-stays m (begun m view) (take k ls);
+  faulty = faulty-declared m view ls;
+  rogue = rogue-declared m view ls;
   grows = list-grows m view ls;
+  sent_grows = sent-grows m view ls;
+  accepted_grows = accepted-grows m view ls;
+  diaries_grow = diaries-grow m view ls;
   told = told-at m brief view is ls;
   told_all = λ k. lines-tell_all m view (take k ls);
   told_deliveries = λ k. deliveries-told m view (take k ls) is;
+  told_restarts = λ k. restarts-told m brief view (take k ls) is;
+  taught = has-taught m view ls;
   past_known = past-known m view ls;
   witnessed = λ k. witnessed-after m brief view (take k ls) is;
 }

@@ -217,7 +217,7 @@ front_more (l ∷ ls) (suc j) (suc k) le =
     (later.0, ap (λ (xs : List Line). l ∷ xs) later.1)
 
 -- the world after the longer is the one after more lines behind the shorter
-world-more : {S : Type 0} (m : Meaning S) (view : View) (ls : List Line) (j k : ℕ) → j ≤ k → (more : List Line) × (world_at m view ls k ≡ world_after (course_of m) (world_at m view ls j) more)
+pub world-more : {S : Type 0} (m : Meaning S) (view : View) (ls : List Line) (j k : ℕ) → j ≤ k → (more : List Line) × (world_at m view ls k ≡ world_after (course_of m) (world_at m view ls j) more)
 world-more m view ls j k le =
     let front = front_more ls j k le in
     (front.0, ap (λ xs. world_after (course_of m) (begun m view) xs) front.1 ∙ world_after-append (course_of m) (begun m view) (take j ls) front.0)

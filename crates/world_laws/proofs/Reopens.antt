@@ -1,6 +1,5 @@
 -- A node that goes on after a crash: it delivers in order, what it holds has a spelling, and what it will send rests on its book.
-use Rattle.std.proofs.Common.{◌≡◌, ℕ, ◌+◌, ◌^◌, ◌<◌, ◌==◌, true, false, List, [], ◌∷◌, length, arith, ap, subst, sym, refl}
-use Rattle.std.proofs.lemmas.List.{take_all}
+use Rattle.std.proofs.Common.{◌≡◌, ℕ, ◌+◌, ◌^◌, ◌<◌, ◌==◌, true, false, List, [], ◌∷◌, length, arith, subst, sym, refl}
 use Rattle.smart_base.specs.Lists.{Each}
 use Rattle.smart_base.specs.Views.{View, is_view, present}
 use Rattle.smart_statements.specs.Batches.{Batch, FitsBatch}
@@ -13,46 +12,21 @@ use Rattle.vote_book.specs.declared.entry.LogEntry.TheVariants.{Opened, Wrote, A
 use Rattle.replica_rules.specs.Replicas.{at_next, delivered, executed_lines, after_batches, empty, state}
 use Rattle.agreement_laws.specs.Statements.{Statement}
 use Rattle.node_rules.specs.Nodes.{Node, regency_in, greatest_regency, regency_of}
-use Rattle.node_rules.specs.Reopening.{decided_of, reopened, stopped}
+use Rattle.node_rules.specs.Reopening.{decided_of, reopened}
 use Rattle.node_rules.specs.Steps.{opened}
 use Rattle.node_laws.proofs.Reopened.{reopened_is, sound_reopened}
 use Rattle.node_laws.specs.Restored.{IsSoundBook}
 use Rattle.node_laws.specs.Sound.{IsSound}
-use Rattle.replica_laws.specs.Books.{DeliversInOrder}
 use Rattle.replica_laws.proofs.Again.{each-delivered}
 use Rattle.replica_laws.proofs.Executions.{state-views}
-use Rattle.replica_laws.proofs.InOrder.{get-past}
+use Rattle.replica_laws.proofs.Resumed.{going}
 use Rattle.replica_laws.proofs.Onward.{NodeRests}
 use Rattle.replica_laws.proofs.FitNodes.{FitNode, FitsLine, IsBrief, fit-as, lines_of-fit, view-low}
 use Rattle.replica_laws.proofs.FitNodes as nodes
 use Rattle.replica_laws.proofs.FitBooks.{FitBook, spelled-opened}
 use Rattle.agreement_laws.proofs.Lists.{either}
 use Rattle.replica_rules.proofs.Coming.{valid_delivered, valid_state}
-use Rattle.replica_rules.proofs.Places.{state_place, views_delivered, place_delivered}
-
--- the node that goes on from some entries
-going : {S : Type 0} → Meaning S → List ℕ → ℕ → View → List LogEntry → Node S
-going m secret id view es = record (stopped m secret id view) { entries = es; replica = state m view (decided_of es); restored = length es; firm = length es }
-
--- ---- what it has delivered
-
-going_order : {S : Type 0} (m : Meaning S) (secret : List ℕ) (id : ℕ) (view : View) (es : List LogEntry) → DeliversInOrder m view (going m secret id view es)
-unfolding going
-going_order {S = S} m secret id view es =
-    let ds : List Batch = decided_of es in
-    let at : (state m view ds).place ≡ length ds = state_place m view ds in
-    record {
-      replica = ap (λ (bs : List Batch). state m view bs) (sym (take_all (state m view ds).place ds (omega (arith, at))));
-      waiting = sym (get-past ds (state m view ds).place (omega (arith, at)));
-      count = sym at;
-    }
-
-pub order_reopened : {S : Type 0} (m : Meaning S) (secret : List ℕ) (id : ℕ) (view : View) (period : ℕ) (entries : List LogEntry)
-    → DeliversInOrder m view (reopened m secret id view period entries)
-unfolding reopened going
-order_reopened m secret id view period [] = record { replica = refl; waiting = refl; count = refl }
-order_reopened {S = S} m secret id view period (e ∷ es) =
-    subst (λ (n : Node S). DeliversInOrder m view n) (sym (reopened_is m secret id view period e es)) (going_order m secret id view (e ∷ es))
+use Rattle.replica_rules.proofs.Places.{views_delivered, place_delivered}
 
 -- ---- what has a spelling
 

@@ -31,12 +31,11 @@ use Rattle.world_rules.specs.declared.message.Origin.TheVariants as origins
 use Rattle.world_rules.specs.declared.message.Sent.{Sent}
 use Rattle.world_laws.specs.Sending.{IsOwnSent, is_reply, is_of, is_for, is_reply_of, has_replied, QuorumReplied, QuorumsReplied}
 use Rattle.world_laws.proofs.Lists.{each_set, each_get}
-use Rattle.world_laws.proofs.Keeps.{HasContent, HasMessage, ask_of, asked_by, by-posts, keeps-sends_all, has_end, heard_has, KeepsAll, keeps-world_after, signed_by, from_node, from_client, from_script}
+use Rattle.world_laws.proofs.Keeps.{HasContent, HasMessage, ask_of, asked_by, by-posts, keeps-sends_all, has_end, read_has, KeepsAll, keeps-world_after, signed_by, from_node, from_client, from_script}
 use Rattle.replica_laws.proofs.FitNodes.{IsBrief}
 use Rattle.agreement_laws.proofs.Lists.{each_among, each_end, or_true}
 use Rattle.world_laws.proofs.Hearing.{accepts_waiting}
 use Rattle.world_laws.proofs.Given.{IsKept, ClientKeeps, filter_more, keeps_heard, quorum_gave}
-use Rattle.smart_messages.specs.declared.any.AnyMessage.TheVariants.{Plain}
 use Rattle.vote_book.specs.Books.{Among}
 use Rattle.vote_book.proofs.Tested.{among_any}
 use Rattle.world_rules.specs.Stated.{stated}
@@ -55,14 +54,14 @@ abbrev pub RightBorne : {S : Type 0} → Meaning S → World S → Type 0
 RightBorne m w = ChosenRight m w × Borne w
 
 -- a reply that was sent, with its signer's tag, has been stated
-pub reply_there : (sent : List Sent) (r : SignedBy Answer) → HasMessage sent (Plain (Reply r)) → is_verified answers group_secret r ≡ true → Among (statements.Replied r) (stated sent)
+pub reply_there : (sent : List Sent) (r : SignedBy Answer) → HasMessage sent (Reply r) → is_verified answers group_secret r ≡ true → Among (statements.Replied r) (stated sent)
 reply_there sent r has tagged =
-    content_stated sent (contents.Message (Plain (Reply r))) (statements.Replied r) has
-    (says_message (Plain (Reply r)) (statements.Replied r) (statements.Replied r) (inl refl) (inl refl) tagged)
+    content_stated sent (contents.Message (Reply r)) (statements.Replied r) has
+    (says_message (Reply r) (statements.Replied r) (statements.Replied r) (inl refl) (inl refl) tagged)
 
 -- a reply that was sent
 abbrev pub WasSent : List Sent → SignedBy Answer → Type 0
-WasSent sent r = HasMessage sent (Plain (Reply r))
+WasSent sent r = HasMessage sent (Reply r)
 
 -- clients keep replies that were sent, and what they accepted a quorum has sent, but for those that are faulty
 pub record Replied {S : Type 0} (w : World S) : Type 0 where
@@ -110,7 +109,7 @@ replied-posts {S = S} w s is =
     (λ free room. record {
       clients = each-weaken (ClientKeeps (WasSent w.sent)) (ClientKeeps (WasSent (w.sent ++ s ∷ [])))
           (λ c kept. each-weaken (IsKept (WasSent w.sent) c.waiting) (IsKept (WasSent (w.sent ++ s ∷ [])) c.waiting)
-          (λ r k. record { given = has_end w.sent s (contents.Message (Plain (Reply r))) k.given; tagged = k.tagged; waited_for = k.waited_for }) c.replies kept) w.clients is.clients;
+          (λ r k. record { given = has_end w.sent s (contents.Message (Reply r)) k.given; tagged = k.tagged; waited_for = k.waited_for }) c.replies kept) w.clients is.clients;
       accepted = each-weaken (QuorumReplied w.view w.faulty w.sent) (QuorumReplied w.view w.faulty (w.sent ++ s ∷ [])) (quorum_more w.view w.faulty w.sent s) w.accepted is.accepted;
     })
 
@@ -137,22 +136,22 @@ holds (s ∷ sent) x has =
     ]
 
 -- a reply of a member's own is for the client that it names
-own_for : (id : ℕ) (to : Option Target) (r : SignedBy Answer) (client : ℕ) → IsOwnSent (origins.Node id) to (contents.Message (Plain (Reply r))) → r.statement.client ≡ client → is_for client to ≡ true
+own_for : (id : ℕ) (to : Option Target) (r : SignedBy Answer) (client : ℕ) → IsOwnSent (origins.Node id) to (contents.Message (Reply r)) → r.statement.client ≡ client → is_for client to ≡ true
 own_for id None r client own same = absurd own
 own_for id (Some to) r client own same = subst (λ (t : Target). is_for client (Some t) ≡ true) (sym own.1) (eq-eqb r.statement.client client same)
 
 -- where what was sent is read, each one's own and not forged, a member whose reply was sent has sent it, or it is faulty
-sent_reply : {S : Type 0} (m : Meaning S) (w : World S) (r : SignedBy Answer) (a : Acceptance) → RightBorne m w → HasMessage w.sent (Plain (Reply r)) → is_verified answers group_secret r ≡ true
-    → r.statement.client ≡ a.request.client → is_reply a (Reply r) ≡ true → has_replied w.faulty w.sent a r.signer ≡ true
+sent_reply : {S : Type 0} (m : Meaning S) (w : World S) (r : SignedBy Answer) (a : Acceptance) → RightBorne m w → HasMessage w.sent (Reply r) → is_verified answers group_secret r ≡ true
+    → r.statement.client ≡ a.request.client → is_reply a r ≡ true → has_replied w.faulty w.sent a r.signer ≡ true
 sent_reply {S = S} m w r a right has tagged client is = by (is_among w.faulty r.signer) refl
   where
     test : Sent → Bool
     test s = is_reply_of r.signer a s.content && (is_among w.faulty r.signer || (is_of r.signer s.origin && is_for a.request.client s.to))
 
-    reply : is_reply_of r.signer a (contents.Message (Plain (Reply r))) ≡ true
-    reply = and_from ((r.signer == r.signer) && is_verified answers group_secret r) (is_reply a (Reply r)) (and_from (r.signer == r.signer) (is_verified answers group_secret r) (eq-eqb r.signer r.signer refl) tagged) is
+    reply : is_reply_of r.signer a (contents.Message (Reply r)) ≡ true
+    reply = and_from ((r.signer == r.signer) && is_verified answers group_secret r) (is_reply a r) (and_from (r.signer == r.signer) (is_verified answers group_secret r) (eq-eqb r.signer r.signer refl) tagged) is
 
-    passes : (s : Sent) → s.content ≡ contents.Message (Plain (Reply r)) → (is_among w.faulty r.signer || (is_of r.signer s.origin && is_for a.request.client s.to)) ≡ true → test s ≡ true
+    passes : (s : Sent) → s.content ≡ contents.Message (Reply r) → (is_among w.faulty r.signer || (is_of r.signer s.origin && is_for a.request.client s.to)) ≡ true → test s ≡ true
     passes s same fine =
         and_from (is_reply_of r.signer a s.content) (is_among w.faulty r.signer || (is_of r.signer s.origin && is_for a.request.client s.to))
         (subst (λ (x : Content). is_reply_of r.signer a x ≡ true) (sym same) reply) fine
@@ -160,9 +159,9 @@ sent_reply {S = S} m w r a right has tagged client is = by (is_among w.faulty r.
     mine : NodeStates w.sent r.signer (statements.Replied r) → has_replied w.faulty w.sent a r.signer ≡ true
     mine source =
         let s : Sent = source.message in
-        let same : s.content ≡ contents.Message (Plain (Reply r)) = reply_content s.content r source.states in
+        let same : s.content ≡ contents.Message (Reply r) = reply_content s.content r source.states in
         let own : IsOwnSent s.origin s.to s.content = each_among (λ (t : Sent). IsOwnSent t.origin t.to t.content) w.sent s right.1.sent.own source.there in
-        let own_node : IsOwnSent (origins.Node r.signer) s.to (contents.Message (Plain (Reply r))) =
+        let own_node : IsOwnSent (origins.Node r.signer) s.to (contents.Message (Reply r)) =
         subst (λ (x : Content). IsOwnSent (origins.Node r.signer) s.to x) same (subst (λ (o : Origin). IsOwnSent o s.to s.content) source.from own) in
         among_any test s w.sent source.there
         (passes s same
@@ -173,14 +172,14 @@ sent_reply {S = S} m w r a right has tagged client is = by (is_among w.faulty r.
 
     by : (t : Bool) → is_among w.faulty r.signer ≡ t → has_replied w.faulty w.sent a r.signer ≡ true
     by true breaks =
-        let held : Holds w.sent (contents.Message (Plain (Reply r))) = holds w.sent (contents.Message (Plain (Reply r))) has in
+        let held : Holds w.sent (contents.Message (Reply r)) = holds w.sent (contents.Message (Reply r)) has in
         among_any test held.message w.sent held.there
         (passes held.message held.is (or_left (is_among w.faulty r.signer) (is_of r.signer held.message.origin && is_for a.request.client held.message.to) breaks))
     by false correct =
         mine (member_states w r.signer r right.0.0.0.fit.sent right.1.sent.own right.0.0.1 correct refl (reply_there w.sent r has tagged))
 
 -- so of what a client accepts, a quorum has
-accepted_heard : {S : Type 0} (m : Meaning S) (w : World S) (c : Client) (a : SignedBy Answer) (h : Heard) → heard w.view c a ≡ h → RightBorne m w → HasMessage w.sent (Plain (Reply a))
+accepted_heard : {S : Type 0} (m : Meaning S) (w : World S) (c : Client) (a : SignedBy Answer) (h : Heard) → heard w.view c a ≡ h → RightBorne m w → HasMessage w.sent (Reply a)
     → ClientKeeps (WasSent w.sent) c → Each (QuorumReplied w.view w.faulty w.sent) w.accepted → Each (QuorumReplied w.view w.faulty w.sent) (w.accepted ++ acceptance_in h)
 accepted_heard m w c a (hears.Counted count need) is right has kept each = rw append-nil each
 accepted_heard m w c a (hears.Ignored why) is right has kept each = rw append-nil each
@@ -190,7 +189,7 @@ accepted_heard m w c a (hears.Accepted acc) is right has kept each =
     (accepts_waiting w.view c a acc is))
 
 -- a client hears a reply that was sent
-replied-hearing : {S : Type 0} (m : Meaning S) (w : World S) (i : ℕ) (c : Client) (a : SignedBy Answer) → slice_get w.clients i ≡ Some c → HasMessage w.sent (Plain (Reply a)) → RightBorne m w → Replied w
+replied-hearing : {S : Type 0} (m : Meaning S) (w : World S) (i : ℕ) (c : Client) (a : SignedBy Answer) → slice_get w.clients i ≡ Some c → HasMessage w.sent (Reply a) → RightBorne m w → Replied w
     → Replied (hearing w i c a (heard w.view c a))
 unfolding hearing
 replied-hearing m w i c a at has right is =
@@ -214,7 +213,7 @@ keeps-replied m P right k =
         crash = λ w i h left up at may p. (k.kept.crash w i h left up at may p.0, record { clients = p.1.clients; accepted = p.1.accepted });
         hear = λ w i c x a at has read p. (
           k.kept.hear w i c x a at has read p.0,
-          replied-hearing m w i c a at (heard_has w x (Reply a) (right-reads m w (right w p.0).0) has read) (right w p.0) p.1,
+          replied-hearing m w i c a at (read_has w x (Reply a) (right-reads m w (right w p.0).0) has read) (right w p.0) p.1,
         );
         ask = λ w i c op at free low brief p. (
           k.kept.ask w i c op at free low brief p.0,

@@ -6,7 +6,7 @@ use Rattle.smart_base.specs.Views.{View}
 use Rattle.smart_statements.specs.Forms.{SignedBy}
 use Rattle.smart_statements.specs.Batches.{Batch}
 use Rattle.smart_statements.specs.declared.statement.Answer.{Answer}
-use Rattle.smart_messages.specs.declared.any.AnyMessage.{AnyMessage}
+use Rattle.smart_messages.specs.declared.message.Message.{Message}
 use Rattle.smart_service.specs.Services.{Meaning}
 use Rattle.vote_book.specs.declared.entry.LogEntry.{LogEntry}
 use Rattle.node_rules.specs.Nodes.{Node, next_place}
@@ -35,6 +35,7 @@ use Rattle.replica_laws.specs.Lines.{ReplyRight, HeldRight, IsExecuted}
 use Rattle.replica_laws.proofs.Telling.{Along, right-more, held-step}
 use Rattle.node_laws.proofs.Passes.{each_staying}
 use Rattle.smart_base.proofs.ViewFacts.{each-weaken}
+use Rattle.node_rules.specs.declared.node.Asked.{Asked}
 
 -- so does what a node sends. Of what clients send and scripts inject nothing is said
 abbrev pub ContentRight : {S : Type 0} → Meaning S → View → List Batch → Content → Type 0
@@ -54,7 +55,7 @@ pub record RepliesRight {S : Type 0} (m : Meaning S) (w : World S) : Type 0 wher
 -- a list that grows
 
 -- what a reply tells stays told where a batch is chosen
-right-chosen : {S : Type 0} (m : Meaning S) (v : View) (chosen : List Batch) (place : ℕ) (waiting : Option Batch) (x : AnyMessage) → ReplyRight m v chosen x
+right-chosen : {S : Type 0} (m : Meaning S) (v : View) (chosen : List Batch) (place : ℕ) (waiting : Option Batch) (x : Message) → ReplyRight m v chosen x
     → ReplyRight m v (chosen_with chosen place waiting) x
 right-chosen m v chosen place None x right = right
 right-chosen m v chosen place (Some batch) x right =
@@ -81,7 +82,7 @@ right-posts {S = S} m w s right r =
     (λ free room. record { sent = each_end (λ (t : Sent). RightFrom m w.view w.chosen t.origin t.content) w.sent s r.sent right; held = r.held })
 
 -- the view and the list stay where more is sent
-same_list-posts : {S : Type 0} (m : Meaning S) (w : World S) (s : Sent) (x : AnyMessage) → ReplyRight m w.view w.chosen x → ReplyRight m (posts w s).view (posts w s).chosen x
+same_list-posts : {S : Type 0} (m : Meaning S) (w : World S) (s : Sent) (x : Message) → ReplyRight m w.view w.chosen x → ReplyRight m (posts w s).view (posts w s).chosen x
 same_list-posts {S = S} m w s x right = by-posts (λ (v : World S). ReplyRight m v.view v.chosen x) w s (λ ending. right) (λ free room. right)
 
 -- right messages leave
@@ -101,7 +102,7 @@ right-stepped : {S : Type 0} (course : Course S) (m : Meaning S) (w : World S) (
 unfolding stepped
 right-stepped {S = S} course m w i h o held r =
     let chosen : List Batch = chosen_with w.chosen (next_place o.node) o.node.waiting in
-    let more : (x : AnyMessage) → ReplyRight m w.view w.chosen x → ReplyRight m w.view chosen x = right-chosen m w.view w.chosen (next_place o.node) o.node.waiting in
+    let more : (x : Message) → ReplyRight m w.view w.chosen x → ReplyRight m w.view chosen x = right-chosen m w.view w.chosen (next_place o.node) o.node.waiting in
     let all : Each (λ (x : Held). ReplyRight m w.view chosen x.message) o.node.held =
     each-weaken (λ (x : Held). ReplyRight m w.view w.chosen x.message) (λ (x : Held). ReplyRight m w.view chosen x.message) (λ x. more x.message) o.node.held held in
     right-sends_all m h.node.id _ (leaving o.node.firm o.node.held) (each-leaving (λ x. ReplyRight m w.view chosen x.message) o.node.firm o.node.held all)

@@ -21,7 +21,7 @@ use Rattle.world_rules.specs.declared.line.OutLine.{OutLine}
 use Rattle.world_rules.specs.declared.line.OutLine.TheVariants as outs
 use Rattle.world_rules.specs.Knowing.{place_told, known_by, seen_by}
 use Rattle.world_laws.proofs.Numbered.{EachAt, each_at_get, each_at_weaker, each_at_set}
-use Rattle.world_laws.proofs.Keeps.{aside_beside, IsBeside, outcome-beside, signed_by, ask_of, asked_by, learned_line, by-posts, KeepsLives, live-line_played, from_node, from_client, from_script, keeps-sends_all}
+use Rattle.world_laws.proofs.Keeps.{aside_beside, IsBeside, outcome-beside, signed_by, ask_of, asked_by, learned_line, resumed_line, by-posts, KeepsLives, live-line_played, from_node, from_client, from_script, keeps-sends_all}
 use Rattle.world_laws.proofs.Hearing.{Accepts, accepts_waiting}
 use Rattle.world_laws.proofs.Asking.{ClientRight, ClientsRight, keeps-right, rested-right, each_fresh, right-begun}
 use Rattle.world_rules.specs.declared.message.Sent.{Sent}
@@ -189,7 +189,7 @@ keeps-knowing course before count =
         tell = λ w line aside is. (k.live.tell w line aside is.0, record { each = know-beside before w.clients w.told (line ∷ []) (aside_beside line aside, tt) is.1.each; there = is.1.there });
       };
       crash = λ w i h left on up at may is. (k.crash w i h left on up at may is.0, record { each = is.1.each; there = is.1.there });
-      resume = λ w i h on down at is. (k.resume w i h on down at is.0, record { each = is.1.each; there = is.1.there });
+      resume = λ w i h on down at is. (k.resume w i h on down at is.0, record { each = know-beside before w.clients w.told (resumed_line course w h ∷ []) (tt, tt) is.1.each; there = is.1.there });
     }
 
 -- what each client has seen, and how many there are

@@ -28,10 +28,9 @@ use Rattle.smart_statements.specs.declared.report.Report.{Report}
 use Rattle.smart_statements.specs.declared.report.Evidence.{Evidence}
 use Rattle.smart_statements.specs.declared.report.Evidence.TheVariants as evidence
 use Rattle.smart_statements.specs.declared.report.LockCertificate.{LockCertificate}
-use Rattle.smart_messages.specs.declared.regency.RegencyMessage.TheVariants as changes
+use Rattle.smart_messages.specs.declared.message.Message.TheVariants as changes
 use Rattle.smart_messages.specs.declared.message.Message.TheVariants.{Ask, Propose, Vote, Reply}
-use Rattle.smart_messages.specs.declared.any.AnyMessage.{AnyMessage}
-use Rattle.smart_messages.specs.declared.any.AnyMessage.TheVariants.{Plain, Change}
+use Rattle.smart_messages.specs.declared.message.Message.{Message}
 use Rattle.vote_book.specs.Books.{Among}
 use Rattle.replica_rules.specs.Seals.{signed, is_verified}
 use Rattle.agreement_laws.specs.Statements.{Statement, Asked, Proposed, Voted, Stopped, Reported, Synced, Marked, Replied, Informed, signer_of, verifies, within, in_report, parts_of_evidence, parts_of_lock, requests_of, said, statements}
@@ -41,9 +40,9 @@ use Rattle.world_rules.specs.Premises.{claim_of, bytes_stated, claims, same_part
 use Rattle.world_rules.specs.declared.message.Content.{Content}
 use Rattle.world_rules.specs.declared.message.Content.TheVariants as contents
 use Rattle.world_rules.specs.Stated.{stated_in}
-use Rattle.world_laws.proofs.Keeps.{FitsParts}
 use Rattle.smart_base.proofs.SameLists.{and_true}
 use Rattle.vote_book.proofs.Tested.{same_bytes_is}
+use Rattle.smart_messages.specs.Messages.{FitsContent}
 
 -- statements that are alike are one
 
@@ -145,94 +144,23 @@ one_claim (Asked q) (Asked q') ps pt who same =
     let one : q.signer ≡ q'.signer = clients_same q.signer q'.signer who in
     let fit : FitsRequest q'.signer q.statement = subst (λ (i : ℕ). FitsRequest i q.statement) one ps.0 in
     ap Asked (signed_one requests q q' ps.1 pt.1 one (text_one (FitsRequest q'.signer) spells.request _ (request_law q'.signer) q.statement q'.statement fit pt.0 same))
-one_claim (Asked q) (Proposed p) ps pt who same = absurd (differ 0 1 refl (numbers_same (Asked q) (Proposed p) same))
-one_claim (Asked q) (Voted b) ps pt who same = absurd (differ 0 2 refl (numbers_same (Asked q) (Voted b) same))
-one_claim (Asked q) (Stopped s) ps pt who same = absurd (differ 0 3 refl (numbers_same (Asked q) (Stopped s) same))
-one_claim (Asked q) (Reported r) ps pt who same = absurd (differ 0 4 refl (numbers_same (Asked q) (Reported r) same))
-one_claim (Asked q) (Synced y) ps pt who same = absurd (differ 0 5 refl (numbers_same (Asked q) (Synced y) same))
-one_claim (Asked q) (Marked m) ps pt who same = absurd (differ 0 6 refl (numbers_same (Asked q) (Marked m) same))
-one_claim (Asked q) (Replied a) ps pt who same = absurd (differ 0 7 refl (numbers_same (Asked q) (Replied a) same))
-one_claim (Asked q) (Informed i) ps pt who same = absurd (differ 0 8 refl (numbers_same (Asked q) (Informed i) same))
-one_claim (Proposed p) (Asked q) ps pt who same = absurd (differ 1 0 refl (numbers_same (Proposed p) (Asked q) same))
 one_claim (Proposed p) (Proposed p') ps pt who same =
     ap Proposed (signed_one proposals p p' ps.1 pt.1 (members_same p.signer p'.signer who) (text_one FitsProposal spells.proposal _ (proposal_law 0) p.statement p'.statement ps.0 pt.0 same))
-one_claim (Proposed p) (Voted b) ps pt who same = absurd (differ 1 2 refl (numbers_same (Proposed p) (Voted b) same))
-one_claim (Proposed p) (Stopped s) ps pt who same = absurd (differ 1 3 refl (numbers_same (Proposed p) (Stopped s) same))
-one_claim (Proposed p) (Reported r) ps pt who same = absurd (differ 1 4 refl (numbers_same (Proposed p) (Reported r) same))
-one_claim (Proposed p) (Synced y) ps pt who same = absurd (differ 1 5 refl (numbers_same (Proposed p) (Synced y) same))
-one_claim (Proposed p) (Marked m) ps pt who same = absurd (differ 1 6 refl (numbers_same (Proposed p) (Marked m) same))
-one_claim (Proposed p) (Replied a) ps pt who same = absurd (differ 1 7 refl (numbers_same (Proposed p) (Replied a) same))
-one_claim (Proposed p) (Informed i) ps pt who same = absurd (differ 1 8 refl (numbers_same (Proposed p) (Informed i) same))
-one_claim (Voted b) (Asked q) ps pt who same = absurd (differ 2 0 refl (numbers_same (Voted b) (Asked q) same))
-one_claim (Voted b) (Proposed p) ps pt who same = absurd (differ 2 1 refl (numbers_same (Voted b) (Proposed p) same))
 one_claim (Voted b) (Voted b') ps pt who same =
     ap Voted (signed_one ballots b b' ps.1 pt.1 (members_same b.signer b'.signer who) (text_one FitsBallot spells.ballot _ (ballot_law 0) b.statement b'.statement ps.0 pt.0 same))
-one_claim (Voted b) (Stopped s) ps pt who same = absurd (differ 2 3 refl (numbers_same (Voted b) (Stopped s) same))
-one_claim (Voted b) (Reported r) ps pt who same = absurd (differ 2 4 refl (numbers_same (Voted b) (Reported r) same))
-one_claim (Voted b) (Synced y) ps pt who same = absurd (differ 2 5 refl (numbers_same (Voted b) (Synced y) same))
-one_claim (Voted b) (Marked m) ps pt who same = absurd (differ 2 6 refl (numbers_same (Voted b) (Marked m) same))
-one_claim (Voted b) (Replied a) ps pt who same = absurd (differ 2 7 refl (numbers_same (Voted b) (Replied a) same))
-one_claim (Voted b) (Informed i) ps pt who same = absurd (differ 2 8 refl (numbers_same (Voted b) (Informed i) same))
-one_claim (Stopped s) (Asked q) ps pt who same = absurd (differ 3 0 refl (numbers_same (Stopped s) (Asked q) same))
-one_claim (Stopped s) (Proposed p) ps pt who same = absurd (differ 3 1 refl (numbers_same (Stopped s) (Proposed p) same))
-one_claim (Stopped s) (Voted b) ps pt who same = absurd (differ 3 2 refl (numbers_same (Stopped s) (Voted b) same))
 one_claim (Stopped s) (Stopped s') ps pt who same =
     ap Stopped (signed_one stops s s' ps.1 pt.1 (members_same s.signer s'.signer who) (text_one FitsStop stop _ (stop_law 0) s.statement s'.statement ps.0 pt.0 same))
-one_claim (Stopped s) (Reported r) ps pt who same = absurd (differ 3 4 refl (numbers_same (Stopped s) (Reported r) same))
-one_claim (Stopped s) (Synced y) ps pt who same = absurd (differ 3 5 refl (numbers_same (Stopped s) (Synced y) same))
-one_claim (Stopped s) (Marked m) ps pt who same = absurd (differ 3 6 refl (numbers_same (Stopped s) (Marked m) same))
-one_claim (Stopped s) (Replied a) ps pt who same = absurd (differ 3 7 refl (numbers_same (Stopped s) (Replied a) same))
-one_claim (Stopped s) (Informed i) ps pt who same = absurd (differ 3 8 refl (numbers_same (Stopped s) (Informed i) same))
-one_claim (Reported r) (Asked q) ps pt who same = absurd (differ 4 0 refl (numbers_same (Reported r) (Asked q) same))
-one_claim (Reported r) (Proposed p) ps pt who same = absurd (differ 4 1 refl (numbers_same (Reported r) (Proposed p) same))
-one_claim (Reported r) (Voted b) ps pt who same = absurd (differ 4 2 refl (numbers_same (Reported r) (Voted b) same))
-one_claim (Reported r) (Stopped s) ps pt who same = absurd (differ 4 3 refl (numbers_same (Reported r) (Stopped s) same))
 one_claim (Reported r) (Reported r') ps pt who same =
     ap Reported (signed_one reports r r' ps.1 pt.1 (members_same r.signer r'.signer who) (text_one FitsReport report _ (report_law 0) r.statement r'.statement ps.0 pt.0 same))
-one_claim (Reported r) (Synced y) ps pt who same = absurd (differ 4 5 refl (numbers_same (Reported r) (Synced y) same))
-one_claim (Reported r) (Marked m) ps pt who same = absurd (differ 4 6 refl (numbers_same (Reported r) (Marked m) same))
-one_claim (Reported r) (Replied a) ps pt who same = absurd (differ 4 7 refl (numbers_same (Reported r) (Replied a) same))
-one_claim (Reported r) (Informed i) ps pt who same = absurd (differ 4 8 refl (numbers_same (Reported r) (Informed i) same))
-one_claim (Synced y) (Asked q) ps pt who same = absurd (differ 5 0 refl (numbers_same (Synced y) (Asked q) same))
-one_claim (Synced y) (Proposed p) ps pt who same = absurd (differ 5 1 refl (numbers_same (Synced y) (Proposed p) same))
-one_claim (Synced y) (Voted b) ps pt who same = absurd (differ 5 2 refl (numbers_same (Synced y) (Voted b) same))
-one_claim (Synced y) (Stopped s) ps pt who same = absurd (differ 5 3 refl (numbers_same (Synced y) (Stopped s) same))
-one_claim (Synced y) (Reported r) ps pt who same = absurd (differ 5 4 refl (numbers_same (Synced y) (Reported r) same))
 one_claim (Synced y) (Synced y') ps pt who same =
     ap Synced (signed_one syncs y y' ps.1 pt.1 (members_same y.signer y'.signer who) (text_one FitsSync sync _ (sync_law 0) y.statement y'.statement ps.0 pt.0 same))
-one_claim (Synced y) (Marked m) ps pt who same = absurd (differ 5 6 refl (numbers_same (Synced y) (Marked m) same))
-one_claim (Synced y) (Replied a) ps pt who same = absurd (differ 5 7 refl (numbers_same (Synced y) (Replied a) same))
-one_claim (Synced y) (Informed i) ps pt who same = absurd (differ 5 8 refl (numbers_same (Synced y) (Informed i) same))
-one_claim (Marked m) (Asked q) ps pt who same = absurd (differ 6 0 refl (numbers_same (Marked m) (Asked q) same))
-one_claim (Marked m) (Proposed p) ps pt who same = absurd (differ 6 1 refl (numbers_same (Marked m) (Proposed p) same))
-one_claim (Marked m) (Voted b) ps pt who same = absurd (differ 6 2 refl (numbers_same (Marked m) (Voted b) same))
-one_claim (Marked m) (Stopped s) ps pt who same = absurd (differ 6 3 refl (numbers_same (Marked m) (Stopped s) same))
-one_claim (Marked m) (Reported r) ps pt who same = absurd (differ 6 4 refl (numbers_same (Marked m) (Reported r) same))
-one_claim (Marked m) (Synced y) ps pt who same = absurd (differ 6 5 refl (numbers_same (Marked m) (Synced y) same))
 one_claim (Marked m) (Marked m') ps pt who same =
     ap Marked (signed_one marks m m' ps.1 pt.1 (members_same m.signer m'.signer who) (text_one FitsMark mark _ (mark_law 0) m.statement m'.statement ps.0 pt.0 same))
-one_claim (Marked m) (Replied a) ps pt who same = absurd (differ 6 7 refl (numbers_same (Marked m) (Replied a) same))
-one_claim (Marked m) (Informed i) ps pt who same = absurd (differ 6 8 refl (numbers_same (Marked m) (Informed i) same))
-one_claim (Replied a) (Asked q) ps pt who same = absurd (differ 7 0 refl (numbers_same (Replied a) (Asked q) same))
-one_claim (Replied a) (Proposed p) ps pt who same = absurd (differ 7 1 refl (numbers_same (Replied a) (Proposed p) same))
-one_claim (Replied a) (Voted b) ps pt who same = absurd (differ 7 2 refl (numbers_same (Replied a) (Voted b) same))
-one_claim (Replied a) (Stopped s) ps pt who same = absurd (differ 7 3 refl (numbers_same (Replied a) (Stopped s) same))
-one_claim (Replied a) (Reported r) ps pt who same = absurd (differ 7 4 refl (numbers_same (Replied a) (Reported r) same))
-one_claim (Replied a) (Synced y) ps pt who same = absurd (differ 7 5 refl (numbers_same (Replied a) (Synced y) same))
-one_claim (Replied a) (Marked m) ps pt who same = absurd (differ 7 6 refl (numbers_same (Replied a) (Marked m) same))
 one_claim (Replied a) (Replied a') ps pt who same =
     ap Replied (signed_one answers a a' ps.1 pt.1 (members_same a.signer a'.signer who) (text_one FitsAnswer spells.answer _ (answer_law 0) a.statement a'.statement ps.0 pt.0 same))
-one_claim (Replied a) (Informed i) ps pt who same = absurd (differ 7 8 refl (numbers_same (Replied a) (Informed i) same))
-one_claim (Informed i) (Asked q) ps pt who same = absurd (differ 8 0 refl (numbers_same (Informed i) (Asked q) same))
-one_claim (Informed i) (Proposed p) ps pt who same = absurd (differ 8 1 refl (numbers_same (Informed i) (Proposed p) same))
-one_claim (Informed i) (Voted b) ps pt who same = absurd (differ 8 2 refl (numbers_same (Informed i) (Voted b) same))
-one_claim (Informed i) (Stopped s) ps pt who same = absurd (differ 8 3 refl (numbers_same (Informed i) (Stopped s) same))
-one_claim (Informed i) (Reported r) ps pt who same = absurd (differ 8 4 refl (numbers_same (Informed i) (Reported r) same))
-one_claim (Informed i) (Synced y) ps pt who same = absurd (differ 8 5 refl (numbers_same (Informed i) (Synced y) same))
-one_claim (Informed i) (Marked m) ps pt who same = absurd (differ 8 6 refl (numbers_same (Informed i) (Marked m) same))
-one_claim (Informed i) (Replied a) ps pt who same = absurd (differ 8 7 refl (numbers_same (Informed i) (Replied a) same))
 one_claim (Informed i) (Informed i') ps pt who same =
     ap Informed (signed_one view_infos i i' ps.1 pt.1 (members_same i.signer i'.signer who) (text_one FitsViewInfo view_info _ (view_info_law 0) i.statement i'.statement ps.0 pt.0 same))
+one_claim s t ps pt who same = absurd (differ (number_of s) (number_of t) refl (numbers_same s t same))
 
 -- parties that are the same are equal
 pub same_party-equal : (a b : Party) → same_party a b ≡ true → a ≡ b
@@ -265,20 +193,20 @@ among_passes {A} p (x ∷ xs) y there = by (p x) refl (λ later. among_passes p 
     by false is rest later = rest later
 
 -- it stands in what the message says, and bears its signer's tag
-pub record IsSaid (m : AnyMessage) (x : Statement) : Type 0 where
+pub record IsSaid (m : Message) (x : Statement) : Type 0 where
   pub part : Statement
   pub said_there : Among part (said m)
   pub inside : Among x (within part)
   pub verified : verifies group_secret x ≡ true
 
-pub message_says : (m : AnyMessage) (x : Statement) → Among x (statements group_secret m) → IsSaid m x
+pub message_says : (m : Message) (x : Statement) → Among x (statements group_secret m) → IsSaid m x
 message_says m x there =
     let all = flat_map within (said m) in
     let found = within_one within (said m) x (among_filtered (verifies group_secret) all x there) in
     record { part = found.value; said_there = found.there; inside = found.within; verified = among_passes (verifies group_secret) all x there }
 
 -- and what stands in what it says and bears its tag is stated
-pub says_message : (m : AnyMessage) (part x : Statement) → Among part (said m) → Among x (within part) → verifies group_secret x ≡ true → Among x (statements group_secret m)
+pub says_message : (m : Message) (part x : Statement) → Among part (said m) → Among x (within part) → verifies group_secret x ≡ true → Among x (statements group_secret m)
 says_message m part x there inside verified = among_filter (verifies group_secret) (flat_map within (said m)) x (among_flat within (said m) part x there inside) verified
 
 -- what holds by recursion, holds of each that is there
@@ -356,19 +284,19 @@ there_fits None x fits there = absurd there
 there_fits (Some batch) x fits there = batch_fits batch x fits there
 
 -- what a message says
-said_fits : (m : AnyMessage) (s : Statement) → FitsParts m → Among s (said m) → FitsStatement s
-said_fits (Plain (Ask q)) s fits there = alone_fits (Asked q) s fits.content_fits.statement_fits there
-said_fits (Plain (Propose p)) s fits (inl is) = fits_as s (Proposed p.head) is fits.content_fits.0.statement_fits
-said_fits (Plain (Propose p)) s fits (inr there) = batch_fits p.batch s fits.content_fits.1 there
-said_fits (Plain (Vote b)) s fits there = alone_fits (Voted b) s fits.content_fits.statement_fits there
-said_fits (Plain (Reply a)) s fits there = alone_fits (Replied a) s fits.content_fits.statement_fits there
-said_fits (Change (changes.Stop t)) s fits there = alone_fits (Stopped t) s fits.statement_fits there
-said_fits (Change (changes.StopData r)) s fits (inl is) = fits_as s (Reported r.head) is fits.0.statement_fits
-said_fits (Change (changes.StopData r)) s fits (inr there) = there_fits r.batch s fits.1 there
-said_fits (Change (changes.Sync t)) s fits there = alone_fits (Synced t) s fits.statement_fits there
+said_fits : (m : Message) (s : Statement) → FitsContent m → Among s (said m) → FitsStatement s
+said_fits (Ask q) s fits there = alone_fits (Asked q) s fits.statement_fits there
+said_fits (Propose p) s fits (inl is) = fits_as s (Proposed p.head) is fits.0.statement_fits
+said_fits (Propose p) s fits (inr there) = batch_fits p.batch s fits.1 there
+said_fits (Vote b) s fits there = alone_fits (Voted b) s fits.statement_fits there
+said_fits (Reply a) s fits there = alone_fits (Replied a) s fits.statement_fits there
+said_fits (changes.Stop t) s fits there = alone_fits (Stopped t) s fits.statement_fits there
+said_fits (changes.StopData r) s fits (inl is) = fits_as s (Reported r.head) is fits.0.statement_fits
+said_fits (changes.StopData r) s fits (inr there) = there_fits r.batch s fits.1 there
+said_fits (changes.Sync t) s fits there = alone_fits (Synced t) s fits.statement_fits there
 
 -- each statement of a message that is read is proper
-pub message_proper : (m : AnyMessage) (x : Statement) → FitsParts m → Among x (statements group_secret m) → Proper x
+pub message_proper : (m : Message) (x : Statement) → FitsContent m → Among x (statements group_secret m) → Proper x
 message_proper m x fits there =
     let is : IsSaid m x = message_says m x there in
     (within_fits is.part x (said_fits m is.part fits is.said_there) is.inside, is.verified)

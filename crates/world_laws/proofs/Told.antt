@@ -26,7 +26,7 @@ use Rattle.world_rules.specs.declared.line.OutLine.{OutLine}
 use Rattle.world_rules.specs.declared.line.OutLine.TheVariants as outs
 use Rattle.world_rules.specs.declared.message.Sent.{Sent}
 use Rattle.world_laws.proofs.Numbered.{each_at_get}
-use Rattle.world_laws.proofs.Keeps.{aside_beside, IsBeside, outcome-beside, ask_of, asked_by, by-posts, KeepsAll, KeepsLives, live-line_played, keeps-world_after, signed_by, learned_line, from_node, from_client, from_script, keeps-sends_all}
+use Rattle.world_laws.proofs.Keeps.{aside_beside, IsBeside, outcome-beside, ask_of, asked_by, by-posts, KeepsAll, KeepsLives, live-line_played, keeps-world_after, signed_by, learned_line, resumed_line, from_node, from_client, from_script, keeps-sends_all}
 use Rattle.world_laws.proofs.Hearing.{Accepts, accepts_waiting}
 use Rattle.world_laws.proofs.Asking.{ClientRight, ClientsRight, keeps-right, rested-right, right-begun}
 use Rattle.replica_laws.proofs.OnePlace.{place_of-line, answer-line}
@@ -146,7 +146,7 @@ keeps-stemming course =
         tell = λ w line aside is. (k.live.tell w line aside is.0, record { all = each_end (Stems w.accepted) w.told line is.1.all (inl (aside_beside line aside)) });
       };
       crash = λ w i h left on up at may is. (k.crash w i h left on up at may is.0, record { all = is.1.all });
-      resume = λ w i h on down at is. (k.resume w i h on down at is.0, record { all = is.1.all });
+      resume = λ w i h on down at is. (k.resume w i h on down at is.0, record { all = each_end (Stems w.accepted) w.told (resumed_line course w h) is.1.all (inl tt) });
     }
 
 -- between two lines
@@ -361,7 +361,7 @@ keeps-all course before =
         tell = λ w line aside is. (k.live.tell w line aside is.0, record { all = is.1.all ∙ sym (all-beside before w.told (line ∷ []) (aside_beside line aside, tt)) });
       };
       crash = λ w i h left on up at may is. (k.crash w i h left on up at may is.0, record { all = is.1.all });
-      resume = λ w i h on down at is. (k.resume w i h on down at is.0, record { all = is.1.all });
+      resume = λ w i h on down at is. (k.resume w i h on down at is.0, record { all = is.1.all ∙ sym (all-beside before w.told (resumed_line course w h ∷ []) (tt, tt)) });
     }
 
 -- behind lines all that was accepted is what was before them, and what they tell of

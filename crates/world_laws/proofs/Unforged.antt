@@ -15,10 +15,9 @@ use Rattle.smart_statements.specs.declared.report.Report.{Report}
 use Rattle.smart_statements.specs.declared.report.Evidence.{Evidence}
 use Rattle.smart_statements.specs.declared.report.Evidence.TheVariants as evidence
 use Rattle.smart_statements.specs.declared.report.LockCertificate.{LockCertificate}
-use Rattle.smart_messages.specs.declared.regency.RegencyMessage.TheVariants as changes
+use Rattle.smart_messages.specs.declared.message.Message.TheVariants as changes
 use Rattle.smart_messages.specs.declared.message.Message.TheVariants.{Ask, Propose, Vote, Reply}
-use Rattle.smart_messages.specs.declared.any.AnyMessage.{AnyMessage}
-use Rattle.smart_messages.specs.declared.any.AnyMessage.TheVariants.{Plain, Change}
+use Rattle.smart_messages.specs.declared.message.Message.{Message}
 use Rattle.vote_book.specs.Books.{Among}
 use Rattle.vote_book.proofs.Tested.{passing}
 use Rattle.node_rules.specs.Steps.{Outcome, leaving}
@@ -298,32 +297,32 @@ one_said x s (inl is) = is
 one_said x s (inr none) = absurd none
 
 -- a message that says a reply is that reply
-reply_said : (m : AnyMessage) (a : SignedBy Answer) → Among (Replied a) (said m) → m ≡ Plain (Reply a)
-reply_said (Plain (Ask q)) a there = let is = one_said (Replied a) (Asked q) there in absurd (cc)
-reply_said (Plain (Propose p)) a (inl is) = absurd (cc)
-reply_said (Plain (Propose p)) a (inr there) = absurd (no_request a p.batch there)
-reply_said (Plain (Vote b)) a there = let is = one_said (Replied a) (Voted b) there in absurd (cc)
-reply_said (Plain (Reply r)) a there =
+reply_said : (m : Message) (a : SignedBy Answer) → Among (Replied a) (said m) → m ≡ Reply a
+reply_said (Ask q) a there = let is = one_said (Replied a) (Asked q) there in absurd (cc)
+reply_said (Propose p) a (inl is) = absurd (cc)
+reply_said (Propose p) a (inr there) = absurd (no_request a p.batch there)
+reply_said (Vote b) a there = let is = one_said (Replied a) (Voted b) there in absurd (cc)
+reply_said (Reply r) a there =
     let is : Replied a ≡ Replied r = one_said (Replied a) (Replied r) there in
     let same : r ≡ a = cc in
-    ap (λ (x : SignedBy Answer). Plain (Reply x)) same
-reply_said (Change (changes.Stop t)) a there = let is = one_said (Replied a) (Stopped t) there in absurd (cc)
-reply_said (Change (changes.StopData r)) a (inl is) = absurd (cc)
-reply_said (Change (changes.StopData r)) a (inr there) = absurd (no_requests a r.batch there)
-reply_said (Change (changes.Sync y)) a there = let is = one_said (Replied a) (Synced y) there in absurd (cc)
+    ap (λ (x : SignedBy Answer). Reply x) same
+reply_said (changes.Stop t) a there = let is = one_said (Replied a) (Stopped t) there in absurd (cc)
+reply_said (changes.StopData r) a (inl is) = absurd (cc)
+reply_said (changes.StopData r) a (inr there) = absurd (no_requests a r.batch there)
+reply_said (changes.Sync y) a there = let is = one_said (Replied a) (Synced y) there in absurd (cc)
 
-pub reply_content : (x : Content) (a : SignedBy Answer) → Among (Replied a) (stated_in x) → x ≡ contents.Message (Plain (Reply a))
+pub reply_content : (x : Content) (a : SignedBy Answer) → Among (Replied a) (stated_in x) → x ≡ contents.Message (Reply a)
 reply_content (contents.Message m) a there =
     let is : IsSaid m (Replied a) = message_says m (Replied a) there in
-    ap (λ (y : AnyMessage). contents.Message y) (reply_said m a (subst (λ (s : Statement). Among s (said m)) (reply_within a is.part is.inside) is.said_there))
+    ap (λ (y : Message). contents.Message y) (reply_said m a (subst (λ (s : Statement). Among s (said m)) (reply_within a is.part is.inside) is.said_there))
 reply_content (contents.Raw bytes) a there = absurd there
 
 -- a reply that a node has sent as its own names it as its signer, and no client sends one
-node_reply : (id : ℕ) (to : Option Target) (c : Content) (a : SignedBy Answer) → IsNodes id to c → c ≡ contents.Message (Plain (Reply a)) → a.signer ≡ id
+node_reply : (id : ℕ) (to : Option Target) (c : Content) (a : SignedBy Answer) → IsNodes id to c → c ≡ contents.Message (Reply a) → a.signer ≡ id
 node_reply id None c a own is = absurd own
 node_reply id (Some to) c a own is = (subst (λ (x : Content). IsNodes id (Some to) x) is own).0
 
-client_reply : (id : ℕ) (to : Option Target) (c : Content) (a : SignedBy Answer) → IsClients id to c → c ≡ contents.Message (Plain (Reply a)) → ⊥
+client_reply : (id : ℕ) (to : Option Target) (c : Content) (a : SignedBy Answer) → IsClients id to c → c ≡ contents.Message (Reply a) → ⊥
 client_reply id to c a own is = (subst (λ (x : Content). IsClients id to x) is own).1
 
 -- a reply of a member that is not faulty stands in a message that its own node has sent, in whosever message it stands

@@ -7,7 +7,7 @@ use Rattle.std.specs.List.{list_any, flat_map}
 use Rattle.smart_base.specs.Lists.{Each, Distinct}
 use Rattle.smart_base.specs.Views.{View, ascends, is_view}
 use Rattle.smart_base.specs.declared.party.Party.TheVariants.{Member}
-use Rattle.smart_messages.specs.declared.any.AnyMessage.{AnyMessage}
+use Rattle.smart_messages.specs.declared.message.Message.{Message}
 use Rattle.smart_statements.specs.declared.entry.NodeEvent.{NodeEvent}
 use Rattle.smart_statements.specs.declared.entry.NodeEvent.TheVariants.{Arrive, Tick, Deliver, Firm}
 use Rattle.vote_book.specs.Books.{Among, Lawful}
@@ -70,11 +70,11 @@ stated_event w h secret (Firm count) shared may = tt
 
 -- it is closed: what stands in it has been stated
 
-message_of : Content → List AnyMessage
+message_of : Content → List Message
 message_of (contents.Message m) = m ∷ []
 message_of (contents.Raw bytes) = []
 
-messages_of : List Sent → List AnyMessage
+messages_of : List Sent → List Message
 messages_of sent = flat_map (λ (s : Sent). message_of s.content) sent
 
 message_states : (c : Content) → flat_map (statements group_secret) (message_of c) ≡ stated_in c

@@ -1,9 +1,9 @@
--- A world of which each node keeps no more than it needs.
+-- A world of cores, whose nodes keep no more than they need.
 use Rattle.std.specs.Prelude.{[], map}
 use Rattle.world_rules.specs.Worlds.{Host, World}
 use Rattle.node_rules.specs.Kept.{trimmed}
 
--- the host whose node keeps no more than it needs, and of whose lives nothing is written down
+-- the host of a core; nothing of its member's lives is written down
 unfoldable pub trimmed_host : {S : Type 0} → Host S → Host S
 trimmed_host h = record h { node = trimmed h.node; life = record { diary = []; aside = [] } }
 

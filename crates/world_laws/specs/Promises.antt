@@ -1,5 +1,5 @@
--- What is promised of a play: one list.
-use Rattle.std.specs.Prelude.{ℕ, true, ◌+◌, ◌++◌, ◌==◌, ◌≡◌, ◌<◌, ◌≤◌, ◌⊎◌, List, [], ◌∷◌, length, take, filter, map, nat_le, not, ◌&&◌, Bool, false, Option, Some, None}
+-- The promise of a play: all members deliver one list of batches (state machine replication).
+use Rattle.std.specs.Prelude.{ℕ, zero, suc, true, ◌+◌, ◌-◌, ◌++◌, ◌==◌, ◌≡◌, ◌<◌, ◌≤◌, ◌⊎◌, List, [], ◌∷◌, length, take, slice_get, max, filter, map, if◌then◌else◌, nat_le, not, ◌&&◌, Bool, false, Option, Some, None}
 use Rattle.smart_base.specs.Lists.{Each}
 use Rattle.smart_base.specs.Views.{View}
 use Rattle.smart_statements.specs.Kinds.{requests}
@@ -8,9 +8,8 @@ use Rattle.smart_statements.specs.declared.statement.Request.{Request}
 use Rattle.smart_statements.specs.declared.statement.Answer.{Answer}
 use Rattle.smart_base.specs.declared.party.Party.TheVariants.{Member}
 use Rattle.smart_messages.specs.declared.message.Message.TheVariants.{Ask}
-use Rattle.smart_messages.specs.declared.any.AnyMessage.TheVariants.{Plain}
 use Rattle.smart_service.specs.Services.{Meaning}
-use Rattle.replica_rules.specs.Replicas.{state, answer, place_of, batch_at, request_at, view_at}
+use Rattle.replica_rules.specs.Replicas.{state, executed_lines, answer, place_of, batch_at, request_at, view_at}
 use Rattle.replica_rules.specs.Seals.{signed}
 use Rattle.node_rules.specs.Nodes.{next_place}
 use Rattle.node_rules.specs.Deliveries.{AtPlaces}
@@ -31,59 +30,64 @@ use Rattle.world_rules.specs.declared.message.Content.TheVariants as contents
 use Rattle.world_rules.specs.Worlds.{Host, World, course_of, is_gone, life_crashed, begun}
 use Rattle.world_rules.specs.Plays.{world_after, lines_told}
 use Rattle.world_rules.specs.Knowing.{known_by}
-use Rattle.world_rules.specs.Stated.{IsWitnessed, stated}
+use Rattle.world_rules.specs.Stated.{IsWitnessed, stated, diary}
 use Rattle.client_quorum.specs.declared.client.Acceptance.{Acceptance}
 use Rattle.world_laws.specs.Sending.{QuorumsReplied, SentFirm}
 use Rattle.world_rules.specs.declared.line.Line.{Line}
+use Rattle.world_rules.specs.declared.line.Line.TheVariants as lines
+use Rattle.world_rules.specs.declared.message.Ending.{Ending}
 use Rattle.world_rules.specs.declared.line.OutLine.{OutLine}
 use Rattle.world_rules.specs.declared.line.OutLine.TheVariants as outs
 use Rattle.world_rules.specs.declared.message.Sent.{Sent}
 use Rattle.world_rules.specs.declared.message.Origin.TheVariants as origins
 
--- a batch that waits for its delivery is the list's at its place
+-- a waiting batch, if there is one, that is the list's batch at a place
 abbrev pub IsNext : List Batch → ℕ → Option Batch → Type 0
 IsNext chosen place None = Unit {0}
 IsNext chosen place (Some batch) = batch_at chosen place ≡ Some batch
 
--- a batch was delivered where the list has it
-abbrev pub IsChosenAt : List Batch → Delivery → Type 0
-IsChosenAt chosen d = batch_at chosen d.place ≡ Some d.batch
+-- A batch was delivered where the list has it, and as many of its requests were executed as the list executes there: of those that stand at its place, each
+-- that is its client's next.
+pub record IsChosenAt {S : Type 0} (m : Meaning S) (view : View) (chosen : List Batch) (d : Delivery) : Type 0 where
+  pub batch : batch_at chosen d.place ≡ Some d.batch
+  pub executed : d.executed ≡ length (executed_lines m (state m view (take (d.place - 1) chosen)) d.batch)
 
 -- A host has delivered a front of the list: its replica is the state of that front. In this life it has delivered one batch at each place of it behind the
--- one from which it went on, in order, and each batch that it ever delivered is the list's at its place. So is the batch that it has decided and not
--- delivered.
+-- one from which it went on, in order, and each batch that it ever delivered is the list's at its place, with the number of its requests that are executed
+-- there. The batch that it has decided and not delivered is the list's too.
 pub record IsPrefix {S : Type 0} (m : Meaning S) (view : View) (chosen : List Batch) (h : Host S) : Type 0 where
   pub within : h.node.replica.place ≤ length chosen
   pub replica : h.node.replica ≡ state m view (take h.node.replica.place chosen)
   pub count : h.resumed + length h.delivered ≡ h.node.replica.place
   pub places : AtPlaces (h.resumed + 1) h.delivered
-  pub delivered : Each (IsChosenAt chosen) h.delivered
-  pub earlier : Each (IsChosenAt chosen) h.earlier
+  pub delivered : Each (IsChosenAt m view chosen) h.delivered
+  pub earlier : Each (IsChosenAt m view chosen) h.earlier
   pub waiting : IsNext chosen (next_place h.node) h.node.waiting
 
 -- ---- kept places
 
--- the replica that a member's devices restore, where a crash leaves this of them
+-- the replica after a restart, if a crash leaves given bytes of the devices
 abbrev pub restored_replica : {S : Type 0} → Meaning S → View → Host S → Images → Replica S
 restored_replica m view h left = (reopened m group_secret h.node.id view 1024 (entries_in (restores left).entries)).replica
 
--- a member that is not faulty, whose devices restore a place or a later one
+-- a member that is not faulty, and whose devices restore a place or a later one
 abbrev pub has_place : {S : Type 0} → Meaning S → World S → (ℕ → Images) → ℕ → Host S → Bool
 has_place m w left place h = not (is_gone w h.node.id) && nat_le place (restored_replica m w.view h (left h.node.id)).place
 
--- a crash now may leave this of the devices of all members that are not faulty, of those that run and of those that have stopped
+-- bytes that crashes now may leave of the devices of all members that are not faulty, whether their nodes run or have crashed
 abbrev pub MayBeLeft : {S : Type 0} → World S → (ℕ → Images) → Type 0
 MayBeLeft w left = Each (λ h. is_gone w h.node.id ≡ false → MayLeave h.store (left h.node.id)) w.hosts
 
--- A place is kept: whatever crashes leave of the devices of all members that are not faulty, more of them than may be faulty restore that place or a later
--- one.
+-- A place that crashes cannot take back. Whatever crashes leave of the devices of members that are not faulty, more than f of these members
+-- restore that place or a later one.
 pub record IsKept {S : Type 0} (m : Meaning S) (w : World S) (place : ℕ) : Type 0 where
   pub enough : (left : ℕ → Images) → MayBeLeft w left → w.view.f < length (filter (has_place m w left place) w.hosts)
 
--- A crash may leave each device as it was at its last sync, and each as it reads. A script's crash without patches never ends a play. Whatever a crash now
--- leaves of a member's devices, they restore exactly the diary that this crash makes. It begins with the present diary, and behind it stands at most what was
--- not firm yet. No entry that they restore is damaged, and the replica that they restore is the state of a front of the list. What a member that has crashed
--- goes on from is not damaged either. INTERIM(checkpoints): later devices restore the cut of that diary.
+-- A member that can restart (recovery: Dura-SMaRt, USENIX ATC 2013). A crash may leave each device as it was at its last sync, or as it
+-- reads now. A crash line without patches therefore never ends a play. Whatever a crash leaves, the devices restore exactly the diary that
+-- this crash makes. That diary begins with the present one, and then has at most entries that were not firm. No restored entry is damaged.
+-- The restored replica is the state after a prefix of the list. If the member has crashed, what its devices hold is not damaged either.
+-- INTERIM(checkpoints): later devices restore the cut of that diary.
 pub record Recovers {S : Type 0} (m : Meaning S) (w : World S) (h : Host S) : Type 0 where
   pub possible : (image : Image) → wrong_images h.store (images_left image [] h.store) ≡ None
   pub leaves : (image : Image) → MayLeave h.store (images_left image [] h.store)
@@ -95,19 +99,19 @@ pub record Recovers {S : Type 0} (m : Meaning S) (w : World S) (h : Host S) : Ty
 
 -- ---- replies
 
--- the client that a request names has signed and sent it
+-- a request that its client has signed and sent to the view
 abbrev pub HasAsked : List Sent → Request → Type 0
 HasAsked [] q = ⊥
 HasAsked (s ∷ sent) q =
-    (s ≡ record { origin = origins.Client q.client; to = Some targets.View; content = contents.Message (Plain (Ask (signed requests group_secret q.client q))) }) ⊎ HasAsked sent q
+    (s ≡ record { origin = origins.Client q.client; to = Some targets.View; content = contents.Message (Ask (signed requests group_secret q.client q)) }) ⊎ HasAsked sent q
 
--- a client was declared rogue
+-- a client that was declared rogue
 abbrev pub IsRogue : List ℕ → ℕ → Type 0
 IsRogue rogue client = is_among rogue client ≡ true
 
--- A reply is right where it is the service's answer at its place and index, to the request of its client and number there. Its client asked that request,
--- unless it is rogue. The place is above the one that the request states. The request is first executed there, and `executes_once` of replica_laws says that
--- it is executed at no other place. The reply states the view in force there.
+-- A right reply: the service's answer at its place and index, to the request of its client and number there. Its client asked that request,
+-- unless the client is rogue. The request states an earlier place than the reply. The request is executed first at that place and index,
+-- and nowhere else (`executes_once` of replica_laws). The reply states the view in force there.
 pub record IsRightReply {S : Type 0} (m : Meaning S) (w : World S) (a : Answer) : Type 0 where
   pub request : Request
   pub request_is : request_at w.chosen a.place a.index ≡ Some request
@@ -119,7 +123,7 @@ pub record IsRightReply {S : Type 0} (m : Meaning S) (w : World S) (a : Answer) 
   pub reply_is : answer m w.view w.chosen a.place a.index ≡ Some a.reply
   pub view_is : a.view ≡ (view_at m w.view w.chosen a.place).number
 
--- a statement is right: a reply is a right one, and of the other kinds nothing is said here
+-- a right statement: a reply is a right one; for other kinds nothing is claimed
 abbrev pub IsRightStatement : {S : Type 0} → Meaning S → World S → Statement → Type 0
 IsRightStatement m w (Asked q) = Unit {0}
 IsRightStatement m w (Proposed p) = Unit {0}
@@ -131,33 +135,41 @@ IsRightStatement m w (Marked x) = Unit {0}
 IsRightStatement m w (Replied a) = IsRightReply m w a.statement
 IsRightStatement m w (Informed i) = Unit {0}
 
--- Each statement in a message that a node holds is right. So is each statement with the tag of a member that is not faulty, in whosever message it was sent.
+-- A world of right replies. Each reply in a message that a node holds is right. Each reply with the tag of a member that is not faulty is
+-- right, in whichever message it was sent.
 pub record AreRepliesRight {S : Type 0} (m : Meaning S) (w : World S) : Type 0 where
   pub held : Each (λ h. Each (λ x. Each (IsRightStatement m w) (said x.message)) h.node.held) w.hosts
   pub sent : (s : Statement) (member : ℕ) → Among s (stated w.sent) → signer_of s ≡ Member member → is_among w.faulty member ≡ false → IsRightStatement m w s
 
--- what an accepted reply states
+-- the reply that an acceptance tells
 abbrev pub answer_accepted : Acceptance → Answer
 answer_accepted a = record { view = a.view; place = a.place; index = a.index; client = a.request.client; seq = a.request.seq; reply = a.reply }
 
--- Its client has asked the request for which a reply was accepted. The reply is right. The request that is executed at its place is the one that the client
--- asked, unless the client is rogue. So its place is above the one that this request states: the greatest that the client knew when it asked (`past_known` of
+-- A right acceptance. Its client has asked the request, and the reply is right. The request at the reply's place is the one that the client
+-- asked, unless the client is rogue. For a rogue client it may be another request of that number. If the client is not rogue, the place is
+-- later than the one that its request states. That one is the greatest that the client knew when it asked (`past_known` of
 -- `OneListThroughout`).
 pub record IsRight {S : Type 0} (m : Meaning S) (w : World S) (a : Acceptance) : Type 0 where
   pub asked : HasAsked w.sent a.request
   pub right : IsRightReply m w (answer_accepted a)
   pub own : IsRogue w.rogue a.request.client ⊎ (right.request ≡ a.request)
 
--- the request of a later reply states a place no less than that of each reply that its client accepted before
+-- acceptances of which each later request states no earlier place than that of each reply which its client accepted before
 abbrev pub Rises : List Acceptance → Type 0
 Rises [] = Unit {0}
 Rises (a ∷ later) = Each (λ b. b.request.client ≡ a.request.client → a.place ≤ b.request.after) later × Rises later
 
+-- so many numbers from one on
+unfoldable pub numbers_from : ℕ → ℕ → List ℕ
+numbers_from zero i = []
+numbers_from (suc count) i = i ∷ numbers_from count (i + 1)
+
 -- All nodes, those that are gone or have stopped too, have delivered fronts of one list, and go on from such fronts whatever crashes leave of their devices.
--- Each member of the view has one node. Each reply that a node holds or a correct member has stated is right. Each reply that was accepted is right, a quorum
+-- Each member of the view has one node, and each number from 0 to 1,024 one client. Each reply that a node holds or a correct member has stated is right. Each reply that was accepted is right, a quorum
 -- has given it, and its place is kept. What a node or a client has sent is its own, and a node's votes, replies and reports rest on what became firm there.
 pub record OneList {S : Type 0} (m : Meaning S) (w : World S) : Type 0 where
   pub members : map (λ h. h.node.id) w.hosts ≡ w.view.members
+  pub clients : map (λ c. c.id) w.clients ≡ numbers_from 1025 0
   pub hosts : Each (IsPrefix m w.view w.chosen) w.hosts
   pub recovers : Each (Recovers m w) w.hosts
   pub replied : AreRepliesRight m w
@@ -167,7 +179,8 @@ pub record OneList {S : Type 0} (m : Meaning S) (w : World S) : Type 0 where
   pub rising : Rises w.accepted
   pub firm : SentFirm w
 
--- a transcript line that tells of an accepted reply names the one place of its request in the list, and tells the service's answer there
+-- A transcript line that is true of the list. If it tells an accepted reply, it names where the list executes that client's request of that
+-- number, and the service's answer.
 abbrev pub IsAnswered : {S : Type 0} → Meaning S → View → List Batch → OutLine → Type 0
 IsAnswered m view chosen (outs.Accepted client seq place index reply) =
     (place_of m view chosen client seq ≡ Some (place, index)) × (answer m view chosen place index ≡ Some reply)
@@ -192,7 +205,7 @@ IsAnswered m view chosen (outs.Stands member place number regency) = Unit {0}
 IsAnswered m view chosen (outs.Seen client place) = Unit {0}
 IsAnswered m view chosen (outs.End lines messages) = Unit {0}
 
--- a transcript line tells of an accepted reply
+-- a transcript line that tells an accepted reply
 abbrev pub is_acceptance : OutLine → Bool
 is_acceptance (outs.Accepted client seq place index reply) = true
 is_acceptance (outs.Group members faulty app) = false
@@ -216,11 +229,11 @@ is_acceptance (outs.Stands member place number regency) = false
 is_acceptance (outs.Seen client place) = false
 is_acceptance (outs.End lines messages) = false
 
--- the line that tells of an accepted reply
+-- the transcript line of an acceptance
 abbrev pub accepted_line : Acceptance → OutLine
 accepted_line a = outs.Accepted a.request.client a.request.seq a.place a.index a.reply
 
--- a transcript line tells of a delivery at a member
+-- a transcript line that tells a delivery at a member
 abbrev pub is_delivery : ℕ → OutLine → Bool
 is_delivery id (outs.Delivered member place executed) = member == id
 is_delivery id (outs.Group members faulty app) = false
@@ -244,13 +257,69 @@ is_delivery id (outs.Stands member place number regency) = false
 is_delivery id (outs.Seen client place) = false
 is_delivery id (outs.End lines messages) = false
 
--- the line that tells of a delivery at a member
+-- the transcript line of a delivery at a member
 abbrev pub delivered_line : ℕ → Delivery → OutLine
 delivered_line id d = outs.Delivered id d.place d.executed
 
--- a transcript tells of all that a host's node has delivered, in earlier lives and in this one, in order, and of no other delivery there
+-- A transcript that tells each batch that a step of a host's node delivered, in all its lives and in order. It tells no other delivery
+-- there. What a restart delivers again is not told.
 abbrev pub HasTold : {S : Type 0} → List OutLine → Host S → Type 0
 HasTold told h = filter (is_delivery h.node.id) told ≡ map (delivered_line h.node.id) (h.earlier ++ h.delivered)
+
+-- what a node went on from: a place, and a number of entries
+pub record Restart : Type 0 where
+  pub place : ℕ
+  pub entries : ℕ
+
+abbrev pub restart_of : ℕ → ℕ → Restart
+restart_of place entries = record { place = place; entries = entries }
+
+-- a node that begins goes on from nothing
+abbrev pub from_nothing : Restart
+from_nothing = restart_of 0 0
+
+-- what a member's node went on from, where a transcript line tells of its restart
+abbrev pub restarts_with : ℕ → Restart → OutLine → Restart
+restarts_with id before (outs.Group members faulty app) = before
+restarts_with id before (outs.Sent number origin summary) = before
+restarts_with id before (outs.Decided member place) = before
+restarts_with id before (outs.Delivered member place executed) = before
+restarts_with id before (outs.Promised member number regency) = before
+restarts_with id before (outs.Synced member number regency base bound) = before
+restarts_with id before (outs.Dropped member why) = before
+restarts_with id before (outs.Counted client have need) = before
+restarts_with id before (outs.Accepted client seq place index reply) = before
+restarts_with id before (outs.Ignored client why) = before
+restarts_with id before (outs.Busy client seq) = before
+restarts_with id before (outs.Absent member) = before
+restarts_with id before (outs.Crashed member) = before
+restarts_with id before (outs.Restarted member place entries) = if member == id then restart_of place entries else before
+restarts_with id before (outs.Down member) = before
+restarts_with id before (outs.Idle member) = before
+restarts_with id before (outs.IdleClient client) = before
+restarts_with id before (outs.Learned client place) = before
+restarts_with id before (outs.Stands member place number regency) = before
+restarts_with id before (outs.Seen client place) = before
+restarts_with id before (outs.End lines messages) = before
+
+-- so it is behind a transcript: what the last line of a restart there tells
+abbrev pub last_restart : ℕ → Restart → List OutLine → Restart
+last_restart id before [] = before
+last_restart id before (line ∷ lines) = last_restart id (restarts_with id before line) lines
+
+-- A host's node has gone on in this life from a place, with so many entries restored. INTERIM(checkpoints): later a node restores those of a cut.
+pub record WentOn {S : Type 0} (from : Restart) (h : Host S) : Type 0 where
+  pub place : h.resumed ≡ from.place
+  pub entries : h.node.restored ≡ from.entries
+
+-- it has gone on from what the transcript's last line of its restart tells, and from nothing where none does
+abbrev pub HasGoneOn : {S : Type 0} → List OutLine → Host S → Type 0
+HasGoneOn told h = WentOn (last_restart h.node.id from_nothing told) h
+
+-- Each of some is declared so by a line that was played, and while nothing has ended the play each that is declared is one of them.
+pub record AreDeclared (declares : ℕ → Line) (played : List Line) (ending : Option Ending) (ids : List ℕ) : Type 0 where
+  pub only : (id : ℕ) → is_among ids id ≡ true → Among (declares id) played
+  pub all : ending ≡ None → (id : ℕ) → Among (declares id) played → is_among ids id ≡ true
 
 -- a request was among those sent, or it states a place no less than each one that the transcript told its client
 abbrev pub IsPast : List Sent → List OutLine → Request → Type 0
@@ -260,9 +329,34 @@ IsPast sent told q = HasAsked sent q ⊎ (known_by q.client told ≤ q.after)
 abbrev pub world_at : {S : Type 0} → Meaning S → View → List Line → ℕ → World S
 world_at m view ls k = world_after (course_of m) (begun m view) (take k ls)
 
--- One list holds after each line. The group's view stays, and the list only grows. Each transcript line that tells of an accepted reply tells its answer there,
+-- a line by which a client is told what another knows has that effect, where nothing has ended the play and the other is not rogue
+abbrev pub HasTaught : {S : Type 0} → World S → List OutLine → List OutLine → Line → Type 0
+HasTaught w before after (lines.Tell from to) =
+    w.ending ≡ None → is_among w.rogue from ≡ false → from ≤ 1024 → to ≤ 1024 → known_by to after ≡ max (known_by to before) (known_by from before)
+HasTaught w before after lines.Nothing = Unit {0}
+HasTaught w before after (lines.Ask client op) = Unit {0}
+HasTaught w before after (lines.Again client) = Unit {0}
+HasTaught w before after (lines.Flow members) = Unit {0}
+HasTaught w before after (lines.Give number to) = Unit {0}
+HasTaught w before after (lines.Deliver members) = Unit {0}
+HasTaught w before after (lines.Tick members) = Unit {0}
+HasTaught w before after (lines.Settle member) = Unit {0}
+HasTaught w before after (lines.Disk member count) = Unit {0}
+HasTaught w before after (lines.Crash member image patches) = Unit {0}
+HasTaught w before after (lines.CrashAll image) = Unit {0}
+HasTaught w before after (lines.Restart member) = Unit {0}
+HasTaught w before after lines.RestartAll = Unit {0}
+HasTaught w before after lines.SettleAll = Unit {0}
+HasTaught w before after lines.Show = Unit {0}
+HasTaught w before after (lines.Faulty member) = Unit {0}
+HasTaught w before after (lines.Rogue client) = Unit {0}
+HasTaught w before after (lines.Inject form) = Unit {0}
+
+-- One list holds after each line. The group's view stays, faulty and rogue are those that a line has declared so. The list only grows, and so
+-- do what was sent, what was accepted and each member's diary. Each transcript line that tells of an accepted reply tells its answer there,
 -- and the transcript tells of each reply that was accepted, of each once, in order, and of no other. So it does of the deliveries of each node, through all its
--- lives. Each request whose reply is accepted, be it when it may, states what its client knew: of each line after which it had not been sent yet, a place no
+-- lives. Each node has gone on in this life from what its last restart tells. A client that a line tells what another
+-- knows, knows that too behind the line. Each request whose reply is accepted, be it when it may, states what its client knew: of each line after which it had not been sent yet, a place no
 -- less than each one that the transcript had told the client by then, of a reply that it accepted or of one that it was told. The reply stands past them all,
 -- as its place is above the one that the request states (`above` of `IsRightReply`). After each line the diary of each member that is not faulty is lawful, rests on what has been stated, and shows each statement of the
 -- member that stands in what was sent. Each batch of the list has a decision among what has been stated. While a member runs, its diary is what is firm of
@@ -270,9 +364,17 @@ world_at m view ls k = world_after (course_of m) (begun m view) (take k ls)
 pub record OneListThroughout {S : Type 0} (m : Meaning S) (view : View) (ls : List Line) : Type 0 where
   pub one_list : (k : ℕ) → OneList m (world_at m view ls k)
   pub viewed : (k : ℕ) → (world_at m view ls k).view ≡ view
+  pub faulty : (k : ℕ) → AreDeclared (λ member. lines.Faulty member) (take k ls) (world_at m view ls k).ending (world_at m view ls k).faulty
+  pub rogue : (k : ℕ) → AreDeclared (λ client. lines.Rogue client) (take k ls) (world_at m view ls k).ending (world_at m view ls k).rogue
   pub grows : (j k : ℕ) → j ≤ k → take (length (world_at m view ls j).chosen) (world_at m view ls k).chosen ≡ (world_at m view ls j).chosen
+  pub sent_grows : (j k : ℕ) → j ≤ k → take (length (world_at m view ls j).sent) (world_at m view ls k).sent ≡ (world_at m view ls j).sent
+  pub accepted_grows : (j k : ℕ) → j ≤ k → take (length (world_at m view ls j).accepted) (world_at m view ls k).accepted ≡ (world_at m view ls j).accepted
+  pub diaries_grow : (j k : ℕ) → j ≤ k → (member : ℕ) → take (length (diary (world_at m view ls j) member)) (diary (world_at m view ls k) member) ≡ diary (world_at m view ls j) member
   pub told : (k : ℕ) → Each (IsAnswered m view (world_at m view ls k).chosen) (lines_told (course_of m) (begun m view) (take k ls))
   pub told_all : (k : ℕ) → filter is_acceptance (lines_told (course_of m) (begun m view) (take k ls)) ≡ map accepted_line (world_at m view ls k).accepted
   pub told_deliveries : (k : ℕ) → Each (HasTold (lines_told (course_of m) (begun m view) (take k ls))) (world_at m view ls k).hosts
+  pub told_restarts : (k : ℕ) → Each (HasGoneOn (lines_told (course_of m) (begun m view) (take k ls))) (world_at m view ls k).hosts
+  pub taught : (k : ℕ) (line : Line) → slice_get ls k ≡ Some line
+      → HasTaught (world_at m view ls k) (lines_told (course_of m) (begun m view) (take k ls)) (lines_told (course_of m) (begun m view) (take (k + 1) ls)) line
   pub past_known : (j k : ℕ) → Each (λ a. IsPast (world_at m view ls j).sent (lines_told (course_of m) (begun m view) (take j ls)) a.request) (world_at m view ls k).accepted
   pub witnessed : (k : ℕ) → IsWitnessed (world_at m view ls k)

@@ -1,4 +1,4 @@
--- The worlds of a play in which a node settles.
+-- The worlds of a play while a node settles.
 use Rattle.std.specs.Prelude.{ℕ, ◌+◌, List, slice_get}
 use Rattle.smart_base.specs.Views.{View}
 use Rattle.smart_statements.specs.declared.entry.NodeEvent.TheVariants.{Arrive}
@@ -8,22 +8,22 @@ use Rattle.world_rules.specs.Worlds.{course_of, World, node_takes, settle_once, 
 use Rattle.world_rules.specs.Plays.{world_after}
 use Rattle.world_rules.specs.declared.line.Line.{Line}
 
--- the node at an index settles, if it runs
+-- the world after the node at an index has settled, if it runs
 abbrev pub settles_present : {S : Type 0} → Meaning S → List ℕ → ℕ → World S → World S
 settles_present m members i w = settle_present (course_of m) members i w (slice_get w.hosts i)
 
--- a flow over listed members begins, and the first of these nodes have settled
+-- the world in which a flow over listed members begins, after the first of these nodes have settled
 abbrev pub flow_begins : {S : Type 0} → Meaning S → View → List Line → List ℕ → ℕ → World S
 flow_begins m view ls members nodes = each_from (at_listed members (settles_present m members)) nodes 0 (world_after (course_of m) (begun m view) ls)
 
--- a flow over listed members has had so many turns
+-- the world after a flow over listed members has given so many messages
 abbrev pub flow_goes : {S : Type 0} → Meaning S → View → List Line → List ℕ → ℕ → World S
 flow_goes m view ls members k = repeated (flow_once (course_of m) members) k (settle_all (course_of m) members (world_after (course_of m) (begun m view) ls))
 
--- bytes are given to listed members, and the first of these nodes have taken them and settled
+-- the world after bytes were given to listed members, of which the first have settled
 abbrev pub message_goes : {S : Type 0} → Meaning S → List ℕ → List ℕ → ℕ → World S → World S
 message_goes m members bytes nodes w = each_from (at_listed members (gives (course_of m) bytes)) nodes 0 (record w { mark = w.mark + 1 })
 
--- a node has taken bytes, and for so many turns what was due
+-- the world after a node took bytes, and then so many turns of what was due
 abbrev pub node_goes : {S : Type 0} → Meaning S → List ℕ → ℕ → ℕ → World S → World S
 node_goes m bytes i k w = repeated (settle_once (course_of m) i) k (node_takes (course_of m) i (Arrive bytes) w)

@@ -1,4 +1,4 @@
-//! A play of cores, which keep only what still matters.
+//! A play of cores: nodes that keep only what they still need.
 ghost use Rattle.std.specs.Prelude.{◌≡◌, List};
 ghost use Rattle.smart_base.specs.Views.{View};
 ghost use Rattle.world_rules.specs.Worlds.{course_of, core_course, begun};
@@ -8,10 +8,11 @@ ghost use Rattle.world_laws.specs.Cores.{trimmed_world};
 
 use smart_service::service::Service;
 
-/// A world whose nodes keep only the arrivals and the proposed slots that still matter, and in which
-/// nothing of members' lives is written down, plays every script as the world that keeps them all,
-/// crashes and restarts too: it tells the same lines, and behind them it is that world, with each
-/// node holding no more than it still needs, and no life written down.
+/// The play of cores tells the same lines as the play of whole nodes, for every script, with crashes
+/// and restarts.
+///
+/// After the script its world is that of whole nodes, with two exceptions. Each node holds only the
+/// arrivals and proposed slots that it still needs. Nothing of members' lives is written down.
 pub fn cores_play_alike<S: Service>()
     ensures told { (view : View) (ls : List Line) → lines_told (core_course S.meaning) (begun S.meaning view) ls ≡ lines_told (course_of S.meaning) (begun S.meaning view) ls }
     ensures world { (view : View) (ls : List Line) → world_after (core_course S.meaning) (begun S.meaning view) ls ≡ trimmed_world (world_after (course_of S.meaning) (begun S.meaning view) ls) }

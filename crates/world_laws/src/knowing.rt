@@ -8,9 +8,9 @@ ghost use Rattle.world_rules.specs.Knowing.{known_by, seen_by};
 
 use smart_service::service::Service;
 
-/// In every play, after any lines, the greatest place that a client knows is the greatest one that
-/// the transcript so far tells it: of a reply that it accepted, or one that it learned. Where the
-/// transcript tells it none, it knows none.
+/// A client's greatest known place is the greatest one that the transcript so far tells it, in every
+/// play and after any lines: of a reply that it accepted, or as learned. If the transcript tells it
+/// none, it knows none (0).
 pub fn clients_know<S: Service>()
     ensures { (view : View) (ls : List Line) (client : ℕ) → client ≤ 1024 →
         seen_by (world_after (course_of S.meaning) (begun S.meaning view) ls) client ≡ Some (known_by client (lines_told (course_of S.meaning) (begun S.meaning view) ls)) }

@@ -1,5 +1,5 @@
-//! The laws of a play: one list, for every script. They speak of the definitions alone, and stand
-//! on functions with empty bodies.
+//! The laws of a play: one list, for every script. Each law is a function with an empty body, and
+//! speaks of definitions alone.
 #![tactic(auto)]
 
 pub mod cores;

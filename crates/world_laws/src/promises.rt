@@ -22,27 +22,29 @@ ghost use Rattle.world_laws.specs.Settling.{flow_begins, flow_goes, message_goes
 
 use smart_service::service::Service;
 
-/// Whatever replies come to a client that asks, in whatever order: what it accepts is a reply to its
-/// request, and a quorum of the view's members have given that very reply, each with its own tag. And
-/// in every play, of each reply that a client accepted, a quorum of the view's members have given it:
-/// of each member of that quorum the very reply, with that member's tag, is among the messages of the
-/// play, and a member that is not declared faulty has sent it itself, to that client. A faulty one's
-/// may stand in a message that a script injected.
+/// A quorum of the view's members has given each reply that a client accepts, each with its own tag.
+/// The reply is to the client's request. This holds for whatever replies come to the client, in any
+/// order.
+///
+/// In every play the accepted reply of each member of that quorum is among the messages of the play,
+/// with the member's tag. A member that is not faulty has sent it itself, to that client. A faulty
+/// member's reply may stand in a message that a script injected.
 pub fn a_quorum_replied<S: Service>()
     ensures client { (view : View) (c : Client) (q : Request) (replies : List (SignedBy Answer)) (a : SignedBy Answer) (accepted : Acceptance) →
         heard view (hears_all view (asking c q) replies) a ≡ hears.Accepted accepted → IsGiven view q (replies ++ a ∷ []) accepted }
     ensures world { (view : View) (ls : List Line) → is_view view ≡ true → QuorumsReplied (world_after (course_of S.meaning) (begun S.meaning view) ls) }
 {}
 
-/// A vote leaves only when its entry is firm, a reply only when firm entries make its place or a later
-/// one, and a report only when its promise is firm, behind the entries that it tells of. Of the other
-/// messages nothing is said. Whatever comes to a node that has let nothing go yet, each vote, reply and
-/// report that would leave it now rests on firm entries. And in each world of a play, as a flow begins
-/// and in each turn of it, while a node settles and while one takes bytes, what a node or a client has
-/// sent is a message that names it as its signer, unless it is a client's request that a node has
-/// passed on to one member, and a vote, a reply or a report that a node has sent rests on what became
-/// firm there, in whichever life.
-/// What a script injects is for nobody.
+/// A vote leaves only after its entry is firm. A reply leaves only after firm entries make its place
+/// or a later one. A report leaves only after its promise is firm, after the entries that it tells
+/// of. For other messages nothing is claimed. That replies wait for the log is Dura-SMaRt's (USENIX
+/// ATC 2013); that votes and reports do is this project's own rule.
+///
+/// Whatever comes to a node that has let nothing go yet, each vote, reply and report that would leave
+/// it now rests on firm entries. In a play votes, replies and reports rest on what became firm at
+/// their senders, in any life. This holds at each turn of a flow, and while a node settles or takes
+/// bytes. What a node or a client has sent names it as its signer, except a client's request that a
+/// node passed on to one member. What a script injects is for nobody.
 pub fn votes_leave_when_firm<S: Service>()
     ensures node { (secret : List ℕ) (id : ℕ) (view : View) (period : ℕ) (events : List NodeEvent) → LeavesFirm (node_after S.meaning (opened S.meaning secret id view period) events) }
     ensures first { (view : View) (ls : List Line) (members : List ℕ) (nodes i k : ℕ) → is_view view ≡ true → SentFirm (repeated (settle_once (course_of S.meaning) i) k (flow_begins S.meaning view ls members nodes)) }
@@ -50,13 +52,15 @@ pub fn votes_leave_when_firm<S: Service>()
         SentFirm (node_goes S.meaning bytes i k (message_goes S.meaning members bytes nodes (flow_goes S.meaning view ls members turn))) }
 {}
 
-/// In every play each message that was sent, also one that a script injected, is read from its bytes
-/// as itself, by whichever member is given them, if it has at most 1,048,576 bytes. The bytes of a
-/// longer one, and bytes that are no message, are read as none. A client reads each message that orders
-/// requests as itself, and any other as none. What a node or a client sends is a message, and none but
-/// a beginning of a regency may be longer: it is not where no report in it bears evidence of a last
-/// place that it does not state. It bears the tag of its signer over its statement. So does each
-/// request of a batch in it, and each report in a beginning of a regency.
+/// Each message of a play is read from its bytes as itself, by whichever member is given them, if it
+/// has at most 1,048,576 bytes. A script's messages are no exception. The bytes of a longer message,
+/// and bytes that are no message, are read as none. No message that orders requests is longer. A
+/// client takes each reply as itself, and nothing else as a reply.
+///
+/// A node or a client sends messages alone. Of these only a SYNC may be longer than the limit. It is
+/// not longer if no report in it bears evidence of a last place that it does not state. Each message
+/// bears the tag of its signer over its statement. Each request of a batch in it, and each report in
+/// a SYNC, bears its signer's tag too.
 pub fn what_is_sent_is_read<S: Service>()
     ensures { (view : View) (ls : List Line) → is_view view ≡ true → AllGenuine (world_after (course_of S.meaning) (begun S.meaning view) ls) }
 {}

@@ -9,10 +9,8 @@ use Rattle.std.proofs.lemmas.List.Concat.{flat_map-append}
 use Rattle.smart_base.specs.Lists.{Each, same_bytes}
 use Rattle.smart_base.proofs.SameLists.{same_list-equal}
 use Rattle.smart_statements.specs.Batches.{Batch, batch_text}
-use Rattle.smart_messages.specs.declared.any.AnyMessage.{AnyMessage}
-use Rattle.smart_messages.specs.declared.any.AnyMessage.TheVariants.{Plain, Change}
-use Rattle.smart_messages.specs.declared.regency.RegencyMessage.TheVariants as changes
-use Rattle.smart_messages.specs.declared.message.Message.TheVariants.{Ask, Propose, Vote, Reply}
+use Rattle.smart_messages.specs.Messages.{batch_in}
+use Rattle.smart_messages.specs.declared.message.Message.{Message}
 use Rattle.smart_keys.specs.Keys.{digest}
 use Rattle.replica_rules.specs.Seals.{digest_of}
 use Rattle.world_rules.specs.Premises.{Claim, batches_in, batches, met, clash, collides}
@@ -182,15 +180,9 @@ index-optional : (f g : List ℕ → Option (List ℕ)) (bs : List Batch) (found
 index-optional f g bs None index free more = index-none f g bs index more
 index-optional f g bs (Some b) index free more = index-end f g bs b index (either_first (list_any (clash b) bs) false free) more
 
-index-message : (f g : List ℕ → Option (List ℕ)) (bs : List Batch) (m : AnyMessage) → IsIndex f bs → list_any (λ b. list_any (clash b) bs) (batches_in m) ≡ false
+index-message : (f g : List ℕ → Option (List ℕ)) (bs : List Batch) (m : Message) → IsIndex f bs → list_any (λ b. list_any (clash b) bs) (batches_in m) ≡ false
     → ((d : List ℕ) → g d ≡ indexed f (batches_in m) d) → IsIndex g (bs ++ batches_in m)
-index-message f g bs (Plain (Ask q)) index free more = index-none f g bs index more
-index-message f g bs (Plain (Propose p)) index free more = index-end f g bs p.batch index (either_first (list_any (clash p.batch) bs) false free) more
-index-message f g bs (Plain (Vote v)) index free more = index-none f g bs index more
-index-message f g bs (Plain (Reply a)) index free more = index-none f g bs index more
-index-message f g bs (Change (changes.Stop s)) index free more = index-none f g bs index more
-index-message f g bs (Change (changes.StopData r)) index free more = index-optional f g bs r.batch index free more
-index-message f g bs (Change (changes.Sync s)) index free more = index-none f g bs index more
+index-message f g bs m index free more = index-optional f g bs (batch_in m) index free more
 
 index-content : (f g : List ℕ → Option (List ℕ)) (bs : List Batch) (c : Content) → IsIndex f bs → list_any (λ b. list_any (clash b) bs) (batches c) ≡ false
     → ((d : List ℕ) → g d ≡ indexed f (batches c) d) → IsIndex g (bs ++ batches c)

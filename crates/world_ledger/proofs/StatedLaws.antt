@@ -123,20 +123,6 @@ stated-more f g sent s own index is more =
 
 -- ---- statements are kept
 
--- those kept of one more, and of the rest
-pub kept-more : {A C : Type 0} (g : A → List C) (x : A) (rest all : List A) (old new : List C) (total : List C) → new ≡ old ++ g x → all ≡ x ∷ rest
-    → old ++ flat_map g all ≡ total → new ++ flat_map g rest ≡ total
-kept-more g x rest all old new total more is so_far =
-    let e : old ++ flat_map g (x ∷ rest) ≡ total = rw is at so_far in
-    rw more (append_assoc old (g x) (flat_map g rest) ∙ e)
-
--- of what is kept in parts, one behind the other
-pub kept_two : {C : Type 0} (old mid new xs ys : List C) → mid ≡ old ++ xs → new ≡ mid ++ ys → new ≡ old ++ (xs ++ ys)
-kept_two old mid new xs ys one two = two ∙ rw one (append_assoc old xs ys)
-
-pub kept_parts : {C : Type 0} (old one two new xs ys zs : List C) → one ≡ old ++ xs → two ≡ one ++ ys → new ≡ two ++ zs → new ≡ old ++ (xs ++ (ys ++ zs))
-kept_parts old one two new xs ys zs a b c = kept_two old one new xs (ys ++ zs) a (kept_two one two new ys zs b c)
-
 -- those that are their sender's own, of one more and of the rest
 pub own-more : (o : Origin) (x : Stated) (rest all : List Stated) (old new : List Claim) (total : List Claim) (own : Bool) → is_own o (claim_of x) ≡ own
     → new ≡ cond own (old ++ claim_of x ∷ []) old → all ≡ x ∷ rest → old ++ filter (is_own o) (map claim_of all) ≡ total → new ++ filter (is_own o) (map claim_of rest) ≡ total

@@ -1,4 +1,3 @@
 pub mod Ledgers
 pub mod Statements
 pub mod Claims
-pub mod Batches

@@ -1,18 +1,16 @@
 //! What is sent: its bytes, and what a transcript tells of it.
 ghost use Rattle.std.specs.Prelude.{◌≡◌, IfOk, length, option_to_list, option_copied};
 ghost use Rattle.world_rules.specs.Premises.{batches, bytes_of};
-ghost use Rattle.world_rules.specs.Injections.{batch_in, content_of};
-ghost use Rattle.world_rules.specs.Worlds.{vote_summary, summary_of, regency_locked, summary_of_change, summary};
-ghost use Rattle.world_ledger.specs.Batches.{proposed_in, locked_in};
+ghost use Rattle.world_rules.specs.Injections.{batch_proposed, content_of};
+ghost use Rattle.world_rules.specs.Worlds.{vote_summary, summary_of, regency_locked, summary};
 
 use regency_sync::choosing::choice;
 use smart_base::duplicate::Duplicate;
 use smart_base::fault::ReadError;
 use smart_base::number::Regency;
 use smart_base::sequence::Bytes;
-use smart_messages::any::{AnyMessage, decode_any, encode_any};
-use smart_messages::message::Message;
-use smart_messages::regency::RegencyMessage;
+use smart_messages::codec::{decode, encode};
+use smart_messages::message::{Message, batch_in, proposal_in};
 use smart_statements::batch::Batch;
 use smart_statements::report::LockCertificate;
 use smart_statements::statement::{Ballot, VoteKind};
@@ -25,7 +23,7 @@ use world_rules::message::{Content, Origin};
 pub fn read_content(alloc: Global, bytes: Bytes) -> Result<Content, AllocError>
     ensures { IfOk result (λ content. content ≡ content_of bytes) }
 {
-    match decode_any(alloc, bytes.as_slice()) {
+    match decode(alloc, bytes.as_slice()) {
         Ok(message) => Ok(Content::Message(message)),
         Err(ReadError::Unread { .. }) => Ok(Content::Raw(bytes)),
         Err(ReadError::NoMemory) => Err(AllocError),
@@ -37,38 +35,21 @@ pub fn content_bytes(alloc: Global, content: &Content) -> Result<Bytes, AllocErr
     ensures { IfOk result (λ bytes. bytes ≡ bytes_of content.now) }
 {
     match content {
-        Content::Message(message) => Ok(Bytes::from_vec(encode_any(alloc, message)?)),
+        Content::Message(message) => Ok(Bytes::from_vec(encode(alloc, message)?)),
         Content::Raw(bytes) => Ok(bytes.duplicate(alloc)?),
     }
 }
 
-/// The batch that a message proposes.
-fn proposed_in(message: &Message) -> Option<&Batch>
-    ensures { option_copied result ≡ proposed_in message.now }
-{
-    match message {
-        Message::Propose(proposed) => Some(&proposed.batch),
-        Message::Ask(_) | Message::Vote(_) | Message::Reply(_) => None,
-    }
-}
-
-/// The batch of a report's lock.
-fn locked_in(message: &RegencyMessage) -> Option<&Batch>
-    ensures { option_copied result ≡ locked_in message.now }
-{
-    match message {
-        RegencyMessage::StopData(reported) => reported.batch.as_ref(),
-        RegencyMessage::Stop(_) | RegencyMessage::Sync(_) => None,
-    }
-}
-
 /// The batch that a content proposes.
-pub fn batch_in(content: &Content) -> Option<&Batch>
-    ensures { option_copied result ≡ batch_in content.now }
+pub fn batch_proposed(content: &Content) -> Option<&Batch>
+    ensures { option_copied result ≡ batch_proposed content.now }
 {
     match content {
-        Content::Message(AnyMessage::Plain(message)) => proposed_in(message),
-        Content::Message(AnyMessage::Change(_)) | Content::Raw(_) => None,
+        Content::Message(message) => match proposal_in(message) {
+            None => None,
+            Some(proposed) => Some(&proposed.batch),
+        },
+        Content::Raw(_) => None,
     }
 }
 
@@ -77,8 +58,7 @@ pub fn batch_met(content: &Content) -> Option<&Batch>
     ensures { option_to_list (option_copied result) ≡ batches content.now }
 {
     match content {
-        Content::Message(AnyMessage::Plain(message)) => proposed_in(message),
-        Content::Message(AnyMessage::Change(message)) => locked_in(message),
+        Content::Message(message) => batch_in(message),
         Content::Raw(_) => None,
     }
 }
@@ -98,6 +78,15 @@ fn vote_summary(ballot: &Ballot) -> Summary
             place: slot.place,
             regency: slot.regency,
         },
+    }
+}
+
+fn regency_locked(lock: &Option<LockCertificate>) -> Option<Regency>
+    ensures { result ≡ regency_locked lock.now }
+{
+    match lock {
+        None => None,
+        Some(lock) => Some(lock.regency),
     }
 }
 
@@ -123,6 +112,32 @@ fn summary_of(message: &Message) -> Summary
             }
         }
         Message::Vote(signed) => vote_summary(signed.statement()),
+        Message::Stop(stop) => {
+            let stop = stop.statement();
+            Summary::Stop {
+                view: stop.view,
+                regency: stop.regency,
+            }
+        }
+        Message::StopData(reported) => {
+            let report = reported.head.statement();
+            Summary::StopData {
+                view: report.view,
+                regency: report.regency,
+                last: report.last.get(),
+                lock: regency_locked(&report.lock),
+            }
+        }
+        Message::Sync(sync) => {
+            let sync = sync.statement();
+            let choice = choice(sync.collect.as_slice());
+            Summary::Sync {
+                view: sync.view,
+                regency: sync.regency,
+                base: choice.base,
+                bound: choice.bound.is_some(),
+            }
+        }
         Message::Reply(signed) => {
             let answer = signed.statement();
             Summary::Reply {
@@ -135,55 +150,12 @@ fn summary_of(message: &Message) -> Summary
     }
 }
 
-fn regency_locked(lock: &Option<LockCertificate>) -> Option<Regency>
-    ensures { result ≡ regency_locked lock.now }
-{
-    match lock {
-        None => None,
-        Some(lock) => Some(lock.regency),
-    }
-}
-
-fn summary_of_change(message: &RegencyMessage) -> Summary
-    ensures { result ≡ summary_of_change message.now }
-{
-    match message {
-        RegencyMessage::Stop(stop) => {
-            let stop = stop.statement();
-            Summary::Stop {
-                view: stop.view,
-                regency: stop.regency,
-            }
-        }
-        RegencyMessage::StopData(reported) => {
-            let report = reported.head.statement();
-            Summary::StopData {
-                view: report.view,
-                regency: report.regency,
-                last: report.last.get(),
-                lock: regency_locked(&report.lock),
-            }
-        }
-        RegencyMessage::Sync(sync) => {
-            let sync = sync.statement();
-            let choice = choice(sync.collect.as_slice());
-            Summary::Sync {
-                view: sync.view,
-                regency: sync.regency,
-                base: choice.base,
-                bound: choice.bound.is_some(),
-            }
-        }
-    }
-}
-
 /// What a transcript tells of a content.
 pub fn summary(content: &Content) -> Summary
     ensures { result ≡ summary content.now }
 {
     match content {
-        Content::Message(AnyMessage::Plain(message)) => summary_of(message),
-        Content::Message(AnyMessage::Change(message)) => summary_of_change(message),
+        Content::Message(message) => summary_of(message),
         Content::Raw(_) => Summary::Raw,
     }
 }

@@ -4,6 +4,5 @@
 mod claims;
 pub mod content;
 pub mod ledger;
-pub mod party;
 pub mod secret;
 mod stated;

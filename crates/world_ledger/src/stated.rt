@@ -3,18 +3,15 @@
 ghost use Rattle.std.specs.Prelude.{◌≡◌, ◌≤◌, ◌||◌, IfOk, map, filter, vec_len};
 ghost use Rattle.std.specs.HashSet.{contains, spare};
 ghost use Rattle.std.specs.List.{list_any};
-ghost use Rattle.smart_statements.specs.Forms.{Form, party_of};
 ghost use Rattle.world_rules.specs.Secrets.{group_secret};
 ghost use Rattle.world_rules.specs.Premises.{claims, is_from, is_among, is_excused};
 ghost use Rattle.world_ledger.specs.declared.stated.Stated.{Stated};
 ghost use Rattle.world_ledger.specs.Statements.{claim_of, same_stated, is_own};
 
 use crate::claims::claims;
-use crate::party::signer_of;
 use smart_base::name::{ClientId, MemberId};
 use smart_base::party::Party;
 use smart_keys::ring::Ring;
-use smart_statements::signed::{Signed, Statement};
 use std::alloc::{AllocError, Global};
 use std::collections::HashSet;
 use world_rules::message::{Origin, Sent};
@@ -42,7 +39,7 @@ impl Drop for Stated {
 pub type StatedIndex = HashSet<Stated>;
 
 impl Stated {
-    fn new(alloc: Global, signer: Party, bytes: &[u8]) -> Result<Stated, AllocError>
+    pub fn new(alloc: Global, signer: Party, bytes: &[u8]) -> Result<Stated, AllocError>
         ensures { IfOk result (λ s. claim_of s ≡ record { signer = signer; bytes = bytes.now }) }
     {
         let (is_member, number) = match signer {
@@ -54,16 +51,6 @@ impl Stated {
             number,
             bytes: Vec::from_slice(alloc, bytes)?,
         })
-    }
-
-    /// A signed statement.
-    pub fn from_signed<S: Statement>(
-        alloc: Global,
-        signed: &Signed<S>,
-    ) -> Result<Stated, AllocError>
-        ensures { IfOk result (λ s. claim_of s ≡ record { signer = party_of (Form.kind S.form) signed.now.signer; bytes = Form.spell S.form signed.now.statement }) }
-    {
-        Stated::new(alloc, signer_of(signed), signed.bytes())
     }
 
     /// Who signed it.

@@ -1,4 +1,4 @@
--- Hosts in a world that stop, and that go on from what their devices hold.
+-- Hosts in a world that crash, and that restart from what their devices hold.
 use Rattle.std.specs.Prelude.{ℕ, Bool, false, not, List, Option, Some, None}
 use Rattle.node_rules.specs.Reopening.{damaged}
 use Rattle.world_rules.specs.Crashes.{images_left, wrong_images}
@@ -9,17 +9,17 @@ use Rattle.world_rules.specs.Worlds.{Host, World, Course, telling, crashes_with,
 use Rattle.world_rules.specs.declared.line.OutLine.{OutLine}
 use Rattle.world_hosts.specs.Lives.{held}
 
--- a host's node runs
+-- a host whose node runs
 abbrev pub runs : {S : Type 0} → Option (Host S) → Bool
 runs None = false
 runs (Some h) = h.up
 
--- a host's node has stopped
+-- a host whose member has crashed
 abbrev pub is_down : {S : Type 0} → Option (Host S) → Bool
 is_down None = false
 is_down (Some h) = not h.up
 
--- a host whose node runs stops, and this is left of its devices
+-- the world after a running host crashed, with this left of its devices
 abbrev pub stops : {S : Type 0} → Course S → Image → List Patch → ℕ → World S → Option (Host S) → World S
 stops course image patches i w None = w
 stops course image patches i w (Some h) = crashes_with course i w h (images_left image patches h.store) (wrong_images h.store (images_left image patches h.store))
@@ -28,7 +28,7 @@ abbrev pub telling_if : {S : Type 0} → World S → Option OutLine → World S
 telling_if w None = w
 telling_if w (Some line) = telling w line
 
--- a host whose node has stopped goes on
+-- the world after a crashed host restarted
 abbrev pub goes_on : {S : Type 0} → Course S → ℕ → World S → Option (Host S) → World S
 goes_on course i w None = w
 goes_on course i w (Some h) = resumes_from course i w h (held h) (damaged group_secret w.view (held h))

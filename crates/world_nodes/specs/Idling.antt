@@ -6,17 +6,17 @@ use Rattle.world_hosts.specs.Hearing.{is_idle}
 use Rattle.world_rules.specs.declared.line.OutLine.{OutLine}
 use Rattle.world_rules.specs.declared.line.OutLine.TheVariants as outs
 
--- the step of a node that runs
+-- the world after a step of a node that runs
 abbrev pub steps : {S : Type 0} → Course S → ℕ → NodeEvent → World S → Option (Host S) → World S
 steps course i event w None = w
 steps course i event w (Some h) = stepped course w i h (course.step h.node event)
 
--- the step of a node that runs, and that it is idle where no rule fires
+-- the world after a step of a node that runs; if no rule fires, the transcript tells that it is idle
 abbrev pub tries : {S : Type 0} → Course S → ℕ → NodeEvent → World S → Option (Host S) → World S
 tries course i event w None = w
 tries course i event w (Some h) = telling_all (stepped course w i h (course.step h.node event)) (told_idle h.node.id (course.step h.node event).fired)
 
--- no rule fires at a host that takes an event
+-- a host at which no rule fires at an event
 abbrev pub is_idle_at : {S : Type 0} → Course S → NodeEvent → Option (Host S) → Bool
 is_idle_at course event None = false
 is_idle_at course event (Some h) = is_idle (course.step h.node event).fired

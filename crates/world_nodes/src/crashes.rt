@@ -1,4 +1,4 @@
-//! Nodes that stop, and go on from what their devices hold.
+//! Members that crash, and restart from what their devices hold.
 ghost use Rattle.std.specs.Prelude.{◌≡◌, ◌<◌, [], true, length, slice_get, OnOk};
 ghost use Rattle.world_rules.specs.Worlds.{core_course, crashes, crash_all, at_member, resumes, restart_at, restart_all, restart_member};
 ghost use Rattle.world_nodes.specs.Crashes.{runs, is_down, stops, telling_if, goes_on};
@@ -15,8 +15,8 @@ use world_rules::line::OutLine;
 use world_rules::message::{Ending, Premise};
 use world_state::state::WorldState;
 
-/// The node at an index, which runs, stops, and this is left of its devices. What no crash leaves
-/// there ends the play.
+/// Crashes the running node at an index, and leaves this of its devices. Bytes that no crash leaves
+/// end the play. Error: want of memory.
 fn stop_at<S: Service>(
     world: &mut WorldState<S>,
     i: usize,
@@ -41,7 +41,7 @@ fn stop_at<S: Service>(
     }
 }
 
-/// The node at an index stops, if it runs, and this is left of its devices.
+/// Crashes the node at an index, if it runs, and leaves this of its devices. Error: want of memory.
 #[tactic(auto, unfolding(world_rules::specs::Worlds::crashes))]
 fn crash<S: Service>(
     world: &mut WorldState<S>,
@@ -60,7 +60,7 @@ fn crash<S: Service>(
     Ok(())
 }
 
-/// A member's node stops.
+/// Crashes a member. Error: want of memory.
 pub fn crash_member<S: Service>(
     world: &mut WorldState<S>,
     member: MemberId,
@@ -75,7 +75,7 @@ pub fn crash_member<S: Service>(
     Ok(())
 }
 
-/// Each node that runs stops, ascending.
+/// Crashes each member whose node runs, by number. Error: want of memory.
 #[tactic(auto, using(crate::proofs::Turns::each_more, crate::proofs::Turns::each_done))]
 pub fn crash_all<S: Service>(world: &mut WorldState<S>, image: Image) -> Result<(), AllocError>
     ensures { OnOk result (world.new ≡ crash_all (core_course S.meaning) image world.old) }
@@ -96,7 +96,7 @@ fn tell_if<S: Service>(world: &mut WorldState<S>, line: Option<OutLine>) -> Resu
     Ok(())
 }
 
-/// The node at an index, which has stopped, goes on from what its devices hold.
+/// Restarts the crashed node at an index from what its devices hold. Error: want of memory.
 fn resume_at<S: Service>(world: &mut WorldState<S>, i: usize) -> Result<(), AllocError>
     requires within { i < length world.old.hosts }
     requires down { is_down (slice_get world.old.hosts i) ≡ true }
@@ -112,7 +112,8 @@ fn resume_at<S: Service>(world: &mut WorldState<S>, i: usize) -> Result<(), Allo
     Ok(())
 }
 
-/// The node at an index goes on, if it has stopped and is not gone.
+/// Restarts the node at an index, if it has crashed and its member is not faulty. Error: want of
+/// memory.
 #[tactic(auto, unfolding(world_rules::specs::Worlds::resumes))]
 fn resume<S: Service>(world: &mut WorldState<S>, i: usize) -> Result<(), AllocError>
     ensures { OnOk result (world.new ≡ resumes (core_course S.meaning) i world.old) }
@@ -127,7 +128,8 @@ fn resume<S: Service>(world: &mut WorldState<S>, i: usize) -> Result<(), AllocEr
     Ok(())
 }
 
-/// The node at an index goes on, if it has stopped. One that runs has nothing to do.
+/// Restarts the node at an index, if it has crashed. One that runs is told idle. Error: want of
+/// memory.
 fn restart_at<S: Service>(world: &mut WorldState<S>, i: usize) -> Result<(), AllocError>
     ensures { OnOk result (world.new ≡ restart_at (core_course S.meaning) i world.old (slice_get world.old.hosts i)) }
 {
@@ -145,7 +147,7 @@ fn restart_at<S: Service>(world: &mut WorldState<S>, i: usize) -> Result<(), All
     Ok(())
 }
 
-/// A member's node goes on.
+/// Restarts a member. Error: want of memory.
 pub fn restart_member<S: Service>(
     world: &mut WorldState<S>,
     member: MemberId,
@@ -158,7 +160,7 @@ pub fn restart_member<S: Service>(
     Ok(())
 }
 
-/// Each node that has stopped goes on, ascending.
+/// Restarts each member that has crashed, by number. Error: want of memory.
 #[tactic(auto, using(crate::proofs::Turns::each_more, crate::proofs::Turns::each_done))]
 pub fn restart_all<S: Service>(world: &mut WorldState<S>) -> Result<(), AllocError>
     ensures { OnOk result (world.new ≡ restart_all (core_course S.meaning) world.old) }

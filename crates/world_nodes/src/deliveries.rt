@@ -1,4 +1,4 @@
-//! What happens at a member: what is due, deliveries one by one, and time that passes.
+//! What happens at a member: what is due, deliveries one by one, and time.
 ghost use Rattle.std.specs.Prelude.{◌≡◌, ◌<◌, ℕ, true, IfOk, OnOk, length, slice_get};
 ghost use Rattle.world_rules.specs.Worlds.{World, core_course, node_takes, calls_disk, settle, at_host, at_index, at_member, telling_all, tries_at, tries_each, deliver_each, tick_each};
 ghost use Rattle.world_rules.specs.Repeats.{repeated};
@@ -14,7 +14,7 @@ use world_hosts::host::host_index;
 use world_rules::line::OutLine;
 use world_state::state::WorldState;
 
-/// The index of the node, if it runs. Else its member is told to be absent.
+/// The index of the node, if it runs. If not, its member is told absent. Error: want of memory.
 fn present_at<S: Service>(world: &mut WorldState<S>, i: usize) -> Result<Option<usize>, AllocError>
     ensures { IfOk result (λ found. (f : ℕ → World S → World S) → at_index f world.new found ≡ at_host f i world.old (slice_get world.old.hosts i)) }
 {
@@ -29,7 +29,8 @@ fn present_at<S: Service>(world: &mut WorldState<S>, i: usize) -> Result<Option<
     Ok(None)
 }
 
-/// The index of a member's node, if it runs. Else the member is told to be absent.
+/// The index of a member's node, if it runs. If not, the member is told absent. Error: want of
+/// memory.
 pub fn present<S: Service>(
     world: &mut WorldState<S>,
     member: MemberId,
@@ -42,7 +43,7 @@ pub fn present<S: Service>(
     }
 }
 
-/// A member's node settles.
+/// Settles a member's node. Error: want of memory.
 pub fn settle_member<S: Service>(
     world: &mut WorldState<S>,
     member: MemberId,
@@ -55,7 +56,8 @@ pub fn settle_member<S: Service>(
     Ok(())
 }
 
-/// A member's store makes so many device calls, or fewer where no more are due.
+/// Makes so many device calls of a member's store, or fewer if no more are due. Error: want of
+/// memory.
 pub fn call_member<S: Service>(
     world: &mut WorldState<S>,
     member: MemberId,
@@ -69,7 +71,7 @@ pub fn call_member<S: Service>(
     Ok(())
 }
 
-/// A member's node takes an event.
+/// Takes an event at a member's node. Error: want of memory.
 pub fn member_takes<S: Service>(
     world: &mut WorldState<S>,
     member: MemberId,
@@ -96,7 +98,7 @@ fn tell_idle<S: Service>(
     Ok(())
 }
 
-/// The node at an index, which runs, is to deliver the batch that waits, or time passes there.
+/// Lets the running node at an index deliver, or lets time pass there. Error: want of memory.
 #[tactic(auto, using(crate::proofs::Idling::told_idle_is))]
 fn try_up<S: Service>(
     world: &mut WorldState<S>,
@@ -113,7 +115,7 @@ fn try_up<S: Service>(
     Ok(())
 }
 
-/// The node at an index is to deliver the batch that waits, or time passes there, if it runs.
+/// Lets the node at an index deliver, or lets time pass there, if it runs. Error: want of memory.
 #[tactic(auto, unfolding(world_rules::specs::Worlds::tries_at))]
 fn try_at<S: Service>(
     world: &mut WorldState<S>,
@@ -144,7 +146,7 @@ fn try_member<S: Service>(
     Ok(())
 }
 
-/// So it is at each of some members, in order.
+/// Lets the nodes of some members deliver, or lets time pass there, in order. Error: want of memory.
 fn try_each<S: Service>(
     world: &mut WorldState<S>,
     members: &[MemberId],
@@ -158,7 +160,7 @@ fn try_each<S: Service>(
     Ok(())
 }
 
-/// Each of some members delivers the batch that waits, in order.
+/// Lets each of some members deliver its waiting batch, in order. Error: want of memory.
 pub fn deliver<S: Service>(
     world: &mut WorldState<S>,
     members: &[MemberId],
@@ -168,7 +170,7 @@ pub fn deliver<S: Service>(
     try_each(world, members, &NodeEvent::Deliver)
 }
 
-/// Time passes at each of some members, in order.
+/// Lets time pass at each of some members, in order. Error: want of memory.
 pub fn tick<S: Service>(world: &mut WorldState<S>, members: &[MemberId]) -> Result<(), AllocError>
     ensures { OnOk result (world.new ≡ tick_each (core_course S.meaning) members.now world.old) }
 {

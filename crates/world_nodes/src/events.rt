@@ -1,4 +1,4 @@
-//! Events of nodes: what is due at them, and what is given to those that a line lists.
+//! Events of nodes: what is due there, and what is given to those that a line lists.
 ghost use Rattle.std.specs.Prelude.{◌≡◌, ◌<◌, true, IfOk, OnOk, length, slice_get, false};
 ghost use Rattle.world_rules.specs.Worlds.{core_course, told_absent, settle_present, node_takes, calls_disk, takes_due, settle_once, settle, settle_all, give_all, give_one, is_listed, at_listed, at_index, host_index, telling_all};
 ghost use Rattle.world_rules.specs.Repeats.{repeated};
@@ -16,14 +16,15 @@ use world_hosts::host::{call_disk, host_index, is_among, step_host};
 use world_rules::line::OutLine;
 use world_state::state::WorldState;
 
-/// Whether a list has a member: all where it is empty.
+/// Whether a list has a member; an empty list has all.
 fn is_listed(members: &[MemberId], member: MemberId) -> bool
     ensures { result ≡ is_listed members.now member }
 {
     members.is_empty() || is_among(members, member)
 }
 
-/// The step of the node at an index, which runs. Whether no rule fired is given.
+/// Makes a step of the running node at an index, and tells whether no rule fired. Error: want of
+/// memory.
 pub fn step_at<S: Service>(
     world: &mut WorldState<S>,
     i: usize,
@@ -46,7 +47,7 @@ pub fn step_at<S: Service>(
     Ok(left.idle)
 }
 
-/// The node at an index takes an event, if it runs.
+/// Takes an event at the node at an index, if it runs. Error: want of memory.
 #[tactic(auto, unfolding(world_rules::specs::Worlds::node_takes))]
 pub fn node_takes<S: Service>(
     world: &mut WorldState<S>,
@@ -64,7 +65,7 @@ pub fn node_takes<S: Service>(
     Ok(())
 }
 
-/// The node at an index, which runs, takes an event, if there is one.
+/// Takes an event at the running node at an index, if there is one. Error: want of memory.
 fn step_if<S: Service>(
     world: &mut WorldState<S>,
     i: usize,
@@ -80,8 +81,8 @@ fn step_if<S: Service>(
     Ok(())
 }
 
-/// The store at an index makes its next device call, and its node, which runs, hears what is firm
-/// then.
+/// Makes the next device call of the store at an index; its running node hears what is firm then.
+/// Error: want of memory.
 #[tactic(auto, using(crate::proofs::Calling::called_then))]
 fn call_at<S: Service>(world: &mut WorldState<S>, i: usize) -> Result<(), AllocError>
     requires within { i < length world.old.hosts }
@@ -93,8 +94,8 @@ fn call_at<S: Service>(world: &mut WorldState<S>, i: usize) -> Result<(), AllocE
     Ok(())
 }
 
-/// The store at an index makes its next device call, if there is one, and its node hears what is
-/// firm then. Nothing happens at a node that does not run.
+/// Makes the next device call of the store at an index, if its node runs and there is one; the node
+/// hears what is firm then. Error: want of memory.
 #[tactic(auto, unfolding(world_rules::specs::Worlds::calls_disk))]
 fn calls_disk<S: Service>(world: &mut WorldState<S>, i: usize) -> Result<(), AllocError>
     ensures { OnOk result (world.new ≡ calls_disk (core_course S.meaning) i world.old) }
@@ -108,7 +109,8 @@ fn calls_disk<S: Service>(world: &mut WorldState<S>, i: usize) -> Result<(), All
     Ok(())
 }
 
-/// The store at an index makes so many device calls, or fewer where no more are due.
+/// Makes so many device calls of the store at an index, or fewer if no more are due. Error: want of
+/// memory.
 #[tactic(auto, using(crate::proofs::Turns::times_more, crate::proofs::Turns::times_done))]
 pub fn call_often<S: Service>(
     world: &mut WorldState<S>,
@@ -133,8 +135,8 @@ fn acts<S: Service>(world: &WorldState<S>, i: usize) -> bool
     world.is_up(&world.hosts[i])
 }
 
-/// What is due at the node at an index, which runs, happens, if anything is: a device call, or else
-/// a delivery.
+/// Does one thing that is due at the running node at an index, if anything is: a device call, or else
+/// a delivery. Error: want of memory.
 fn settle_up<S: Service>(world: &mut WorldState<S>, i: usize) -> Result<bool, AllocError>
     requires within { i < length world.old.hosts }
     requires up { runs (slice_get world.old.hosts i) ≡ true }
@@ -152,7 +154,7 @@ fn settle_up<S: Service>(world: &mut WorldState<S>, i: usize) -> Result<bool, Al
     Ok(false)
 }
 
-/// What is due at an index happens, if anything is. Nothing is at a node that does not run.
+/// Does one thing that is due at an index, if its node runs and anything is. Error: want of memory.
 fn settle_once<S: Service>(world: &mut WorldState<S>, i: usize) -> Result<bool, AllocError>
     ensures world { OnOk result (world.new ≡ settle_once (core_course S.meaning) i world.old) }
     ensures idle { IfOk result (λ more. more ≡ false → world.new ≡ world.old) }
@@ -163,7 +165,7 @@ fn settle_once<S: Service>(world: &mut WorldState<S>, i: usize) -> Result<bool, 
     Ok(false)
 }
 
-/// The node at an index takes what is due until nothing is.
+/// Does what is due at the node at an index until nothing is. Error: want of memory.
 #[tactic(auto, using(crate::proofs::Turns::rest_begins, crate::proofs::Turns::rest_more, crate::proofs::Turns::rest_done, crate::proofs::Turns::rest_idle))]
 pub fn settle<S: Service>(world: &mut WorldState<S>, i: usize) -> Result<(), AllocError>
     ensures { OnOk result (world.new ≡ settle (core_course S.meaning) i world.old) }
@@ -176,7 +178,8 @@ pub fn settle<S: Service>(world: &mut WorldState<S>, i: usize) -> Result<(), All
     Ok(())
 }
 
-/// Tells of a member whose node does not run, if a line lists members.
+/// Tells that a member is absent whose node does not run, if a line lists members. Error: want of
+/// memory.
 fn tell_absent<S: Service>(
     world: &mut WorldState<S>,
     members: &[MemberId],
@@ -190,7 +193,7 @@ fn tell_absent<S: Service>(
     Ok(())
 }
 
-/// The node at an index settles, if it runs.
+/// Settles the node at an index, if it runs. Error: want of memory.
 fn settle_present<S: Service>(
     world: &mut WorldState<S>,
     members: &[MemberId],
@@ -210,7 +213,7 @@ fn settle_present<S: Service>(
     Ok(())
 }
 
-/// The node at an index settles, if its member is listed.
+/// Settles the node at an index, if its member is listed. Error: want of memory.
 fn settle_listed<S: Service>(
     world: &mut WorldState<S>,
     members: &[MemberId],
@@ -224,7 +227,7 @@ fn settle_listed<S: Service>(
     Ok(())
 }
 
-/// Each listed node settles, ascending.
+/// Settles each listed node, by number. Error: want of memory.
 #[tactic(auto, using(crate::proofs::Turns::each_more, crate::proofs::Turns::each_done))]
 pub fn settle_all<S: Service>(
     world: &mut WorldState<S>,
@@ -239,7 +242,7 @@ pub fn settle_all<S: Service>(
     Ok(())
 }
 
-/// The node at an index takes an event, and settles.
+/// Takes an event at the node at an index, and settles it. Error: want of memory.
 fn give<S: Service>(
     world: &mut WorldState<S>,
     i: usize,
@@ -252,7 +255,8 @@ fn give<S: Service>(
     Ok(())
 }
 
-/// The node at an index takes an event and settles, if its member is listed.
+/// Takes an event at the node at an index and settles it, if its member is listed. Error: want of
+/// memory.
 fn give_listed<S: Service>(
     world: &mut WorldState<S>,
     members: &[MemberId],
@@ -267,7 +271,7 @@ fn give_listed<S: Service>(
     Ok(())
 }
 
-/// Each listed node takes the bytes of a message and settles, ascending.
+/// Gives the bytes of a message to each listed node, which settles, by number. Error: want of memory.
 #[tactic(auto, using(crate::proofs::Turns::each_more, crate::proofs::Turns::each_done), unfolding(world_rules::specs::Worlds::gives))]
 pub fn give_all<S: Service>(
     world: &mut WorldState<S>,
@@ -284,7 +288,7 @@ pub fn give_all<S: Service>(
     Ok(())
 }
 
-/// The node of a member takes an event and settles, if the member is listed.
+/// Takes an event at a member's node and settles it, if the member is listed. Error: want of memory.
 fn give_member<S: Service>(
     world: &mut WorldState<S>,
     members: &[MemberId],
@@ -299,7 +303,8 @@ fn give_member<S: Service>(
     Ok(())
 }
 
-/// The node of a member takes the bytes of a message and settles, if the member is listed.
+/// Gives the bytes of a message to a member's node, which settles, if the member is listed. Error:
+/// want of memory.
 #[tactic(auto, using(crate::proofs::Giving::given_one))]
 pub fn give_one<S: Service>(
     world: &mut WorldState<S>,

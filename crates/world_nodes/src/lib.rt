@@ -1,4 +1,4 @@
-//! What happens at the nodes of a world: their events, device calls and deliveries, and their ends.
+//! What happens at the nodes of a world: events, device calls, deliveries, crashes and restarts.
 #![tactic(auto)]
 
 pub mod crashes;

@@ -13,32 +13,32 @@ use Rattle.world_rules.specs.declared.crash.Image.TheVariants.{Old, New}
 use Rattle.world_rules.specs.declared.crash.Patch.{Patch}
 use Rattle.world_rules.specs.declared.crash.NotAnImage.{NotAnImage}
 
--- what its devices 0 and 1 hold
+-- the cells of device 0, the even log; device 1 is the odd log
 abbrev pub even_log : StoreState → Cells
 even_log s = if is_odd s.generation then s.other_log else s.log.cells
 
 abbrev pub odd_log : StoreState → Cells
 odd_log s = if is_odd s.generation then s.log.cells else s.other_log
 
--- what reads of its devices give
+-- the bytes that reads of the four devices give
 abbrev pub bytes_held : StoreState → Images
 bytes_held s = record { even_log = (even_log s).now; odd_log = (odd_log s).now; even_slot = s.even.cells.now; odd_slot = s.odd.cells.now }
 
--- a device as it was at its last sync, or as it reads
+-- the bytes of a device at its last sync, or as it reads now
 abbrev pub cells_left : Image → Cells → List ℕ
 cells_left Old s = s.sure
 cells_left New s = s.now
 
--- bytes with a patch, and zeros in a gap before it
+-- bytes with a patch; a gap before the patch is filled with zeros
 abbrev pub patched : Patch → List ℕ → List ℕ
 patched p bytes = put p.at p.bytes (bytes ++ replicate (p.at - length bytes) 0)
 
--- with all patches of a device, in order
+-- bytes with all patches of a device, in order
 abbrev pub with_patches : ℕ → List Patch → List ℕ → List ℕ
 with_patches device [] bytes = bytes
 with_patches device (p ∷ ps) bytes = with_patches device ps (if p.device == device then patched p bytes else bytes)
 
--- what is left of the devices
+-- the bytes of the four devices after a crash, as a script names them: an image with patches
 abbrev pub images_left : Image → List Patch → StoreState → Images
 images_left image patches s = record {
   even_log = with_patches 0 patches (cells_left image (even_log s));
@@ -50,7 +50,7 @@ images_left image patches s = record {
 abbrev pub wrong_on : ℕ → Cells → List ℕ → Option NotAnImage
 wrong_on device cells bytes = option_map (λ at. record { device = device; at = at }) (wrong_in cells bytes)
 
--- the first byte that no crash leaves there, by the devices in their order
+-- the first byte that no crash leaves, by device 0 to 3; none if a crash may leave these bytes
 unfoldable pub wrong_images : StoreState → Images → Option NotAnImage
 wrong_images s left =
     or_else (wrong_on 0 (even_log s) left.even_log)
@@ -58,7 +58,7 @@ wrong_images s left =
 
 -- ---- the book that it leaves
 
--- a gate that an earlier crash left torn, or that is not there, is not closed yet
+-- a log's job before it has closed the gate that an earlier crash left torn or absent
 abbrev pub is_unclosed : Job → Bool
 is_unclosed Torn = true
 is_unclosed (Close waiting) = true
@@ -69,10 +69,10 @@ is_unclosed (SyncBody next) = false
 is_unclosed (Gate next) = false
 is_unclosed (SyncGate next) = false
 
--- the book of which a crash now leaves the first entries: nothing of this life is written while a gate is torn
+-- the book of which a crash now leaves the first entries: this life's, or the earlier one's until the torn gate is closed
 abbrev pub written_book : {A : Type 0} → StoreState → List A → List A → List A
 written_book s book aside = if is_unclosed s.log.job then aside else book
 
--- what was written behind a torn gate is lost once the gate is closed
+-- the book of the earlier life, until the torn gate is closed; then it is lost
 abbrev pub still_aside : {A : Type 0} → StoreState → List A → List A
 still_aside s aside = if is_unclosed s.log.job then aside else []

@@ -12,16 +12,16 @@ use Rattle.world_rules.specs.declared.line.Line.{Line}
 use Rattle.world_rules.specs.declared.line.Line.TheVariants as lines
 use Rattle.world_rules.specs.declared.line.OutLine.{OutLine}
 
--- a member's host is there
+-- a member that has a host
 abbrev pub has_member : {S : Type 0} → World S → ℕ → Bool
 has_member w member = is_some (host_index w.hosts member)
 
--- all clients are there
+-- a party that is there: a member with a host, or a client
 abbrev pub has_party : {S : Type 0} → World S → Party → Bool
 has_party w (parties.Member id) = has_member w id
 has_party w (parties.Client id) = true
 
--- all that a line names is there
+-- a line of which everything that it names is there
 unfoldable pub is_there : {S : Type 0} → World S → Line → Bool
 is_there w lines.Nothing = true
 is_there w (lines.Ask client op) = true
@@ -43,7 +43,7 @@ is_there w (lines.Faulty member) = has_member w member
 is_there w (lines.Rogue client) = true
 is_there w (lines.Inject form) = is_some (injected_bytes w.sent form)
 
--- the world after a line, with what the line told
+-- the world after a line, with the transcript of that line
 unfoldable pub line_played : {S : Type 0} → Course S → World S → Line → World S
 line_played course w lines.Nothing = w
 line_played course w (lines.Ask client op) = asks client op w
@@ -65,7 +65,7 @@ line_played course w (lines.Faulty member) = declares_faulty member w
 line_played course w (lines.Rogue client) = declares_rogue client w
 line_played course w (lines.Inject form) = injects form w
 
--- the world between two lines
+-- the world between two lines: its transcript is empty
 abbrev pub rested : {S : Type 0} → World S → World S
 rested w = record w { told = [] }
 
@@ -74,19 +74,19 @@ abbrev pub world_after : {S : Type 0} → Course S → World S → List Line →
 world_after course w [] = w
 world_after course w (l ∷ ls) = world_after course (rested (line_played course w l)) ls
 
--- what lines tell, one after the other
+-- the transcript of lines, in order
 abbrev pub lines_told : {S : Type 0} → Course S → World S → List Line → List OutLine
 lines_told course w [] = []
 lines_told course w (l ∷ ls) = (line_played course w l).told ++ lines_told course (rested (line_played course w l)) ls
 
--- a play: the group's first view, the lines that were played, the world behind them, and whether it is over
+-- a play: the group's first view, the lines that were played, the world after them, and whether the play is over
 pub record Play (S : Type 0) : Type 0 where
   pub group : View
   pub lines : List Line
   pub world : World S
   pub over : Bool
 
--- until it is over, a play stands for its lines: its world is the one behind them, and nothing has ended it
+-- a play that stands for its lines until it is over: its world is the one after them, and nothing has ended it
 pub record IsPlay {S : Type 0} (course : Course S) (m : Meaning S) (p : Play S) : Type 0 where
   pub stands : p.over ≡ false → p.world ≡ world_after course (begun m p.group) p.lines
   pub going : p.over ≡ false → p.world.ending ≡ None

@@ -1,4 +1,4 @@
--- What the lines of a script mean, or what is wrong with them.
+-- The meaning of a script's lines, or the kind of what is wrong with them.
 use Rattle.std.specs.Prelude.{ℕ, zero, suc, ◌+◌, ◌-◌, ◌*◌, ◌^◌, option_map, get_or, drop, replicate, ◌++◌, ◌==◌, nat_le, Bool, true, not, ◌&&◌, List, [], ◌∷◌, length, take, if◌then◌else◌, Option, Some, None, Result, Ok, Err, codes}
 use Rattle.std.specs.List.{list_all}
 use Rattle.smart_base.specs.Decimals.{number_of}
@@ -22,39 +22,39 @@ use Rattle.world_rules.specs.declared.line.Line.TheVariants as lines
 use Rattle.world_rules.specs.declared.line.Kind.{Kind}
 use Rattle.world_rules.specs.declared.line.Kind.TheVariants as kinds
 
--- what may stand in any line
+-- the bytes of any line
 
--- all bytes print. A line is not looked at past its byte 65,537, which makes it too long
+-- a line whose bytes print; it is not read past byte 65,537, with which it is too long
 abbrev pub is_printed : List ℕ → Bool
 is_printed bytes = list_all (λ b. nat_le 32 b && nat_le b 126) (take 65537 bytes)
 
--- a line has at most 65,536 bytes
+-- a line of at most 65,536 bytes
 abbrev pub is_short : List ℕ → Bool
 is_short bytes = nat_le (length bytes) 65536
 
--- empty lines, and comments, which begin with #, do nothing
+-- a line that does nothing: an empty one, or a comment, which begins with #
 abbrev pub is_nothing : List ℕ → Bool
 is_nothing [] = true
 is_nothing (b ∷ bs) = b == 35
 
 -- words
 
--- a word in front of others
+-- words of which the first has one more byte in front
 abbrev pub with_byte : ℕ → List (List ℕ) → List (List ℕ)
 with_byte b [] = (b ∷ []) ∷ []
 with_byte b (word ∷ words) = (b ∷ word) ∷ words
 
--- the words that single spaces part; two spaces have an empty word between them
+-- the words between single spaces; between two spaces there is an empty word
 abbrev pub words_in : List ℕ → List (List ℕ)
 words_in [] = [] ∷ []
 words_in (b ∷ bs) = if b == 32 then [] ∷ words_in bs else with_byte b (words_in bs)
 
--- what stands behind the first space
+-- the bytes after the first space
 abbrev pub behind_space : List ℕ → List ℕ
 behind_space [] = []
 behind_space (b ∷ bs) = if b == 32 then bs else behind_space bs
 
--- a number from a least to a greatest one
+-- a number, if it is in a range
 abbrev pub in_range : ℕ → ℕ → Option ℕ → Option ℕ
 in_range least most None = None
 in_range least most (Some n) = if nat_le least n && nat_le n most then Some n else None
@@ -68,7 +68,7 @@ member_of word = number_in 1 65535 word
 abbrev pub client_of : List ℕ → Option ℕ
 client_of word = number_in 1 1024 word
 
--- values that each word has to give
+-- the values of words, if each word gives one
 abbrev pub with_value : {A : Type 0} → Option A → Option (List A) → Option (List A)
 with_value None xs = None
 with_value (Some x) None = None
@@ -78,7 +78,7 @@ abbrev pub each_word : {A : Type 0} → (List ℕ → Option A) → List (List �
 each_word f [] = Some []
 each_word f (word ∷ words) = with_value (f word) (each_word f words)
 
--- a member's number, or c and a client's
+-- a member or a client, as a word names it: its number, or c and its number
 abbrev pub as_member : Option ℕ → Option Party
 as_member None = None
 as_member (Some id) = Some (parties.Member id)
@@ -91,14 +91,14 @@ abbrev pub party_of_word : List ℕ → Option Party
 party_of_word [] = None
 party_of_word (b ∷ bs) = if b == 99 then as_client (client_of bs) else as_member (member_of (b ∷ bs))
 
--- what is read where something has to be a number, or is wrong
+-- a line that needs a number, or else the kind of what is wrong
 abbrev pub or_number : {A : Type 0} → (A → Line) → Option A → Result Line Kind
 or_number make None = Err kinds.Number
 or_number make (Some x) = Ok (make x)
 
--- lines behind the header, by their words
+-- the lines after the header, by their words
 
--- an operation has at most 4,096 bytes. It is the rest of the line
+-- the line `ask`: an operation is the rest of the line, of at most 4,096 bytes
 abbrev pub ask_with : List ℕ → Option ℕ → Result Line Kind
 ask_with op None = Err kinds.Number
 ask_with op (Some client) = if nat_le (length op) 4096 then Ok (lines.Ask client op) else Err kinds.Form
@@ -150,7 +150,7 @@ settle_line [] = Err kinds.Count
 settle_line (word ∷ []) = if same_bytes word (codes "all") then Ok lines.SettleAll else or_number lines.Settle (member_of word)
 settle_line (word ∷ next ∷ more) = Err kinds.Count
 
--- a member, and how many device calls: one where no number is named
+-- the line `disk`: a member, and the number of device calls, 1 if none is named
 abbrev pub disk_with : Option ℕ → Option ℕ → Result Line Kind
 disk_with None count = Err kinds.Number
 disk_with (Some member) None = Err kinds.Number
@@ -162,7 +162,7 @@ disk_line (member ∷ []) = disk_with (member_of member) (Some 1)
 disk_line (member ∷ count ∷ []) = disk_with (member_of member) (number_in 1 1000 count)
 disk_line (member ∷ count ∷ next ∷ more) = Err kinds.Count
 
--- the number of a digit from 0 to 9 or from a to f
+-- the value of a digit from 0 to 9 or from a to f
 abbrev pub hex_value : ℕ → Option ℕ
 hex_value b =
     if nat_le 48 b && nat_le b 57 then Some (b - 48)
@@ -174,20 +174,20 @@ byte_by None low = None
 byte_by (Some high) None = None
 byte_by (Some high) (Some low) = Some (16 * high + low)
 
--- the bytes that pairs of digits are
+-- the bytes that pairs of digits stand for
 abbrev pub hex_bytes : List ℕ → Option (List ℕ)
 hex_bytes [] = Some []
 hex_bytes (high ∷ []) = None
 hex_bytes (high ∷ low ∷ digits) = with_value (byte_by (hex_value high) (hex_value low)) (hex_bytes digits)
 
--- what a crash leaves: `old` or `new`
+-- the image that a crash leaves: `old` or `new`
 abbrev pub image_of : List ℕ → Option Image
 image_of word =
     if same_bytes word (codes "old") then Some images.Old
     else if same_bytes word (codes "new") then Some images.New
     else None
 
--- the parts of a word in front of the first byte of some kind, and behind it
+-- the parts of a word before and after the first byte of a kind
 abbrev pub parted_at : ℕ → List ℕ → Option (List ℕ × List ℕ)
 parted_at sign [] = None
 parted_at sign (b ∷ bs) = if b == sign then Some ([], bs) else option_map (λ parts. (b ∷ parts.0, parts.1)) (parted_at sign bs)
@@ -199,7 +199,7 @@ patch_with (Some device) (Some at) None = Err kinds.Form
 patch_with (Some device) (Some at) (Some []) = Err kinds.Form
 patch_with (Some device) (Some at) (Some (b ∷ bs)) = Ok (record { device = device; at = at; bytes = b ∷ bs })
 
--- D@AT=HEX
+-- a patch, of the form D@AT=HEX
 abbrev pub patch_at : List ℕ → Option (List ℕ × List ℕ) → Result Patch Kind
 patch_at device None = Err kinds.Form
 patch_at device (Some (at, hex)) = patch_with (number_in 0 3 device) (number_in 0 (2 ^ 64 - 1) at) (hex_bytes hex)
@@ -211,7 +211,7 @@ patch_in (Some (device, rest)) = patch_at device (parted_at 61 rest)
 abbrev pub patch_of : List ℕ → Result Patch Kind
 patch_of word = patch_in (parted_at 64 word)
 
--- of two kinds of what is wrong with patches the first: a number, or else a form
+-- the first of two kinds of wrong patches: a number comes before a form
 abbrev pub before : Kind → Kind → Kind
 before kinds.Number other = kinds.Number
 before kinds.Form other = other
@@ -223,7 +223,7 @@ before kinds.Word other = other
 before kinds.Count other = other
 before kinds.Refer other = other
 
--- all patches, or what is wrong with them
+-- all patches, or the kind of what is wrong with them
 abbrev pub with_patch : Result Patch Kind → Result (List Patch) Kind → Result (List Patch) Kind
 with_patch (Ok p) (Ok ps) = Ok (p ∷ ps)
 with_patch (Ok p) (Err kind) = Err kind
@@ -234,7 +234,7 @@ abbrev pub patches_of : List (List ℕ) → Result (List Patch) Kind
 patches_of [] = Ok []
 patches_of (word ∷ words) = with_patch (patch_of word) (patches_of words)
 
--- what is wrong with numbers comes first
+-- the line `crash` of one member; a wrong number comes first
 abbrev pub crash_by : Option ℕ → Option Image → Result (List Patch) Kind → Result Line Kind
 crash_by None image patches = Err kinds.Number
 crash_by (Some member) None (Ok patches) = Err kinds.Form
@@ -246,7 +246,7 @@ abbrev pub crash_all_by : Option Image → Result Line Kind
 crash_all_by None = Err kinds.Form
 crash_all_by (Some image) = Ok (lines.CrashAll image)
 
--- M or all, and what is left; patches of one member's devices
+-- the line `crash all`, which has no patches
 abbrev pub crash_all_line : List ℕ → List (List ℕ) → Result Line Kind
 crash_all_line image [] = crash_all_by (image_of image)
 crash_all_line image (patch ∷ more) = Err kinds.Count
@@ -269,6 +269,7 @@ show_line (word ∷ words) = Err kinds.Count
 
 -- a member, or a client, that breaks the rules
 
+-- the lines that declare a member faulty, or a client rogue
 abbrev pub faulty_line : List (List ℕ) → Result Line Kind
 faulty_line [] = Err kinds.Count
 faulty_line (member ∷ []) = or_number lines.Faulty (member_of member)
@@ -279,9 +280,9 @@ rogue_line [] = Err kinds.Count
 rogue_line (client ∷ []) = or_number lines.Rogue (client_of client)
 rogue_line (client ∷ next ∷ more) = Err kinds.Count
 
--- what is injected. The numbers of a form have their ranges, one after the other
+-- injections: each number of a form has its range, in order
 
--- the least and the greatest of numbers
+-- a range: the least and the greatest number
 pub record Range : Type 0 where
   pub least : ℕ
   pub most : ℕ
@@ -289,7 +290,7 @@ pub record Range : Type 0 where
 abbrev pub range : ℕ → ℕ → Range
 range least most = record { least = least; most = most }
 
--- as many numbers as there are ranges, each in its own
+-- the numbers of words, one for each range and in it
 abbrev pub numbers_in : List Range → List (List ℕ) → Option (List ℕ)
 numbers_in [] words = Some []
 numbers_in (r ∷ ranges) [] = None
@@ -301,35 +302,35 @@ members = range 1 65535
 abbrev pub small_numbers : Range
 small_numbers = range 0 (2 ^ 32 - 1)
 
--- places, and the numbers of requests
+-- the range of places, and of the numbers of requests
 abbrev pub places : Range
 places = range 1 (2 ^ 63 - 1)
 
 abbrev pub numbers_of_messages : Range
 numbers_of_messages = range 1 (2 ^ 24)
 
--- S V K R
+-- the ranges of S V K R
 abbrev pub of_slot : List Range
 of_slot = members ∷ small_numbers ∷ places ∷ small_numbers ∷ []
 
 abbrev pub nth : List ℕ → ℕ → ℕ
 nth numbers i = get_or numbers i 0
 
--- the slot that V K R name, behind S
+-- the slot that V K R name, after S
 abbrev pub slot_in : List ℕ → Slot
 slot_in numbers = record { view = nth numbers 1; place = nth numbers 2; regency = nth numbers 3 }
 
--- numbers, or they are wrong
+-- an injection by its numbers, or else the kind of what is wrong
 abbrev pub form_of : (List ℕ → Result Injection Kind) → Option (List ℕ) → Result Injection Kind
 form_of make None = Err kinds.Number
 form_of make (Some numbers) = make numbers
 
--- what stands behind some spaces
+-- the bytes after some spaces
 abbrev pub behind_spaces : ℕ → List ℕ → List ℕ
 behind_spaces zero bytes = bytes
 behind_spaces (suc n) bytes = behind_spaces n (behind_space bytes)
 
--- an operation or a reply has at most 4,096 bytes
+-- an injection with an operation or a reply, of at most 4,096 bytes
 abbrev pub with_text : (List ℕ → Injection) → List ℕ → Result Injection Kind
 with_text make text = if nat_le (length text) 4096 then Ok (make text) else Err kinds.Form
 
@@ -356,7 +357,7 @@ vote_form kind words =
     then form_of (λ ns. Ok (forms.Vote kind (nth ns 0) (slot_in ns) (nth ns 4))) (numbers_in (of_slot ++ numbers_of_messages ∷ []) words)
     else Err kinds.Count
 
--- S V R
+-- the ranges of S V R
 abbrev pub of_turn : List Range
 of_turn = members ∷ small_numbers ∷ small_numbers ∷ []
 
@@ -425,7 +426,7 @@ raw_form [] = Err kinds.Count
 raw_form (word ∷ []) = raw_by (hex_bytes word)
 raw_form (word ∷ next ∷ more) = Err kinds.Count
 
--- a form by its first word
+-- an injection, by its first word
 abbrev pub form_by : List ℕ → List (List ℕ) → Result Injection Kind
 form_by bytes [] = Err kinds.Count
 form_by bytes (word ∷ words) =
@@ -464,7 +465,7 @@ line_by bytes (word ∷ words) =
     else if same_bytes word (codes "inject") then injecting (form_by bytes words)
     else Err kinds.Word
 
--- a line behind the header, or the first kind of what is wrong with it
+-- the meaning of a line after the header, or the first kind of what is wrong with it
 unfoldable pub line_of : List ℕ → Result Line Kind
 line_of bytes =
     if not (is_printed bytes) then Err kinds.Byte
@@ -474,7 +475,7 @@ line_of bytes =
 
 -- the header
 
--- count members from a first one on
+-- so many members, from a first number on
 unfoldable pub members_from : ℕ → ℕ → List ℕ
 members_from first zero = []
 members_from first (suc count) = first ∷ members_from (first + 1) count
@@ -498,11 +499,11 @@ abbrev pub group_by : List (List ℕ) → Option View
 group_by [] = None
 group_by (word ∷ words) = if same_bytes word (codes "group") then group_words words else None
 
--- the line `group N F`, if it is one
+-- the view that the line `group N F` states, if it is one
 unfoldable pub group_line : List ℕ → Option View
 group_line bytes = group_by (words_in bytes)
 
--- the line `app count` or `app kv`, if it is one
+-- the service that the line `app count` or `app kv` names, if it is one
 unfoldable pub app_line : List ℕ → Option App
 app_line bytes =
     if same_bytes bytes (codes "app count") then Some apps.Count

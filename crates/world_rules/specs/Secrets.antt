@@ -1,6 +1,6 @@
 -- The secret of every group that a script plays.
 use Rattle.std.specs.Prelude.{ℕ, List, codes}
 
--- five bytes that all members and clients hold
+-- the secret: five bytes that all members and clients hold
 unfoldable pub group_secret : List ℕ
 group_secret = codes "world"

@@ -21,42 +21,42 @@ use Rattle.world_rules.specs.declared.message.Content.{Content}
 use Rattle.world_rules.specs.declared.message.Content.TheVariants as contents
 use Rattle.world_rules.specs.declared.message.Sent.{Sent}
 
--- the statements in a content whose tags verify
+-- the statements of a content, at any depth, whose tags verify
 abbrev pub stated_in : Content → List Statement
 stated_in (contents.Message message) = statements group_secret message
 stated_in (contents.Raw bytes) = []
 
--- all that has been stated in what was sent, by whomever
+-- the statements in everything that was sent, by whomever
 abbrev pub stated : List Sent → List Statement
 stated sent = flat_map (λ s. stated_in s.content) sent
 
--- what became firm at a host, through all lives of its member
+-- the diary of a host: what became firm there, over all lives of its member
 abbrev pub diary_of : {S : Type 0} → Option (Host S) → List LogEntry
 diary_of None = []
 diary_of (Some h) = h.life.diary
 
--- a member's diary
+-- the diary of a member
 abbrev pub diary : {S : Type 0} → World S → ℕ → List LogEntry
 diary w member = diary_of (host_of w.hosts member)
 
--- a quorum of a view has accepted a batch of this digest at a place, in some regency
+-- a decision among what has been stated: a quorum of the view has accepted the batch of a digest at a place, in some regency
 pub record Certified (stated : List Statement) (view : View) (place : ℕ) (digest : List ℕ) : Type 0 where
   pub regency : ℕ
   pub accepts : List (SignedBy Ballot)
   pub decision : IsDecision group_secret view stated place regency digest accepts
 
--- each batch of a list that stands from a place on is certified there
+-- batches of which each, from a place on, has a decision at its place
 abbrev pub AllCertified : List Statement → View → ℕ → List Batch → Type 0
 AllCertified stated view place [] = Unit {0}
 AllCertified stated view place (batch ∷ batches) = Certified stated view place (digest_of batch) × AllCertified stated view (suc place) batches
 
--- While a node runs, its member's diary is what is firm of its book. What the devices of a member that has crashed restore is its diary, no more and no less.
--- INTERIM(checkpoints): later the book and the devices hold the cut of it.
+-- A host with its diary. While its node runs, the diary is the firm part of the node's book. After its member has crashed, the diary is
+-- what the devices restore, no more and no less. INTERIM(checkpoints): later the book and the devices hold the cut of the diary.
 pub record HasDiary {S : Type 0} (h : Host S) : Type 0 where
   pub up : h.up ≡ true → h.life.diary ≡ take h.node.firm h.node.entries
   pub down : h.up ≡ false → (restores (bytes_held h.store)).entries ≡ map entry_text h.life.diary
 
--- what members have stated is witnessed by what became firm at them, and each chosen batch has a decision among what has been stated
+-- A world in which the diaries of members witness what they have stated. Each chosen batch has a decision among what has been stated.
 pub record IsWitnessed {S : Type 0} (w : World S) : Type 0 where
   pub diaries : Each HasDiary w.hosts
   pub witnessed : Witnessed group_secret digest_of w.view (is_among w.faulty) (diary w) (stated w.sent)

@@ -1,4 +1,4 @@
--- The lines of a transcript, as text.
+-- The text of transcript lines.
 use Rattle.std.specs.Prelude.{ℕ, Bool, Option, Some, None, List, [], ◌∷◌, ◌++◌, codes, nat_lt, nat_le, ◌&&◌, ◌==◌, not, ◌+◌, ◌/◌, ◌%◌, length, if◌then◌else◌}
 use Rattle.std.specs.List.{flat_map}
 use Rattle.std.specs.Fmt.{decimal}
@@ -44,7 +44,7 @@ ignored_text reasons.UnknownView = codes "UnknownView"
 ignored_text reasons.Stranger = codes "Stranger"
 ignored_text reasons.Repeated = codes "Repeated"
 
--- a number behind a space
+-- a number after a space
 abbrev pub after_space : ℕ → List ℕ
 after_space n = 32 ∷ decimal n
 
@@ -58,7 +58,7 @@ abbrev pub lock_text : Option ℕ → List ℕ
 lock_text None = codes " -"
 lock_text (Some regency) = after_space regency
 
--- whether a batch binds where a regency begins
+-- the word that tells whether a batch binds at the place where a regency begins
 abbrev pub bound_text : Bool → List ℕ
 bound_text bound = if bound then codes " bound" else codes " free"
 
@@ -80,7 +80,7 @@ app_text apps.Kv = codes "kv"
 abbrev pub hex_digit : ℕ → ℕ
 hex_digit n = if nat_lt n 10 then 48 + n else 87 + n
 
--- a byte of a reply: itself where it prints and is no backslash, else \x and two digits
+-- the text of a reply's byte: itself if it prints and is no backslash, else \x and two digits
 abbrev pub shown : ℕ → List ℕ
 shown b = if nat_le 32 b && nat_le b 126 && not (b == 92) then b ∷ [] else 92 ∷ 120 ∷ hex_digit (b / 16) ∷ hex_digit (b % 16) ∷ []
 
@@ -107,10 +107,11 @@ words_of (outs.Stands id k v r) = codes "place n" ++ (decimal id ++ (after_space
 words_of (outs.Seen id k) = codes "seen c" ++ (decimal id ++ after_space k)
 words_of (outs.End lines messages) = codes "end" ++ (after_space lines ++ after_space messages)
 
--- each line ends with a line feed
+-- the text of a line, which ends with a line feed
 abbrev pub line_text : OutLine → List ℕ
 line_text line = words_of line ++ 10 ∷ []
 
+-- the text of lines
 abbrev pub text_of : List OutLine → List ℕ
 text_of lines = flat_map line_text lines
 

@@ -1,5 +1,4 @@
--- The world: all hosts and clients, each message that was ever sent, and the list of batches that was chosen. What happens in it is a
--- function from world to world. What happens at a node is an argument.
+-- The world of a play: hosts, clients, everything that was sent, and the chosen list of batches. An event makes a new world of it.
 use Rattle.std.specs.Prelude.{ℕ, zero, suc, ◌+◌, ◌^◌, ◌==◌, nat_lt, take, not, ◌||◌, false, List, [], ◌∷◌, ◌++◌, length, map, drop, if◌then◌else◌, Option, Some, None, is_some, slice_get, slice_set, Result, Ok, Err, nat_le, ◌&&◌, ◌-◌, Bool, true}
 use Rattle.std.specs.List.{flat_map, list_any, position}
 use Rattle.smart_base.specs.Lists.{or_else}
@@ -9,17 +8,14 @@ use Rattle.smart_statements.specs.Kinds.{requests}
 use Rattle.smart_statements.specs.Batches.{Batch}
 use Rattle.smart_messages.specs.Messages.{decoded}
 use Rattle.smart_statements.specs.declared.report.LockCertificate.{LockCertificate}
-use Rattle.smart_messages.specs.declared.regency.RegencyMessage.{RegencyMessage}
-use Rattle.smart_messages.specs.declared.regency.RegencyMessage.TheVariants as changes
-use Rattle.smart_messages.specs.declared.any.AnyMessage.{AnyMessage}
-use Rattle.smart_messages.specs.declared.any.AnyMessage.TheVariants.{Plain, Change}
+use Rattle.smart_messages.specs.declared.message.Message.{Message}
+use Rattle.smart_messages.specs.declared.message.Message.TheVariants as changes
 use Rattle.regency_sync.specs.Choices.{choice}
 use Rattle.smart_statements.specs.declared.statement.Request.{Request}
 use Rattle.smart_statements.specs.declared.statement.VoteKind.{VoteKind}
 use Rattle.smart_statements.specs.declared.statement.VoteKind.TheVariants.{Write, Accept}
 use Rattle.smart_statements.specs.declared.statement.Ballot.{Ballot}
 use Rattle.smart_statements.specs.declared.statement.Answer.{Answer}
-use Rattle.smart_messages.specs.declared.message.Message.{Message}
 use Rattle.smart_messages.specs.declared.message.Message.TheVariants.{Ask, Propose, Vote, Reply}
 use Rattle.smart_statements.specs.declared.entry.NodeEvent.{NodeEvent}
 use Rattle.smart_statements.specs.declared.entry.NodeEvent.TheVariants.{Arrive, Tick, Deliver, Firm}
@@ -53,7 +49,7 @@ use Rattle.world_rules.specs.Repeats.{until_rest, each_from}
 use Rattle.world_rules.specs.Secrets.{group_secret}
 use Rattle.world_rules.specs.Premises.{is_among, too_many, is_forged, collides, bytes_of}
 use Rattle.world_rules.specs.Injections.{injected}
-use Rattle.client_quorum.specs.Clients.{fresh, request_of, asking, learning, after_heard}
+use Rattle.client_quorum.specs.Clients.{fresh, request_of, asking, learning, after_heard, reply_read}
 use Rattle.world_rules.specs.Clients.{heard}
 use Rattle.client_quorum.specs.declared.client.Client.{Client}
 use Rattle.client_quorum.specs.declared.client.Acceptance.{Acceptance}
@@ -74,98 +70,102 @@ use Rattle.world_rules.specs.declared.line.Summary.TheVariants as summaries
 use Rattle.world_rules.specs.declared.line.OutLine.{OutLine}
 use Rattle.world_rules.specs.declared.line.OutLine.TheVariants as outs
 
--- How a world goes on: what an event makes of a node, which service the nodes run, and whether what no node keeps of its member's lives is written down.
--- A program need not write it down.
+-- The way in which a world moves: what an event makes of a node, which service the nodes run, and whether members' lives are written down.
+-- No node keeps the lives, and a program need not write them down.
 pub record Course (S : Type 0) : Type 0 where
   pub step : Node S → NodeEvent → Outcome S
   pub meaning : Meaning S
   pub remembers : Bool
 
--- as the definitions say it
+-- the course of whole nodes, as the definitions state them
 abbrev pub course_of : {S : Type 0} → Meaning S → Course S
 course_of m = record { step = step_of m; meaning = m; remembers = true }
 
--- as cores do it, which keep only what still matters
+-- the course of cores, which keep only what they still need and write no lives down
 abbrev pub core_course : {S : Type 0} → Meaning S → Course S
 core_course m = record { step = core_step m; meaning = m; remembers = false }
 
--- what no node keeps of its member's lives
+-- what the world writes down of a member's lives, and no node keeps
 pub record Life : Type 0 where
-  -- all entries that became firm, in all lives, and those that crashes brought back
+  -- the diary: all entries that became firm in any life, and those that crashes brought back
   pub diary : List LogEntry
-  -- where a crash has left a gate torn: the book of the life that wrote behind it
+  -- the book of the life that wrote past a gate which a crash left torn; empty if no gate is torn
   pub aside : List LogEntry
 
--- a member's host
+-- the host of a member: its node, its store, and its lives
 pub record Host (S : Type 0) : Type 0 where
-  -- its node; that of a member that has crashed is as it stopped
+  -- the node; after a crash, as it was when it crashed
   pub node : Node S
-  -- its node runs
+  -- whether the node runs
   pub up : Bool
-  -- the store of what its node writes down
+  -- the store of the entries that the node writes
   pub store : StoreState
+  -- what is written down of the member's lives
   pub life : Life
-  -- the place from which its node went on in this life, the batches that it delivered since, and those that it delivered in earlier lives
+  -- the place at which this life began, the batches that its steps delivered, and those that steps of earlier lives delivered
   pub resumed : ℕ
   pub delivered : List Delivery
   pub earlier : List Delivery
 
+-- the world after some lines of a script
 pub record World (S : Type 0) : Type 0 where
-  -- the view that the group begins with
+  -- the view of the group
   pub view : View
-  -- the members' hosts, ascending
+  -- the members' hosts, by ascending number
   pub hosts : List (Host S)
-  -- the clients: number i stands at index i
+  -- the clients: client i is at index i
   pub clients : List Client
-  -- all that was sent, injected messages too: number i stands at index i - 1
+  -- everything that was sent or injected: message i is at index i - 1
   pub sent : List Sent
   -- the number of the last message that a flow has given
   pub mark : ℕ
-  -- the batch that was decided at each place, from 1 on
+  -- the chosen list: the batch that was decided first at each place, from 1
   pub chosen : List Batch
   -- the replies that clients accepted, in order
   pub accepted : List Acceptance
   -- the transcript of the present script line
   pub told : List OutLine
-  -- the members that were ever declared faulty, and the clients that were declared rogue
+  -- the members that were declared faulty, and the clients that were declared rogue
   pub faulty : List ℕ
   pub rogue : List ℕ
-  -- what has ended the play
+  -- the reason for which the play has ended, if it has
   pub ending : Option Ending
 
 -- messages that leave
 
+-- the transcript's words for a vote
 abbrev pub vote_summary : Ballot → VoteKind → Summary
 vote_summary b Write = summaries.Write b.slot.view b.slot.place b.slot.regency
 vote_summary b Accept = summaries.Accept b.slot.view b.slot.place b.slot.regency
 
+-- the regency of a lock, if there is one
 abbrev pub regency_locked : Option LockCertificate → Option ℕ
 regency_locked None = None
 regency_locked (Some l) = Some l.regency
 
-abbrev pub summary_of_change : RegencyMessage → Summary
-summary_of_change (changes.Stop s) = summaries.Stop s.statement.view s.statement.regency
-summary_of_change (changes.StopData r) =
-    summaries.StopData r.head.statement.view r.head.statement.regency r.head.statement.last (regency_locked r.head.statement.lock)
-summary_of_change (changes.Sync s) =
-    summaries.Sync s.statement.view s.statement.regency (choice s.statement.collect).base (is_some (choice s.statement.collect).bound)
-
+-- the transcript's words for a message
 abbrev pub summary_of : Message → Summary
 summary_of (Ask q) = summaries.Ask q.statement.client q.statement.seq q.statement.after
 summary_of (Propose p) = summaries.Propose p.head.statement.slot.view p.head.statement.slot.place p.head.statement.slot.regency (length p.batch)
 summary_of (Vote b) = vote_summary b.statement b.statement.kind
+summary_of (changes.Stop s) = summaries.Stop s.statement.view s.statement.regency
+summary_of (changes.StopData r) =
+    summaries.StopData r.head.statement.view r.head.statement.regency r.head.statement.last (regency_locked r.head.statement.lock)
+summary_of (changes.Sync s) =
+    summaries.Sync s.statement.view s.statement.regency (choice s.statement.collect).base (is_some (choice s.statement.collect).bound)
 summary_of (Reply a) = summaries.Reply a.statement.client a.statement.seq a.statement.place a.statement.index
 
+-- a transcript line added to those of the present script line
 abbrev pub telling : {S : Type 0} → World S → OutLine → World S
 telling w line = record w { told = w.told ++ line ∷ [] }
 
+-- the transcript's words for what was sent
 abbrev pub summary : Content → Summary
-summary (contents.Message (Plain m)) = summary_of m
-summary (contents.Message (Change m)) = summary_of_change m
+summary (contents.Message m) = summary_of m
 summary (contents.Raw bytes) = summaries.Raw
 
--- what is sent takes the next number, if there is one. A batch in it that clashes with one met before ends the play, be there a number
--- or not
+-- The world after something was sent: it gets the next number, up to 2^24. A batch in it that clashes with an earlier one ends the play,
+-- also if no number is left.
 unfoldable pub posts : {S : Type 0} → World S → Sent → World S
 posts w s =
     if collides w.sent s.content then record w { ending = Some (Premise Collision) }
@@ -176,20 +176,23 @@ posts w s =
     }
     else record w { ending = or_else w.ending (Some Limit) }
 
--- a message leaves
-abbrev pub sends : {S : Type 0} → World S → Origin → Target → AnyMessage → World S
+-- the world after a message was sent
+abbrev pub sends : {S : Type 0} → World S → Origin → Target → Message → World S
 sends w origin to message = posts w (record { origin = origin; to = Some to; content = contents.Message message })
 
+-- the world after a node's messages left, in order
 abbrev pub sends_all : {S : Type 0} → ℕ → World S → List Held → World S
 sends_all id w [] = w
 sends_all id w (h ∷ hs) = sends_all id (sends w (origins.Node id) h.to h.message) hs
 
 -- events of a node
 
+-- the transcript line of a dropped message
 abbrev pub told_drop : ℕ → Option Why → List OutLine
 told_drop id None = []
 told_drop id (Some why) = outs.Dropped id why ∷ []
 
+-- the transcript lines of an event that a rule reported
 abbrev pub told_fired : ℕ → Fired → List OutLine
 told_fired id (fires.Delivered d) = outs.Delivered id d.place d.executed ∷ []
 told_fired id (fires.Adopted s) = outs.Synced id s.view s.regency s.base (is_some s.bound) ∷ []
@@ -203,28 +206,28 @@ told_fired id (fires.Decided place) = outs.Decided id place ∷ []
 told_fired id fires.Timed = []
 told_fired id fires.Answered = []
 
--- the list of chosen batches with the one that waits at a node: the first node that decides a place has chosen its batch
+-- the chosen list, with a node's waiting batch if no node had decided that place before
 abbrev pub chosen_with : List Batch → ℕ → Option Batch → List Batch
 chosen_with chosen place None = chosen
 chosen_with chosen place (Some batch) = if place == length chosen + 1 then chosen ++ batch ∷ [] else chosen
 
--- entries behind some others, as they are spelled
+-- the bytes of the entries after the first ones
 abbrev pub spelled_behind : ℕ → List LogEntry → List (List ℕ)
 spelled_behind count entries = map entry_text (drop count entries)
 
--- entries that a book has up to a number, and a list lacks, are added to it
+-- a diary, with what a book has after it among so many first entries
 abbrev pub with_front : List LogEntry → ℕ → List LogEntry → List LogEntry
 with_front diary count book = diary ++ drop (length diary) (take count book)
 
--- a life with the entries of its book that are firm
+-- a life whose diary has the firm entries of the node's book
 abbrev pub life_firm : {S : Type 0} → Life → Node S → Life
 life_firm l n = record { diary = with_front l.diary n.firm n.entries; aside = l.aside }
 
--- lives change where they are written down
+-- the new life, if the course writes lives down; else the old one
 abbrev pub remembered : {S : Type 0} → Course S → Life → Life → Life
 remembered course old new = if course.remembers then new else old
 
--- what the node has written down waits in the store
+-- the host after a step: the node lets go what may leave, and its new entries wait in the store
 abbrev pub host_after : {S : Type 0} → Course S → Host S → Outcome S → Host S
 host_after course h o = record h {
   node = released o.node;
@@ -233,7 +236,7 @@ host_after course h o = record h {
   delivered = h.delivered ++ flat_map delivery_in o.fired;
 }
 
--- a node's step: what it tells comes first, then what leaves
+-- the world after a step of a node. Its transcript tells the step's events first, and then the messages that leave.
 unfoldable pub stepped : {S : Type 0} → Course S → World S → ℕ → Host S → Outcome S → World S
 stepped course w i h o =
     sends_all h.node.id
@@ -244,10 +247,11 @@ stepped course w i h o =
     })
     (leaving o.node.firm o.node.held)
 
--- the node of a faulty member is gone
+-- a member that is faulty, whose node is gone
 abbrev pub is_gone : {S : Type 0} → World S → ℕ → Bool
 is_gone w member = is_among w.faulty member
 
+-- a client that is rogue
 abbrev pub is_rogue : {S : Type 0} → World S → ℕ → Bool
 is_rogue w client = is_among w.rogue client
 
@@ -255,30 +259,31 @@ is_rogue w client = is_among w.rogue client
 abbrev pub is_up : {S : Type 0} → World S → Host S → Bool
 is_up w h = h.up && not (is_gone w h.node.id)
 
--- nothing happens at a node that does not run
+-- the world after an event at a host; nothing happens if its node does not run
 abbrev pub host_takes : {S : Type 0} → Course S → ℕ → NodeEvent → World S → Option (Host S) → World S
 host_takes course i event w None = w
 host_takes course i event w (Some h) = if not (is_up w h) then w else stepped course w i h (course.step h.node event)
 
--- the node at an index takes an event; nothing happens any more in a world that has ended
+-- the world after an event at the node at an index; nothing happens after the play has ended
 unfoldable pub node_takes : {S : Type 0} → Course S → ℕ → NodeEvent → World S → World S
 node_takes course i event w = if is_some w.ending then w else host_takes course i event w (slice_get w.hosts i)
 
--- what was written behind a torn gate is lost once the gate is closed
+-- a life after a device call: what was written past a torn gate is lost when the gate is closed
 abbrev pub life_called : Life → StoreState → Life
 life_called l s = record { diary = l.diary; aside = still_aside s l.aside }
 
--- the next call of a host's store
+-- the host after its store has made its next device call
 unfoldable pub disk_called : {S : Type 0} → Course S → Host S → Host S
 disk_called course h = record h { store = store_called h.store; life = remembered course h.life (life_called h.life (store_called h.store)) }
 
--- a node hears how many entries of its life are firm, where more are than it knows
+-- the world after a device call: the node hears how many entries of its life are firm, if they are more than it knows
 abbrev pub hears_firm : {S : Type 0} → Course S → ℕ → World S → Host S → World S
 hears_firm course i w h =
     if nat_lt h.node.firm h.store.firm
     then stepped course w i h (course.step h.node (Firm (h.store.firm - h.node.restored)))
     else record w { hosts = slice_set w.hosts i h }
 
+-- the world after a host's next device call, if its node runs and a call is due
 abbrev pub host_calls : {S : Type 0} → Course S → ℕ → World S → Option (Host S) → World S
 host_calls course i w None = w
 host_calls course i w (Some h) =
@@ -286,11 +291,11 @@ host_calls course i w (Some h) =
     else if call_due h.store then hears_firm course i w (disk_called course h)
     else w
 
--- the store at an index makes its next device call, if there is one, and its node hears what is firm then
+-- the world after the store at an index made its next device call, if one is due; its node hears what is firm then
 unfoldable pub calls_disk : {S : Type 0} → Course S → ℕ → World S → World S
 calls_disk course i w = if is_some w.ending then w else host_calls course i w (slice_get w.hosts i)
 
--- what is due at a host without another message: the next call of its store, or else the delivery of the batch that waits
+-- the world after one thing that is due at a host without another message: a device call, or else a delivery
 abbrev pub takes_due : {S : Type 0} → Course S → ℕ → World S → Option (Host S) → World S
 takes_due course i w None = w
 takes_due course i w (Some h) =
@@ -298,79 +303,87 @@ takes_due course i w (Some h) =
     else if is_some h.node.waiting then node_takes course i Deliver w
     else w
 
+-- the world after one thing that is due at the host at an index
 unfoldable pub settle_once : {S : Type 0} → Course S → ℕ → World S → World S
 settle_once course i w = takes_due course i w (slice_get w.hosts i)
 
--- the node at an index takes what is due until nothing is
+-- the world after the host at an index did all that was due
 abbrev pub settle : {S : Type 0} → Course S → ℕ → World S → World S
 settle course i w = until_rest (settle_once course i) w
 
--- the members that a line lists: all where it lists none
+-- a member that a line lists; an empty list lists all members
 abbrev pub is_listed : List ℕ → ℕ → Bool
 is_listed [] member = true
 is_listed (m ∷ ms) member = list_any (λ x. x == member) (m ∷ ms)
 
--- what happens at the host at an index, if its member is listed
+-- the world after something at a host, if its member is listed
 abbrev pub where_listed : {S : Type 0} → List ℕ → (ℕ → World S → World S) → ℕ → World S → Option (Host S) → World S
 where_listed members f i w None = w
 where_listed members f i w (Some h) = if is_listed members h.node.id then f i w else w
 
+-- the world after something at the host at an index, if its member is listed
 abbrev pub at_listed : {S : Type 0} → List ℕ → (ℕ → World S → World S) → ℕ → World S → World S
 at_listed members f i w = where_listed members f i w (slice_get w.hosts i)
 
--- at each host whose member is listed, ascending
+-- the world after something at each host whose member is listed, by ascending number
 abbrev pub each_listed : {S : Type 0} → List ℕ → (ℕ → World S → World S) → World S → World S
 each_listed members f w = each_from (at_listed members f) (length w.hosts) 0 w
 
--- what a line tells of a member whose node does not run: that it is absent, if it names the member
+-- the transcript line of a member whose node does not run, if the script line names members
 abbrev pub told_absent : List ℕ → ℕ → List OutLine
 told_absent [] member = []
 told_absent (m ∷ ms) member = outs.Absent member ∷ []
 
+-- transcript lines added to those of the present script line
 abbrev pub telling_all : {S : Type 0} → World S → List OutLine → World S
 telling_all w lines = record w { told = w.told ++ lines }
 
+-- the world after a host settled, if its node runs; else the transcript tells that the named member is absent
 abbrev pub settle_present : {S : Type 0} → Course S → List ℕ → ℕ → World S → Option (Host S) → World S
 settle_present course members i w None = w
 settle_present course members i w (Some h) =
     if is_up w h then settle course i w else telling_all w (told_absent members h.node.id)
 
--- each listed node settles, ascending
+-- the world after each listed node settled, by ascending number
 abbrev pub settle_all : {S : Type 0} → Course S → List ℕ → World S → World S
 settle_all course members w = each_listed members (λ i v. settle_present course members i v (slice_get v.hosts i)) w
 
--- the node at an index takes the bytes of a message and settles
+-- the world after the node at an index took the bytes of a message and settled
 unfoldable pub gives : {S : Type 0} → Course S → List ℕ → ℕ → World S → World S
 gives course bytes i w = settle course i (node_takes course i (Arrive bytes) w)
 
+-- the world after each listed node took the bytes of a message and settled
 abbrev pub give_all : {S : Type 0} → Course S → List ℕ → List ℕ → World S → World S
 give_all course members bytes w = each_listed members (gives course bytes) w
 
--- the index at which a member's host stands
+-- the index of a member's host, if the member has one
 abbrev pub host_index : {S : Type 0} → List (Host S) → ℕ → Option ℕ
 host_index hosts member = position (λ h. h.node.id == member) hosts
 
+-- the world after something at an index, if there is one
 abbrev pub at_index : {S : Type 0} → (ℕ → World S → World S) → World S → Option ℕ → World S
 at_index f w None = w
 at_index f w (Some i) = f i w
 
--- the node of a member takes bytes and settles, if the member is listed
+-- the world after a member's node took bytes and settled, if the member is listed
 abbrev pub give_one : {S : Type 0} → Course S → List ℕ → List ℕ → ℕ → World S → World S
 give_one course members bytes member w = at_index (at_listed members (gives course bytes)) w (host_index w.hosts member)
 
 -- clients
 
--- the line that tells what a client heard
+-- the transcript line of what a client made of a reply
 abbrev pub told_heard : ℕ → Heard → OutLine
 told_heard id (hears.Counted count need) = outs.Counted id count need
 told_heard id (hears.Accepted a) = outs.Accepted id a.request.seq a.place a.index a.reply
 told_heard id (hears.Ignored why) = outs.Ignored id why
 
+-- the acceptance that a client made of a reply, if it made one
 abbrev pub acceptance_in : Heard → List Acceptance
 acceptance_in (hears.Counted count need) = []
 acceptance_in (hears.Accepted a) = a ∷ []
 acceptance_in (hears.Ignored why) = []
 
+-- the world after a client made something of a reply
 unfoldable pub hearing : {S : Type 0} → World S → ℕ → Client → SignedBy Answer → Heard → World S
 hearing w i c a h =
     record w {
@@ -379,32 +392,30 @@ hearing w i c a h =
       told = w.told ++ told_heard c.id h ∷ [];
     }
 
--- a client reads replies alone
-abbrev pub client_hears : {S : Type 0} → World S → ℕ → Client → Result Message ℕ → World S
-client_hears w i c (Err at) = telling w (outs.Ignored c.id reasons.Unread)
-client_hears w i c (Ok (Ask q)) = telling w (outs.Ignored c.id reasons.Unread)
-client_hears w i c (Ok (Propose p)) = telling w (outs.Ignored c.id reasons.Unread)
-client_hears w i c (Ok (Vote b)) = telling w (outs.Ignored c.id reasons.Unread)
-client_hears w i c (Ok (Reply a)) = hearing w i c a (heard w.view c a)
+-- the world after a client heard bytes that were read; a client ignores everything but replies
+abbrev pub client_hears : {S : Type 0} → World S → ℕ → Client → Option (SignedBy Answer) → World S
+client_hears w i c None = telling w (outs.Ignored c.id reasons.Unread)
+client_hears w i c (Some a) = hearing w i c a (heard w.view c a)
 
 abbrev pub hears_bytes : {S : Type 0} → World S → ℕ → List ℕ → Option Client → World S
 hears_bytes w i bytes None = w
-hears_bytes w i bytes (Some c) = client_hears w i c (decoded bytes)
+hears_bytes w i bytes (Some c) = client_hears w i c (reply_read (decoded bytes))
 
--- a client hears the bytes of a message
+-- the world after a client heard the bytes of a message
 unfoldable pub client_takes : {S : Type 0} → ℕ → List ℕ → World S → World S
 client_takes i bytes w = if is_some w.ending then w else hears_bytes w i bytes (slice_get w.clients i)
 
--- a client asks where none of its requests waits. It has fewer than 2 ^ 63 requests, and an operation has at most 4,096 bytes
+-- the world after a client asked, if none of its requests waits. It has at most 2^63 - 1 requests, and an operation has at most 4,096
+-- bytes.
 abbrev pub client_asks : {S : Type 0} → World S → ℕ → Client → List ℕ → Option Request → World S
 client_asks w i c op (Some q) = telling w (outs.Busy c.id q.seq)
 client_asks w i c op None =
     if nat_lt (c.last + 1) (2 ^ 63) && nat_le (length op) 4096
     then sends (record w { clients = slice_set w.clients i (asking c (request_of c op)) }) (origins.Client c.id) targets.View
-    (Plain (Ask (signed requests group_secret c.id (request_of c op))))
+    (Ask (signed requests group_secret c.id (request_of c op)))
     else w
 
--- a rogue client does nothing that it is told to
+-- the world after a client was told to ask; a rogue client does nothing
 abbrev pub ask_found : {S : Type 0} → World S → ℕ → List ℕ → Option Client → World S
 ask_found w i op None = w
 ask_found w i op (Some c) = if is_rogue w c.id then telling w (outs.IdleClient c.id) else client_asks w i c op c.waiting
@@ -412,10 +423,10 @@ ask_found w i op (Some c) = if is_rogue w c.id then telling w (outs.IdleClient c
 unfoldable pub asks : {S : Type 0} → ℕ → List ℕ → World S → World S
 asks i op w = if is_some w.ending then w else ask_found w i op (slice_get w.clients i)
 
--- a client sends its request that waits once more
+-- the world after a client sent its waiting request again
 abbrev pub client_repeats : {S : Type 0} → World S → Client → Option Request → World S
 client_repeats w c None = telling w (outs.IdleClient c.id)
-client_repeats w c (Some q) = sends w (origins.Client c.id) targets.View (Plain (Ask (signed requests group_secret c.id q)))
+client_repeats w c (Some q) = sends w (origins.Client c.id) targets.View (Ask (signed requests group_secret c.id q))
 
 abbrev pub repeat_found : {S : Type 0} → World S → Option Client → World S
 repeat_found w None = w
@@ -424,7 +435,7 @@ repeat_found w (Some c) = if is_rogue w c.id then telling w (outs.IdleClient c.i
 unfoldable pub repeats : {S : Type 0} → ℕ → World S → World S
 repeats i w = if is_some w.ending then w else repeat_found w (slice_get w.clients i)
 
--- a client is told of a place
+-- the world after a client was told of a place
 abbrev pub learns : {S : Type 0} → World S → ℕ → ℕ → Option Client → World S
 learns w place i None = w
 learns w place i (Some c) = telling (record w { clients = slice_set w.clients i (learning c place) }) (outs.Learned c.id (learning c place).seen)
@@ -433,13 +444,13 @@ abbrev pub learns_from : {S : Type 0} → World S → Option Client → ℕ → 
 learns_from w None i = w
 learns_from w (Some c) i = if is_rogue w c.id then telling w (outs.IdleClient c.id) else learns w c.seen i (slice_get w.clients i)
 
--- a client is told of the greatest place that another knows
+-- the world after a client was told of the greatest place that another one knows
 unfoldable pub tells : {S : Type 0} → ℕ → ℕ → World S → World S
 tells from to w = if is_some w.ending then w else learns_from w (slice_get w.clients from) to
 
 -- flow
 
--- what is for nobody is passed over
+-- the world after bytes went to their target; what is for nobody goes nowhere
 abbrev pub goes : {S : Type 0} → Course S → List ℕ → World S → List ℕ → Option Target → World S
 goes course members w bytes None = w
 goes course members w bytes (Some targets.View) = give_all course members bytes w
@@ -450,26 +461,26 @@ abbrev pub flow_sent : {S : Type 0} → Course S → List ℕ → World S → Op
 flow_sent course members w None = w
 flow_sent course members w (Some s) = goes course members (record w { mark = w.mark + 1 }) (bytes_of s.content) s.to
 
--- the next message behind the mark is given to those of the listed that it is for, or to its client
+-- the world after the next message past the mark went to its targets among the listed members, or to its client
 unfoldable pub flow_once : {S : Type 0} → Course S → List ℕ → World S → World S
 flow_once course members w = if is_some w.ending then w else flow_sent course members w (slice_get w.sent w.mark)
 
--- the listed nodes settle, and then each message behind the mark is given, until none is left
+-- the world after a flow: the listed nodes settle, and each message past the mark goes to its targets until none is left
 abbrev pub flows : {S : Type 0} → Course S → List ℕ → World S → World S
 flows course members w = until_rest (flow_once course members) (settle_all course members w)
 
 -- deliveries one by one
 
--- what happens at a host, if its node runs
+-- the world after something at a host, if its node runs
 abbrev pub at_host : {S : Type 0} → (ℕ → World S → World S) → ℕ → World S → Option (Host S) → World S
 at_host f i w None = w
 at_host f i w (Some h) = if is_up w h then f i w else telling w (outs.Absent h.node.id)
 
--- what happens at a member's host, if its node runs
+-- the world after something at a member's host, if its node runs
 abbrev pub at_member : {S : Type 0} → (ℕ → World S → World S) → ℕ → World S → World S
 at_member f member w = at_index (λ i v. at_host f i v (slice_get v.hosts i)) w (host_index w.hosts member)
 
--- bytes arrive at a member's node or at a client
+-- the world after bytes arrived at a member's node or at a client
 abbrev pub arrives : {S : Type 0} → Course S → List ℕ → Party → World S → World S
 arrives course bytes (parties.Member id) w = at_member (λ i v. node_takes course i (Arrive bytes) v) id w
 arrives course bytes (parties.Client id) w = client_takes id bytes w
@@ -482,11 +493,11 @@ abbrev pub sent_arrives : {S : Type 0} → Course S → List Party → World S �
 sent_arrives course to w None = w
 sent_arrives course to w (Some s) = arrives_at course (bytes_of s.content) to w
 
--- the message of a number arrives at each of some, in order
+-- the world after the message of a number arrived at each of some parties, in order
 abbrev pub give_number : {S : Type 0} → Course S → ℕ → List Party → World S → World S
 give_number course number to w = sent_arrives course to w (slice_get w.sent (number - 1))
 
--- a node that is to deliver, or where time passes, is idle where no rule fires
+-- the transcript line of a node at which an event fired no rule
 abbrev pub told_idle : ℕ → List Fired → List OutLine
 told_idle id [] = outs.Idle id ∷ []
 told_idle id (rule ∷ rules) = []
@@ -496,11 +507,11 @@ host_tries course event i w None = w
 host_tries course event i w (Some h) =
     if not (is_up w h) then w else telling_all (stepped course w i h (course.step h.node event)) (told_idle h.node.id (course.step h.node event).fired)
 
--- the node at an index is to deliver the batch that waits, or time passes there
+-- the world after the node at an index was to deliver, or time passed there
 unfoldable pub tries_at : {S : Type 0} → Course S → NodeEvent → ℕ → World S → World S
 tries_at course event i w = if is_some w.ending then w else host_tries course event i w (slice_get w.hosts i)
 
--- so it is at each of some members, in order
+-- the world after the nodes of some members were to deliver, or time passed there, in order
 abbrev pub tries_each : {S : Type 0} → Course S → NodeEvent → List ℕ → World S → World S
 tries_each course event [] w = w
 tries_each course event (m ∷ ms) w = tries_each course event ms (at_member (tries_at course event) m w)
@@ -513,21 +524,25 @@ tick_each course members w = tries_each course Tick members w
 
 -- crashes
 
--- The life of a member that crashes: what is left restores what one book had written, that of the life that ends or, while a gate that an earlier crash
--- left torn is not closed, that of the life that wrote behind it. The diary takes what it lacks of that. Where a gate is torn now, that book is put aside.
+-- The life of a member after a crash. The bytes left restore the first entries of one book: this life's, or an earlier one's until a torn
+-- gate is closed. The diary gains what it lacks of these entries. If a gate is torn now, that book is put aside.
 abbrev pub life_left : Life → List LogEntry → Images → Life
 life_left l book left = record { diary = with_front l.diary (length (restores left).entries) book; aside = still_aside (store_opened left) book }
 
+-- the life of a host's member after a crash that leaves given bytes
 abbrev pub life_crashed : {S : Type 0} → Host S → Images → Life
 life_crashed h left = life_left h.life (written_book h.store h.node.entries h.life.aside) left
 
+-- the host after a crash that leaves given bytes
 abbrev pub host_crashed : {S : Type 0} → Course S → Host S → Images → Host S
 host_crashed course h left = record h { up = false; store = store_opened left; life = remembered course h.life (life_crashed h left) }
 
+-- the world after a crash of a host, if the bytes may be left; else a premise is broken
 abbrev pub crashes_with : {S : Type 0} → Course S → ℕ → World S → Host S → Images → Option stores.NotAnImage → World S
 crashes_with course i w h left None = telling (record w { hosts = slice_set w.hosts i (host_crashed course h left) }) (outs.Crashed h.node.id)
 crashes_with course i w h left (Some wrong) = record w { ending = Some (Premise (NotAnImage wrong)) }
 
+-- the world after a crash of a host, if its node runs
 abbrev pub host_crashes : {S : Type 0} → Course S → Image → List Patch → ℕ → World S → Option (Host S) → World S
 host_crashes course image patches i w None = w
 host_crashes course image patches i w (Some h) =
@@ -535,17 +550,17 @@ host_crashes course image patches i w (Some h) =
     then crashes_with course i w h (images_left image patches h.store) (wrong_images h.store (images_left image patches h.store))
     else w
 
--- the node at an index stops, and this is left of its devices
+-- the world after a crash of the member at an index, which leaves an image of its devices with patches
 unfoldable pub crashes : {S : Type 0} → Course S → Image → List Patch → ℕ → World S → World S
 crashes course image patches i w = if is_some w.ending then w else host_crashes course image patches i w (slice_get w.hosts i)
 
--- each node that runs stops
+-- the world after a crash of each member whose node runs
 abbrev pub crash_all : {S : Type 0} → Course S → Image → World S → World S
 crash_all course image w = each_from (crashes course image []) (length w.hosts) 0 w
 
--- a node goes on from what its devices hold
+-- restart: a node starts again from what its devices hold (recovery: Dura-SMaRt, USENIX ATC 2013)
 
--- it opens its book anew where nothing was restored
+-- the host after a restart; if nothing was restored, the node opens a new book
 abbrev pub host_resumed : {S : Type 0} → Host S → Node S → Host S
 host_resumed h n = record h {
   node = n;
@@ -556,26 +571,29 @@ host_resumed h n = record h {
   earlier = h.earlier ++ h.delivered;
 }
 
--- what is damaged stays as it is: a member's own store never is
+-- the world after a restart from restored bytes. Damaged bytes change nothing; a member's own store never holds any.
 abbrev pub resumes_from : {S : Type 0} → Course S → ℕ → World S → Host S → List (List ℕ) → Option ℕ → World S
 resumes_from course i w h restored (Some entry) = w
 resumes_from course i w h restored None =
     let n : Node _ = reopened course.meaning group_secret h.node.id w.view 1024 (entries_in restored) in
     telling (record w { hosts = slice_set w.hosts i (host_resumed h n) }) (outs.Restarted h.node.id n.replica.place (length restored))
 
+-- the world after a restart at a host, if its node does not run and its member is not faulty
 abbrev pub host_resumes : {S : Type 0} → Course S → ℕ → World S → Option (Host S) → World S
 host_resumes course i w None = w
 host_resumes course i w (Some h) =
     if h.up || is_gone w h.node.id then w
     else resumes_from course i w h (restores (bytes_held h.store)).entries (damaged group_secret w.view (restores (bytes_held h.store)).entries)
 
+-- the world after a restart of the member at an index
 unfoldable pub resumes : {S : Type 0} → Course S → ℕ → World S → World S
 resumes course i w = if is_some w.ending then w else host_resumes course i w (slice_get w.hosts i)
 
+-- the world after a restart of each member that has crashed
 abbrev pub restart_all : {S : Type 0} → Course S → World S → World S
 restart_all course w = each_from (resumes course) (length w.hosts) 0 w
 
--- a line that restarts one member tells of one that runs that it is idle, and of one that is gone that it is absent
+-- the world after a line that restarts one member. A faulty member is told absent, and a running one idle.
 abbrev pub restart_at : {S : Type 0} → Course S → ℕ → World S → Option (Host S) → World S
 restart_at course i w None = w
 restart_at course i w (Some h) =
@@ -588,40 +606,42 @@ restart_member course member w = at_index (λ i v. restart_at course i v (slice_
 
 -- what is shown
 
--- a node that is not gone
+-- the line that shows a host, unless its member is faulty
 abbrev pub shown_host : {S : Type 0} → List ℕ → Host S → List OutLine
 shown_host faulty h =
     if is_among faulty h.node.id then []
     else if h.up then outs.Stands h.node.id h.node.replica.place (view_of h.node).number (regency_of h.node) ∷ []
     else outs.Down h.node.id ∷ []
 
--- a client that has asked
+-- the line that shows a client, if it has asked
 abbrev pub shown_client : Client → List OutLine
 shown_client c = if nat_lt 0 c.last then outs.Seen c.id c.seen ∷ [] else []
 
+-- the world after all hosts and clients were shown
 abbrev pub shows : {S : Type 0} → World S → World S
 shows w = telling_all w (flat_map (shown_host w.faulty) w.hosts ++ flat_map shown_client w.clients)
 
--- who breaks the rules
+-- members and clients that break the rules
 
--- a member is faulty from now on, unless that would be too many
+-- the world with more faulty members, unless they are more than f
 abbrev pub with_faulty : {S : Type 0} → World S → List ℕ → World S
 with_faulty w faulty = if too_many w.view faulty then record w { ending = Some (Premise TooManyFaulty) } else record w { faulty = faulty }
 
 abbrev pub turns_faulty : {S : Type 0} → World S → ℕ → World S
 turns_faulty w member = if is_gone w member then w else with_faulty w (w.faulty ++ member ∷ [])
 
+-- the world after a member was declared faulty
 unfoldable pub declares_faulty : {S : Type 0} → ℕ → World S → World S
 declares_faulty member w = if is_some w.ending then w else turns_faulty w member
 
--- a client is rogue from now on
+-- the world in which a client is rogue from now on
 abbrev pub turns_rogue : {S : Type 0} → World S → ℕ → World S
 turns_rogue w client = if is_rogue w client then w else record w { rogue = w.rogue ++ client ∷ [] }
 
 unfoldable pub declares_rogue : {S : Type 0} → ℕ → World S → World S
 declares_rogue client w = if is_some w.ending then w else turns_rogue w client
 
--- what the script injects takes a number, and is for nobody
+-- the world after an injection: a forged one ends the play, and any other gets a number and is for nobody
 abbrev pub injects_content : {S : Type 0} → World S → Option Content → World S
 injects_content w None = w
 injects_content w (Some content) =
@@ -631,14 +651,14 @@ injects_content w (Some content) =
 unfoldable pub injects : {S : Type 0} → Injection → World S → World S
 injects form w = if is_some w.ending then w else injects_content w (injected w.sent form)
 
--- the host of a member, if it is one
+-- the host of a member, if it has one
 abbrev pub host_of : {S : Type 0} → List (Host S) → ℕ → Option (Host S)
 host_of [] id = None
 host_of (h ∷ hs) id = if h.node.id == id then Some h else host_of hs id
 
 -- the beginning
 
--- a host whose node has opened its book, over empty devices
+-- the host of a node with a new book, over empty devices
 abbrev pub host_of_node : {S : Type 0} → Node S → Host S
 host_of_node n = record {
   node = n;
@@ -650,15 +670,17 @@ host_of_node n = record {
   earlier = [];
 }
 
+-- the hosts of new nodes, for some members
 abbrev pub hosts_from : {S : Type 0} → Meaning S → View → List ℕ → List (Host S)
 hosts_from m view [] = []
 hosts_from m view (id ∷ ids) = host_of_node (opened m group_secret id view 1024) ∷ hosts_from m view ids
 
--- clients that have not asked, of count numbers from i on
+-- clients that have not asked: so many, from a number on
 unfoldable pub clients_from : ℕ → ℕ → List Client
 clients_from zero i = []
 clients_from (suc count) i = fresh i ∷ clients_from count (i + 1)
 
+-- the world before the first line of a script
 abbrev pub begun : {S : Type 0} → Meaning S → View → World S
 begun m view =
     record {

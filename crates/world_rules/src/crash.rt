@@ -1,16 +1,16 @@
 //! What a script says that a crash leaves of a member's devices.
 use smart_base::sequence::Bytes;
 
-/// What a crash leaves of each device.
+/// The image that a crash leaves of each device.
 #[derive(Clone, Copy, Debug, PartialEq, Eq)]
 pub enum Image {
-    /// It is as it was at its last sync.
+    /// The bytes at its last sync.
     Old,
-    /// It is as it reads.
+    /// The bytes that it reads as.
     New,
 }
 
-/// Bytes that a crash leaves at a place of a device, 0 to 3.
+/// A patch: bytes that a crash leaves from an index on, on device 0 to 3.
 pub struct Patch {
     pub device: u64,
     pub at: u64,
@@ -28,8 +28,9 @@ impl Drop for Patch {
     }
 }
 
-/// No crash now leaves these bytes on a device. `at` is the first byte that is wrong, or their length
-/// where only that is wrong, which may be more than any device has. Of more devices the first is named.
+/// Bytes that no crash leaves on a device. `at` is the first wrong byte. If only their length is
+/// wrong, it is that length, which may be more than any device has. Of several devices the first is
+/// named.
 #[derive(Clone, Copy, Debug, PartialEq, Eq)]
 pub struct NotAnImage {
     pub device: u64,

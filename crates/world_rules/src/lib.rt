@@ -1,5 +1,5 @@
-//! What a script plays: clients, hosts, the world of both, and the lines of a script and of its
-//! transcript. The definitions stand in `specs/`; here are the types that they speak of.
+//! The world of a play: clients, hosts, the lines of a script and of its transcript. The definitions
+//! are in `specs/`; the types that they speak of are here.
 #![tactic(auto)]
 
 pub mod crash;

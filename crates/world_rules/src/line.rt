@@ -19,7 +19,7 @@ pub enum App {
     Kv,
 }
 
-/// A script line behind the header.
+/// A script line after the header.
 #[derive(Drop)]
 pub enum Line {
     /// An empty line or a comment.
@@ -29,26 +29,26 @@ pub enum Line {
         client: ClientId,
         op: Payload,
     },
-    /// `again C`: client C sends its request that waits once more.
+    /// `again C`: client C sends its waiting request again.
     Again {
         client: ClientId,
     },
-    /// `told C D`: client D is told the greatest place that client C knows.
+    /// `tell C D`: client D is told the greatest place that client C knows.
     Tell {
         from: ClientId,
         to: ClientId,
     },
-    /// `flow M..`: every message that was sent is given to those of these members that it is for, or to its client, until nothing
-    /// is due. Where none is listed, all members are.
+    /// `flow M..`: each message goes to those of these members that it is for, or to its client,
+    /// until nothing is due. Without members it goes to all.
     Flow {
         members: Sequence<MemberId>,
     },
-    /// `give NUM X..`: the message of this number arrives at each of these, in order.
+    /// `give NUM X..`: the message of this number arrives at each of these parties, in order.
     Give {
         number: u64,
         to: Sequence<Party>,
     },
-    /// `deliver M..`: each of these members delivers the batch that waits, in order.
+    /// `deliver M..`: each of these members delivers its waiting batch, in order.
     Deliver {
         members: Sequence<MemberId>,
     },
@@ -56,35 +56,36 @@ pub enum Line {
     Tick {
         members: Sequence<MemberId>,
     },
-    /// `disk M [COUNT]`: the member's store makes so many device calls, one where no number is named,
-    /// or fewer where no more are due.
+    /// `disk M [COUNT]`: the member's store makes COUNT device calls, or fewer if no more are due.
+    /// COUNT is 1 if it is not named.
     Disk {
         member: MemberId,
         count: u64,
     },
-    /// `crash M old` or `new`, and patches: the member's node stops, and this is left of its devices.
+    /// `crash M old` or `new`, with patches: the member crashes, and this is left of its devices.
     Crash {
         member: MemberId,
         image: Image,
         patches: Sequence<Patch>,
     },
-    /// `crash all old` or `new`: each node that runs stops.
+    /// `crash all old` or `new`: each member whose node runs crashes.
     CrashAll {
         image: Image,
     },
-    /// `restart M`: the member's node, which has stopped, goes on from what its devices hold.
+    /// `restart M`: the crashed member restarts from what its devices hold.
     Restart {
         member: MemberId,
     },
-    /// `restart all`: each node that has stopped does.
+    /// `restart all`: each crashed member restarts.
     RestartAll,
-    /// `settle M`: the member takes what is due until nothing is.
+    /// `settle M`: the member does what is due until nothing is.
     Settle {
         member: MemberId,
     },
-    /// `settle all`: each member does, ascending.
+    /// `settle all`: each member does so, by number.
     SettleAll,
-    /// `show`: where all members stand, and what all clients that asked have seen.
+    /// `show`: the place, view and regency of each member, and the greatest place that each client
+    /// knows which has asked.
     Show,
     /// `faulty M`: the member is faulty from now on, and its node is gone.
     Faulty {
@@ -98,7 +99,7 @@ pub enum Line {
     Inject(Injection),
 }
 
-/// A message that a script makes up. It is signed by the signer that it names.
+/// A message that a script makes up, signed by the signer that it names.
 #[derive(Drop)]
 pub enum Injection {
     /// `ask C SEQ AFTER OP`.
@@ -108,27 +109,27 @@ pub enum Injection {
         after: u64,
         op: Payload,
     },
-    /// `propose S V K R NUM..`: a proposal of the requests of these messages.
+    /// `propose S V K R NUM..`: a PROPOSE of the requests of these messages.
     Propose {
         signer: MemberId,
         slot: Slot,
         asks: Sequence<u64>,
     },
-    /// `write S V K R NUM` or `accept S V K R NUM`: a vote for the batch of a proposal.
+    /// `write S V K R NUM` or `accept S V K R NUM`: a vote for the batch of a PROPOSE.
     Vote {
         kind: VoteKind,
         signer: MemberId,
         slot: Slot,
         proposal: u64,
     },
-    /// `stop S V R`: a wish for a regency.
+    /// `stop S V R`: a STOP for a regency.
     Stop {
         signer: MemberId,
         view: ViewNo,
         regency: Regency,
     },
-    /// `stopdata S V R EV LOCK`: a report without a last place, or with the one that a decision's
-    /// message shows; and without a lock, or with the one of a report's message.
+    /// `stopdata S V R EV LOCK`: a report. Its last place is 0, or the one that a decision's message
+    /// shows. It has no lock, or that of a report's message.
     StopData {
         signer: MemberId,
         view: ViewNo,
@@ -136,7 +137,7 @@ pub enum Injection {
         evidence: Option<u64>,
         lock: Option<u64>,
     },
-    /// `sync S V R NUM..`: the beginning of a regency with the reports of these messages.
+    /// `sync S V R NUM..`: a SYNC with the reports of these messages.
     Sync {
         signer: MemberId,
         view: ViewNo,
@@ -154,7 +155,7 @@ pub enum Injection {
     },
 }
 
-/// What is wrong with a script line: of several kinds that apply, the first of these.
+/// The kind of what is wrong with a script line; if several apply, the first of these.
 #[derive(Clone, Copy, Debug, PartialEq, Eq)]
 pub enum Kind {
     /// The input ended before the header was whole.
@@ -163,13 +164,13 @@ pub enum Kind {
     Byte,
     /// More than 65,536 bytes.
     Long,
-    /// A line of the header that is not what has to stand there.
+    /// A header line that is not the one that has to be there.
     Header,
-    /// An unknown first word, or an unknown form behind `inject`.
+    /// An unknown first word, or an unknown form after `inject`.
     Word,
     /// Too few words, or too many; in `inject` also a list that is too short or too long.
     Count,
-    /// A word that is not the number that has to stand there.
+    /// A word that is not the number that has to be there.
     Number,
     /// Any other wrong word.
     Form,
@@ -212,14 +213,14 @@ pub enum Summary {
         view: ViewNo,
         regency: Regency,
     },
-    /// A report: its last place, and the regency of its lock, if it has one.
+    /// A STOPDATA: its last place, and the regency of its lock, if it has one.
     StopData {
         view: ViewNo,
         regency: Regency,
         last: u64,
         lock: Option<Regency>,
     },
-    /// The beginning of a regency: the place where it begins, and whether a batch binds there.
+    /// A SYNC: the place at which its regency begins, and whether a batch binds there.
     Sync {
         view: ViewNo,
         regency: Regency,
@@ -233,13 +234,13 @@ pub enum Summary {
 /// A line of the transcript.
 #[derive(Drop)]
 pub enum OutLine {
-    /// The header: members, how many of them may be faulty, and the service.
+    /// The header: the number of members, how many of them may be faulty, and the service.
     Group {
         members: u64,
         faulty: u8,
         app: App,
     },
-    /// A message left: its number, its sender, and what it is.
+    /// A message was sent: its number, its sender, and what it is.
     Sent {
         number: u64,
         origin: Origin,
@@ -262,7 +263,8 @@ pub enum OutLine {
         view: ViewNo,
         regency: Regency,
     },
-    /// A node takes part in a regency from now on: it begins at this place, where a batch may bind.
+    /// A node takes part in a regency from now on. It begins at this place, at which a batch may
+    /// bind.
     Synced {
         member: MemberId,
         view: ViewNo,
@@ -275,13 +277,13 @@ pub enum OutLine {
         member: MemberId,
         why: Why,
     },
-    /// A client counted a reply: so many members gave it, so many are needed.
+    /// A client counted a reply: so many members gave it, and so many are needed.
     Counted {
         client: ClientId,
         have: u64,
         need: u64,
     },
-    /// A client accepted a reply: its request's number, place and index, and the reply.
+    /// A client accepted a reply: its request's number, place and index, and the text.
     Accepted {
         client: ClientId,
         seq: u64,
@@ -294,26 +296,26 @@ pub enum OutLine {
         client: ClientId,
         why: Ignored,
     },
-    /// A client asked while its request of this number waits.
+    /// A client was told to ask while its request of this number waits.
     Busy {
         client: ClientId,
         seq: u64,
     },
-    /// A line names a member whose node is gone.
+    /// A line named a member whose node does not run.
     Absent {
         member: MemberId,
     },
-    /// A node has stopped.
+    /// A member crashed.
     Crashed {
         member: MemberId,
     },
-    /// A node goes on: the last place that it delivered, and how many entries were restored.
+    /// A member restarted: its last delivered place, and the number of restored entries.
     Restarted {
         member: MemberId,
         place: Place,
         entries: u64,
     },
-    /// A node that has stopped.
+    /// A member that has crashed, and not restarted.
     Down {
         member: MemberId,
     },
@@ -330,7 +332,7 @@ pub enum OutLine {
         client: ClientId,
         place: Place,
     },
-    /// Where a node stands: its last delivered place, its view and its regency.
+    /// A node's last delivered place, its view and its regency.
     Stands {
         member: MemberId,
         place: Place,
@@ -342,7 +344,7 @@ pub enum OutLine {
         client: ClientId,
         place: Place,
     },
-    /// The input ended: lines read, messages sent.
+    /// The input ended: the number of lines read, and of messages sent.
     End {
         lines: u64,
         messages: u64,

@@ -3,9 +3,9 @@ use crate::crash::NotAnImage;
 use node_rules::node::Target;
 use smart_base::name::{ClientId, MemberId};
 use smart_base::sequence::Bytes;
-use smart_messages::any::AnyMessage;
+use smart_messages::message::Message;
 
-/// Who sent a message.
+/// The origin of a message.
 #[derive(Clone, Copy, Debug, PartialEq, Eq)]
 pub enum Origin {
     Node(MemberId),
@@ -14,16 +14,16 @@ pub enum Origin {
     Script,
 }
 
-/// What is sent.
+/// The content of what is sent.
 #[derive(Drop)]
 pub enum Content {
-    Message(AnyMessage),
+    Message(Message),
     /// Bytes that are no message.
     Raw(Bytes),
 }
 
-/// A message that was sent, and whom it is for: for nobody where the script injected it. Messages
-/// are numbered from 1, in the order in which they left.
+/// A message that was sent, and its target; one that the script injected has no target. Messages are
+/// numbered from 1, in the order in which they were sent.
 pub struct Sent {
     pub origin: Origin,
     pub to: Option<Target>,
@@ -41,25 +41,25 @@ impl Drop for Sent {
     }
 }
 
-/// What a play takes for granted.
+/// A premise of a play.
 #[derive(Clone, Copy, Debug, PartialEq, Eq)]
 pub enum Premise {
-    /// At most f members of each view were ever declared faulty.
+    /// At most f members of the view were declared faulty.
     TooManyFaulty,
-    /// Each statement in an injected message whose tag verifies, and whose signer is not declared
-    /// faulty (a client: rogue), stands in a message that this signer has sent.
+    /// Nothing is forged. Each statement of an injected message whose tag verifies stands in a
+    /// message that its signer has sent, unless that signer is faulty or rogue.
     Forged,
-    /// No two different batches that are met have one digest.
+    /// No two different batches that were met have one digest.
     Collision,
     /// A crash leaves what the model of disks allows.
     NotAnImage(NotAnImage),
 }
 
-/// What ends a play before its script does.
+/// The reason for which a play ends before its script does.
 #[derive(Clone, Copy, Debug, PartialEq, Eq)]
 pub enum Ending {
     /// More messages would be sent than have numbers.
     Limit,
-    /// What the play takes for granted does not hold.
+    /// A premise does not hold.
     Premise(Premise),
 }

@@ -2,6 +2,7 @@
 #![tactic(auto)]
 
 pub mod crash;
+pub mod fault;
 pub mod forms;
 pub mod hex;
 pub mod numbers;

@@ -1,9 +1,12 @@
 //! What the lines of a script mean.
-ghost use Rattle.std.specs.Prelude.{◌≡◌, ◌&&◌, ◌<◌, ◌≤◌, nat_le, IfOk, IfSome, take};
+ghost use Rattle.std.specs.Prelude.{◌≡◌, ◌&&◌, ◌<◌, ◌≤◌, nat_le, Ok, Err, IfOk, IfSome, take};
 ghost use Rattle.std.specs.List.{list_all};
 ghost use Rattle.world_rules.specs.Scripts.{is_printed, is_short, is_nothing, number_in, member_of, client_of, each_word, party_of_word, ask_line, again_line, told_line, flow_line, give_line, deliver_line, tick_line, settle_line, disk_with, disk_line, show_line, faulty_line, rogue_line, form_by, injecting, line_by, line_of, members_from, view_for, group_words, group_line, app_line};
+ghost use Rattle.world_rules.specs.declared.line.Kind.{Kind};
+ghost use Rattle.world_script.specs.declared.fault.LineFault.TheVariants as faults;
 
 use crate::crash::{crash_line, restart_line};
+use crate::fault::LineFault;
 use crate::forms::form_by;
 use crate::numbers::{CALLS, MESSAGES, client_of, member_of, number_in};
 use crate::words::{Words, behind_spaces, payload_of, words_in};
@@ -62,7 +65,7 @@ pub fn is_nothing(bytes: &[u8]) -> bool
 
 /// The service that the line `app count` or `app kv` names, if the line is one.
 #[tactic(auto, unfolding(world_rules::specs::Scripts::app_line))]
-pub fn app_line(bytes: &[u8]) -> Option<App>
+pub fn read_app(bytes: &[u8]) -> Option<App>
     ensures { result ≡ app_line bytes.now }
 {
     if same_bytes(bytes, b"app count") {
@@ -326,7 +329,7 @@ fn line_by(alloc: Global, bytes: &[u8], words: Words<'_>) -> Result<Result<Line,
 
 /// The meaning of a line behind the header, or what is wrong with it.
 #[tactic(auto, unfolding(world_rules::specs::Scripts::line_of))]
-pub fn line_of(alloc: Global, bytes: &[u8]) -> Result<Result<Line, Kind>, AllocError>
+fn meaning_of(alloc: Global, bytes: &[u8]) -> Result<Result<Line, Kind>, AllocError>
     ensures { IfOk result (λ line. line ≡ line_of bytes.now) }
 {
     if !is_printed(bytes) {
@@ -339,6 +342,18 @@ pub fn line_of(alloc: Global, bytes: &[u8]) -> Result<Result<Line, Kind>, AllocE
         return Ok(Ok(Line::Nothing));
     }
     line_by(alloc, bytes, words_in(bytes))
+}
+
+/// Reads a line behind the header.
+pub fn read_line(alloc: Global, bytes: &[u8]) -> Result<Line, LineFault>
+    ensures line { IfOk result (λ line. line_of bytes.now ≡ Ok line) }
+    ensures kind { (kind : Kind) → result ≡ Err (faults.Kind kind) → line_of bytes.now ≡ Err kind }
+{
+    match meaning_of(alloc, bytes) {
+        Err(_) => Err(LineFault::NoMemory),
+        Ok(Err(kind)) => Err(LineFault::Kind { kind }),
+        Ok(Ok(line)) => Ok(line),
+    }
 }
 
 /// Members 1 to count.
@@ -389,7 +404,7 @@ fn group_words(alloc: Global, words: Words<'_>) -> Result<Option<View>, AllocErr
 
 /// The view that the line `group N F` begins with, if the line is one.
 #[tactic(auto, unfolding(world_rules::specs::Scripts::group_line))]
-pub fn group_line(alloc: Global, bytes: &[u8]) -> Result<Option<View>, AllocError>
+pub fn read_group(alloc: Global, bytes: &[u8]) -> Result<Option<View>, AllocError>
     ensures { IfOk result (λ view. view ≡ group_line bytes.now) }
 {
     let Some((word, words)) = words_in(bytes).split_first() else {

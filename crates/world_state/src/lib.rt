@@ -1,5 +1,5 @@
-//! The world of a script: all hosts and clients, each message that was ever sent, and the list of
-//! batches that was chosen.
+//! The world of a script: hosts and clients, each message that was sent, and the chosen list of
+//! batches.
 #![tactic(auto)]
 
 pub mod state;

@@ -14,7 +14,7 @@ use smart_base::name::{ClientId, MemberId};
 use smart_base::sequence::Sequence;
 use smart_base::view::View;
 use smart_keys::ring::Ring;
-use smart_messages::any::AnyMessage;
+use smart_messages::message::Message;
 use smart_service::service::Service;
 use smart_statements::batch::Batch;
 use std::alloc::{AllocError, Global};
@@ -30,10 +30,10 @@ use world_rules::message::{Content, Ending, Origin, Premise, Sent};
 /// The greatest number of a message.
 const MESSAGES: usize = 1 << 24;
 
-/// How many clients there are, the view manager among them.
+/// The number of clients, the view manager among them.
 const CLIENTS: u16 = 1025;
 
-/// All hosts and clients, each message that was ever sent, the list of chosen batches, who breaks
+/// The world: hosts and clients, each message that was sent, the chosen list of batches, who breaks
 /// the rules, and what the present script line tells.
 pub struct WorldState<S> {
     pub alloc: Global,
@@ -94,7 +94,7 @@ impl<S> Model for WorldState<S> {
 /// Lets a value go.
 pub fn let_go<T: Drop>(_value: T) {}
 
-/// A limit is told only of a play that nothing has ended.
+/// Ends the play by a limit, if nothing has ended it.
 fn or_limit(ending: Option<Ending>) -> Option<Ending>
     ensures { result ≡ or_else ending (Some Ending.Limit) }
 {
@@ -151,7 +151,7 @@ fn first_clients(alloc: Global, count: u16) -> Result<Vec<Client>, AllocError>
 }
 
 impl<S: Service> WorldState<S> {
-    /// The world at the end of a header.
+    /// The world at the end of a header. Error: want of memory.
     pub fn begin(alloc: Global, view: View) -> Result<Self, AllocError>
         ensures { IfOk result (λ world. world ≡ begun S.meaning view) }
     {
@@ -173,7 +173,7 @@ impl<S: Service> WorldState<S> {
         })
     }
 
-    /// Whether a member's node is gone.
+    /// Whether a member is faulty, so that its node is gone.
     pub fn is_gone(&self, member: MemberId) -> bool
         ensures { result ≡ is_gone self.now member }
     {
@@ -202,7 +202,7 @@ impl<S: Service> WorldState<S> {
         Ok(())
     }
 
-    /// What is sent takes the next number.
+    /// Sends a content, which gets the next number. Error: want of memory.
     #[tactic(auto, unfolding(world_rules::specs::Worlds::posts))]
     pub fn post(&mut self, sent: Sent) -> Result<(), AllocError>
         ensures { OnOk result (self.new ≡ posts self.old sent) }
@@ -233,13 +233,8 @@ impl<S: Service> WorldState<S> {
         self.sent.push(self.alloc, sent)
     }
 
-    /// A message leaves.
-    pub fn send(
-        &mut self,
-        origin: Origin,
-        to: Target,
-        message: AnyMessage,
-    ) -> Result<(), AllocError>
+    /// Sends a message. Error: want of memory.
+    pub fn send(&mut self, origin: Origin, to: Target, message: Message) -> Result<(), AllocError>
         ensures { OnOk result (self.new ≡ sends self.old origin to message) }
     {
         let sent = Sent {
@@ -270,21 +265,21 @@ impl<S: Service> WorldState<S> {
         Sequence::from_vec(told)
     }
 
-    /// What has ended the play.
+    /// The reason for which the play has ended, if it has.
     pub fn ending(&self) -> Option<Ending>
         ensures { result ≡ self.now.ending }
     {
         self.ending
     }
 
-    /// The batch of each place that was decided.
+    /// The chosen list: the batch of each place that was decided.
     pub fn chosen(&self) -> &[Batch]
         ensures { result.now ≡ self.now.chosen }
     {
         self.chosen.as_slice()
     }
 
-    /// All that was sent, injected messages too, in the order of their numbers.
+    /// Everything that was sent, injected messages too, in the order of their numbers.
     pub fn sent(&self) -> &[Sent]
         ensures { result.now ≡ self.now.sent }
     {
@@ -298,7 +293,7 @@ impl<S: Service> WorldState<S> {
         self.accepted.as_slice()
     }
 
-    /// The members' hosts, ascending.
+    /// The members' hosts, by number.
     pub fn hosts(&self) -> &[Host<S>]
         ensures { result.now ≡ self.now.hosts }
     {

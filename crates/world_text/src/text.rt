@@ -406,7 +406,7 @@ fn push_words(out: &mut String, line: &OutLine) -> Result<(), AllocError>
 }
 
 /// The text of lines.
-pub fn text_of(alloc: Global, lines: &[OutLine]) -> Result<String, AllocError>
+pub fn out_text(alloc: Global, lines: &[OutLine]) -> Result<String, AllocError>
     ensures { IfOk result (λ text. string_bytes text ≡ text_of lines.now) }
 {
     let mut out = String::new(alloc);

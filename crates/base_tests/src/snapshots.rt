@@ -1,0 +1,88 @@
+//! The bytes of a snapshot, what is none, and its pieces.
+ghost use Rattle.std.specs.Prelude.{◌<◌};
+
+use app_count::Count;
+use smart_service::fault::RestoreError;
+use smart_service::replica::Replica;
+use snapshot_form::pieces::piece;
+use snapshot_form::reading::from_bytes;
+use snapshot_form::writing::to_bytes;
+use std::alloc::Global;
+use std::process::Abort;
+
+/// A replica at place 1: view 0 from place 1 on, of members 1 to 4, of which 1 may be faulty; client
+/// 1's request 1, executed at place 1 with the reply 5; and a sum of 5.
+const SNAPSHOT: [u8; 76] =
+    *b"\0\0\0\0\0\0\0\x01\0\x01\0\0\0\0\0\0\0\0\0\0\0\x01\x01\0\x04\0\x01\0\x02\0\x03\0\x04\0\x01\0\x01\0\0\0\0\0\0\0\x01\0\0\0\0\0\0\0\x01\0\0\0\0\0\0\0\0\0\x015\0\0\0\x08\0\0\0\0\0\0\0\x05";
+
+/// Whether a replica has these bytes as its snapshot, and all that they say.
+fn comes_back(alloc: Global, bytes: &[u8]) -> bool {
+    match from_bytes::<Count>(alloc, bytes) {
+        Ok(replica) => {
+            let told = replica.service.sum == 5 && replica.place.get() == 1;
+            match to_bytes(alloc, &replica) {
+                Ok(again) => told && again.as_slice() == bytes,
+                Err(_) => false,
+            }
+        }
+        Err(_) => false,
+    }
+}
+
+/// Whether bytes are refused because they are no snapshot.
+fn is_refused(alloc: Global, bytes: &[u8]) -> bool {
+    matches!(
+        from_bytes::<Count>(alloc, bytes),
+        Err(RestoreError::BadSnapshot)
+    )
+}
+
+#[test]
+fn a_snapshot_comes_back_byte_by_byte(rt: HostRuntime) {
+    assert!(rt; comes_back(rt.alloc(), &SNAPSHOT));
+}
+
+#[test]
+fn no_proper_prefix_is_a_snapshot(rt: HostRuntime) {
+    for count in 0..76 {
+        assert!(rt; is_refused(rt.alloc(), &SNAPSHOT[..count]));
+    }
+}
+
+/// Whether a snapshot with another byte at a place is refused.
+fn is_spoiled(alloc: Global, place: usize, byte: u8) -> bool
+    requires { place < 76 }
+{
+    let mut bytes = SNAPSHOT;
+    bytes[place] = byte;
+    is_refused(alloc, &bytes)
+}
+
+#[test]
+fn what_does_not_suit_a_replica_is_refused(rt: HostRuntime) {
+    let alloc = rt.alloc();
+    // A view of another number, and one that starts from another place.
+    assert!(rt; is_spoiled(alloc, 13, 1));
+    assert!(rt; is_spoiled(alloc, 21, 2));
+    // A line of a later place, of an index past its batch and of a view that is not there.
+    assert!(rt; is_spoiled(alloc, 52, 2));
+    assert!(rt; is_spoiled(alloc, 54, 64));
+    assert!(rt; is_spoiled(alloc, 58, 1));
+}
+
+/// How many bytes a piece has, 99 where there is none.
+fn piece_bytes(bytes: &[u8], i: u32) -> usize {
+    match piece(bytes, i) {
+        Some(part) => part.len(),
+        None => 99,
+    }
+}
+
+#[test]
+fn a_piece_has_65536_bytes_and_the_last_fewer(rt: HostRuntime) {
+    let bytes = [7; 65537];
+    assert!(rt; piece_bytes(&bytes, 0) == 65536);
+    assert!(rt; piece_bytes(&bytes, 1) == 1);
+    assert!(rt; piece_bytes(&bytes, 2) == 99);
+    assert!(rt; piece_bytes(&bytes[..65536], 1) == 99);
+}

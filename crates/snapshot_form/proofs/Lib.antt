@@ -1,0 +1,5 @@
+pub mod Joined
+pub mod Lengths
+pub mod Parts
+pub mod Spelled
+pub mod Tied

@@ -1,0 +1,26 @@
+//! The laws of snapshots.
+ghost use Rattle.std.specs.Prelude.{◌≡◌, ◌≤◌, ℕ, List, length, Some};
+ghost use Rattle.smart_base.specs.Cuts.{IsBytes};
+ghost use Rattle.smart_service.specs.declared.replica.Replica.{Replica};
+ghost use Rattle.snapshot_form.specs.Replicas.{FitsReplica};
+ghost use Rattle.snapshot_form.specs.Snapshots.{restored, snapshot_text, pieces, joined};
+
+use smart_service::service::Service;
+
+/// A replica has one spelling: its snapshot is read as the replica, what is read as a replica is its
+/// snapshot, and no two replicas share one.
+pub fn a_replica_has_one_spelling<S: Service>()
+    ensures read { (r : Replica S) → FitsReplica S.valid r → restored S.meaning (snapshot_text S.meaning r) ≡ Some r }
+    ensures alone { (bytes : List ℕ) (r : Replica S) → IsBytes bytes → restored S.meaning bytes ≡ Some r → FitsReplica S.valid r × (bytes ≡ snapshot_text S.meaning r) }
+    ensures apart { (r s : Replica S) → FitsReplica S.valid r → FitsReplica S.valid s → snapshot_text S.meaning r ≡ snapshot_text S.meaning s → r ≡ s }
+{}
+
+/// A snapshot has at most 16,777,216 bytes.
+pub fn a_snapshot_is_short<S: Service>()
+    ensures { (r : Replica S) → FitsReplica S.valid r → length (snapshot_text S.meaning r) ≤ 16777216 }
+{}
+
+/// The pieces of a snapshot, one after the other, are the snapshot.
+pub fn pieces_make_the_snapshot()
+    ensures { (bytes : List ℕ) → joined bytes (pieces bytes) ≡ bytes }
+{}

@@ -1,0 +1,156 @@
+-- What was sent, what was accepted and the diaries only grow.
+use Rattle.std.proofs.Common.{◌≡◌, ℕ, zero, suc, ◌≤◌, ◌==◌, Bool, true, false, List, [], ◌∷◌, length, refl, sym, cond, Some, subst, take}
+use Rattle.std.specs.Prelude.{slice_get, slice_set}
+use Rattle.smart_base.specs.Views.{View}
+use Rattle.smart_statements.specs.Forms.{SignedBy}
+use Rattle.smart_statements.specs.declared.statement.Answer.{Answer}
+use Rattle.smart_statements.specs.declared.entry.NodeEvent.{NodeEvent}
+use Rattle.smart_service.specs.Services.{Meaning}
+use Rattle.vote_book.specs.declared.entry.LogEntry.{LogEntry}
+use Rattle.node_rules.specs.Steps.{Outcome, step_of, leaving}
+use Rattle.node_rules.specs.Reopening.{entries_in}
+use Rattle.client_quorum.specs.declared.client.Client.{Client}
+use Rattle.client_quorum.specs.declared.client.Acceptance.{Acceptance}
+use Rattle.client_quorum.specs.declared.client.Heard.{Heard}
+use Rattle.world_rules.specs.Clients.{heard}
+use Rattle.world_rules.specs.Secrets.{group_secret}
+use Rattle.world_rules.specs.Stated.{diary_of, diary}
+use Rattle.world_rules.specs.Worlds.{Course, course_of, Host, World, host_of, posts, stepped, host_after, host_crashed, host_resumed, acceptance_in, hearing}
+use Rattle.world_rules.specs.declared.line.Line.{Line}
+use Rattle.world_rules.specs.declared.message.Sent.{Sent}
+use Rattle.world_laws.specs.Promises.{world_at}
+use Rattle.world_laws.proofs.Keeps.{ask_of, asked_by, by-posts, KeepsAll, keeps-world_after, signed_by, after_call, entries_left, node_resumed, from_node, from_client, from_script, keeps-sends_all}
+use Rattle.world_laws.proofs.Fronts.{front-same, front-append}
+use Rattle.world_laws.proofs.ChosenLives.{named}
+use Rattle.world_laws.proofs.Past.{world-more}
+use Rattle.replica_laws.proofs.Follows.{follows-step}
+use Rattle.agreement_laws.proofs.Lists.{some_equal}
+
+-- what was sent and what was accepted
+
+record Grown {S : Type 0} (sent : List Sent) (accepted : List Acceptance) (w : World S) : Type 0 where
+  has_sent : take (length sent) w.sent ≡ sent
+  has_accepted : take (length accepted) w.accepted ≡ accepted
+
+grown-posts : {S : Type 0} (sent : List Sent) (accepted : List Acceptance) (w : World S) (s : Sent) → Grown sent accepted w → Grown sent accepted (posts w s)
+grown-posts {S = S} sent accepted w s is =
+    by-posts (λ (v : World S). Grown sent accepted v) w s (λ ending. record { has_sent = is.has_sent; has_accepted = is.has_accepted })
+    (λ free room. record { has_sent = front-append sent w.sent (s ∷ []) is.has_sent; has_accepted = is.has_accepted })
+
+grown-stepped : {S : Type 0} (course : Course S) (sent : List Sent) (accepted : List Acceptance) (w : World S) (i : ℕ) (h : Host S) (o : Outcome S) → Grown sent accepted w → Grown sent accepted (stepped course w i h o)
+unfolding stepped
+grown-stepped {S = S} course sent accepted w i h o is =
+    keeps-sends_all (λ (v : World S). Grown sent accepted v) h.node.id (λ v held grown. grown-posts sent accepted v (from_node h.node.id held) grown) _ (leaving o.node.firm o.node.held)
+    (record { has_sent = is.has_sent; has_accepted = is.has_accepted })
+
+grown-hearing : {S : Type 0} (sent : List Sent) (accepted : List Acceptance) (w : World S) (i : ℕ) (c : Client) (a : SignedBy Answer) (h : Heard) → Grown sent accepted w → Grown sent accepted (hearing w i c a h)
+unfolding hearing
+grown-hearing sent accepted w i c a h is = record { has_sent = is.has_sent; has_accepted = front-append accepted w.accepted (acceptance_in h) is.has_accepted }
+
+-- each event keeps what they began with
+keeps-grown : {S : Type 0} (course : Course S) (sent : List Sent) (accepted : List Acceptance) → KeepsAll course (Grown {S = S} sent accepted)
+keeps-grown course sent accepted =
+    record {
+      kept = record {
+        event = λ w i h event up at may is. grown-stepped course sent accepted w i h (course.step h.node event) is;
+        disk = λ w i h up at is. record { has_sent = is.has_sent; has_accepted = is.has_accepted };
+        crash = λ w i h left up at may is. record { has_sent = is.has_sent; has_accepted = is.has_accepted };
+        hear = λ w i c x a at has read is. grown-hearing sent accepted w i c a (heard w.view c a) is;
+        ask = λ w i c op at free few brief is. grown-posts sent accepted (asked_by w i c op) (from_client c (ask_of c op)) (record { has_sent = is.has_sent; has_accepted = is.has_accepted });
+        again = λ w i c q at waits is. grown-posts sent accepted w (from_client c (signed_by c q)) is;
+        learn = λ w i j c d at other is. record { has_sent = is.has_sent; has_accepted = is.has_accepted };
+        inject = λ w x read fine is. grown-posts sent accepted w (from_script x) is;
+        declare = λ w faulty rogue ending how is. record { has_sent = is.has_sent; has_accepted = is.has_accepted };
+        same = λ w mark told is. record { has_sent = is.has_sent; has_accepted = is.has_accepted };
+      };
+      resume = λ w i h down at is. record { has_sent = is.has_sent; has_accepted = is.has_accepted };
+    }
+
+grown-at : {S : Type 0} (m : Meaning S) (view : View) (ls : List Line) (j k : ℕ) → j ≤ k → Grown (world_at m view ls j).sent (world_at m view ls j).accepted (world_at m view ls k)
+grown-at {S = S} m view ls j k le =
+    let w : World S = world_at m view ls j in
+    let later = world-more m view ls j k le in
+    subst (λ (v : World S). Grown w.sent w.accepted v) (sym later.1)
+    (keeps-world_after (course_of m) (λ (v : World S). Grown w.sent w.accepted v) (keeps-grown (course_of m) w.sent w.accepted) w later.0 (record { has_sent = front-same w.sent; has_accepted = front-same w.accepted }))
+
+-- of two fronts of a script, what was sent after the shorter is a front of what was sent after the longer, and so is what was accepted
+pub sent-grows : {S : Type 0} (m : Meaning S) (view : View) (ls : List Line) (j k : ℕ) → j ≤ k → take (length (world_at m view ls j).sent) (world_at m view ls k).sent ≡ (world_at m view ls j).sent
+sent-grows m view ls j k le = (grown-at m view ls j k le).has_sent
+
+pub accepted-grows : {S : Type 0} (m : Meaning S) (view : View) (ls : List Line) (j k : ℕ) → j ≤ k
+    → take (length (world_at m view ls j).accepted) (world_at m view ls k).accepted ≡ (world_at m view ls j).accepted
+accepted-grows m view ls j k le = (grown-at m view ls j k le).has_accepted
+
+-- diaries
+
+-- the diary of a member of some hosts begins with a list
+abbrev Begins : {S : Type 0} → List LogEntry → ℕ → List (Host S) → Type 0
+Begins front member hosts = take (length front) (diary_of (host_of hosts member)) ≡ front
+
+-- another host in one's place, whose diary begins with what that of the other did
+diary-set : {S : Type 0} (front : List LogEntry) (member : ℕ) (hs : List (Host S)) (i : ℕ) (h h' : Host S) → slice_get hs i ≡ Some h → h'.node.id ≡ h.node.id
+    → (take (length front) h.life.diary ≡ front → take (length front) h'.life.diary ≡ front) → Begins front member hs → Begins front member (slice_set hs i h')
+diary-set front member [] i h h' at name grows is = absurd (cc)
+diary-set {S = S} front member (g ∷ hs) zero h h' at name grows is =
+    subst (λ (id : ℕ). take (length front) (diary_of (cond (id == member) (Some h') (host_of hs member))) ≡ front) (sym name)
+    (here (h.node.id == member) (subst (λ (x : Host S). take (length front) (diary_of (cond (x.node.id == member) (Some x) (host_of hs member))) ≡ front) (some_equal g h at) is))
+  where
+    here : (t : Bool) → take (length front) (diary_of (cond t (Some h) (host_of hs member))) ≡ front → take (length front) (diary_of (cond t (Some h') (host_of hs member))) ≡ front
+    here true own = grows own
+    here false other = other
+diary-set {S = S} front member (g ∷ hs) (suc i) h h' at name grows is = later (g.node.id == member) (λ rest. diary-set front member hs i h h' at name grows rest) is
+  where
+    later : (t : Bool) → (Begins front member hs → Begins front member (slice_set hs i h')) → take (length front) (diary_of (cond t (Some g) (host_of hs member))) ≡ front
+        → take (length front) (diary_of (cond t (Some g) (host_of (slice_set hs i h') member))) ≡ front
+    later true goes own = own
+    later false goes rest = goes rest
+
+-- messages that leave
+hosts-posts : {S : Type 0} (w : World S) (s : Sent) → (posts w s).hosts ≡ w.hosts
+hosts-posts {S = S} w s = by-posts (λ (v : World S). v.hosts ≡ w.hosts) w s (λ ending. refl) (λ free room. refl)
+
+begins-posts : {S : Type 0} (front : List LogEntry) (member : ℕ) (w : World S) (s : Sent) → Begins front member w.hosts → Begins front member (posts w s).hosts
+begins-posts {S = S} front member w s is = subst (λ (hosts : List (Host S)). Begins front member hosts) (sym (hosts-posts w s)) is
+
+-- a node's step
+begins-stepped : {S : Type 0} (m : Meaning S) (front : List LogEntry) (member : ℕ) (w : World S) (i : ℕ) (h : Host S) (event : NodeEvent) → slice_get w.hosts i ≡ Some h → Begins front member w.hosts
+    → Begins front member (stepped (course_of m) w i h (step_of m h.node event)).hosts
+unfolding stepped
+begins-stepped {S = S} m front member w i h event at is =
+    let o : Outcome S = step_of m h.node event in
+    keeps-sends_all (λ (v : World S). Begins front member v.hosts) h.node.id (λ v held begins. begins-posts front member v (from_node h.node.id held) begins) _ (leaving o.node.firm o.node.held)
+    (diary-set front member w.hosts i h (host_after (course_of m) h o) at (follows-step m h.node event) (λ own. front-append front h.life.diary _ own) is)
+
+-- a client hears
+begins-hearing : {S : Type 0} (front : List LogEntry) (member : ℕ) (w : World S) (i : ℕ) (c : Client) (a : SignedBy Answer) (h : Heard) → Begins front member w.hosts → Begins front member (hearing w i c a h).hosts
+unfolding hearing
+begins-hearing front member w i c a h is = is
+
+-- each event keeps what a diary began with
+keeps-diary : {S : Type 0} (m : Meaning S) (front : List LogEntry) (member : ℕ) → KeepsAll (course_of m) (λ w. Begins front member w.hosts)
+keeps-diary m front member =
+    record {
+      kept = record {
+        event = λ w i h event up at may is. begins-stepped m front member w i h event at is;
+        disk = λ w i h up at is. diary-set front member w.hosts i h (after_call (course_of m) h) at refl (λ own. own) is;
+        crash = λ w i h left up at may is. diary-set front member w.hosts i h (host_crashed (course_of m) h left) at refl (λ own. front-append front h.life.diary _ own) is;
+        hear = λ w i c x a at has read is. begins-hearing front member w i c a (heard w.view c a) is;
+        ask = λ w i c op at free few brief is. begins-posts front member (asked_by w i c op) (from_client c (ask_of c op)) is;
+        again = λ w i c q at waits is. begins-posts front member w (from_client c (signed_by c q)) is;
+        learn = λ w i j c d at other is. is;
+        inject = λ w x read fine is. begins-posts front member w (from_script x) is;
+        declare = λ w faulty rogue ending how is. is;
+        same = λ w mark told is. is;
+      };
+      resume = λ w i h down at is. diary-set front member w.hosts i h (host_resumed h (node_resumed (course_of m) w h)) at
+          (named m group_secret h.node.id w.view 1024 (entries_in (entries_left h))).name (λ own. own) is;
+    }
+
+-- of two fronts of a script, a member's diary after the shorter is a front of its diary after the longer
+pub diaries-grow : {S : Type 0} (m : Meaning S) (view : View) (ls : List Line) (j k : ℕ) → j ≤ k → (member : ℕ)
+    → take (length (diary (world_at m view ls j) member)) (diary (world_at m view ls k) member) ≡ diary (world_at m view ls j) member
+diaries-grow {S = S} m view ls j k le member =
+    let w : World S = world_at m view ls j in
+    let later = world-more m view ls j k le in
+    subst (λ (v : World S). take (length (diary w member)) (diary v member) ≡ diary w member) (sym later.1)
+    (keeps-world_after (course_of m) (λ (v : World S). Begins (diary w member) member v.hosts) (keeps-diary m (diary w member) member) w later.0 (front-same (diary w member)))
