@@ -2,11 +2,14 @@
 #![tactic(auto)]
 
 ghost use Rattle.std.specs.Prelude.{◌<◌, ◌^◌};
+ghost use Rattle.snapshot_form.specs.Replicas.{FitsReplica};
 
+use app_kv::KeyValueStore;
 use sha2::{Digest, Sha256};
 use smart_base::bytes::Payload;
 use smart_base::decimal::number_of;
 use smart_base::fault::ReadError;
+use smart_base::field::{put_text, put_u16, put_u32};
 use smart_base::keys::{Digester, SignRefused};
 use smart_base::name::{ClientId, MemberId};
 use smart_base::number::{Place, Regency, ViewNo};
@@ -16,9 +19,15 @@ use smart_keys::hash::{Sha, hmac};
 use smart_keys::ring::Ring;
 use smart_messages::codec::{decode, encode};
 use smart_messages::message::{Message, Proposed};
+use smart_service::fault::RestoreError;
+use smart_service::replica::Replica;
+use smart_service::service::Service;
 use smart_statements::batch::Batch;
 use smart_statements::signed::Signed;
 use smart_statements::statement::{Proposal, Request, Slot};
+use snapshot_form::pieces::digest;
+use snapshot_form::reading::from_bytes;
+use snapshot_form::writing::to_bytes;
 use std::alloc::{AllocError, Global};
 use std::process::ExitCode;
 use std::{env, io};
@@ -32,12 +41,29 @@ const REQUESTS: u16 = 64;
 /// The bytes of each one's operation.
 const OPERATION: usize = 100;
 
+/// The keys of the store whose replica is spelled.
+const KEYS: u16 = 4096;
+
+/// The bytes of each key's value.
+const VALUE: usize = 100;
+
+/// The bytes of the store's own snapshot: a number, and each key of 3 bytes and its value behind
+/// lengths.
+const STORE_BYTES: u32 = 2 + 4096 * (4 + 3 + 4 + 100);
+
+/// What stands before the store's snapshot in its replica's: place 1, view 0 of members 1 to 4, and
+/// no client's line.
+const HEAD: [u8; 35] =
+    *b"\0\0\0\0\0\0\0\x01\0\x01\0\0\0\0\0\0\0\0\0\0\0\x01\x01\0\x04\0\x01\0\x02\0\x03\0\x04\0\0";
+
 /// Why a bench came to no end.
 #[derive(Debug, Drop)]
 enum Stopped {
     NoMemory,
     /// The words are not WHAT and a number.
     Words,
+    /// What was written as a snapshot is none.
+    Snapshot,
 }
 
 impl From<AllocError> for Stopped {
@@ -161,7 +187,12 @@ fn encodes(alloc: Global, times: u64) -> Result<Done, Stopped> {
 fn requests_in(message: &Message) -> u64 {
     match message {
         Message::Propose(proposed) => proposed.batch.len() as u64,
-        Message::Ask(_) | Message::Vote(_) | Message::Reply(_) => 0,
+        Message::Ask(_)
+        | Message::Vote(_)
+        | Message::Stop(_)
+        | Message::StopData(_)
+        | Message::Sync(_)
+        | Message::Reply(_) => 0,
     }
 }
 
@@ -176,12 +207,74 @@ fn decodes(alloc: Global, times: u64) -> Result<Done, Stopped> {
     Ok(done)
 }
 
+/// A key of three letters. They ascend with the number, as far as it has three digits to base 16.
+fn key_of(number: u16) -> [u8; 3] {
+    [
+        b'a'.wrapping_add((number / 256 % 16) as u8),
+        b'a'.wrapping_add((number / 16 % 16) as u8),
+        b'a'.wrapping_add((number % 16) as u8),
+    ]
+}
+
+/// The snapshot of a replica of a full store.
+fn snapshot(alloc: Global) -> Result<Vec<u8>, AllocError> {
+    let mut out = Vec::new(alloc);
+    out.extend_from_slice(&HEAD)?;
+    put_u32(&mut out, STORE_BYTES)?;
+    put_u16(&mut out, KEYS)?;
+    for number in 0..KEYS {
+        put_text(&mut out, &key_of(number))?;
+        put_text(&mut out, &[b'x'; VALUE])?;
+    }
+    Ok(out)
+}
+
+/// A replica is spelled, and its bytes are digested, so many times.
+fn spells<S: Service>(
+    alloc: Global,
+    replica: &Replica<S>,
+    times: u64,
+) -> Result<Done, AllocError>
+    requires { FitsReplica S.valid replica.now }
+{
+    let mut done = Done::nothing();
+    for _ in 0..times {
+        let bytes = to_bytes(alloc, replica)?;
+        let digest = digest(bytes.as_slice()).get();
+        done = done.with(bytes.len(), digest[0] as u64);
+    }
+    Ok(done)
+}
+
+/// The replica of a full store is spelled and digested so many times.
+fn snapshots(alloc: Global, times: u64) -> Result<Done, Stopped> {
+    match from_bytes::<KeyValueStore>(alloc, snapshot(alloc)?.as_slice()) {
+        Ok(replica) => Ok(spells(alloc, &replica, times)?),
+        Err(RestoreError::NoMemory) => Err(Stopped::NoMemory),
+        Err(RestoreError::BadSnapshot) => Err(Stopped::Snapshot),
+    }
+}
+
+/// The same bytes are copied and digested so many times.
+fn copies(alloc: Global, times: u64) -> Result<Done, Stopped> {
+    let text = snapshot(alloc)?;
+    let mut done = Done::nothing();
+    for _ in 0..times {
+        let bytes = Bytes::from_slice(alloc, text.as_slice())?;
+        let digest = Sha256::digest(bytes.as_slice());
+        done = done.with(bytes.len(), digest[0] as u64);
+    }
+    Ok(done)
+}
+
 fn work(alloc: Global, what: &str, times: u64) -> Result<Done, Stopped> {
     match what {
         "digest" => Ok(digests(times)),
         "tag" => Ok(tags(times)),
         "encode" => encodes(alloc, times),
         "decode" => decodes(alloc, times),
+        "snapshot" => snapshots(alloc, times),
+        "copy" => copies(alloc, times),
         _ => Err(Stopped::Words),
     }
 }
@@ -208,6 +301,7 @@ fn main(rt: HostRuntime) -> io::Result<ExitCode> {
             Ok(ExitCode::from(0))
         }
         Err(Stopped::Words) => Ok(ExitCode::from(2)),
+        Err(Stopped::Snapshot) => Ok(ExitCode::from(3)),
         Err(Stopped::NoMemory) => Ok(ExitCode::from(11)),
     }
 }

@@ -1,3 +1,4 @@
+pub mod Executed
 pub mod Joined
 pub mod Lengths
 pub mod Parts

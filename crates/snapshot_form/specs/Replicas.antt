@@ -3,6 +3,7 @@ use Rattle.std.specs.Prelude.{◌≡◌, ℕ, ◌+◌, ◌<◌, ◌≤◌, ◌^�
 use Rattle.smart_base.specs.Lists.{Each}
 use Rattle.smart_base.specs.Spelling.{IsCount, IsPayload}
 use Rattle.smart_base.specs.Views.{View, is_view}
+use Rattle.smart_statements.specs.Batches.{Batch, FitsBatch}
 use Rattle.smart_service.specs.Tables.{Ascends}
 use Rattle.smart_service.specs.declared.replica.Replica.{Replica}
 use Rattle.smart_service.specs.declared.table.TableLine.{TableLine}
@@ -43,3 +44,7 @@ pub record FitsReplica {S : Type 0} (valid : S → Type 0) (r : Replica S) : Typ
   pub lines_fit : Each (FitsLine r.place (length r.views)) r.table
   pub lines_in_turn : Ascends r.table
   pub service_fits : valid r.service
+
+-- a batch whose clients there are, and which has a spelling: a replica that has a snapshot may execute it
+abbrev pub IsOfClients : Batch → Type 0
+IsOfClients batch = FitsBatch batch × Each (λ q. q.statement.client ≤ 1024) batch
