@@ -94,7 +94,7 @@ decided_of (Decided d ∷ es) = d.batch ∷ decided_of es
 decided_of (Installed i ∷ es) = decided_of es
 decided_of (Marked m ∷ es) = decided_of es
 
--- the node after a restart has read one more entry. A decided batch is delivered, and nobody is answered.
+-- The node after a restart has read one more entry. A decided batch is delivered, and no reply is sent.
 abbrev pub takes_back : {S : Type 0} → Meaning S → Node S → LogEntry → Node S
 takes_back m n (Opened o) = recording n (Opened o)
 takes_back m n (Wrote w) = recording n (Wrote w)
