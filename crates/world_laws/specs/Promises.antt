@@ -332,8 +332,8 @@ IsPast sent told q = HasAsked sent q ⊎ (known_by q.client told ≤ q.after)
 abbrev pub world_at : {S : Type 0} → Meaning S → View → List Line → ℕ → World S
 world_at m view ls k = world_after (course_of m) (begun m view) (take k ls)
 
--- A line that teaches, if it tells a client what another knows. After it the client knows the greater of both places. This is claimed while
--- nothing has ended the play, of another client that is not rogue.
+-- A line that has had its effect. If it tells a client what another knows, the client then knows the greater of both places. This is claimed
+-- while nothing has ended the play, and if the other client is not rogue.
 abbrev pub HasTaught : {S : Type 0} → World S → List OutLine → List OutLine → Line → Type 0
 HasTaught w before after (lines.Tell from to) =
     w.ending ≡ None → is_among w.rogue from ≡ false → from ≤ 1024 → to ≤ 1024 → known_by to after ≡ max (known_by to before) (known_by from before)
