@@ -30,7 +30,7 @@ use Rattle.world_rules.specs.declared.message.Origin.TheVariants as origins
 use Rattle.world_rules.specs.declared.message.Sent.{Sent}
 use Rattle.world_rules.specs.Injections.{message_in}
 
--- a content that a node may send: a message of its own to its target, or a client's request passed on to one member
+-- a content that a node may send to a target: a message of its own, or a client's request that it passes on to one member
 abbrev pub IsNodes : ℕ → Option Target → Content → Type 0
 IsNodes id None content = ⊥
 IsNodes id (Some to) (contents.Message message) = IsOwn id to message
@@ -46,8 +46,8 @@ abbrev pub IsClients : ℕ → Option Target → Content → Type 0
 IsClients id to (contents.Message message) = (to ≡ Some targets.View) × IsRequestOf id message
 IsClients id to (contents.Raw bytes) = ⊥
 
--- A content that its origin may send. Nodes and clients send their own messages. Nodes also pass on clients' requests. What a script injects is
--- for nobody.
+-- a content that its origin may send: nodes and clients send their own messages, nodes pass on clients' requests, and what a script injects
+-- is for nobody
 abbrev pub IsOwnSent : Origin → Option Target → Content → Type 0
 IsOwnSent (origins.Node id) to content = IsNodes id to content
 IsOwnSent (origins.Client id) to content = IsClients id to content
