@@ -1,4 +1,4 @@
--- What the bytes of a log stand for: groups in order, each after a gate of 1, up to the first that is not whole or has another gate.
+-- What the bytes of a log stand for: groups in order, each after a gate of 1. The first that is not whole, or has another gate, ends them.
 use Rattle.std.specs.Prelude.{ℕ, zero, suc, cond, ◌==◌, List, [], ◌∷◌, ◌++◌, length, Option, Some, None, Result, Ok, Err}
 use Rattle.smart_base.specs.Cuts.{Cut}
 use Rattle.smart_base.specs.Lists.{Each}
@@ -27,7 +27,7 @@ abbrev pub joined : Option (Group × List ℕ) → (List ℕ → List Group) →
 joined None more = []
 joined (Some x) more = x.0 ∷ more x.1
 
--- at most so many groups
+-- the first groups of bytes, at most a given number of them
 abbrev pub restored_by : ℕ → List ℕ → List Group
 restored_by zero bytes = []
 restored_by (suc n) bytes = joined (first_group bytes) (restored_by n)

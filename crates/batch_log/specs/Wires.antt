@@ -38,7 +38,7 @@ Next bytes gs other = Wire bytes gs gs ⊎ (Wire bytes gs other ⊎ Wire bytes o
 abbrev pub LeavesWire : Cells → List Group → List Group → Type 0
 LeavesWire cells gs other = (image : List ℕ) → IsImage cells image → Next image gs other
 
--- a log whose bytes at its last sync are such a log
+-- a log whose bytes at its last sync are those of a log of its own lives
 pub record Wired (cells : Cells) (gs : List Group) : Type 0 where
   pub instead : List Group
   pub wire : Wire cells.sure gs instead

@@ -19,20 +19,21 @@ pub fn a_crash_leaves_a_log()
         → (image : List ℕ) → IsImage cells image → Next image gs other }
 {}
 
-/// The bytes of such a log restore the groups that are claimed of them.
+/// The bytes of a log that only crashes of its own lives have changed restore the groups that are
+/// claimed of them.
 pub fn a_log_restores()
     ensures { (bytes : List ℕ) (gs other : List Group) → Wire bytes gs other → restored bytes ≡ gs }
 {}
 
-/// A log that is opened over such bytes stands for the very pair. What a torn gate may bring back is
-/// what the life before might have left.
+/// A log that is opened over those bytes stands for the very pair that is claimed of them. What a
+/// torn gate may bring back is what the life before might have left.
 pub fn a_log_is_opened_as_it_was()
     ensures { (bytes : List ℕ) (gs other : List Group) → Wire bytes gs other
         → (cells : Cells) (end : ℕ) (job : Job) (g : Group) (kept instead : List Group) → cells ≡ settled bytes → IsIdle job
         → Stands cells end job g kept instead → (kept ≡ gs) × (instead ≡ other) }
 {}
 
-/// An empty device is such a log.
+/// An empty device is a log of its own lives.
 pub fn an_empty_log()
     ensures { Wire [] [] [] }
 {}

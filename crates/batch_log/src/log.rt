@@ -56,12 +56,12 @@ impl<D: Disk> BatchLog<D> {
             → (c : List ℕ) → IsImage (D.cells self.new.device) c → OneOf (restored c) gs other (gs ++ entries.now ∷ []) }
         ensures underway { OnOk result (D.told → IsUnderWay (D.cells self.new.device) self.new.end self.new.job) }
         ensures idle { IsIdle self.new.job }
-        // A log that is still open is as it was: memory ran out before the first device call.
+        // The log after an error, if it is still open: as it was. Memory ran out before the first device call.
         ensures unchanged { OnErr result (self.new.state ≡ State.Open → self.new ≡ self.old) }
         ensures untouched { (self.old.state ≡ State.Open → ⊥) → self.new ≡ self.old }
         ensures later { D.faults self.old.device ≤ D.faults self.new.device }
         ensures cause { IsErrOf result (LogFault.Disk false) → Rose (D.faults self.old.device) (D.faults self.new.device) }
-        // Want of memory that closes the log is one of the device, in this call.
+        // The cause of a want of memory that closes the log: the device wanted memory in this call.
         ensures want { IsErrOf result LogFault.NoMemory → self.old.state ≡ State.Open → (self.new.state ≡ State.Open) ⊎ Rose (D.wants self.old.device) (D.wants self.new.device) }
         ensures wants_later { D.wants self.old.device ≤ D.wants self.new.device }
         ensures closes { Closes result self.old.state self.new.state }
@@ -121,7 +121,7 @@ impl<D: Disk> BatchLog<D> {
         requires { self.old.state ≡ State.Open → D.told → IsUnderWay (D.cells self.old.device) self.old.end self.old.job }
         ensures goes { OnOk result (D.told → (g : Group) (gs other : List Group) → Stands (D.cells self.old.device) self.old.end self.old.job g gs other
             → Stands (D.cells self.new.device) self.new.end self.new.job g (kept_after self.old.job g gs) (other_after self.old.job g gs other)) }
-        // What the device holds after it, which call is next, and where the log ends.
+        // The whole state after the call: what the device holds, which call is next, and the index at which the log ends.
         ensures cells { OnOk result (D.told → D.cells self.new.device ≡ log_called self.old.job self.old.end (D.cells self.old.device)) }
         ensures job { OnOk result (self.new.job ≡ job_called self.old.job self.old.end) }
         ensures end { OnOk result (self.new.end ≡ end_called self.old.job self.old.end) }
@@ -131,10 +131,10 @@ impl<D: Disk> BatchLog<D> {
         ensures rests { OnErr result (IsIdle self.new.job) }
         ensures shut { OnErr result (self.new.state ≡ State.Open → ⊥) }
         ensures untouched { (self.old.state ≡ State.Open → ⊥) → self.new ≡ self.old }
-        // Whether it goes well or not, a crash leaves what is kept, or what was at stake.
+        // What a crash leaves after the call, whether it goes well or not: what is kept, or what was at stake.
         ensures crash { D.told → (g : Group) (gs other : List Group) → Stands (D.cells self.old.device) self.old.end self.old.job g gs other
             → LeavesEither (D.cells self.new.device) gs (at_stake self.old.job g gs other) }
-        // And over a log that only crashes of its own lives have changed, it leaves such a log.
+        // A crash over a log that only crashes of its own lives have changed leaves such a log again.
         ensures wires { D.told → (g : Group) (gs other : List Group) → Stands (D.cells self.old.device) self.old.end self.old.job g gs other
             → Wired (D.cells self.old.device) gs → LeavesWire (D.cells self.new.device) gs (at_stake self.old.job g gs other) }
         ensures wired { OnOk result (D.told → (g : Group) (gs other : List Group) → Stands (D.cells self.old.device) self.old.end self.old.job g gs other

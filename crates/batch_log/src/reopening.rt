@@ -49,7 +49,7 @@ pub fn reopen<D: Disk>(alloc: Global, device: D) -> Result<(BatchLog<D>, Groups)
     ensures groups { IfOk result (λ r. D.told → r.1 ≡ restored (D.cells device).now) }
     ensures stands { IfOk result (λ r. D.told → (g : Group) → (other : List Group) × Stands (D.cells r.0.device) r.0.end r.0.job g r.1 other) }
     ensures underway { IfOk result (λ r. D.told → IsUnderWay (D.cells r.0.device) r.0.end r.0.job) }
-    // Where its groups end, and whether the gate there is closed.
+    // The index at which the groups end, and whether the gate there is closed.
     ensures end { IfOk result (λ r. D.told → r.0.end ≡ end_opened (D.cells device).now) }
     ensures job { IfOk result (λ r. D.told → r.0.job ≡ job_opened (D.cells device).now) }
     ensures idle { IfOk result (λ r. IsIdle r.0.job) }

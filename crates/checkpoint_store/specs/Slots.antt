@@ -31,7 +31,7 @@ slot_of odd (gate ∷ rest) = cond (gate == 1) (counted odd (checkpoint_at (all_
 abbrev pub by_gate : Bool → List ℕ → Option Checkpoint
 by_gate odd bytes = slot_of odd (1 ∷ drop 1 bytes)
 
--- The checkpoint that a slot has instead after a crash has changed its gate, if that is not closed. A slot that counts has the same one.
+-- The checkpoint that a slot has instead after a crash has changed its gate, if that is not closed. If the slot counts, it is the slot's own.
 abbrev pub instead_of : Bool → List ℕ → Option Checkpoint
 instead_of odd [] = None
 instead_of odd (gate ∷ rest) = cond (gate == 0) None (slot_of odd (1 ∷ rest))

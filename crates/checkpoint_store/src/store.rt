@@ -70,12 +70,12 @@ impl<D: Disk> CheckpointStore<D> {
         ensures idle { IsIdle (slot generation self.new).job }
         ensures beside { OnOk result (beside generation self.new ≡ beside generation self.old) }
         ensures apart { (beside generation self.new).device ≡ (beside generation self.old).device }
-        // A store that is still open is as it was: memory ran out before the first device call.
+        // The store after an error, if it is still open: as it was. Memory ran out before the first device call.
         ensures unchanged { OnErr result (self.new.state ≡ State.Open → self.new ≡ self.old) }
         ensures untouched { (self.old.state ≡ State.Open → ⊥) → self.new ≡ self.old }
         ensures later { D.faults (slot generation self.old).device ≤ D.faults (slot generation self.new).device }
         ensures cause { IsErrOf result (LogFault.Disk false) → Rose (D.faults (slot generation self.old).device) (D.faults (slot generation self.new).device) }
-        // Want of memory that closes the store is one of the device, in this call.
+        // The cause of a want of memory that closes the store: the device wanted memory in this call.
         ensures want { IsErrOf result LogFault.NoMemory → self.old.state ≡ State.Open → (self.new.state ≡ State.Open) ⊎ Rose (D.wants (slot generation self.old).device) (D.wants (slot generation self.new).device) }
         ensures wants_later { D.wants (slot generation self.old).device ≤ D.wants (slot generation self.new).device }
         ensures closes { Closes result self.old.state self.new.state }
@@ -248,7 +248,7 @@ impl<D: Disk> CheckpointStore<D> {
         ensures shut { OnErr result (self.new.state ≡ State.Open → ⊥) }
         ensures untouched { (self.old.state ≡ State.Open → ⊥) → self.new ≡ self.old }
         ensures underway { OnOk result (D.told → UnderWayAt D.cells generation self.new) }
-        // Whether it goes well or not, a crash leaves what the slot has, or what was at stake.
+        // What a crash leaves after the call, whether it goes well or not: what the slot has, or what was at stake.
         ensures crash { D.told → (next : Checkpoint) (has other : Option Checkpoint) → StandsAt D.cells generation self.old next has other
             → LeavesAt D.cells generation self.new has (slot_stake (slot generation self.old).job next other) }
         ensures time { Elapses (D.moment (slot generation self.old).device) (D.moment (slot generation self.new).device)

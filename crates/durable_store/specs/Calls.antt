@@ -59,8 +59,8 @@ module _ {D : Type 0} {g : Ghosts D} where
     pub log : calls_log old ≡ false → new.log.device ≡ old.log.device
     pub other_log : new.other_log ≡ old.other_log
 
-  -- The job on each device after the next call. If none ran, the call is the first one of the job that comes first. Jobs come in this
-  -- order: the close of the even slot, of the odd slot, the repair of the log, the group of all that waits.
+  -- The job on each device after the next call. If none ran, the call is the first one of the job that comes first. The order of jobs is: the
+  -- close of the even slot, of the odd slot, the repair of the log, a group.
   pub record NextJobs (old new : Store D g) : Type 0 where
     pub even_slot : new.slots.even.job ≡ cond (calls_even old) (job_closed old.slots.even.job) old.slots.even.job
     pub odd_slot : new.slots.odd.job ≡ cond (calls_odd old) (job_closed old.slots.odd.job) old.slots.odd.job

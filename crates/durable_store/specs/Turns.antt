@@ -50,7 +50,7 @@ job_closed Gate = Gate
 job_closed SyncGate = SyncGate
 job_closed Counts = Counts
 
--- what the slot may have instead after that call
+-- what the slot may have instead after the next call of its close
 abbrev pub other_closed : SlotJob → Option Checkpoint → Option Checkpoint → Option Checkpoint
 other_closed SyncClose has other = has
 other_closed Torn has other = other
@@ -124,7 +124,7 @@ job_started waits (SyncBody next) = 3
 job_started waits (GateLog next) = 2
 job_started waits (SyncGateLog next) = 1
 
--- the code of the log's job after its next call; if none ran, that call is the first one of the repair, or of the group of all that waits
+-- The code of the log's job after its next call. If none ran, that call is the first one of the repair, or of the group of all that waits.
 abbrev pub code_next : Bool → Job → ℕ
 code_next waits Rest = cond waits 3 0
 code_next waits TornLog = 7

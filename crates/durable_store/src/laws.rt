@@ -29,12 +29,13 @@ pub fn a_crash_leaves_a_store<D: Disk>(store: &Store<D>)
     let _ = store;
 }
 
-/// The bytes of such a store restore what is claimed of them.
+/// The bytes of a store that only crashes of its own lives have changed restore what is claimed of
+/// them.
 pub fn a_store_restores()
     ensures { (images : Images) (kept other : Kept) → UnswitchedWire images kept other → restores images ≡ kept }
 {}
 
-/// Empty devices are such a store, which keeps nothing.
+/// Empty devices are a store of its own lives, which keeps nothing.
 pub fn an_empty_store()
     ensures { UnswitchedWire no_bytes nothing nothing }
 {}

@@ -36,15 +36,15 @@ pub fn reopen<D: Disk>(
     requires { D.told → AreSettled D.cells disks }
     ensures kept { IfOk result (λ r. D.told → r.1 ≡ restores (contents D.cells disks)) }
     ensures stands { IfOk result (λ r. D.told → (others : List Kept) × StoreStands r.0 [] r.1 others) }
-    // Over what a life has left that only crashes of its own lives had changed before, it stands for this very pair.
+    // The pair that the store stands for: the one that is claimed of the bytes, if only crashes of its own lives changed them.
     ensures lives { IfOk result (λ r. D.told → (kept other : Kept) → UnswitchedWire (contents D.cells disks) kept other → (r.1 ≡ kept) × OpensAs (state_of r.0) r.1 other) }
-    // All that it makes of those bytes.
+    // The whole state of the store that is opened over these bytes.
     ensures opened { IfOk result (λ r. D.told → state_of r.0 ≡ store_opened (contents D.cells disks)) }
     ensures firm { IfOk result (λ r. r.0.firm ≡ length r.1.entries) }
     ensures waiting { IfOk result (λ r. r.0.waiting ≡ []) }
     ensures generation { IfOk result (λ r. r.0.generation ≡ generation_of r.1.present) }
     ensures open { IfOk result (λ r. r.0.state ≡ State.Open) }
-    // No device is changed, so what the store may restore instead is what their bytes give.
+    // The devices are unchanged. What the store may restore instead is therefore what their bytes give.
     ensures same { IfOk result (λ r. D.told → AreSame D.cells disks (devices r.0)) }
     ensures back { IfErr result (λ e. D.told → AreSame D.cells disks e.1) }
     ensures time { IfOk result (λ r. D.told → TimeWent D.moment D.left_since D.cells disks (devices r.0)) }

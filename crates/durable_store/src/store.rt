@@ -103,42 +103,44 @@ impl<D: Disk> Store<D> {
             → (images : Images) → AreImages self.new images → restores images ≡ with kept (running self.old added ++ (self.old.waiting ++ entries))) }
         ensures firm { OnOk result (self.new.firm ≡ min (self.old.firm + (to_come self.old + length entries)) (2 ^ 64 - 1)) }
         ensures done { OnOk result ((is_due self.new ≡ false) × (self.new.waiting ≡ [])) }
-        // Whether it goes well or not, a crash restores what one before it might have restored, or what was kept with a whole group.
+        // What a crash restores after the call, whether it goes well or not. It is what one before might have restored, or what
+        // was kept with a whole group.
         ensures crash { self.old.state ≡ State.Open → D.told → (added : Group) (kept : Kept) (others : List Kept) → StoreStands self.old added kept others
             → (images : Images) → AreImages self.new images → Grows kept others (running self.old added) (running self.old added ++ (self.old.waiting ++ entries)) (restores images) }
-        // So it does at any moment of the call, where no slot is closed in it.
+        // What a crash restores at any moment of a call in which no slot is closed: one of the same.
         ensures any_moment { self.old.state ≡ State.Open → D.told → D.remembers → calls_log self.old ≡ true → (added : Group) (kept : Kept) (others : List Kept) → StoreStands self.old added kept others
             → (images : Images) → LeftSince self.old self.new images → Grows kept others (running self.old added) (running self.old added ++ (self.old.waiting ++ entries)) (restores images) }
-        // Of any store: no slot is called once the log was.
+        // The moments of any store: no slot is called after the log was.
         ensures moments { self.old.state ≡ State.Open → D.told → D.remembers → (added : Group) (kept : Kept) (others : List Kept) → StoreStands self.old added kept others
             → Passes self.old self.new kept others (running self.old added) (running self.old added ++ (self.old.waiting ++ entries)) }
-        // A store that only crashes of its own lives have changed stays one, and each crash then leaves such a store, however
-        // the call ends: what it keeps, and what it may restore instead, are of those.
+        // The lives of a store that only crashes of its own lives have changed. The store stays one, however the call ends.
+        // Each crash then leaves one, and what that keeps or may restore instead is as `Grows` says.
         ensures own { self.new.state ≡ State.Open → D.told → IsUnswitched (state_of self.old) → IsUnswitched (state_of self.new) }
         ensures lives { self.old.state ≡ State.Open → D.told → (added : Group) (kept : Kept) (others : List Kept) → StoreStands self.old added kept others → IsUnswitched (state_of self.old)
             → (images : Images) → AreImages self.new images → UnswitchedGrowth kept others (running self.old added) (running self.old added ++ (self.old.waiting ++ entries)) images }
-        // However it ends, each crash that restores the present generation restores as many entries as count as firm, or more.
-        // Where no slot has to be closed before, each crash restores that generation.
+        // The firm entries, however the call ends: each crash that restores the present generation restores as many, or more.
+        // If no slot has to be closed before, each crash restores that generation.
         ensures counted { D.told → (added : Group) (kept : Kept) (others : List Kept) → StoreStands self.old added kept others
             → (images : Images) → AreImages self.new images → generation_of (restores images).present ≡ self.new.generation → self.new.firm ≤ length (restores images).entries }
         ensures present { D.told → calls_log self.old ≡ true → (added : Group) (kept : Kept) (others : List Kept) → StoreStands self.old added kept others
             → (images : Images) → AreImages self.new images → generation_of (restores images).present ≡ self.new.generation }
-        // Where it fails, what it was to add does not count as firm, and the group that was running does where it was made firm.
+        // The count after an error. What the call was to add does not count as firm. The group that was running counts if it
+        // was made firm.
         ensures partly { OnErr result ((self.new.firm ≡ self.old.firm) ⊎ (self.new.firm ≡ min (self.old.firm + being_added self.old) (2 ^ 64 - 1))) }
         ensures rises { self.old.firm ≤ self.new.firm }
         ensures underway { self.new.state ≡ State.Open → D.told → IsUnderWay self.new }
-        // Where memory runs out and the store stays open, it is as it was, or the group that was running is firm.
+        // The store after memory ran out, if it stays open: it is as it was, or the group that was running is firm.
         ensures no_memory { OnErr result (self.new.state ≡ State.Open → D.told → (added : Group) (kept : Kept) (others : List Kept) → StoreStands self.old added kept others
             → (self.new ≡ self.old) ⊎ HasRun self.new kept others (running self.old added)) }
         ensures generation { self.new.generation ≡ self.old.generation }
         ensures not_taken { OnErr result (self.new.state ≡ State.Open → self.new.waiting ≡ self.old.waiting) }
-        // Memory that runs out before any device call changes nothing.
+        // Want of memory before any device call changes nothing.
         ensures unchanged { OnErr result (self.new.state ≡ State.Open → calls_log self.old ≡ true → rests self.old.log.job ≡ true → self.new ≡ self.old) }
         ensures untouched { (self.old.state ≡ State.Open → ⊥) → self.new ≡ self.old }
         ensures time { TimeLasts self.old self.new }
         ensures later { NoneFalls self.old self.new }
         ensures cause { IsErrOf result (LogFault.Disk false) → OneRose self.old self.new }
-        // Want of memory that closes the store is one of a device, in this call.
+        // The cause of a want of memory that closes the store: a device wanted memory in this call.
         ensures want { IsErrOf result LogFault.NoMemory → self.old.state ≡ State.Open → (self.new.state ≡ State.Open) ⊎ OneWanted self.old self.new }
         ensures closes { Closes result self.old.state self.new.state }
     {
@@ -159,25 +161,26 @@ impl<D: Disk> Store<D> {
         requires stands { self.old.state ≡ State.Open → D.told → IsUnderWay self.old }
         ensures goes { OnOk result (D.told → (added : Group) (kept : Kept) (others : List Kept) → StoreStands self.old added kept others
             → StoreStands self.new (added_by self.old added) (kept_after self.old added kept) (others_after self.old added kept others)) }
-        // All that it makes of the store and of its devices.
+        // The whole state after the call: the store and its devices.
         ensures called { OnOk result (D.told → state_of self.new ≡ store_called (state_of self.old)) }
         ensures still { OnOk result (is_due self.old ≡ false → self.new ≡ self.old) }
         ensures underway { self.new.state ≡ State.Open → D.told → IsUnderWay self.new }
         ensures done { IfOk result (λ done. done ≡ is_idle self.new) }
         ensures jobs { OnOk result (NextJobs self.old self.new) }
         ensures together { OnOk result ((added : Group) (kept : Kept) → together self.new (added_by self.old added) (kept_after self.old added kept) ≡ together self.old added kept) }
-        // Whether it goes well or not, a crash restores what is kept, or what was at stake.
+        // What a crash restores after the call, whether it goes well or not: what is kept, or what was at stake.
         ensures crash { self.old.state ≡ State.Open → D.told → (added : Group) (kept : Kept) (others : List Kept) → StoreStands self.old added kept others
             → LeavesEither self.new kept (at_stake self.old added kept others) }
-        // So it does at any moment of the call.
+        // What a crash restores at any moment of the call: one of the same two.
         ensures any_moment { self.old.state ≡ State.Open → D.told → D.remembers → (added : Group) (kept : Kept) (others : List Kept) → StoreStands self.old added kept others
             → (images : Images) → LeftSince self.old self.new images → (restores images ≡ kept) ⊎ (restores images ≡ at_stake self.old added kept others) }
-        // A store that only crashes of its own lives have changed stays one. Whether the call goes well or not, a crash leaves
-        // such a store again, and the next life begins with what was kept, with or without what was at stake, or with that.
+        // The lives of a store that only crashes of its own lives have changed. The store stays one. Whether the call goes well
+        // or not, a crash leaves one. The next life keeps what was kept, what was at stake, or the first with the second
+        // instead.
         ensures own { OnOk result (D.told → IsUnswitched (state_of self.old) → IsUnswitched (state_of self.new)) }
         ensures lives { self.old.state ≡ State.Open → D.told → (added : Group) (kept : Kept) (others : List Kept) → StoreStands self.old added kept others → IsUnswitched (state_of self.old)
             → LeavesUnswitched (state_of self.new) kept (at_stake self.old added kept others) }
-        // So it does at any moment of the call.
+        // What a crash leaves at any moment of the call: one of the same.
         ensures lives_any_moment { self.old.state ≡ State.Open → D.told → D.remembers → (added : Group) (kept : Kept) (others : List Kept) → StoreStands self.old added kept others → IsUnswitched (state_of self.old)
             → (images : Images) → LeftSince self.old self.new images → UnswitchedNext images kept (at_stake self.old added kept others) }
         ensures waiting { OnOk result (self.new.waiting ≡ waiting_after self.old) }
@@ -187,7 +190,7 @@ impl<D: Disk> Store<D> {
         ensures not_firm { OnErr result (self.new.firm ≡ self.old.firm) }
         ensures generation { self.new.generation ≡ self.old.generation }
         ensures untouched { (self.old.state ≡ State.Open → ⊥) → self.new ≡ self.old }
-        // Memory that runs out where a job of the log begins changes nothing.
+        // Want of memory changes nothing if the store stays open: a job of the log was to begin.
         ensures unchanged { OnErr result (self.new.state ≡ State.Open → (self.new ≡ self.old) × (idle self.old.log.job ≡ true)) }
         ensures calm { OnErr result (self.new.state ≡ State.Open → calls_log self.old ≡ true) }
         ensures one { CallsOne self.old self.new }
@@ -257,7 +260,7 @@ impl<D: Disk> Store<D> {
         self.generation
     }
 
-    /// Whether no job runs. A job may be due all the same, if a gate is torn or entries wait.
+    /// Whether no job runs. A job may still be due, if a gate is torn or entries wait.
     pub fn is_idle(&self) -> bool
         ensures { result ≡ is_idle self.now }
     {

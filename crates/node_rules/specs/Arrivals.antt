@@ -38,7 +38,7 @@ use Rattle.node_rules.specs.declared.node.Why.TheVariants.{NotMember, BadTag, St
 
 -- ---- reasons that several kinds of messages share
 
--- the first reason to drop a member's message by its signer: the node is no member, the tag is bad, or the signer is no member
+-- the first reason to drop by signer: the node is no member, the tag is bad, or the signer is no member
 unfoldable pub signer_why : {S : Type 0} → Node S → Bool → ℕ → Option Why
 signer_why n verified signer =
     if not (is_member (view_of n) n.id) then Some NotMember
@@ -213,7 +213,7 @@ why_dropped n (Reply a) = why_reply n a
 abbrev pub is_newer : {S : Type 0} → Node S → ℕ → Bool
 is_newer n view = nat_lt (view_of n).number view
 
--- a slot that votes do not lead the node to: it is of a newer view, or more than one place past the last decided one
+-- a slot that votes do not lead the node to: of a newer view, or more than one place past the last decided one
 abbrev pub is_beyond : {S : Type 0} → Node S → Slot → Bool
 is_beyond n slot = is_newer n slot.view || ((slot.view == (view_of n).number) && nat_lt (decided_place n + 1) slot.place)
 

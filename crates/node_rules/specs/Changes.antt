@@ -32,8 +32,8 @@ abbrev pub fired_when : Fired → Bool → List Fired
 fired_when rule true = rule ∷ []
 fired_when rule false = []
 
--- adopt: the node takes part in a regency that its leader has begun. It promises the regency first, if it is a later one. Where the regency
--- begins, and what binds there, is the choice of the leader's reports.
+-- adopt: the node takes part in a regency that its leader has begun. It promises the regency first, if it is a later one. The base of the
+-- regency and its bound are the choice of the leader's reports.
 
 -- the beginning that a SYNC states: the choice of the reports in it
 abbrev pub start_by_sync : Sync → Start
@@ -58,7 +58,7 @@ abbrev pub fired_adopt : Option (SignedBy Sync) → List Fired
 fired_adopt None = []
 fired_adopt (Some sync) = fires.Adopted (start_by_sync sync.statement) ∷ []
 
--- a SYNC that may be adopted: it is of the view in force, of the regency in force or a later one, and that regency has not begun
+-- A SYNC that may be adopted. It is of the view in force, and of the regency in force or a later one. Its regency has not begun.
 abbrev pub is_adoptable : {S : Type 0} → Node S → SignedBy Sync → Bool
 is_adoptable n s = needs_sync (view_of n).number (regency_of n) s && not (is_begun n s.statement.regency)
 

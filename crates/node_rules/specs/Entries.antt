@@ -2,7 +2,7 @@
 use Rattle.std.specs.Prelude.{◌≡◌, ◌≤◌, ℕ, List, ◌++◌, length}
 use Rattle.vote_book.specs.declared.entry.LogEntry.{LogEntry}
 
--- a book that is another with at most so many entries added at its end
+-- a book after at most `most` entries were added at its end
 pub record AddsAtMost (most : ℕ) (before after : List LogEntry) : Type 0 where
   pub more : List LogEntry
   pub is : after ≡ before ++ more

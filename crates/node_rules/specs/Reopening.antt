@@ -94,7 +94,7 @@ decided_of (Decided d ∷ es) = d.batch ∷ decided_of es
 decided_of (Installed i ∷ es) = decided_of es
 decided_of (Marked m ∷ es) = decided_of es
 
--- the node after a restart has read one more entry. A decided batch is delivered, and nobody is answered.
+-- The node of a restart, after one more entry was read. A decided batch is delivered, and no reply is sent.
 abbrev pub takes_back : {S : Type 0} → Meaning S → Node S → LogEntry → Node S
 takes_back m n (Opened o) = recording n (Opened o)
 takes_back m n (Wrote w) = recording n (Wrote w)
@@ -105,7 +105,7 @@ takes_back m n (Decided d) = record (recording n (Decided d)) { replica = delive
 takes_back m n (Installed i) = recording n (Installed i)
 takes_back m n (Marked k) = recording n (Marked k)
 
--- the node after a restart has read more entries, in order
+-- the node of a restart, after more entries were read, in order
 abbrev pub takes_all_back : {S : Type 0} → Meaning S → Node S → List LogEntry → Node S
 takes_all_back m n [] = n
 takes_all_back m n (e ∷ es) = takes_all_back m (takes_back m n e) es

@@ -68,8 +68,8 @@ delivery m n None = []
 delivery m n (Some batch) =
     fires.Delivered (record { place = next_place n; batch = batch; executed = length (executed_lines m n.replica batch) }) ∷ []
 
--- the rule that delivers: the waiting batch, if there is one, is executed and answered (state machine replication; a reply waits for the
--- log: Dura-SMaRt, USENIX ATC 2013)
+-- The rule that delivers: the waiting batch, if there is one, is executed and answered (state machine replication). Replies wait for the log
+-- (Dura-SMaRt, USENIX ATC 2013).
 unfoldable pub delivers : {S : Type 0} → Meaning S → Node S → Node S
 delivers m n = deliver_batch m n n.waiting
 
@@ -118,7 +118,7 @@ writing n =
     then votable n (proposed_for n.arrivals (open_slot n))
     else None
 
--- what a WRITE does: record it in the book, and send it to the view; it leaves after its entry is firm
+-- What a WRITE does: record it in the book, and send it to the view. It leaves after its entry is firm.
 unfoldable pub write_batch : {S : Type 0} → Node S → Option Proposed → Node S
 write_batch n None = n
 write_batch n (Some p) =
@@ -136,14 +136,14 @@ abbrev pub written : {S : Type 0} → Node S → Option Proposed → Option Prop
 written n None = None
 written n (Some p) = if has_quorum n.arrivals (view_of n) Write (open_slot n) p.head.statement.digest then Some p else None
 
--- the ACCEPT that is due: the slot is open, the book has no ACCEPT in it, and a quorum wrote for its first proposal, which may get votes
+-- The ACCEPT that is due. The slot is open, and the book has no ACCEPT in it. A quorum wrote for its first proposal, which may get votes.
 unfoldable pub accepting : {S : Type 0} → Node S → Option Proposed
 accepting n =
     if is_open n && not (list_any (accepts_in (open_slot n)) n.entries)
     then written n (votable n (proposed_for n.arrivals (open_slot n)))
     else None
 
--- what an ACCEPT does: record the batch with its certificate of WRITEs, and send the vote to the view; it leaves after its entry is firm
+-- What an ACCEPT does: record the batch with its certificate of WRITEs, and send the vote to the view. The vote leaves after its entry is firm.
 unfoldable pub accept_batch : {S : Type 0} → Node S → Option Proposed → Node S
 accept_batch n None = n
 accept_batch n (Some p) =
@@ -172,7 +172,7 @@ decision_in n regency =
     decision_by (view_of n) (slot_in n regency) n.arrivals
     (accepted_in (view_of n) (slot_in n regency) n.arrivals (known (view_of n).number (next_place n) (regency_of n) n.arrivals n.entries))
 
--- the decision that they prove in the regency after the one in force, if there is such a regency
+-- the decision that they prove in the regency after the one in force; none if the one in force is the last, 2^32 - 1
 abbrev pub decision_ahead : {S : Type 0} → Node S → Option Decision
 decision_ahead n = if nat_lt (regency_of n + 1) (2 ^ 32) then decision_in n (regency_of n + 1) else None
 

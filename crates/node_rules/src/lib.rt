@@ -1,6 +1,6 @@
-//! The rules of a member's node, those of leader changes among them: its state, the reasons for which
-//! it drops a message, its rules and its step. The definitions are in `specs/`; the types that they
-//! speak of are here.
+//! The rules of a member's node: its state, the reasons to drop a message, what orders requests, what
+//! changes the leader, and the step. The definitions are in `specs/`. The types that they match on
+//! are here.
 #![tactic(auto)]
 
 pub mod node;

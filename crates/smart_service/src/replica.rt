@@ -12,7 +12,8 @@ pub struct Replica<S> {
     pub place: Place,
 }
 
-/// Let go by one call, so that no function that lets one go carries the whole of it.
+/// The drop of a replica, in one call. Without it each function that drops one has the whole drop
+/// written out.
 impl<S: Drop> Drop for Replica<S> {
     fn drop(self) {
         let Replica {

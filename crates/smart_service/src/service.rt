@@ -39,24 +39,24 @@ pub trait Service: Drop {
     fn restore(alloc: Global, bytes: &[u8]) -> Result<Self, RestoreError>
         ensures { Restores result (Meaning.restore meaning bytes.now) };
 
-    // A reply has at most 4,096 bytes.
+    // The law of short replies: a reply in a valid state has at most 4,096 bytes.
     ghost brief: { (s : Self) (op : List ℕ) → valid s → length (Meaning.reply meaning s op) ≤ 4096 };
 
-    // A reply can be printed.
+    // The law of printable replies: the bytes of a reply in a valid state are from 32 to 126.
     ghost printable: { (s : Self) (op : List ℕ) → valid s → Each IsPrintable (Meaning.reply meaning s op) };
 
-    // The first state is valid, and so is each that an operation makes of a valid one.
+    // The laws of valid states: the first state is valid, and an operation makes a valid state of a valid one.
     ghost valid_first: { valid (Meaning.first meaning) };
 
     ghost valid_next: { (s : Self) (op : List ℕ) → valid s → valid (Meaning.next meaning s op) };
 
-    // A snapshot has at most 12,000,000 bytes.
+    // The law of small snapshots: a snapshot of a valid state has at most 12,000,000 bytes.
     ghost small: { (s : Self) → valid s → length (Meaning.snapshot meaning s) ≤ 12000000 };
 
-    // What is restored from a snapshot is the state that it was taken of.
+    // The law of restoring: a snapshot of a valid state restores that state.
     ghost restores: { (s : Self) → valid s → Meaning.restore meaning (Meaning.snapshot meaning s) ≡ Some s };
 
-    // What is restored is valid, and the bytes are its snapshot: a state has one spelling.
+    // The laws of restored states: each is valid, and the bytes are its snapshot. A state thus has one spelling.
     ghost valid_restored: { (s : Self) (bytes : List ℕ) → IsBytes bytes → Meaning.restore meaning bytes ≡ Some s → valid s };
 
     ghost spelled: { (s : Self) (bytes : List ℕ) → IsBytes bytes → Meaning.restore meaning bytes ≡ Some s → bytes ≡ Meaning.snapshot meaning s };

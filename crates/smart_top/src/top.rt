@@ -159,21 +159,21 @@ pub fn play_script<I: Source, O: Sink>(alloc: Global, input: &mut I, output: &mu
 ///
 /// A script may deliver messages in any order, lose them and repeat them. It may let time pass at any
 /// member, change the regency, and declare up to f members faulty and any clients rogue. It may crash
-/// any members, or all at once, between any two device calls, with any image that the model of disks
-/// allows. Whatever script is played:
+/// any members, or all at once, between any two device calls. A crash may leave any image that the
+/// model of disks allows. Whatever script is played:
 ///
-/// - The members deliver prefixes of one list of batches, which only grows (state machine
-///   replication).
+/// - The members deliver fronts of one list of batches (state machine replication). The list only
+///   grows.
 /// - Each reply that a client accepts is the service's answer at its request's one place in that
-///   list. For a client that is not rogue, the place is later than every place that the client knew
-///   when it asked.
-/// - Whatever crashes leave of the devices, each member restarts from a prefix of that list. No entry
+///   list. If the client is not rogue, that place is later than every place that it knew when it
+///   asked.
+/// - Whatever crashes leave of the devices, each member restarts from a front of that list. No entry
 ///   of its own is damaged, and none that was firm is lost.
 /// - The place of each accepted reply is kept: whatever crashes leave of all devices at once, more
-///   than f members that are not faulty restore it.
+///   than f correct members restore it or a later one.
 ///
-/// The premises are checked. A crash with another image ends the play, and so does a forged
-/// statement, a collision of digests, and one faulty member too many.
+/// The premises are checked. A crash with another image ends the play. A forged statement, a
+/// collision of digests, and one faulty member too many end it too.
 pub fn run<H, I: Source, O: Sink, E: Sink>(
     _rt: &H,
     alloc: Global,
@@ -182,12 +182,12 @@ pub fn run<H, I: Source, O: Sink, E: Sink>(
     output: &mut O,
     errors: &mut E,
 ) -> Status
-    // The words are no command exactly where the status says so; nothing is read or written then.
+    // The status `Words`: the words are no command. Nothing is read or written then.
     ensures words { (result ≡ Status.Words) ↔ (is_command (map string_bytes words.now) ≡ false) }
     ensures untouched { result ≡ Status.Words → (input.new ≡ input.old) × (output.new ≡ output.old) }
-    // What was read and written, by the status; one list holds of it, crashes or not.
+    // What was read and written, by the status. One list holds of it, with crashes or without.
     ensures ended { is_command (map string_bytes words.now) ≡ true → RunEnd (I.left input.old) (I.left input.new) (O.written output.old) (O.written output.new) (O.wants output.old) (O.wants output.new) result }
-    // Faults come only where their count rose.
+    // A fault of input or output: its count rose.
     ensures read { result ≡ Status.ReadFault → Rose (I.faults input.old) (I.faults input.new) }
     ensures write { result ≡ Status.WriteFault → Rose (O.faults output.old) (O.faults output.new) }
 {

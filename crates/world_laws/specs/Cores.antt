@@ -7,6 +7,6 @@ use Rattle.node_rules.specs.Kept.{trimmed}
 unfoldable pub trimmed_host : {S : Type 0} → Host S → Host S
 trimmed_host h = record h { node = trimmed h.node; life = record { diary = []; aside = [] } }
 
--- the world of such hosts
+-- the world of cores: each host is the host of a core
 unfoldable pub trimmed_world : {S : Type 0} → World S → World S
 trimmed_world w = record w { hosts = map trimmed_host w.hosts }

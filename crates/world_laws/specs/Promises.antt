@@ -46,15 +46,15 @@ abbrev pub IsNext : List Batch → ℕ → Option Batch → Type 0
 IsNext chosen place None = Unit {0}
 IsNext chosen place (Some batch) = batch_at chosen place ≡ Some batch
 
--- A batch was delivered where the list has it, and as many of its requests were executed as the list executes there: of those that stand at its place, each
--- that is its client's next.
+-- A delivery that is right by the list. Its batch is the list's at that place. It executed as many requests as the list executes there: those
+-- of the batch that are their clients' next.
 pub record IsChosenAt {S : Type 0} (m : Meaning S) (view : View) (chosen : List Batch) (d : Delivery) : Type 0 where
   pub batch : batch_at chosen d.place ≡ Some d.batch
   pub executed : d.executed ≡ length (executed_lines m (state m view (take (d.place - 1) chosen)) d.batch)
 
--- A host has delivered a front of the list: its replica is the state of that front. In this life it has delivered one batch at each place of it behind the
--- one from which it went on, in order, and each batch that it ever delivered is the list's at its place, with the number of its requests that are executed
--- there. The batch that it has decided and not delivered is the list's too.
+-- A host that has delivered a front of the list. Its replica is the state after that front. In this life it has delivered one batch at each
+-- place after the one at which the life began, in order. Each delivery of any of its lives is right by the list. The batch that it has decided
+-- and not delivered is the list's too.
 pub record IsPrefix {S : Type 0} (m : Meaning S) (view : View) (chosen : List Batch) (h : Host S) : Type 0 where
   pub within : h.node.replica.place ≤ length chosen
   pub replica : h.node.replica ≡ state m view (take h.node.replica.place chosen)
@@ -70,23 +70,23 @@ pub record IsPrefix {S : Type 0} (m : Meaning S) (view : View) (chosen : List Ba
 abbrev pub restored_replica : {S : Type 0} → Meaning S → View → Host S → Images → Replica S
 restored_replica m view h left = (reopened m group_secret h.node.id view 1024 (entries_in (restores left).entries)).replica
 
--- a member that is not faulty, and whose devices restore a place or a later one
+-- a correct member whose devices restore a place or a later one
 abbrev pub has_place : {S : Type 0} → Meaning S → World S → (ℕ → Images) → ℕ → Host S → Bool
 has_place m w left place h = not (is_gone w h.node.id) && nat_le place (restored_replica m w.view h (left h.node.id)).place
 
--- bytes that crashes now may leave of the devices of all members that are not faulty, whether their nodes run or have crashed
+-- bytes that crashes now may leave of the devices of all correct members, whether their nodes run or have crashed
 abbrev pub MayBeLeft : {S : Type 0} → World S → (ℕ → Images) → Type 0
 MayBeLeft w left = Each (λ h. is_gone w h.node.id ≡ false → MayLeave h.store (left h.node.id)) w.hosts
 
--- A place that crashes cannot take back. Whatever crashes leave of the devices of members that are not faulty, more than f of these members
--- restore that place or a later one.
+-- A place that crashes cannot take back. Whatever crashes leave of the devices of correct members, more than f of these members restore that
+-- place or a later one.
 pub record IsKept {S : Type 0} (m : Meaning S) (w : World S) (place : ℕ) : Type 0 where
   pub enough : (left : ℕ → Images) → MayBeLeft w left → w.view.f < length (filter (has_place m w left place) w.hosts)
 
 -- A member that can restart (recovery: Dura-SMaRt, USENIX ATC 2013). A crash may leave each device as it was at its last sync, or as it
 -- reads now. A crash line without patches therefore never ends a play. Whatever a crash leaves, the devices restore exactly the diary that
 -- this crash makes. That diary begins with the present one, and then has at most entries that were not firm. No restored entry is damaged.
--- The restored replica is the state after a prefix of the list. If the member has crashed, what its devices hold is not damaged either.
+-- The restored replica is the state after a front of the list. If the member has crashed, what its devices hold is not damaged either.
 -- INTERIM(checkpoints): later devices restore the cut of that diary.
 pub record Recovers {S : Type 0} (m : Meaning S) (w : World S) (h : Host S) : Type 0 where
   pub possible : (image : Image) → wrong_images h.store (images_left image [] h.store) ≡ None
@@ -135,8 +135,8 @@ IsRightStatement m w (Marked x) = Unit {0}
 IsRightStatement m w (Replied a) = IsRightReply m w a.statement
 IsRightStatement m w (Informed i) = Unit {0}
 
--- A world of right replies. Each reply in a message that a node holds is right. Each reply with the tag of a member that is not faulty is
--- right, in whichever message it was sent.
+-- A world of right replies. Each reply in a message that a node holds is right. Each reply with a correct member's tag is right, in whichever
+-- message it was sent.
 pub record AreRepliesRight {S : Type 0} (m : Meaning S) (w : World S) : Type 0 where
   pub held : Each (λ h. Each (λ x. Each (IsRightStatement m w) (said x.message)) h.node.held) w.hosts
   pub sent : (s : Statement) (member : ℕ) → Among s (stated w.sent) → signer_of s ≡ Member member → is_among w.faulty member ≡ false → IsRightStatement m w s
@@ -159,14 +159,15 @@ abbrev pub Rises : List Acceptance → Type 0
 Rises [] = Unit {0}
 Rises (a ∷ later) = Each (λ b. b.request.client ≡ a.request.client → a.place ≤ b.request.after) later × Rises later
 
--- so many numbers from one on
+-- `count` numbers from i on
 unfoldable pub numbers_from : ℕ → ℕ → List ℕ
 numbers_from zero i = []
 numbers_from (suc count) i = i ∷ numbers_from count (i + 1)
 
--- All nodes, those that are gone or have stopped too, have delivered fronts of one list, and go on from such fronts whatever crashes leave of their devices.
--- Each member of the view has one node, and each number from 0 to 1,024 one client. Each reply that a node holds or a correct member has stated is right. Each reply that was accepted is right, a quorum
--- has given it, and its place is kept. What a node or a client has sent is its own, and a node's votes, replies and reports rest on what became firm there.
+-- One list at a moment of a play. Each node has delivered a front of it, also a node that is gone or has stopped. Whatever crashes leave of a
+-- node's devices, it restarts from a front of the list. Each member of the view has one node, and each number from 0 to 1,024 one client. Each
+-- reply that a node holds or a correct member has stated is right. Each accepted reply is right, a quorum has given it, and its place is kept.
+-- What a node or a client has sent is its own. A node's votes, replies and reports rest on what became firm there.
 pub record OneList {S : Type 0} (m : Meaning S) (w : World S) : Type 0 where
   pub members : map (λ h. h.node.id) w.hosts ≡ w.view.members
   pub clients : map (λ c. c.id) w.clients ≡ numbers_from 1025 0
@@ -266,7 +267,7 @@ delivered_line id d = outs.Delivered id d.place d.executed
 abbrev pub HasTold : {S : Type 0} → List OutLine → Host S → Type 0
 HasTold told h = filter (is_delivery h.node.id) told ≡ map (delivered_line h.node.id) (h.earlier ++ h.delivered)
 
--- what a node went on from: a place, and a number of entries
+-- what a node restarted from: a place, and a number of entries
 pub record Restart : Type 0 where
   pub place : ℕ
   pub entries : ℕ
@@ -274,11 +275,11 @@ pub record Restart : Type 0 where
 abbrev pub restart_of : ℕ → ℕ → Restart
 restart_of place entries = record { place = place; entries = entries }
 
--- a node that begins goes on from nothing
+-- the start of a node without a restart: from nothing
 abbrev pub from_nothing : Restart
 from_nothing = restart_of 0 0
 
--- what a member's node went on from, where a transcript line tells of its restart
+-- what a member's node last restarted from, by a transcript line: what the line tells if it is of such a restart, else as before
 abbrev pub restarts_with : ℕ → Restart → OutLine → Restart
 restarts_with id before (outs.Group members faulty app) = before
 restarts_with id before (outs.Sent number origin summary) = before
@@ -302,26 +303,28 @@ restarts_with id before (outs.Stands member place number regency) = before
 restarts_with id before (outs.Seen client place) = before
 restarts_with id before (outs.End lines messages) = before
 
--- so it is behind a transcript: what the last line of a restart there tells
+-- what a member's node last restarted from, by a transcript: what its last line of such a restart tells, else as before
 abbrev pub last_restart : ℕ → Restart → List OutLine → Restart
 last_restart id before [] = before
 last_restart id before (line ∷ lines) = last_restart id (restarts_with id before line) lines
 
--- A host's node has gone on in this life from a place, with so many entries restored. INTERIM(checkpoints): later a node restores those of a cut.
+-- A host whose node began this life at a place, with this number of restored entries. INTERIM(checkpoints): later a node restores those of a
+-- cut.
 pub record WentOn {S : Type 0} (from : Restart) (h : Host S) : Type 0 where
   pub place : h.resumed ≡ from.place
   pub entries : h.node.restored ≡ from.entries
 
--- it has gone on from what the transcript's last line of its restart tells, and from nothing where none does
+-- a host whose life began as the last transcript line of its restart tells, or from nothing if no line does
 abbrev pub HasGoneOn : {S : Type 0} → List OutLine → Host S → Type 0
 HasGoneOn told h = WentOn (last_restart h.node.id from_nothing told) h
 
--- Each of some is declared so by a line that was played, and while nothing has ended the play each that is declared is one of them.
+-- Members or clients that lines have declared. A played line has declared each of them. While nothing has ended the play, each that a played
+-- line declared is among them.
 pub record AreDeclared (declares : ℕ → Line) (played : List Line) (ending : Option Ending) (ids : List ℕ) : Type 0 where
   pub only : (id : ℕ) → is_among ids id ≡ true → Among (declares id) played
   pub all : ending ≡ None → (id : ℕ) → Among (declares id) played → is_among ids id ≡ true
 
--- a request was among those sent, or it states a place no less than each one that the transcript told its client
+-- a request that was sent already, or that states no earlier place than the transcript has told its client
 abbrev pub IsPast : List Sent → List OutLine → Request → Type 0
 IsPast sent told q = HasAsked sent q ⊎ (known_by q.client told ≤ q.after)
 
@@ -329,7 +332,8 @@ IsPast sent told q = HasAsked sent q ⊎ (known_by q.client told ≤ q.after)
 abbrev pub world_at : {S : Type 0} → Meaning S → View → List Line → ℕ → World S
 world_at m view ls k = world_after (course_of m) (begun m view) (take k ls)
 
--- a line by which a client is told what another knows has that effect, where nothing has ended the play and the other is not rogue
+-- A line that has had its effect. If it tells a client what another knows, the client then knows the greater of both places. This is claimed
+-- while nothing has ended the play, and if the other client is not rogue.
 abbrev pub HasTaught : {S : Type 0} → World S → List OutLine → List OutLine → Line → Type 0
 HasTaught w before after (lines.Tell from to) =
     w.ending ≡ None → is_among w.rogue from ≡ false → from ≤ 1024 → to ≤ 1024 → known_by to after ≡ max (known_by to before) (known_by from before)
@@ -352,15 +356,16 @@ HasTaught w before after (lines.Faulty member) = Unit {0}
 HasTaught w before after (lines.Rogue client) = Unit {0}
 HasTaught w before after (lines.Inject form) = Unit {0}
 
--- One list holds after each line. The group's view stays, faulty and rogue are those that a line has declared so. The list only grows, and so
--- do what was sent, what was accepted and each member's diary. Each transcript line that tells of an accepted reply tells its answer there,
--- and the transcript tells of each reply that was accepted, of each once, in order, and of no other. So it does of the deliveries of each node, through all its
--- lives. Each node has gone on in this life from what its last restart tells. A client that a line tells what another
--- knows, knows that too behind the line. Each request whose reply is accepted, be it when it may, states what its client knew: of each line after which it had not been sent yet, a place no
--- less than each one that the transcript had told the client by then, of a reply that it accepted or of one that it was told. The reply stands past them all,
--- as its place is above the one that the request states (`above` of `IsRightReply`). After each line the diary of each member that is not faulty is lawful, rests on what has been stated, and shows each statement of the
--- member that stands in what was sent. Each batch of the list has a decision among what has been stated. While a member runs, its diary is what is firm of
--- its node's book. Where it has crashed, its diary is what its devices restore.
+-- One list throughout a play: it holds after each line. The group's view stays. The faulty members and the rogue clients are those that a line
+-- has declared. The list, what was sent, what was accepted and each diary only grow. Each transcript line of an accepted reply tells the
+-- service's answer on the list. The transcript tells each accepted reply once, in order, and no other. It tells the deliveries of each node
+-- once, in order, through all its lives, and no other. Each node began this life as the last line of its restart tells. After a line that tells
+-- a client what another knows, the client knows that too. The request of each accepted reply states what its client knew. Take any line after
+-- which it had not been sent: it states no earlier place than the transcript had told the client by then. Those are places of
+-- accepted replies, and learned ones. The reply stands past them all, as its place is later than the one that the request states (`above` of
+-- `IsRightReply`). After each line the diary of each correct member is lawful and rests on what has been stated. It shows each statement of the
+-- member that stands in what was sent. Each batch of the list has a decision among what has been stated. While a member runs, its diary is what
+-- is firm of its node's book. After its crash the diary is what its devices restore.
 pub record OneListThroughout {S : Type 0} (m : Meaning S) (view : View) (ls : List Line) : Type 0 where
   pub one_list : (k : ℕ) → OneList m (world_at m view ls k)
   pub viewed : (k : ℕ) → (world_at m view ls k).view ≡ view

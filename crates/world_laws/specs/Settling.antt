@@ -16,7 +16,7 @@ settles_present m members i w = settle_present (course_of m) members i w (slice_
 abbrev pub flow_begins : {S : Type 0} → Meaning S → View → List Line → List ℕ → ℕ → World S
 flow_begins m view ls members nodes = each_from (at_listed members (settles_present m members)) nodes 0 (world_after (course_of m) (begun m view) ls)
 
--- the world after a flow over listed members has given so many messages
+-- the world after a flow over listed members has given `k` messages
 abbrev pub flow_goes : {S : Type 0} → Meaning S → View → List Line → List ℕ → ℕ → World S
 flow_goes m view ls members k = repeated (flow_once (course_of m) members) k (settle_all (course_of m) members (world_after (course_of m) (begun m view) ls))
 
@@ -24,6 +24,6 @@ flow_goes m view ls members k = repeated (flow_once (course_of m) members) k (se
 abbrev pub message_goes : {S : Type 0} → Meaning S → List ℕ → List ℕ → ℕ → World S → World S
 message_goes m members bytes nodes w = each_from (at_listed members (gives (course_of m) bytes)) nodes 0 (record w { mark = w.mark + 1 })
 
--- the world after a node took bytes, and then so many turns of what was due
+-- the world after a node took bytes, and then `k` turns of what was due
 abbrev pub node_goes : {S : Type 0} → Meaning S → List ℕ → ℕ → ℕ → World S → World S
 node_goes m bytes i k w = repeated (settle_once (course_of m) i) k (node_takes (course_of m) i (Arrive bytes) w)

@@ -12,8 +12,8 @@ use smart_service::service::Service;
 /// A script may inject anything in the names of up to f faulty members and of rogue clients. It may
 /// crash any members, and their devices may then hold whatever a crash can leave.
 ///
-/// *Delivery.* Each node has delivered a prefix of the list, also a faulty member's and a crashed
-/// one's. Its service, its table of clients and its views are the state after that prefix. In this
+/// *Delivery.* Each node has delivered a front of the list, also a faulty member's and a crashed
+/// one's. Its service, its table of clients and its views are the state after that front. In this
 /// life its steps delivered one batch at each place after the one at which the life began, in order.
 /// Each batch that a step delivered, in any life, is the list's at its place. A decided batch that
 /// waits for delivery is the list's at the next place.
@@ -21,19 +21,19 @@ use smart_service::service::Service;
 /// *Restart.* Whatever a crash now leaves of a member's devices, they restore exactly the diary that
 /// this crash makes. That diary has everything that became firm there, and then what the crash brings
 /// back. No restored entry is damaged, at a crash now or after one that happened. The restored
-/// replica is the state after a prefix of the list. A crash may leave each device as it was at its
+/// replica is the state after a front of the list. A crash may leave each device as it was at its
 /// last sync, or as it reads now. A crash line without patches never ends a play.
 ///
 /// *Replies.* A right reply is the service's answer at its place and index, to the request of its
 /// client and number there. Its client asked that request, unless the client is rogue. The place is
 /// later than the one that the request states. The request is executed at no other place, and the
-/// reply states the view in force there. Each reply that a node holds is right. Each reply with the
-/// tag of a member that is not faulty is right, in whichever message it was sent.
+/// reply states the view in force there. Each reply that a node holds is right. Each reply with a
+/// correct member's tag is right, in whichever message it was sent.
 ///
 /// *Acceptance.* Each reply that a client accepted is right. The request at its place is the one that
 /// the client asked; for a rogue client it may be another request of that number. A quorum of the
 /// view's members has given the reply. Its place is kept: whatever crashes leave of devices, more
-/// than f members that are not faulty restart from it or a later one. The request states no earlier
+/// than f correct members restore it or a later one. The request states no earlier
 /// place than any that its client knew before it sent the request. What a client knows the transcript
 /// tells: places of accepted replies, and learned ones.
 ///
@@ -46,11 +46,11 @@ use smart_service::service::Service;
 ///
 /// *Evidence.* What a node or a client has sent is its own, except a client's request that a node
 /// passed on. A node's votes, replies and reports rest on entries that became firm there. After each
-/// line the diary of each member that is not faulty is lawful, and shows what the member has stated.
+/// line the diary of each correct member is lawful, and shows what the member has stated.
 ///
 /// *Declared.* The faulty members and the rogue clients are those that a line declared so. There is one
 /// client for each number from 0 to 1,024. What was sent, what was accepted and each diary only grow. A
-/// node went on in this life from what its last restart tells. A client that a line tells of a place
+/// node began this life as the last line of its restart tells. A client that a line tells of a place
 /// knows that place from then on. A delivery has executed as many requests as the list executes there.
 pub fn one_list_throughout<S: Service>()
     ensures { (view : View) (ls : List Line) → is_view view ≡ true → OneListThroughout S.meaning view ls }

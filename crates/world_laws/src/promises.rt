@@ -27,7 +27,7 @@ use smart_service::service::Service;
 /// order.
 ///
 /// In every play the accepted reply of each member of that quorum is among the messages of the play,
-/// with the member's tag. A member that is not faulty has sent it itself, to that client. A faulty
+/// with the member's tag. A correct member has sent it itself, to that client. A faulty
 /// member's reply may stand in a message that a script injected.
 pub fn a_quorum_replied<S: Service>()
     ensures client { (view : View) (c : Client) (q : Request) (replies : List (SignedBy Answer)) (a : SignedBy Answer) (accepted : Acceptance) →

@@ -14,7 +14,7 @@ turns = 2 ^ 64 - 1
 unfoldable pub until_rest : {A : Type 0} → (A → A) → A → A
 until_rest f x = repeated f turns x
 
--- the result of a function applied at so many numbers from i on, ascending
+-- the result of a function applied at `count` numbers from i on, ascending
 unfoldable pub each_from : {A : Type 0} → (ℕ → A → A) → ℕ → ℕ → A → A
 each_from f zero i x = x
 each_from f (suc count) i x = each_from f count (i + 1) (f i x)

@@ -475,7 +475,7 @@ line_of bytes =
 
 -- the header
 
--- so many members, from a first number on
+-- members with successive numbers, from a first number on
 unfoldable pub members_from : ℕ → ℕ → List ℕ
 members_from first zero = []
 members_from first (suc count) = first ∷ members_from (first + 1) count

@@ -58,7 +58,7 @@ abbrev pub lock_text : Option ℕ → List ℕ
 lock_text None = codes " -"
 lock_text (Some regency) = after_space regency
 
--- the word that tells whether a batch binds at the place where a regency begins
+-- the word that tells whether a batch binds at the base of a regency
 abbrev pub bound_text : Bool → List ℕ
 bound_text bound = if bound then codes " bound" else codes " free"
 

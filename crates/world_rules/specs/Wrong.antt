@@ -6,7 +6,7 @@ use Rattle.disk_model.specs.Cells.{Cells, covers}
 abbrev pub is_wrong_at : Cells → List ℕ → ℕ → Bool
 is_wrong_at s image i = nat_lt i s.shortest && not (covers s.touched i) && not (get_or image i 0 == get_or s.now i 0)
 
--- the first of so many numbers, from i on, that passes a test
+-- the first of `count` numbers, from i on, that passes a test
 abbrev pub first_from : (ℕ → Bool) → (count i : ℕ) → Option ℕ
 first_from p zero i = None
 first_from p (suc count) i = if p i then Some i else first_from p count (i + 1)

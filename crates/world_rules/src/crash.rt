@@ -17,7 +17,8 @@ pub struct Patch {
     pub bytes: Bytes,
 }
 
-/// Let go by one call, so that no function that lets one go carries the whole of it.
+/// The drop of a patch, in one call. Without it each function that drops one has the whole drop
+/// written out.
 impl Drop for Patch {
     fn drop(self) {
         let Patch {

@@ -1,5 +1,5 @@
-//! The world of a play: clients, hosts, the lines of a script and of its transcript. The definitions
-//! are in `specs/`; the types that they speak of are here.
+//! The world of a play: clients, hosts, the lines of a script and of its transcript. The
+//! definitions are in `specs/`. The types that they match on are here.
 #![tactic(auto)]
 
 pub mod crash;

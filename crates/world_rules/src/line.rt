@@ -33,7 +33,7 @@ pub enum Line {
     Again {
         client: ClientId,
     },
-    /// `tell C D`: client D is told the greatest place that client C knows.
+    /// `told C D`: client D learns the greatest place that client C knows.
     Tell {
         from: ClientId,
         to: ClientId,
@@ -78,14 +78,14 @@ pub enum Line {
     },
     /// `restart all`: each crashed member restarts.
     RestartAll,
-    /// `settle M`: the member does what is due until nothing is.
+    /// `settle M`: the member makes its due device calls and delivers, until nothing is due.
     Settle {
         member: MemberId,
     },
-    /// `settle all`: each member does so, by number.
+    /// `settle all`: each member settles, by number.
     SettleAll,
-    /// `show`: the place, view and regency of each member, and the greatest place that each client
-    /// knows which has asked.
+    /// `show`: the place, view and regency of each member. Of each client that has asked, also the
+    /// greatest place that it knows.
     Show,
     /// `faulty M`: the member is faulty from now on, and its node is gone.
     Faulty {
@@ -251,7 +251,7 @@ pub enum OutLine {
         member: MemberId,
         place: Place,
     },
-    /// A node delivered a place, and executed so many requests.
+    /// A node delivered a place, and executed this number of requests.
     Delivered {
         member: MemberId,
         place: Place,
@@ -263,8 +263,8 @@ pub enum OutLine {
         view: ViewNo,
         regency: Regency,
     },
-    /// A node takes part in a regency from now on. It begins at this place, at which a batch may
-    /// bind.
+    /// A node takes part in a regency from now on. `base` is the place at which the regency begins.
+    /// `bound` tells whether a batch binds there.
     Synced {
         member: MemberId,
         view: ViewNo,
@@ -277,7 +277,7 @@ pub enum OutLine {
         member: MemberId,
         why: Why,
     },
-    /// A client counted a reply: so many members gave it, and so many are needed.
+    /// A client counted a reply: how many members gave it, and how many are needed.
     Counted {
         client: ClientId,
         have: u64,

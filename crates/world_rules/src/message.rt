@@ -30,7 +30,8 @@ pub struct Sent {
     pub content: Content,
 }
 
-/// Let go by one call, so that no function that lets one go carries the whole of it.
+/// The drop of a sent message, in one call. Without it each function that drops one has the whole
+/// drop written out.
 impl Drop for Sent {
     fn drop(self) {
         let Sent {
