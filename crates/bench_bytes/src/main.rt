@@ -230,11 +230,7 @@ fn snapshot(alloc: Global) -> Result<Vec<u8>, AllocError> {
 }
 
 /// A replica is spelled, and its bytes are digested, so many times.
-fn spells<S: Service>(
-    alloc: Global,
-    replica: &Replica<S>,
-    times: u64,
-) -> Result<Done, AllocError>
+fn spells<S: Service>(alloc: Global, replica: &Replica<S>, times: u64) -> Result<Done, AllocError>
     requires { FitsReplica S.valid replica.now }
 {
     let mut done = Done::nothing();
