@@ -5,7 +5,7 @@ use Rattle.std.specs.List.{list_any}
 use Rattle.std.proofs.lemmas.Bool.{or_left, or_right}
 use Rattle.std.proofs.lemmas.List.{length-map}
 use Rattle.smart_base.specs.Lists.{Each, Distinct}
-use Rattle.smart_base.specs.Views.{View, is_member, quorum}
+use Rattle.smart_base.specs.Views.{View, weight_of, is_member, quorum}
 use Rattle.smart_view.specs.Sizes.{collect_size}
 use Rattle.smart_statements.specs.Forms.{Form, SignedBy}
 use Rattle.certificates.specs.Certificates.{AreSigned, signers}
@@ -21,14 +21,14 @@ pub record Shared (p q faulty : ℕ → Bool) (view : View) : Type 0 where
   pub left : p member ≡ true
   pub right : q member ≡ true
 
-pub quorums_share : (p q faulty : ℕ → Bool) (view : View) → length (filter faulty view.members) ≤ view.f → quorum view ≤ length (filter p view.members)
-    → quorum view ≤ length (filter q view.members) → Shared p q faulty view
+pub quorums_share : (p q faulty : ℕ → Bool) (view : View) → length (filter faulty view.members) ≤ view.f → quorum view ≤ weight_of view (filter p view.members)
+    → quorum view ≤ weight_of view (filter q view.members) → Shared p q faulty view
 quorums_share p q faulty view few left right =
     let met = correct_meet p q faulty view.members view.f few (omega (arith, left, right)) in
     record { member = met.member; is = record { within = among_number view.members met.member met.there; correct = met.correct }; left = met.left; right = met.right }
 
 -- as many as answer for sure are a quorum
-pub collect_share : (p q faulty : ℕ → Bool) (view : View) → FewFaulty view faulty → quorum view ≤ length (filter p view.members)
+pub collect_share : (p q faulty : ℕ → Bool) (view : View) → FewFaulty view faulty → quorum view ≤ weight_of view (filter p view.members)
     → collect_size view ≤ length (filter q view.members) → Shared p q faulty view
 collect_share p q faulty view few left right = quorums_share p q faulty view few.few left (omega (arith, few.room, right))
 

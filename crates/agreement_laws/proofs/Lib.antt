@@ -4,6 +4,7 @@ pub mod Groups
 mod Diaries
 mod Choices
 pub mod Regencies
+pub mod OneList
 pub mod Closed
 mod Collects
 mod ExampleBooks

@@ -1,7 +1,7 @@
 -- A digest that a regency decides at a place is the only one that it or a later regency can write there.
-use Rattle.std.proofs.Common.{◌≡◌, ◌⊎◌, inr, ⊎_elim, ℕ, zero, suc, ◌+◌, ◌<◌, ◌≤◌, Bool, true, List, ◌∷◌, length, Option, Some, refl, sym, ap, subst, ◌∙◌, arith}
+use Rattle.std.proofs.Common.{◌≡◌, ◌⊎◌, inr, ⊎_elim, ℕ, zero, suc, ◌+◌, ◌<◌, ◌≤◌, Bool, true, List, ◌∷◌, Option, Some, refl, sym, ap, subst, ◌∙◌, arith}
 use Rattle.std.specs.Prelude.{filter, option_map, IfSome}
-use Rattle.smart_base.specs.Views.{View, quorum}
+use Rattle.smart_base.specs.Views.{View, weight_of, quorum}
 use Rattle.smart_base.specs.declared.party.Party.TheVariants.{Member}
 use Rattle.smart_statements.specs.Forms.{SignedBy}
 use Rattle.smart_statements.specs.Kinds.{ballots}
@@ -77,7 +77,7 @@ module _ (secret : List ℕ) (digest_of : Batch → List ℕ) (view : View) (fau
     -- ---- quorums
 
     drawn_quorum : (wanted : Ballot) (votes : List (SignedBy Ballot)) → IsDrawn secret view stated wanted votes
-        → quorum view ≤ length (filter (is_one (signers votes)) view.members)
+        → quorum view ≤ weight_of view (filter (is_one (signers votes)) view.members)
     drawn_quorum wanted votes drawn =
         omega (arith, drawn.holds.1, signed_listed Ballot secret ballots view (λ b. b ≡ wanted) votes drawn.holds.0)
 

@@ -1,5 +1,5 @@
 //! Agreement: a place has one decision.
-ghost use Rattle.std.specs.Prelude.{◌≡◌, ◌≤◌, ℕ, List, Bool, true};
+ghost use Rattle.std.specs.Prelude.{◌≡◌, ◌≤◌, ℕ, List, [], ◌∷◌, length, Bool, true};
 ghost use Rattle.smart_base.specs.Views.{View, is_view};
 ghost use Rattle.smart_statements.specs.Forms.{SignedBy};
 ghost use Rattle.smart_statements.specs.Batches.{Batch};
@@ -8,9 +8,11 @@ ghost use Rattle.smart_statements.specs.declared.statement.VoteKind.TheVariants.
 ghost use Rattle.vote_book.specs.declared.entry.LogEntry.{LogEntry};
 ghost use Rattle.vote_book.specs.Books.{Among};
 ghost use Rattle.vote_book.specs.Tidy.{IsTidy};
+ghost use Rattle.agreement_laws.specs.Fronts.{IsFront};
 ghost use Rattle.agreement_laws.specs.Statements.{Statement, Voted};
 ghost use Rattle.agreement_laws.specs.Certificates.{IsWritten, IsDecision};
 ghost use Rattle.agreement_laws.specs.Law.{Witnessed};
+ghost use Rattle.agreement_laws.specs.Lists.{AllCertified, Exact};
 ghost use Rattle.agreement_laws.specs.Example.{four, is_fourth, vote, votes, first_voters, later_voters, all_stated, diary};
 
 /// Agreement (Mod-SMaRt, EDCC 2012): two decisions of one place have one digest, in whatever
@@ -39,6 +41,19 @@ pub fn a_decision_binds_later_regencies()
         IsDecision secret view stated place regency digest accepts → IsWritten secret view stated place later other writes → regency ≤ later → other ≡ digest }
 {}
 
+/// One list (Mod-SMaRt, EDCC 2012): of two lists of batches that are decided place by place, the
+/// shorter is a front of the longer.
+///
+/// The view of a place is the one that the batches before it make. In it the diaries witness what has
+/// been stated, wherever the two lists begin alike. Batches of one digest are one batch.
+pub fn one_list()
+    ensures { (secret : List ℕ) (digest_of : Batch → List ℕ) (view_after : List Batch → View) (faulty : ℕ → Bool) (diary : ℕ → List LogEntry) (stated : List Statement)
+        (xs ys : List Batch) →
+        ((front : List Batch) → IsFront front xs → IsFront front ys → Witnessed secret digest_of (view_after front) faulty diary stated) →
+        Exact digest_of xs ys → AllCertified secret digest_of stated view_after [] xs → AllCertified secret digest_of stated view_after [] ys →
+        length xs ≤ length ys → IsFront xs ys }
+{}
+
 /// The premises of agreement hold for a group in which one of four members is faulty. They hold for
 /// any secret, any naming of batches, any batch and any other digest.
 ///
@@ -57,4 +72,6 @@ pub fn regencies_decide()
         IsDecision secret four (all_stated secret digest other batch) 1 0 digest (votes secret 0 Accept digest first_voters) }
     ensures later { (secret digest other : List ℕ) (batch : Batch) →
         IsDecision secret four (all_stated secret digest other batch) 1 1 digest (votes secret 1 Accept digest later_voters) }
+    ensures list { (secret : List ℕ) (digest_of : Batch → List ℕ) (other : List ℕ) (batch : Batch) →
+        AllCertified secret digest_of (all_stated secret (digest_of batch) other batch) (λ front. four) [] (batch ∷ []) }
 {}

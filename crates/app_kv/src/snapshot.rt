@@ -92,6 +92,7 @@ pub fn read_store(alloc: Global, bytes: &[u8]) -> Result<Sequence<Entry>, ReadEr
     ensures bytes { IsBytes bytes.now }
 {
     let mut cut = Cursor::new(bytes);
+    // That these are bytes is known of the cursor.
     let _all = cut.rest();
     let entries = take_store(alloc, &mut cut)?;
     if !cut.is_done() {

@@ -2,6 +2,7 @@
 ghost use Rattle.std.specs.Prelude.{◌<◌};
 
 use app_count::Count;
+use smart_base::name::ClientId;
 use smart_service::fault::RestoreError;
 use smart_service::replica::Replica;
 use snapshot_form::pieces::piece;
@@ -15,16 +16,27 @@ use std::process::Abort;
 const SNAPSHOT: [u8; 76] =
     *b"\0\0\0\0\0\0\0\x01\0\x01\0\0\0\0\0\0\0\0\0\0\0\x01\x01\0\x04\0\x01\0\x02\0\x03\0\x04\0\x01\0\x01\0\0\0\0\0\0\0\x01\0\0\0\0\0\0\0\x01\0\0\0\0\0\0\0\0\0\x015\0\0\0\x08\0\0\0\0\0\0\0\x05";
 
+/// Whether a replica has all that the snapshot says.
+fn is_told(replica: &Replica<Count>) -> bool {
+    let views = replica.views.as_slice();
+    let of_view = views.len() == 1 && replica.views.present().members().len() == 4;
+    match replica.table.kept_reply(ClientId::new(1), 1) {
+        Some(line) => {
+            let at = line.place.get() == 1 && line.index == 0 && line.view.get() == 0;
+            let executed = line.seq == 1 && line.reply.as_slice() == b"5".as_slice();
+            replica.service.sum == 5 && replica.place.get() == 1 && of_view && at && executed
+        }
+        None => false,
+    }
+}
+
 /// Whether a replica has these bytes as its snapshot, and all that they say.
 fn comes_back(alloc: Global, bytes: &[u8]) -> bool {
     match from_bytes::<Count>(alloc, bytes) {
-        Ok(replica) => {
-            let told = replica.service.sum == 5 && replica.place.get() == 1;
-            match to_bytes(alloc, &replica) {
-                Ok(again) => told && again.as_slice() == bytes,
-                Err(_) => false,
-            }
-        }
+        Ok(replica) => match to_bytes(alloc, &replica) {
+            Ok(again) => is_told(&replica) && again.as_slice() == bytes,
+            Err(_) => false,
+        },
         Err(_) => false,
     }
 }

@@ -10,9 +10,6 @@ use Rattle.batch_log.specs.Jobs.{Clean, IsBody, Behind, Staged, Gated, ToClose, 
 use Rattle.batch_log.proofs.Restored.{restored_is, log_push, groups_push, length-push}
 use Rattle.batch_log.proofs.Steps.{clean_leaves, behind_leaves, behind_after, gated_leaves, byte_after, closing_leaves, closed_after}
 
-abbrev Either : List Group → List Group → List ℕ → Type 0
-Either gs other c = (restored c ≡ gs) ⊎ (restored c ≡ other)
-
 on : (cells is : Cells) (gs other : List Group) → cells ≡ is → LeavesEither is gs other → LeavesEither cells gs other
 on cells is gs other same each c image = each c (subst (λ (q : Cells). IsImage q c) same image)
 
@@ -103,9 +100,6 @@ synced_zero cells new end gs other s is = record {
 }
 
 -- ---- and as jobs
-
-pub as_job : (cells : Cells) (end : ℕ) (job is : Job) (g : Group) (gs other : List Group) → job ≡ is → Stands cells end job g gs other → Stands cells end is g gs other
-as_job cells end job is g gs other same s = subst (λ (j : Job). Stands cells end j g gs other) same s
 
 pub after_close : (cells new : Cells) (end : ℕ) (waiting : Option (List ℕ)) (g : Group) (gs other : List Group) → Stands cells end (Close waiting) g gs other → new ≡ written end (0 ∷ []) cells → Stands new end (SyncClose waiting) g gs other
 after_close cells new end waiting g gs other s is = (wrote_zero cells new end gs other s.0 is, s.1)

@@ -10,27 +10,6 @@ use Rattle.batch_log.specs.Log.{restored}
 use Rattle.batch_log.specs.Jobs.{IsBody, Stands, Runs, Adds, Begins, IsIdle, IsUnderWay, LeavesEither, OneOf, at_stake, kept_after, other_after, kept_now, other_now, code, code_after}
 use Rattle.batch_log.proofs.Phases.{leaves}
 
--- a group is begun
-pub begun_adds : (job next : Job) (bytes : List ℕ) → IsIdle job → Begins job bytes next → Adds next
-begun_adds Rest next bytes idle begins = subst Adds (sym begins) tt
-begun_adds Torn next bytes idle begins = subst Adds (sym begins) tt
-begun_adds (Close waiting) next bytes idle begins = absurd cc
-begun_adds (SyncClose waiting) next bytes idle begins = absurd cc
-begun_adds (Body waiting) next bytes idle begins = absurd cc
-begun_adds (SyncBody end) next bytes idle begins = absurd cc
-begun_adds (Gate end) next bytes idle begins = absurd cc
-begun_adds (SyncGate end) next bytes idle begins = absurd cc
-
-pub begun_runs : (cells : Cells) (end : ℕ) (job next : Job) (bytes : List ℕ) (g : Group) (gs other : List Group) → IsIdle job → Begins job bytes next → IsBody bytes g → Stands cells end job g gs other → Runs cells end next g gs other
-begun_runs cells end Rest next bytes g gs other idle begins body s = subst (λ (j : Job). Runs cells end j g gs other) (sym begins) (tt, (s.0, (body, refl)))
-begun_runs cells end Torn next bytes g gs other idle begins body s = subst (λ (j : Job). Runs cells end j g gs other) (sym begins) (tt, (s, body))
-begun_runs cells end (Close waiting) next bytes g gs other idle begins body s = absurd cc
-begun_runs cells end (SyncClose waiting) next bytes g gs other idle begins body s = absurd cc
-begun_runs cells end (Body waiting) next bytes g gs other idle begins body s = absurd cc
-begun_runs cells end (SyncBody n) next bytes g gs other idle begins body s = absurd cc
-begun_runs cells end (Gate n) next bytes g gs other idle begins body s = absurd cc
-begun_runs cells end (SyncGate n) next bytes g gs other idle begins body s = absurd cc
-
 -- it goes on
 pub adds_on : (job next : Job) → Adds job → code next ≡ code_after job → Adds next
 adds_on job Rest adds is = tt

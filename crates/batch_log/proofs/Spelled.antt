@@ -88,6 +88,3 @@ no_gate (b ∷ rest) is = absurd (omega arith)
 pub open_gate : (rest : List ℕ) → get_or rest 0 0 ≢ 0 → get_or rest 0 1 ≢ 0
 open_gate [] torn = λ (e : 1 ≡ 0). omega arith
 open_gate (b ∷ rest) torn = torn
-
-pub no_group : (bytes inner : List ℕ) (at : ℕ) → bytes ≡ 1 ∷ inner → group_at (all_of inner) ≡ Err at → first_group bytes ≡ None
-no_group bytes inner at is read = ap first_group is ∙ ap found read

@@ -22,6 +22,7 @@ fn first_group(alloc: Global, bytes: &[u8]) -> Result<Option<(Sequence<Bytes>, &
     }
     let (_gate, inner) = bytes.split_at(1);
     let mut cut = Cursor::new(inner);
+    // That these are bytes is known of the cursor.
     let _all = cut.rest();
     match take_group(alloc, &mut cut) {
         Ok(entries) => Ok(Some((entries, cut.rest()))),

@@ -2,7 +2,6 @@
 #![tactic(auto)]
 
 ghost use Rattle.std.specs.Prelude.{◌<◌, ◌^◌};
-ghost use Rattle.snapshot_form.specs.Replicas.{FitsReplica};
 
 use app_kv::KeyValueStore;
 use sha2::{Digest, Sha256};
@@ -21,7 +20,6 @@ use smart_messages::codec::{decode, encode};
 use smart_messages::message::{Message, Proposed};
 use smart_service::fault::RestoreError;
 use smart_service::replica::Replica;
-use smart_service::service::Service;
 use smart_statements::batch::Batch;
 use smart_statements::signed::Signed;
 use smart_statements::statement::{Proposal, Request, Slot};
@@ -230,9 +228,7 @@ fn snapshot(alloc: Global) -> Result<Vec<u8>, AllocError> {
 }
 
 /// A replica is spelled, and its bytes are digested, so many times.
-fn spells<S: Service>(alloc: Global, replica: &Replica<S>, times: u64) -> Result<Done, AllocError>
-    requires { FitsReplica S.valid replica.now }
-{
+fn spells(alloc: Global, replica: &Replica<KeyValueStore>, times: u64) -> Result<Done, AllocError> {
     let mut done = Done::nothing();
     for _ in 0..times {
         let bytes = to_bytes(alloc, replica)?;

@@ -159,18 +159,3 @@ collect-exact secret views regency items =
 -- the view found so far, and those of the views left that hold the place
 abbrev pub Found : List View → ℕ → ℕ → Option View → Type 0
 Found views place i found = or_else (view_holding (drop i views) place) found ≡ view_holding views place
-
-keeps_first : (v : View) (found rest : Option View) (b : Bool) → or_else (or_else rest (if b then Some v else None)) found ≡ or_else rest (if b then Some v else found)
-keeps_first v found (Some w) b = refl
-keeps_first v found None true = refl
-keeps_first v found None false = refl
-
-pub found-more : (views : List View) (place i : ℕ) (v : View) (found : Option View) → i < length views → v ≡ get_or views i v
-    → Found views place i found → Found views place (i + 1) (if nat_le v.start place then Some v else found)
-found-more views place i v found within is so_far =
-    let here : drop i views ≡ v ∷ drop (i + 1) views = drop_here views i v within ∙ ap (λ (w : View). w ∷ drop (i + 1) views) (sym is) in
-    sym (keeps_first v found (view_holding (drop (i + 1) views) place) (nat_le v.start place))
-    ∙ (ap (λ (vs : List View). or_else (view_holding vs place) found) (sym here) ∙ so_far)
-
-pub found-all : (views : List View) (place i : ℕ) (found : Option View) → length views ≤ i → Found views place i found → found ≡ view_holding views place
-found-all views place i found past so_far = ap (λ (vs : List View). or_else (view_holding vs place) found) (sym (nothing_left views i past)) ∙ so_far

@@ -1,10 +1,12 @@
 //! Lists of signed statements, checked one by one.
 ghost use Rattle.std.specs.Prelude.{◌≡◌, ◌++◌, [], ◌∷◌, List, ℕ, Bool, ◌<◌, nat_le, length, OnOk, IfSome};
+ghost use Rattle.smart_base.specs.declared.limits.TheConstants.{MEMBERS};
 ghost use Rattle.smart_view.specs.Sizes.{index_of};
 ghost use Rattle.certificates.specs.Certificates.{Marks, signer_fault, item_fault, first_fault, passed};
 
 use crate::fault::CertFault;
-use smart_base::view::{MEMBERS, View};
+use smart_base::limits::MEMBERS;
+use smart_base::view::View;
 use smart_keys::ring::Ring;
 use smart_statements::signed::{Signed, Statement};
 
@@ -20,7 +22,7 @@ pub trait Wanted<S: Statement> {
 /// The index of a signer among the members, if it is one.
 fn index_of(view: &View, signer: u16) -> Option<usize>
     ensures index { result ≡ index_of view.now signer }
-    ensures few { IfSome result (λ i. i < 31) }
+    ensures few { IfSome result (λ i. i < MEMBERS) }
 {
     view.members().iter().position(|m| m.get() == signer)
 }

@@ -31,12 +31,6 @@ idle_settled odd cells SyncGate next has other is s = absurd cc
 gives : (odd : Bool) (cells : Cells) (bytes : List ℕ) → cells ≡ settled bytes → by_gate odd cells.now ≡ by_gate odd bytes
 gives odd cells bytes are = ap (λ (q : Cells). by_gate odd q.now) are
 
-pub torn_gives : (odd : Bool) (cells : Cells) (other : Option Checkpoint) → IsTorn odd cells other → by_gate odd cells.now ≡ other
-torn_gives odd cells other s = gives odd cells (s.gate ∷ s.rest) s.are ∙ sym s.is
-
-pub counted_gives : (odd : Bool) (cells : Cells) (has : Option Checkpoint) → IsCounted odd cells has → by_gate odd cells.now ≡ has
-counted_gives odd cells has s = gives odd cells (1 ∷ s.rest) s.are ∙ s.counts ∙ sym s.is
-
 pub full_gives : (odd : Bool) (cells : Cells) (next : Checkpoint) → IsFull odd cells next → by_gate odd cells.now ≡ Some next
 full_gives odd cells next s = gives odd cells (0 ∷ (checkpoint_text next ++ s.rest)) s.are ∙ slot_again odd next s.rest s.is_for
 

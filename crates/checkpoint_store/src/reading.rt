@@ -29,6 +29,7 @@ pub fn slot_of(alloc: Global, odd: bool, bytes: &[u8]) -> Result<Option<Checkpoi
     }
     let (_gate, inner) = bytes.split_at(1);
     let mut cut = Cursor::new(inner);
+    // That these are bytes is known of the cursor.
     let _all = cut.rest();
     match take_checkpoint(alloc, &mut cut) {
         Ok(found) => Ok(counted(odd, found)),

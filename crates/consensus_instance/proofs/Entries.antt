@@ -11,8 +11,7 @@ use Rattle.smart_messages.specs.declared.message.Message.{Message}
 use Rattle.smart_messages.specs.declared.message.Proposed.{Proposed}
 use Rattle.smart_base.specs.Lists.{or_else}
 use Rattle.vote_book.specs.Admission.{writes_in, accepts_in}
-use Rattle.vote_book.specs.Standing as books
-use Rattle.vote_book.specs.Standing.{first_start, own_votes}
+use Rattle.vote_book.specs.Standing.{first_start, own_votes, start_by}
 use Rattle.vote_book.specs.declared.votes.OwnVotes.{OwnVotes}
 use Rattle.vote_book.proofs.Standing.{start_push}
 use Rattle.vote_book.specs.declared.entry.Opening.{Opening}
@@ -24,7 +23,7 @@ use Rattle.vote_book.specs.declared.entry.Decision.{Decision}
 use Rattle.vote_book.specs.declared.entry.LogEntry.{LogEntry}
 use Rattle.vote_book.specs.declared.entry.LogEntry.TheVariants.{Opened, Wrote, Accepted, Promised, Synced, Decided, Installed, Marked}
 use Rattle.node_rules.specs.Nodes as nodes
-use Rattle.node_rules.specs.Nodes.{Node, view_of, regency_of, start_of, next_place, is_synced, is_within, regency_in, greatest_regency, start_in, start_at}
+use Rattle.node_rules.specs.Nodes.{Node, view_of, regency_of, start_of, next_place, is_synced, is_within, regency_in, greatest_regency, start_at}
 use Rattle.node_rules.specs.Arrivals as arrivals
 use Rattle.node_rules.specs.Votes.{proposed_for}
 use Rattle.node_rules.specs.Rules as rules
@@ -33,7 +32,7 @@ use Rattle.consensus_instance.specs.declared.rule.Rule.{Rule}
 use Rattle.consensus_instance.specs.declared.rule.Rule.TheVariants.{Write, Accept}
 use Rattle.consensus_instance.specs.declared.start.Start.{Start}
 use Rattle.consensus_instance.specs.Instances.{Instance, first_of, decided_place, is_free, has_begun, bound_at, is_bound_to, is_unbound, is_open, open_slot, votable, written, due_by, moved_on, promising, syncing, resuming}
-use Rattle.consensus_instance.specs.Nodes.{slot_behind, start_by, IsInstance, HasInstance, due_at}
+use Rattle.consensus_instance.specs.Nodes.{slot_behind, stated_start, IsInstance, HasInstance, due_at}
 
 -- BOOLEANS
 
@@ -81,71 +80,15 @@ greatest_passed view entries e none = greatest_more view entries e ∙ (ap (λ n
 
 -- the first beginning of a regency, by the book's word and by the node's
 
-first_or : (o rest : Option Beginning) → or_else o rest ≡ cond (is_some o) o rest
-first_or None rest = refl
-first_or (Some s) rest = refl
+pub start_passed : (view regency : ℕ) (entries : List LogEntry) (e : LogEntry) → start_by view regency e ≡ None → first_start view regency (entries ++ e ∷ []) ≡ first_start view regency entries
+start_passed view regency [] e none = ap (λ (x : Option Beginning). or_else x None) none
+start_passed view regency (x ∷ xs) e none = ap (λ (rest : Option Beginning). or_else (start_by view regency x) rest) (start_passed view regency xs e none)
 
-first_by : (view regency : ℕ) (e : LogEntry) → books.start_by view regency e ≡ nodes.start_by view regency e
-first_by view regency (Opened o) = refl
-first_by view regency (Wrote w) = refl
-first_by view regency (Accepted a) = refl
-first_by view regency (Promised p) = refl
-first_by view regency (Synced s) = refl
-first_by view regency (Decided d) = refl
-first_by view regency (Installed i) = refl
-first_by view regency (Marked m) = refl
-
-pub first_same : (view regency : ℕ) (entries : List LogEntry) → first_start view regency entries ≡ start_in view regency entries
-first_same view regency [] = refl
-first_same view regency (e ∷ es) =
-    ap (λ (o : Option Beginning). or_else o (first_start view regency es)) (first_by view regency e)
-    ∙ (ap (λ (o : Option Beginning). or_else (nodes.start_by view regency e) o) (first_same view regency es) ∙ first_or (nodes.start_by view regency e) (start_in view regency es))
-
-pub start_pushed : (view regency : ℕ) (entries : List LogEntry) (e : LogEntry) → start_in view regency (entries ++ e ∷ []) ≡ or_else (start_in view regency entries) (nodes.start_by view regency e)
-start_pushed view regency entries e =
-    sym (first_same view regency (entries ++ e ∷ []))
-    ∙ (start_push view regency entries e
-    ∙ (ap (λ (o : Option Beginning). or_else o (books.start_by view regency e)) (first_same view regency entries)
-    ∙ ap (λ (o : Option Beginning). or_else (start_in view regency entries) o) (first_by view regency e)))
-
-if_none : (test : Bool) (o : Option Beginning) → o ≡ None → (rest : Option Beginning) → cond (is_some o) o rest ≡ rest
-if_none test o none rest = ap (λ (x : Option Beginning). cond (is_some x) x rest) none
-
-pub start_passed : (view regency : ℕ) (entries : List LogEntry) (e : LogEntry) → nodes.start_by view regency e ≡ None → start_in view regency (entries ++ e ∷ []) ≡ start_in view regency entries
-start_passed view regency [] e none = ap (λ (x : Option Beginning). cond (is_some x) x None) none
-start_passed view regency (x ∷ xs) e none =
-    ap (λ (rest : Option Beginning). cond (is_some (nodes.start_by view regency x)) (nodes.start_by view regency x) rest) (start_passed view regency xs e none)
-
-at_passed : (view : View) (regency : ℕ) (entries : List LogEntry) (e : LogEntry) → nodes.start_by view.number regency e ≡ None
+at_passed : (view : View) (regency : ℕ) (entries : List LogEntry) (e : LogEntry) → start_by view.number regency e ≡ None
     → start_at view regency (entries ++ e ∷ []) ≡ start_at view regency entries
-at_passed view regency entries e none = ap (λ (o : Option Beginning). cond (regency == 0) (Some (nodes.first_start view)) o) (start_passed view.number regency entries e none)
+at_passed view regency entries e none = ap (λ (o : Option Beginning). cond (regency == 0) (Some (nodes.view_start view)) o) (start_passed view.number regency entries e none)
 
 -- TRANSITIONS
-
-pub opened_instance : (id : ℕ) (view : View) (o : Opening) → IsInstance id view 0 None [] (Opened o ∷ []) (first_of id view [])
-opened_instance id view o = record {
-  id_same = refl;
-  place_same = refl;
-  decided_same = refl;
-  regency_same = refl;
-  start_same = refl;
-  arrivals_same = refl;
-  wrote_same = refl;
-  accepted_same = refl;
-}
-
-pub keeping_instance : (id : ℕ) (view : View) (place : ℕ) (waiting : Option Batch) (old new : List Message) (entries : List LogEntry) (i : Instance) → IsInstance id view place waiting old entries i
-    → IsInstance id view place waiting new entries (record i { arrivals = new })
-keeping_instance id view place waiting old new entries i is = record {
-  id_same = is.id_same;
-  place_same = is.place_same;
-  decided_same = is.decided_same;
-  regency_same = is.regency_same;
-  start_same = is.start_same;
-  arrivals_same = refl;
-  wrote_same = is.wrote_same;
-  accepted_same = is.accepted_same;
-}
 
 pub wrote_instance : (id : ℕ) (view : View) (place : ℕ) (waiting : Option Batch) (arrivals : List Message) (entries : List LogEntry) (i : Instance) (w : Writing) → w.slot ≡ slot_behind view.number place i.regency
     → IsInstance id view place waiting arrivals entries i → IsInstance id view place waiting arrivals (entries ++ Wrote w ∷ []) (record i { wrote = true })
@@ -155,10 +98,11 @@ wrote_instance id view place waiting arrivals entries i w at is =
     let here : writes_in slot e ≡ true = ap (λ (s : Slot). same_slot s slot) at ∙ same_self slot in
     record {
       id_same = is.id_same;
+      view_same = is.view_same;
       place_same = is.place_same;
       decided_same = is.decided_same;
       regency_same = is.regency_same ∙ sym (greatest_passed view.number entries e refl);
-      start_same = is.start_same ∙ sym (ap (λ (o : Option Beginning). option_map start_by o) (at_passed view i.regency entries e refl));
+      start_same = is.start_same ∙ sym (ap (λ (o : Option Beginning). option_map stated_start o) (at_passed view i.regency entries e refl));
       arrivals_same = is.arrivals_same;
       wrote_same = sym (any_made (writes_in slot) entries e here);
       accepted_same = is.accepted_same ∙ sym (any_passed (accepts_in slot) entries e refl);
@@ -172,10 +116,11 @@ accepted_instance id view place waiting arrivals entries i a at is =
     let here : accepts_in slot e ≡ true = ap (λ (s : Slot). same_slot s slot) at ∙ same_self slot in
     record {
       id_same = is.id_same;
+      view_same = is.view_same;
       place_same = is.place_same;
       decided_same = is.decided_same;
       regency_same = is.regency_same ∙ sym (greatest_passed view.number entries e refl);
-      start_same = is.start_same ∙ sym (ap (λ (o : Option Beginning). option_map start_by o) (at_passed view i.regency entries e refl));
+      start_same = is.start_same ∙ sym (ap (λ (o : Option Beginning). option_map stated_start o) (at_passed view i.regency entries e refl));
       arrivals_same = is.arrivals_same;
       wrote_same = is.wrote_same ∙ sym (any_passed (writes_in slot) entries e refl);
       accepted_same = sym (any_made (accepts_in slot) entries e here);
@@ -189,10 +134,11 @@ decided_instance id view place waiting arrivals entries i d batch is =
     let e = Decided d in
     record {
       id_same = is.id_same;
+      view_same = is.view_same;
       place_same = is.place_same;
       decided_same = refl;
       regency_same = is.regency_same ∙ sym (greatest_passed view.number entries e refl);
-      start_same = is.start_same ∙ sym (ap (λ (o : Option Beginning). option_map start_by o) (at_passed view i.regency entries e refl));
+      start_same = is.start_same ∙ sym (ap (λ (o : Option Beginning). option_map stated_start o) (at_passed view i.regency entries e refl));
       arrivals_same = is.arrivals_same;
       wrote_same = is.wrote_same ∙ sym (any_passed (writes_in slot) entries e refl);
       accepted_same = is.accepted_same ∙ sym (any_passed (accepts_in slot) entries e refl);
@@ -203,6 +149,7 @@ pub delivered_instance : (id : ℕ) (view : View) (place : ℕ) (waiting : Optio
     → IsInstance id view place waiting arrivals entries i → IsInstance id view (place + 1) None arrivals entries (moved_on votes i)
 delivered_instance id view place waiting arrivals entries i votes voted is = record {
   id_same = is.id_same;
+  view_same = is.view_same;
   place_same = ap (λ p. p + 1) is.place_same;
   decided_same = refl;
   regency_same = is.regency_same;
@@ -214,7 +161,7 @@ delivered_instance id view place waiting arrivals entries i votes voted is = rec
 
 -- a promise of the next regency or of any later one
 pub promised_instance : (id : ℕ) (view : View) (place : ℕ) (waiting : Option Batch) (arrivals : List Message) (entries : List LogEntry) (i : Instance) (p : Promise) (start : Option Start) (votes : OwnVotes)
-    → p.view ≡ view.number → i.regency < p.regency → start ≡ option_map start_by (first_start view.number p.regency entries) → votes ≡ own_votes (slot_behind view.number place p.regency) entries
+    → p.view ≡ view.number → i.regency < p.regency → start ≡ option_map stated_start (first_start view.number p.regency entries) → votes ≡ own_votes (slot_behind view.number place p.regency) entries
     → IsInstance id view place waiting arrivals entries i → IsInstance id view place waiting arrivals (entries ++ Promised p ∷ []) (promising p.regency start votes i)
 promised_instance id view place waiting arrivals entries i p start votes at later begun voted is =
     let next = slot_behind view.number place p.regency in
@@ -223,18 +170,18 @@ promised_instance id view place waiting arrivals entries i p start votes at late
     let some : (p.regency == 0) ≡ false = ne_eqb p.regency 0 (λ (none : p.regency ≡ 0). omega (arith, later)) in
     record {
       id_same = is.id_same;
+      view_same = is.view_same;
       place_same = is.place_same;
       decided_same = is.decided_same;
       regency_same = sym (greatest_more view.number entries e ∙ (ap (λ n. max (greatest_regency view.number entries) n) here ∙ omega (arith, later, is.regency_same)));
-      start_same = begun ∙ ap (λ (o : Option Beginning). option_map start_by o)
-          (first_same view.number p.regency entries
-          ∙ sym (ap (λ t. cond t (Some (nodes.first_start view)) (start_in view.number p.regency (entries ++ e ∷ []))) some ∙ start_passed view.number p.regency entries e refl));
+      start_same = begun ∙ ap (λ (o : Option Beginning). option_map stated_start o)
+          (sym (ap (λ t. cond t (Some (nodes.view_start view)) (first_start view.number p.regency (entries ++ e ∷ []))) some ∙ start_passed view.number p.regency entries e refl));
       arrivals_same = is.arrivals_same;
       wrote_same = ap (λ (v : OwnVotes). v.wrote) voted ∙ sym (any_passed (writes_in next) entries e refl);
       accepted_same = ap (λ (v : OwnVotes). v.accepted) voted ∙ sym (any_passed (accepts_in next) entries e refl);
     }
 
-mapped_else : (o : Option Beginning) (s : Beginning) → or_else (option_map start_by o) (Some (start_by s)) ≡ option_map start_by (or_else o (Some s))
+mapped_else : (o : Option Beginning) (s : Beginning) → or_else (option_map stated_start o) (Some (stated_start s)) ≡ option_map stated_start (or_else o (Some s))
 mapped_else None s = refl
 mapped_else (Some a) s = refl
 
@@ -242,26 +189,27 @@ mapped_else (Some a) s = refl
 at_begun : (view : View) (regency : ℕ) (entries : List LogEntry) (s : Beginning) → s.view ≡ view.number → s.regency ≡ regency → start_at view regency (entries ++ Synced s ∷ []) ≡ or_else (start_at view regency entries) (Some s)
 at_begun view regency entries s at same = by (regency == 0)
   where
-    here : nodes.start_by view.number regency (Synced s) ≡ Some s
+    here : start_by view.number regency (Synced s) ≡ Some s
     here = rw (eq-eqb s.view view.number at, eq-eqb s.regency regency same) refl
 
-    by : (t : Bool) → cond t (Some (nodes.first_start view)) (start_in view.number regency (entries ++ Synced s ∷ [])) ≡ or_else (cond t (Some (nodes.first_start view)) (start_in view.number regency entries)) (Some s)
+    by : (t : Bool) → cond t (Some (nodes.view_start view)) (first_start view.number regency (entries ++ Synced s ∷ [])) ≡ or_else (cond t (Some (nodes.view_start view)) (first_start view.number regency entries)) (Some s)
     by true = refl
-    by false = start_pushed view.number regency entries (Synced s) ∙ ap (λ (o : Option Beginning). or_else (start_in view.number regency entries) o) here
+    by false = start_push view.number regency entries (Synced s) ∙ ap (λ (o : Option Beginning). or_else (first_start view.number regency entries) o) here
 
 -- the regency in force begins, or begins again
 pub synced_instance : (id : ℕ) (view : View) (place : ℕ) (waiting : Option Batch) (arrivals : List Message) (entries : List LogEntry) (i : Instance) (s : Beginning) → s.view ≡ view.number → s.regency ≡ i.regency
-    → IsInstance id view place waiting arrivals entries i → IsInstance id view place waiting arrivals (entries ++ Synced s ∷ []) (syncing (start_by s) i)
+    → IsInstance id view place waiting arrivals entries i → IsInstance id view place waiting arrivals (entries ++ Synced s ∷ []) (syncing (stated_start s) i)
 synced_instance id view place waiting arrivals entries i s at same is =
     let slot = slot_behind view.number place i.regency in
     let e = Synced s in
     record {
       id_same = is.id_same;
+      view_same = is.view_same;
       place_same = is.place_same;
       decided_same = is.decided_same;
       regency_same = is.regency_same ∙ sym (greatest_passed view.number entries e refl);
-      start_same = ap (λ (o : Option Start). or_else o (Some (start_by s))) is.start_same
-          ∙ (mapped_else (start_at view i.regency entries) s ∙ sym (ap (λ (o : Option Beginning). option_map start_by o) (at_begun view i.regency entries s at same)));
+      start_same = ap (λ (o : Option Start). or_else o (Some (stated_start s))) is.start_same
+          ∙ (mapped_else (start_at view i.regency entries) s ∙ sym (ap (λ (o : Option Beginning). option_map stated_start o) (at_begun view i.regency entries s at same)));
       arrivals_same = is.arrivals_same;
       wrote_same = is.wrote_same ∙ sym (any_passed (writes_in slot) entries e refl);
       accepted_same = is.accepted_same ∙ sym (any_passed (accepts_in slot) entries e refl);
@@ -269,10 +217,11 @@ synced_instance id view place waiting arrivals entries i s at same is =
 
 -- a member goes on from a book
 pub resumed_instance : (id : ℕ) (view : View) (place : ℕ) (entries : List LogEntry) (regency : ℕ) (start : Option Start) (votes : OwnVotes) → regency ≡ greatest_regency view.number entries
-    → start ≡ option_map start_by (start_at view regency entries) → votes ≡ own_votes (slot_behind view.number place regency) entries
-    → IsInstance id view place None [] entries (resuming id place regency start votes)
+    → start ≡ option_map stated_start (start_at view regency entries) → votes ≡ own_votes (slot_behind view.number place regency) entries
+    → IsInstance id view place None [] entries (resuming id view place regency start votes)
 resumed_instance id view place entries regency start votes at begun voted = record {
   id_same = refl;
+  view_same = refl;
   place_same = refl;
   decided_same = refl;
   regency_same = at;
@@ -288,11 +237,11 @@ pub same_regency : {S : Type 0} (n : Node S) (i : Instance) → HasInstance n i 
 unfolding regency_of
 same_regency n i has = has.regency_same
 
-pub same_start : {S : Type 0} (n : Node S) (i : Instance) → HasInstance n i → i.start ≡ option_map start_by (start_of n)
+pub same_start : {S : Type 0} (n : Node S) (i : Instance) → HasInstance n i → i.start ≡ option_map stated_start (start_of n)
 unfolding start_of
-same_start n i has = has.start_same ∙ ap (λ (r : ℕ). option_map start_by (start_at (view_of n) r n.entries)) (same_regency n i has)
+same_start n i has = has.start_same ∙ ap (λ (r : ℕ). option_map stated_start (start_at (view_of n) r n.entries)) (same_regency n i has)
 
-some_mapped : (o : Option Beginning) → is_some (option_map start_by o) ≡ is_some o
+some_mapped : (o : Option Beginning) → is_some (option_map stated_start o) ≡ is_some o
 some_mapped None = refl
 some_mapped (Some s) = refl
 
@@ -309,7 +258,7 @@ same_decided_place n i has = rw (has.decided_same, has.place_same) refl
 pub same_free : {S : Type 0} (n : Node S) (i : Instance) → HasInstance n i → is_free i ≡ nodes.is_free n
 same_free n i has = rw (has.decided_same, has.place_same, not_some n.waiting) refl
 
-begun_by : (place : ℕ) (o : Option Beginning) → has_begun place (option_map start_by o) ≡ nodes.has_begun place o
+begun_by : (place : ℕ) (o : Option Beginning) → has_begun place (option_map stated_start o) ≡ nodes.has_begun place o
 begun_by place None = refl
 begun_by place (Some s) = refl
 
@@ -324,7 +273,7 @@ same_open n i has = rw (has.id_same, same_free n i has, same_begun n i has) refl
 pub same_slot_open : {S : Type 0} (n : Node S) (i : Instance) → HasInstance n i → open_slot (view_of n) i ≡ nodes.open_slot n
 same_slot_open n i has = rw (has.place_same, same_regency n i has) refl
 
-bound_by : (place : ℕ) (o : Option Beginning) → bound_at place (option_map start_by o) ≡ nodes.bound_at place o
+bound_by : (place : ℕ) (o : Option Beginning) → bound_at place (option_map stated_start o) ≡ nodes.bound_at place o
 bound_by place None = refl
 bound_by place (Some s) = refl
 

@@ -1,14 +1,19 @@
 -- The instance of consensus in which a member takes part (Mod-SMaRt, EDCC 2012), and what is due in it.
-use Rattle.std.specs.Prelude.{ℕ, ◌+◌, ◌^◌, ◌==◌, nat_lt, nat_le, Bool, false, not, ◌&&◌, List, [], if◌then◌else◌, Option, Some, None, filter, filter_map}
+use Rattle.std.specs.Prelude.{ℕ, ◌+◌, ◌^◌, ◌==◌, nat_lt, nat_le, Bool, false, not, ◌&&◌, List, [], ◌∷◌, ◌++◌, if◌then◌else◌, Option, Some, None, filter, filter_map}
+use Rattle.std.specs.List.{list_any}
 use Rattle.vote_book.specs.declared.votes.OwnVotes.{OwnVotes}
 use Rattle.smart_base.specs.Lists.{or_else}
 use Rattle.smart_base.specs.Views.{View, is_member}
+use Rattle.smart_statements.specs.Forms.{SignedBy}
+use Rattle.smart_statements.specs.declared.statement.Ballot.{Ballot}
 use Rattle.smart_statements.specs.declared.statement.Slot.{Slot}
 use Rattle.smart_statements.specs.declared.statement.VoteKind.TheVariants as kinds
 use Rattle.smart_messages.specs.declared.message.Message.{Message}
+use Rattle.smart_messages.specs.declared.message.Message.TheVariants.{Propose, Vote}
 use Rattle.smart_messages.specs.declared.message.Proposed.{Proposed}
 use Rattle.node_rules.specs.Votes.{has_quorum, Named, named_in, accepted_in, proposed_for}
-use Rattle.node_rules.specs.Kept.{is_needed}
+use Rattle.node_rules.specs.Arrivals.{is_same_proposal, is_same_vote}
+use Rattle.node_rules.specs.Kept.{is_ahead, is_needed}
 use Rattle.node_rules.specs.Nodes.{is_within}
 use Rattle.consensus_instance.specs.declared.rule.Rule.{Rule}
 use Rattle.consensus_instance.specs.declared.rule.Rule.TheVariants.{Write, Accept}
@@ -18,6 +23,8 @@ use Rattle.consensus_instance.specs.declared.start.Start.{Start}
 pub record Instance : Type 0 where
   -- the member's number
   pub id : ℕ
+  -- the view in force
+  pub view : View
   -- the last delivered place
   pub place : ℕ
   -- whether the batch of the next place is decided
@@ -26,7 +33,7 @@ pub record Instance : Type 0 where
   pub regency : ℕ
   -- the beginning of the regency in force, after it is adopted; regency 0 has one at once
   pub start : Option Start
-  -- proposals and votes that were kept, for the next place and later ones
+  -- proposals and votes of members that were kept, for the next place and later ones; of one signer one for a slot, of votes one of each kind
   pub arrivals : List Message
   -- whether the member has a WRITE in the open slot
   pub wrote : Bool
@@ -37,6 +44,7 @@ pub record Instance : Type 0 where
 abbrev pub first_of : ℕ → View → List Message → Instance
 first_of id view arrivals = record {
   id = id;
+  view = view;
   place = 0;
   decided = false;
   regency = 0;
@@ -50,10 +58,11 @@ first_of id view arrivals = record {
 abbrev pub regency_of : Instance → ℕ
 regency_of i = i.regency
 
--- the instance of a restarted member at the next place, with the beginning of its regency, if it has one, and its votes there
-abbrev pub resuming : ℕ → ℕ → ℕ → Option Start → OwnVotes → Instance
-resuming id place regency start votes = record {
+-- the instance of a restarted member at the next place of a view, with the beginning of its regency, if it has one, and its votes there
+abbrev pub resuming : ℕ → View → ℕ → ℕ → Option Start → OwnVotes → Instance
+resuming id view place regency start votes = record {
   id = id;
+  view = view;
   place = place;
   decided = false;
   regency = regency;
@@ -70,6 +79,36 @@ decided_place i = if i.decided then i.place + 1 else i.place
 -- a free instance: no decided batch waits for delivery, and there is a next place
 abbrev pub is_free : Instance → Bool
 is_free i = not i.decided && nat_lt (i.place + 1) (2 ^ 63)
+
+-- ---- what is kept
+
+-- A slot within reach: of the view in force, one or two places past the last decided one, and of the regency in force or the next one.
+abbrev pub is_reached : Instance → Slot → Bool
+is_reached i slot =
+    is_ahead i.view.number (decided_place i) i.regency slot
+    && nat_le slot.place (decided_place i + 2) && nat_le slot.regency (i.regency + 1)
+
+-- A vote that may be kept: its signer is a member, its slot is within reach, and it repeats none.
+unfoldable pub keeps_vote : SignedBy Ballot → Instance → Bool
+keeps_vote b i = is_member i.view b.signer && is_reached i b.statement.slot && not (list_any (is_same_vote b) i.arrivals)
+
+-- a proposal that may be kept
+unfoldable pub keeps_proposal : Proposed → Instance → Bool
+keeps_proposal p i = is_member i.view p.head.signer && is_reached i p.head.statement.slot && not (list_any (is_same_proposal p) i.arrivals)
+
+-- the instance with one more message
+abbrev pub with_arrival : Message → Instance → Instance
+with_arrival m i = record i { arrivals = i.arrivals ++ m ∷ [] }
+
+-- the instance to which a vote came. A vote that may not be kept leaves it as it was.
+abbrev pub keeping_vote : SignedBy Ballot → Instance → Instance
+keeping_vote b i = if keeps_vote b i then with_arrival (Vote b) i else i
+
+-- the instance to which a proposal came
+abbrev pub keeping_proposal : Proposed → Instance → Instance
+keeping_proposal p i = if keeps_proposal p i then with_arrival (Propose p) i else i
+
+-- ---- what is due
 
 -- a place at which members vote: the regency has begun, and its base is this place or an earlier one
 abbrev pub has_begun : ℕ → Option Start → Bool

@@ -21,18 +21,19 @@ abbrev pub slot_behind : ℕ → ℕ → ℕ → Slot
 slot_behind view place regency = record { view = view; place = place + 1; regency = regency }
 
 -- the beginning that an entry states
-abbrev pub start_by : Beginning → Start
-start_by s = record { base = s.base; bound = s.bound }
+abbrev pub stated_start : Beginning → Start
+stated_start s = record { base = s.base; bound = s.bound }
 
 -- The instance of a member, by its last delivered place, its waiting batch, its kept messages and its book, in a view.
 pub record IsInstance (id : ℕ) (view : View) (place : ℕ) (waiting : Option Batch) (arrivals : List Message) (entries : List LogEntry) (i : Instance) : Type 0 where
   pub id_same : i.id ≡ id
+  pub view_same : i.view ≡ view
   pub place_same : i.place ≡ place
   pub decided_same : i.decided ≡ is_some waiting
   -- its regency is the greatest that the book promises in the view
   pub regency_same : i.regency ≡ greatest_regency view.number entries
   -- its beginning is the one that the book states
-  pub start_same : i.start ≡ option_map start_by (start_at view i.regency entries)
+  pub start_same : i.start ≡ option_map stated_start (start_at view i.regency entries)
   pub arrivals_same : i.arrivals ≡ arrivals
   -- it has a WRITE if the book has one in the open slot
   pub wrote_same : i.wrote ≡ list_any (writes_in (slot_behind view.number place i.regency)) entries

@@ -1,25 +1,26 @@
 //! The instance itself.
-ghost use Rattle.std.specs.Prelude.{◌≡◌, ◌+◌, ◌<◌, ◌++◌, ◌∷◌, [], true, false, Some, None, IfOk, IsSome, OnOk, OnErr, option_map};
+ghost use Rattle.std.specs.Prelude.{◌≡◌, ◌+◌, ◌<◌, [], true, false, Some, None, IfOk, IsSome, OnOk, OnErr, option_map};
 ghost use Rattle.std.specs.List.{list_any};
 ghost use Rattle.std.specs.Option.{option_copied};
-ghost use Rattle.smart_messages.specs.declared.message.Message.TheVariants as messages;
+ghost use Rattle.smart_base.specs.Views.{is_member};
 ghost use Rattle.smart_statements.specs.declared.statement.VoteKind.TheVariants as kinds;
 ghost use Rattle.node_rules.specs.Votes.{has_quorum, name_of};
 ghost use Rattle.node_rules.specs.Arrivals.{is_same_proposal, is_same_vote};
 ghost use Rattle.node_rules.specs.Nodes.{is_within};
 ghost use Rattle.node_rules.specs.Votes.{certificate_votes, proposed_for};
 ghost use Rattle.consensus_instance.specs.Instances.{Instance, first_of, regency_of, decided_place, is_free, has_begun, is_bound_to, is_unbound, is_open, open_slot, votable, written, due_by, accepted_named, trimmed, moved_on, promising, syncing, resuming};
+ghost use Rattle.consensus_instance.specs.Instances.{is_reached, keeps_vote, keeps_proposal, keeping_vote, keeping_proposal};
 
 use crate::find::{
     accepted_proposal, certificate_votes, has_quorum, proposed_for, repeats_proposal, repeats_vote,
 };
-use crate::needed::keep_needed;
+use crate::needed::{is_ahead, keep_needed};
 use crate::rule::Rule;
 use crate::start::Start;
 use smart_base::bytes::Digest32;
 use smart_base::equality::same_bytes;
 use smart_base::name::MemberId;
-use smart_base::number::{Place, Regency, ViewNo};
+use smart_base::number::{Place, Regency};
 use smart_base::view::View;
 use smart_messages::message::{Message, Proposed};
 use smart_statements::batch::Batch;
@@ -31,10 +32,13 @@ use std::marker::Model;
 use vote_book::votes::OwnVotes;
 
 /// The instance of consensus in which a member takes part: that of its next place (Mod-SMaRt, EDCC
-/// 2012). The view in force is lent to each call that needs it. A batch goes by the digest that its
-/// proposal states; none is digested here. Regency 0 has begun from the first.
+/// 2012). A batch goes by the digest that its proposal states; none is digested here. Regency 0 has
+/// begun from the first. Proposals and votes are kept of members alone, for slots within reach, and
+/// each once: what else comes leaves the instance as it was.
 pub struct Instance {
     id: MemberId,
+    /// The view in force.
+    view: View,
     /// The last delivered place.
     place: Place,
     /// Whether the batch of the next place is decided.
@@ -55,6 +59,7 @@ impl Drop for Instance {
     fn drop(self) {
         let Instance {
             id: _,
+            view: _,
             place: _,
             decided: _,
             regency: _,
@@ -74,6 +79,7 @@ impl Model for Instance {
 
     ghost view = { λ i. record {
       id = i.id;
+      view = i.view;
       place = i.place;
       decided = i.decided;
       regency = i.regency;
@@ -89,39 +95,40 @@ impl Model for Instance {
 impl Instance {
     /// The instance of the first place of a group, in regency 0, which begins with the group's first
     /// view. It needs no memory.
-    pub fn begin(alloc: Global, id: MemberId, view: &View) -> Self
-        ensures { result ≡ first_of id view.now [] }
+    pub fn begin(alloc: Global, id: MemberId, view: View) -> Self
+        ensures { result ≡ first_of id view [] }
     {
+        let base = view.start();
         Instance {
             id,
+            view,
             place: Place::zero(),
             decided: false,
             regency: Regency::new(0),
-            start: Some(Start {
-                base: view.start(),
-                bound: None,
-            }),
+            start: Some(Start { base, bound: None }),
             arrivals: Vec::new(alloc),
             wrote: false,
             accepted: false,
         }
     }
 
-    /// The instance of a restarted member at the next place, with the beginning of its regency, if it
-    /// has one, and its votes there. It needs no memory.
+    /// The instance of a restarted member at the next place of a view, with the beginning of its
+    /// regency, if it has one, and its votes there. It needs no memory.
     pub fn resume(
         alloc: Global,
         id: MemberId,
+        view: View,
         place: Place,
         regency: Regency,
         start: Option<Start>,
         votes: OwnVotes,
     ) -> Self
         requires { regency ≡ 0 → IsSome start }
-        ensures { result ≡ resuming id place regency start votes }
+        ensures { result ≡ resuming id view place regency start votes }
     {
         Instance {
             id,
+            view,
             place,
             decided: false,
             regency,
@@ -174,10 +181,10 @@ impl Instance {
 
     /// Whether the slot is open at the next place: no decided batch waits, the regency in force has
     /// begun, and its base is this place or an earlier one.
-    pub fn is_open(&self, view: &View) -> bool
-        ensures { result ≡ is_open view.now self.now }
+    pub fn is_open(&self) -> bool
+        ensures { result ≡ is_open self.now.view self.now }
     {
-        view.is_member(self.id) && self.is_free() && self.has_begun()
+        self.view.is_member(self.id) && self.is_free() && self.has_begun()
     }
 
     /// The bound of a place, if it has one: members vote there for this digest alone in the regency
@@ -202,37 +209,82 @@ impl Instance {
     }
 
     /// The slot in which the member takes part.
-    pub fn open_slot(&self, view: &View) -> Slot
+    pub fn open_slot(&self) -> Slot
         requires { is_free self.now ≡ true }
-        ensures { result ≡ open_slot view.now self.now }
+        ensures { result ≡ open_slot self.now.view self.now }
     {
         Slot {
-            view: view.number(),
+            view: self.view.number(),
             place: self.place.next(),
             regency: self.regency(),
         }
     }
 
-    /// Keeps a proposal. Error: want of memory; nothing is kept then.
+    /// Keeps a member's proposal for a slot within reach, unless it repeats one; else the instance
+    /// stays as it was. Error: want of memory; nothing is kept then.
     pub fn on_propose(&mut self, propose: Signed<Proposal>, batch: Batch) -> Result<(), AllocError>
-        ensures ok { OnOk result (self.new ≡ record self.old { arrivals = self.old.arrivals ++ messages.Propose (record { head = propose; batch = batch }) ∷ [] }) }
+        ensures ok { OnOk result (self.new ≡ keeping_proposal (record { head = propose; batch = batch }) self.old) }
         ensures err { OnErr result (self.new ≡ self.old) }
     {
         let proposed = Proposed {
             head: propose,
             batch,
         };
+        if !self.keeps_proposal(&proposed) {
+            return Ok(());
+        }
         self.arrivals.push(Message::Propose(proposed))?;
         Ok(())
     }
 
-    /// Keeps a vote. Error: want of memory; nothing is kept then.
+    /// Keeps a member's vote for a slot within reach, unless it repeats one; else the instance stays as
+    /// it was. Error: want of memory; nothing is kept then.
     pub fn on_vote(&mut self, vote: Signed<Ballot>) -> Result<(), AllocError>
-        ensures ok { OnOk result (self.new ≡ record self.old { arrivals = self.old.arrivals ++ messages.Vote vote ∷ [] }) }
+        ensures ok { OnOk result (self.new ≡ keeping_vote vote self.old) }
         ensures err { OnErr result (self.new ≡ self.old) }
     {
+        if !self.keeps_vote(&vote) {
+            return Ok(());
+        }
         self.arrivals.push(Message::Vote(vote))?;
         Ok(())
+    }
+
+    /// Whether a proposal may be kept.
+    #[tactic(auto, unfolding(crate::specs::Instances::keeps_proposal))]
+    fn keeps_proposal(&self, proposed: &Proposed) -> bool
+        ensures { result ≡ keeps_proposal proposed.now self.now }
+    {
+        self.has_member(proposed.head.signer())
+            && self.reaches(&proposed.head.statement().slot)
+            && !self.repeats_proposal(proposed)
+    }
+
+    /// Whether a vote may be kept.
+    #[tactic(auto, unfolding(crate::specs::Instances::keeps_vote))]
+    fn keeps_vote(&self, vote: &Signed<Ballot>) -> bool
+        ensures { result ≡ keeps_vote vote.now self.now }
+    {
+        self.has_member(vote.signer())
+            && self.reaches(&vote.statement().slot)
+            && !self.repeats_vote(vote)
+    }
+
+    fn has_member(&self, signer: u16) -> bool
+        ensures { result ≡ is_member self.now.view signer }
+    {
+        self.view.is_member(MemberId::new(signer))
+    }
+
+    /// Whether a slot is within reach: of the view in force, one or two places past the last decided
+    /// one, and of the regency in force or the next one.
+    fn reaches(&self, slot: &Slot) -> bool
+        ensures { result ≡ is_reached self.now slot.now }
+    {
+        let place = self.decided_place();
+        is_ahead(self.view.number(), place, self.regency, slot)
+            && slot.place.get() <= place.get() + 2
+            && slot.regency.get() as u64 <= self.regency.get() as u64 + 1
     }
 
     /// Whether the signer's proposal for the slot was kept before.
@@ -251,15 +303,13 @@ impl Instance {
 
     /// The proposal for which a vote is due now, if there is one.
     #[tactic(auto, unfolding(crate::specs::Instances::due_by))]
-    pub fn due(&self, view: &View, rule: Rule) -> Option<&Proposed>
-        ensures proposal { option_copied result ≡ due_by rule view.now self.now }
+    pub fn due(&self, rule: Rule) -> Option<&Proposed>
+        ensures proposal { option_copied result ≡ due_by rule self.now.view self.now }
         ensures free { IsSome result → is_free self.now ≡ true }
     {
         match rule {
-            Rule::Write if self.is_open(view) && !self.wrote => self.votable(view),
-            Rule::Accept if self.is_open(view) && !self.accepted => {
-                self.written(view, self.votable(view))
-            }
+            Rule::Write if self.is_open() && !self.wrote => self.votable(),
+            Rule::Accept if self.is_open() && !self.accepted => self.written(self.votable()),
             Rule::Write | Rule::Accept => None,
         }
     }
@@ -269,23 +319,23 @@ impl Instance {
     pub fn votes(
         &self,
         alloc: Global,
-        view: &View,
         kind: VoteKind,
         slot: &Slot,
         digest: &Digest32,
     ) -> Result<SignedList<Ballot>, AllocError>
-        ensures { IfOk result (λ votes. votes ≡ certificate_votes self.now.arrivals view.now kind slot.now digest.now) }
+        ensures { IfOk result (λ votes. votes ≡ certificate_votes self.now.arrivals self.now.view kind slot.now digest.now) }
     {
-        certificate_votes(alloc, self.arrivals.as_slice(), view, kind, slot, digest)
+        let arrivals = self.arrivals.as_slice();
+        certificate_votes(alloc, arrivals, &self.view, kind, slot, digest)
     }
 
     /// Whether a quorum accepted a digest in a slot.
-    pub fn is_accepted(&self, view: &View, slot: &Slot, digest: &Digest32) -> bool
-        ensures { result ≡ has_quorum self.now.arrivals view.now kinds.Accept slot.now digest.now }
+    pub fn is_accepted(&self, slot: &Slot, digest: &Digest32) -> bool
+        ensures { result ≡ has_quorum self.now.arrivals self.now.view kinds.Accept slot.now digest.now }
     {
         has_quorum(
             self.arrivals.as_slice(),
-            view,
+            &self.view,
             VoteKind::Accept,
             slot,
             digest,
@@ -294,10 +344,10 @@ impl Instance {
 
     /// The first proposal whose batch a quorum accepted in a slot. It is for the slot's place in its
     /// view, in the regency in force or a later one. The slot may be of another regency.
-    pub fn accepted_proposal(&self, view: &View, slot: &Slot) -> Option<&Proposed>
-        ensures { option_map name_of (option_copied result) ≡ accepted_named view.now slot.now self.now }
+    pub fn accepted_proposal(&self, slot: &Slot) -> Option<&Proposed>
+        ensures { option_map name_of (option_copied result) ≡ accepted_named self.now.view slot.now self.now }
     {
-        accepted_proposal(self.arrivals.as_slice(), view, self.regency, slot)
+        accepted_proposal(self.arrivals.as_slice(), &self.view, self.regency, slot)
     }
 
     /// Notes that the member has a WRITE in the open slot.
@@ -356,11 +406,12 @@ impl Instance {
         }
     }
 
-    /// Drops the proposals and votes that are no longer needed in a view.
+    /// Drops the proposals and votes that are no longer needed.
     #[tactic(auto, unfolding(crate::specs::Instances::trimmed))]
-    pub fn trim(&mut self, view: ViewNo)
-        ensures { self.new ≡ trimmed view self.old }
+    pub fn trim(&mut self)
+        ensures { self.new ≡ trimmed self.old.view.number self.old }
     {
+        let view = self.view.number();
         let place = self.decided_place();
         let regency = self.regency();
         keep_needed(&mut self.arrivals, view, place, regency);
@@ -388,11 +439,11 @@ impl Instance {
     }
 
     /// The first proposal for the open slot, if its digest may get votes.
-    fn votable(&self, view: &View) -> Option<&Proposed>
+    fn votable(&self) -> Option<&Proposed>
         requires { is_free self.now ≡ true }
-        ensures { option_copied result ≡ votable self.now (proposed_for self.now.arrivals (open_slot view.now self.now)) }
+        ensures { option_copied result ≡ votable self.now (proposed_for self.now.arrivals (open_slot self.now.view self.now)) }
     {
-        match proposed_for(self.arrivals.as_slice(), &self.open_slot(view)) {
+        match proposed_for(self.arrivals.as_slice(), &self.open_slot()) {
             None => None,
             Some(proposed) => {
                 if self.may_have(self.place.next(), &proposed.head.statement().digest) {
@@ -405,18 +456,18 @@ impl Instance {
     }
 
     /// A proposal, if a quorum wrote for it in the open slot.
-    fn written<'a>(&self, view: &View, proposed: Option<&'a Proposed>) -> Option<&'a Proposed>
+    fn written<'a>(&self, proposed: Option<&'a Proposed>) -> Option<&'a Proposed>
         requires { is_free self.now ≡ true }
-        ensures { option_copied result ≡ written view.now self.now (option_copied proposed.entry) }
+        ensures { option_copied result ≡ written self.now.view self.now (option_copied proposed.entry) }
     {
         match proposed {
             None => None,
             Some(proposed) => {
-                let slot = self.open_slot(view);
+                let slot = self.open_slot();
                 let digest = &proposed.head.statement().digest;
                 if has_quorum(
                     self.arrivals.as_slice(),
-                    view,
+                    &self.view,
                     VoteKind::Write,
                     &slot,
                     digest,

@@ -6,11 +6,11 @@ use smart_base::number::{Place, Regency, ViewNo};
 use smart_messages::message::{Message, slot_of};
 use smart_statements::statement::Slot;
 
-/// Whether a slot is past a place, of this view and regency or of later ones.
+/// Whether a slot is of this view, past a place, and of this regency or a later one.
 pub fn is_ahead(view: ViewNo, place: Place, regency: Regency, slot: &Slot) -> bool
     ensures { result ≡ is_ahead view place regency slot.now }
 {
-    place < slot.place && view <= slot.view && regency <= slot.regency
+    place < slot.place && slot.view == view && regency <= slot.regency
 }
 
 fn is_needed(view: ViewNo, place: Place, regency: Regency, message: &Message) -> bool

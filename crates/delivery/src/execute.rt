@@ -6,12 +6,12 @@ use smart_base::duplicate::Duplicate;
 use smart_base::sequence::Sequence;
 use smart_service::replica::Replica;
 use smart_service::service::Service;
-use smart_service::table::TableLine;
+use smart_service::table::Execution;
 use smart_statements::batch::Batch;
 use smart_statements::statement::Request;
 use std::alloc::{AllocError, Global};
 
-/// Executes a request if it is its client's next, and gives the line that it made. Any other request
+/// Executes a request if its number may be executed now, and gives the execution. Any other request
 /// is passed over. Error: want of memory.
 #[tactic(auto, unfolding(replica_rules::specs::Replicas::execute))]
 fn execute<S: Service>(
@@ -19,18 +19,18 @@ fn execute<S: Service>(
     replica: &mut Replica<S>,
     index: u16,
     request: &Request,
-) -> Result<Option<TableLine>, AllocError>
+) -> Result<Option<Execution>, AllocError>
     ensures state { OnOk result (replica.new ≡ execute S.meaning replica.old index request.now) }
     ensures place { replica.new.place ≡ replica.old.place }
     ensures views { replica.new.views ≡ replica.old.views }
     ensures valid { S.valid replica.old.service → S.valid replica.new.service }
     ensures line { IfOk result (λ line. line ≡ line_made S.meaning replica.old index request.now) }
 {
-    if !replica.table.is_next(request.client, request.seq) {
+    if !replica.table.may_execute(request.client, request.seq) {
         return Ok(None);
     }
     let reply = replica.service.run(alloc, request.op.as_slice())?;
-    let line = TableLine {
+    let line = Execution {
         client: request.client,
         seq: request.seq,
         place: replica.place,
@@ -43,13 +43,13 @@ fn execute<S: Service>(
     Ok(Some(line))
 }
 
-/// Executes a batch's requests, in order, and gives the lines that they made. Error: want of memory;
+/// Executes a batch's requests, in order, and gives the executions. Error: want of memory;
 /// some of them may have been executed then. A valid state of the service stays valid in any case.
 pub fn execute_all<S: Service>(
     alloc: Global,
     replica: &mut Replica<S>,
     batch: &Batch,
-) -> Result<Sequence<TableLine>, AllocError>
+) -> Result<Sequence<Execution>, AllocError>
     ensures state { OnOk result (replica.new ≡ execute_all S.meaning replica.old 0 batch.now) }
     ensures place { replica.new.place ≡ replica.old.place }
     ensures views { replica.new.views ≡ replica.old.views }

@@ -9,7 +9,7 @@ use smart_base::sequence::Sequence;
 use smart_base::view::{View, Views};
 use smart_service::replica::Replica;
 use smart_service::service::Service;
-use smart_service::table::{ClientTable, TableLine};
+use smart_service::table::{ClientTable, Execution};
 use smart_statements::batch::Batch;
 use std::alloc::{AllocError, Global};
 
@@ -73,16 +73,16 @@ impl<S: Service> KeptReplica<S> {
     }
 }
 
-/// Executes a batch at the next place, and gives the lines of the executed requests, in order. A
-/// request is executed if its number is its client's next; any other is passed over. Each line has
-/// the reply for its client. Error: want of memory; the replica is spent then. A valid state of the
+/// Executes a batch at the next place, and gives the executions, in order. A request is executed if
+/// its number may be executed then; any other is passed over. Each execution has the reply for its
+/// client. Error: want of memory; the replica is spent then. A valid state of the
 /// service stays valid in any case.
 #[tactic(auto, unfolding(replica_rules::specs::Replicas::delivered, replica_rules::specs::Replicas::executed_lines))]
 pub fn deliver<S: Service>(
     alloc: Global,
     replica: &mut KeptReplica<S>,
     batch: &Batch,
-) -> Result<Sequence<TableLine>, AllocError>
+) -> Result<Sequence<Execution>, AllocError>
     requires ready { replica.old.spent ≡ false }
     requires room { replica.old.replica.place + 1 < 2 ^ 63 }
     ensures state { OnOk result (replica.new.replica ≡ delivered S.meaning replica.old.replica batch.now) }

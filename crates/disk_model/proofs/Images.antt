@@ -80,23 +80,6 @@ within_shortened n s image is = record {
   same = λ i lt none. is.same i (omega arith) none;
 }
 
-pub within_torn_cut : (n : ℕ) (s : Cells) → Within (torn_cut n s) (cut_to n s)
-within_torn_cut n s image is = record {
-  no_shorter = is.no_shorter;
-  no_longer = is.no_longer;
-  same = λ i lt none. is.same i lt none ∙ sym (get_or-take n s.now i 0 (omega arith));
-}
-
-pub within_settled : (s : Cells) → s.shortest ≤ length s.now → length s.now ≤ s.greatest → Within (settled s.now) s
-within_settled s low high image is = record {
-  no_shorter = omega (arith, is.no_shorter);
-  no_longer = omega (arith, is.no_longer);
-  same = λ i lt none. is.same i (omega arith) refl;
-}
-
-pub within_refl : (s : Cells) → Within s s
-within_refl s image is = is
-
 pub within_by : (s t : Cells) → s ≡ t → Within s t
 within_by s t same image is = subst (λ (q : Cells). IsImage q image) same is
 
@@ -106,15 +89,6 @@ begun at bytes s new le same image is = within_begun at bytes s le image (within
 
 pub torn : (at : ℕ) (bytes : List ℕ) (s new : Cells) → at ≤ length s.now → new ≡ torn_write (record { from = at; upto = at + length bytes }) s → Within new (written at bytes s)
 torn at bytes s new le same image is = within_torn at bytes s le image (within_by new _ same image is)
-
-pub cut_begun : (n : ℕ) (s new : Cells) → new ≡ s → Within new (cut_to n s)
-cut_begun n s new same image is = within_cut_begun n s image (within_by new s same image is)
-
-pub cut_torn : (n : ℕ) (s new : Cells) → new ≡ torn_cut n s → Within new (cut_to n s)
-cut_torn n s new same image is = within_torn_cut n s image (within_by new _ same image is)
-
-pub sync_done : (s new : Cells) → s.shortest ≤ length s.now → length s.now ≤ s.greatest → new ≡ settled s.now → Within new s
-sync_done s new low high same image is = within_settled s low high image (within_by new _ same image is)
 
 -- ---- what is left of a disk of which all was sure
 

@@ -11,9 +11,6 @@ pub replay-push : (xs : List Change) (x : Change) (s : Cells) → replay (xs ++ 
 replay-push [] x s = refl
 replay-push (y ∷ xs) x s = replay-push xs x (change_cells y s)
 
-pub elapses_same : (first : List ℕ) (xs : List Change) (s : Cells) → Elapses (length xs) (length xs) (LeftSince first xs) (LeftSince first xs) (IsImage s)
-elapses_same first xs s = record { later = omega arith; nothing_else = λ t c le left. inl left; keeps = λ t c le left. left }
-
 module _ (first : List ℕ) (xs : List Change) (x : Change) (s : Cells) (is : replay (xs ++ x ∷ []) (settled first) ≡ s) where
   long : length (xs ++ x ∷ []) ≡ length xs + 1
   long = omega (arith, length-append xs (x ∷ []))

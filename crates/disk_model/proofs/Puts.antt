@@ -26,7 +26,3 @@ put_inside at bytes old i le from below =
 
 pub length-put : (at : ℕ) (bytes old : List ℕ) → at ≤ length old → length (put at bytes old) ≡ max (length old) (at + length bytes)
 length-put at bytes old le = omega (arith, length-append (take at old) (bytes ++ drop (at + length bytes) old), length-append bytes (drop (at + length bytes) old), length-take-le at old le, length-drop (at + length bytes) old)
-
--- past the end they are added
-pub put_past : (at : ℕ) (bytes old : List ℕ) → length old ≤ at → put at bytes old ≡ old ++ bytes
-put_past at bytes old le = rw (take_all at old le, drop_all (at + length bytes) old (omega arith), append-nil bytes) refl

@@ -35,11 +35,5 @@ sound_cut n s sound = record {
 pub sound_touched : (r : Range) (s : Cells) → IsSound s → IsSound (torn_write r s)
 sound_touched r s sound = record { reads = within_touched r s s.now sound.reads; was_sure = within_touched r s s.sure sound.was_sure }
 
-pub sound_shortened : (n : ℕ) (s : Cells) → IsSound s → IsSound (torn_cut n s)
-sound_shortened n s sound = record { reads = within_shortened n s s.now sound.reads; was_sure = within_shortened n s s.sure sound.was_sure }
-
 pub same_sound : (s new : Cells) → new ≡ s → IsSound s → IsSound new
 same_sound s new same sound = subst IsSound (sym same) sound
-
-pub cells_are : (a b : Cells) → a.now ≡ b.now → a.sure ≡ b.sure → a.shortest ≡ b.shortest → a.greatest ≡ b.greatest → a.touched ≡ b.touched → a ≡ b
-cells_are a b now sure shortest greatest touched = λ i. record { now = now i; sure = sure i; shortest = shortest i; greatest = greatest i; touched = touched i }

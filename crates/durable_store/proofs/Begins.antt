@@ -5,12 +5,6 @@ use Rattle.batch_log.specs.declared.job.Job.TheVariants.{Rest, Torn, Close, Sync
 use Rattle.batch_log.specs.Jobs.{Begins, code, idle}
 use Rattle.durable_store.specs.Turns.{rests}
 
--- where the log's gate is closed, a group begins behind it
-pub begins_body : (job next : Job) (bytes : List ℕ) → job ≡ Rest → Begins job bytes next → code next ≡ 4
-begins_body job next bytes is begins =
-    let body : next ≡ Body bytes = subst (λ (j : Job). Begins j bytes next) is begins in
-    ap code body
-
 pub rest_idle : (job : Job) → rests job ≡ true → idle job ≡ true
 rest_idle Rest is = refl
 rest_idle Torn is = refl

@@ -75,16 +75,6 @@ module _ {D : Type 0} {g : Ghosts D} (s t : Store D g) (other_log : t.other_log 
         (device_of t.slots.odd.device s.slots.odd.device images.odd_slot (ap (λ q. q.odd.device) slots) a.odd_slot)
         (other_of images a.other_log))
 
--- what the log stands for is under way
-pub log_under_way : {D : Type 0} {g : Ghosts D} (s : Store D g) → IsUnderWay s → LogUnderWay (g.cells s.log.device) s.log.end s.log.job
-log_under_way s u = record { group = u.added; kept = u.stands.own; other = u.stands.own_other; stands = u.stands.log }
-
-pub even_under_way : {D : Type 0} {g : Ghosts D} (s : Store D g) → IsUnderWay s → IsSlotUnderWay false (g.cells s.slots.even.device) s.slots.even.job
-even_under_way s u = record { next = u.stands.next; has = u.stands.even; other = u.stands.even_other; stands = u.stands.even_slot }
-
-pub odd_under_way : {D : Type 0} {g : Ghosts D} (s : Store D g) → IsUnderWay s → IsSlotUnderWay true (g.cells s.slots.odd.device) s.slots.odd.job
-odd_under_way s u = record { next = u.stands.next; has = u.stands.odd; other = u.stands.odd_other; stands = u.stands.odd_slot }
-
 pub ok_two : {T E : Type 0} (r : Result T E) (X Y Z : Type 0) → (X → Y → Z) → OnOk r X → OnOk r Y → OnOk r Z
 ok_two (Ok x) X Y Z f one two = f one two
 ok_two (Err e) X Y Z f one two = tt

@@ -347,6 +347,7 @@ impl<D: Disk> Store<D> {
         ensures want { IsErrOf result LogFault.NoMemory → (self.new.state ≡ State.Open) ⊎ OneWanted self.old self.new }
         ensures closes { Closes result self.old.state self.new.state }
     {
+        // That the number of firm entries fits 64 bits is known of the field, before the calls and after them.
         let _before = self.firm;
         let tail = Tail {
             made: 0,

@@ -68,7 +68,7 @@ ahead_where n slot none =
     let outer = else_none (view_why n slot.view) (or_else (place_why n slot.place) (regency_why n slot.regency)) none in
     let inner = else_none (place_why n slot.place) (regency_why n slot.regency) outer.1 in
     let same = view_is n slot.view outer.0 in
-    ahead_from (view_of n).number (decided_place n) (regency_of n) slot (omega (arith, same)) (place_is n slot.place inner.0) (regency_is n slot.regency inner.1)
+    ahead_from (view_of n).number (decided_place n) (regency_of n) slot same (place_is n slot.place inner.0) (regency_is n slot.regency inner.1)
 
 -- ---- why an arrival is dropped
 

@@ -1,6 +1,6 @@
 -- What speaks of a slot ahead is needed, and searches for it find the same among the needed.
 use Rattle.std.proofs.Common.{◌≡◌, ℕ, ◌≤◌, ◌<◌, ◌^◌, ◌++◌, Bool, true, false, ◌&&◌, ◌==◌, List, [], ◌∷◌, length, take, refl, ap, sym, ◌∙◌, cond, arith, nat_lt, nat_le, Option, Some, None, is_some, is_none}
-use Rattle.std.proofs.lemmas.Bool.{leb-true, le-leb, ltb-true, lt-ltb, eqb-true}
+use Rattle.std.proofs.lemmas.Bool.{leb-true, le-leb, ltb-true, lt-ltb, eqb-true, eq-eqb}
 use Rattle.std.specs.Prelude.{filter, filter_map}
 use Rattle.smart_base.specs.Lists.{or_else, same_bytes}
 use Rattle.smart_base.specs.Views.{View, is_member, quorum}
@@ -33,8 +33,8 @@ as_ahead : (v c r : ℕ) (s slot : Slot) → is_ahead v c r slot ≡ true → sa
 as_ahead v c r s slot ahead same = ap (λ t. is_ahead v c r t) (slot_is s slot same) ∙ ahead
 
 -- a slot of this view, of a place past one and of this regency or a later one
-pub ahead_from : (v c r : ℕ) (s : Slot) → v ≤ s.view → c < s.place → r ≤ s.regency → is_ahead v c r s ≡ true
-ahead_from v c r s views places regencies = rw (lt-ltb c s.place places, le-leb v s.view views, le-leb r s.regency regencies) refl
+pub ahead_from : (v c r : ℕ) (s : Slot) → s.view ≡ v → c < s.place → r ≤ s.regency → is_ahead v c r s ≡ true
+ahead_from v c r s views places regencies = rw (lt-ltb c s.place places, eq-eqb s.view v views, le-leb r s.regency regencies) refl
 
 -- ---- what speaks of a slot ahead
 
@@ -62,7 +62,7 @@ named_needed v c r place past (Propose p) some =
     let slot : Slot = p.head.statement.slot in
     let outer = and_true ((slot.view == v) && (slot.place == place)) (nat_le r slot.regency) (guard_passed _ _ some) in
     let inner = and_true (slot.view == v) (slot.place == place) outer.0 in
-    ahead_from v c r slot (omega (arith, eqb-true slot.view v inner.0)) (omega (arith, past, eqb-true slot.place place inner.1)) (leb-true r slot.regency outer.1)
+    ahead_from v c r slot (eqb-true slot.view v inner.0) (omega (arith, past, eqb-true slot.place place inner.1)) (leb-true r slot.regency outer.1)
 named_needed v c r place past _ some = absurd (cc)
 
 pub same_vote_needed : (v c r : ℕ) (b : SignedBy Ballot) → is_ahead v c r b.statement.slot ≡ true → (m : Message) → is_same_vote b m ≡ true → is_needed v c r m ≡ true
@@ -163,7 +163,7 @@ pub slot_ahead : {S : Type 0} (n : Node S) (regency : ℕ) → n.waiting ≡ Non
     → ahead_of n (record { view = (view_of n).number; place = next_place n; regency = regency }) ≡ true
 slot_ahead n regency free later =
     ahead_from (view_of n).number (decided_place n) (regency_of n) (record { view = (view_of n).number; place = next_place n; regency = regency })
-    (omega arith) (next_past n free) later
+    refl (next_past n free) later
 
 pub open_ahead : {S : Type 0} (n : Node S) → n.waiting ≡ None → ahead_of n (open_slot n) ≡ true
 open_ahead n free = slot_ahead n (regency_of n) free (omega arith)
@@ -172,9 +172,9 @@ open_ahead n free = slot_ahead n (regency_of n) free (omega arith)
 
 ahead_later : (v c r d q : ℕ) → c ≤ d → r ≤ q → (s : Slot) → is_ahead v d q s ≡ true → is_ahead v c r s ≡ true
 ahead_later v c r d q places regencies s is =
-    let outer = and_true (nat_lt d s.place && nat_le v s.view) (nat_le q s.regency) is in
-    let inner = and_true (nat_lt d s.place) (nat_le v s.view) outer.0 in
-    ahead_from v c r s (leb-true v s.view inner.1) (omega (arith, places, ltb-true d s.place inner.0)) (omega (arith, regencies, leb-true q s.regency outer.1))
+    let outer = and_true (nat_lt d s.place && (s.view == v)) (nat_le q s.regency) is in
+    let inner = and_true (nat_lt d s.place) (s.view == v) outer.0 in
+    ahead_from v c r s (eqb-true s.view v inner.1) (omega (arith, places, ltb-true d s.place inner.0)) (omega (arith, regencies, leb-true q s.regency outer.1))
 
 needed_later : (v c r d q : ℕ) → c ≤ d → r ≤ q → (m : Message) → is_needed v d q m ≡ true → is_needed v c r m ≡ true
 needed_later v c r d q places regencies (Propose p) is = ahead_later v c r d q places regencies p.head.statement.slot is

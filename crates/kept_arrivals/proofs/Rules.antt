@@ -15,7 +15,7 @@ use Rattle.smart_statements.specs.declared.statement.VoteKind.TheVariants.{Write
 use Rattle.smart_messages.specs.declared.message.Message.TheVariants.{Propose}
 use Rattle.smart_messages.specs.declared.message.Proposed.{Proposed}
 use Rattle.smart_service.specs.Services.{Meaning}
-use Rattle.smart_service.specs.declared.table.TableLine.{TableLine}
+use Rattle.smart_service.specs.declared.table.Execution.{Execution}
 use Rattle.vote_book.specs.declared.entry.Decision.{Decision}
 use Rattle.vote_book.specs.declared.entry.LogEntry.TheVariants.{Wrote, Accepted, Decided}
 use Rattle.regency_sync.specs.Synchronizers.{batch_of, trimmed as sync_trimmed}
@@ -203,7 +203,7 @@ unfolding answering trimmed
 answering_same n None = refl
 answering_same n (Some asked) = refl
 
-answer_same : {S : Type 0} (n : Node S) (line : Option TableLine) → answer_line (trimmed n) line ≡ trimmed (answer_line n line)
+answer_same : {S : Type 0} (n : Node S) (line : Option Execution) → answer_line (trimmed n) line ≡ trimmed (answer_line n line)
 unfolding answer_line trimmed regency_of
 answer_same n None = refl
 answer_same n (Some line) = refl
@@ -217,12 +217,12 @@ answers_same n asked = exactly (λ x. answers_again x asked) (answers_exact aske
 
 -- DELIVER
 
-holding_same : {S : Type 0} (n : Node S) (l : TableLine)
+holding_same : {S : Type 0} (n : Node S) (l : Execution)
     → holding (trimmed n) (targets.Client l.client) (reply_of n.secret n.id l) ≡ trimmed (holding n (targets.Client l.client) (reply_of n.secret n.id l))
 unfolding trimmed regency_of
 holding_same n l = refl
 
-replying_same : {S : Type 0} (n : Node S) (lines : List TableLine) → replying (trimmed n) lines ≡ trimmed (replying n lines)
+replying_same : {S : Type 0} (n : Node S) (lines : List Execution) → replying (trimmed n) lines ≡ trimmed (replying n lines)
 unfolding trimmed
 replying_same n [] = refl
 replying_same n (l ∷ ls) = ap (λ x. replying x ls) (holding_same n l) ∙ replying_same (holding n (targets.Client l.client) (reply_of n.secret n.id l)) ls
@@ -236,7 +236,7 @@ unfolding deliver_batch trimmed regency_of
 deliver_same m n None is = refl
 deliver_same {S = S} m n (Some batch) is =
     let after : Node S = record n { replica = delivered m n.replica batch; waiting = None; pool = settled (delivered m n.replica batch).table n.pool; impatient = false } in
-    let lines : List TableLine = lines_to_answer m n batch in
+    let lines : List Execution = lines_to_answer m n batch in
     ap (λ (c : ℕ). replying (trim (view_of n).number c (regency_of n) after) lines) (decided-delivered m n batch is)
     ∙ (ap (λ (views : List View). replying (trim (present views).number (delivered m n.replica batch).place (greatest_regency (present views).number n.entries) after) lines)
     (sym (views_delivered m n.replica batch))

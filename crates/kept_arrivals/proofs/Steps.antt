@@ -1,20 +1,19 @@
 -- A step on what is needed, and a core's steps.
 use Rattle.std.proofs.Common.{◌≡◌, ℕ, ◌++◌, Bool, List, [], ◌∷◌, refl, ap, sym, ◌∙◌, Option, Some, None, Result, Ok, Err}
+use Rattle.smart_base.specs.Lists.{Each}
 use Rattle.smart_base.specs.Views.{View}
-use Rattle.smart_statements.specs.Forms.{SignedBy}
 use Rattle.smart_messages.specs.Messages.{decoded}
-use Rattle.smart_statements.specs.declared.report.Report.{Report}
-use Rattle.smart_messages.specs.declared.regency.Sync.{Sync}
 use Rattle.smart_messages.specs.declared.message.Message.{Message}
 use Rattle.smart_statements.specs.declared.entry.NodeEvent.{NodeEvent}
 use Rattle.smart_statements.specs.declared.entry.NodeEvent.TheVariants.{Arrive, Tick, Deliver, Firm}
 use Rattle.smart_service.specs.Services.{Meaning}
-use Rattle.vote_book.specs.declared.entry.Promise.{Promise}
 use Rattle.node_rules.specs.Nodes.{Node, regency_of, next_place}
 use Rattle.node_rules.specs.Arrivals.{why_dropped, noted, kept}
-use Rattle.node_rules.specs.Rules.{fired_if, delivers, delivery, proposing, proposes, writing, writes, accepting, accepts, deciding, decides, answering, answers_again, asked_in}
+use Rattle.node_rules.specs.Rules.{fired_if, delivers, delivery, proposing, proposes, writing, writes, accepting, accepts, deciding, decides, answering, answers_again}
 use Rattle.node_rules.specs.Changes.{fired_when, fired_adopt, adoption, adopts, joining, joins, next_promise, promising, promises, leading, leads, timing, times}
-use Rattle.node_rules.specs.Steps.{made_firm, Outcome, turns, fired_turns, votes, fired_votes, passes, fired_pass, outcome_from, answered, timed, arrival_outcome, reading_outcome, step_of, opened}
+use Rattle.node_rules.specs.Steps.{made_firm, Outcome, Taken, judged, reads, takes_in, Row, row, deliver_row, time_row, answer_row, rules, pass, passed, step_of, Outset, opened}
+use Rattle.node_rules.specs.declared.node.Cause.{Cause}
+use Rattle.node_rules.specs.declared.node.Cause.TheVariants.{Came, Ticked, Delivering, Firmed}
 use Rattle.node_rules.specs.declared.node.Why.{Why}
 use Rattle.node_rules.specs.declared.node.Fired.{Fired}
 use Rattle.node_rules.specs.declared.node.Fired.TheVariants as fires
@@ -23,7 +22,7 @@ use Rattle.kept_arrivals.proofs.Needed.{trimmed_twice}
 use Rattle.kept_arrivals.proofs.Rules.{Keeps, proposing_same, proposes_same, writing_same, writes_same, accepting_same, accepts_same, deciding_same, decides_same, delivers_same, delivery_same, answering_same, answers_same}
 use Rattle.kept_arrivals.proofs.Changes.{adoption_same, adopts_same, joining_same, joins_same, next_promise_same, promising_same, promises_same, leading_same, leads_same, timing_same, times_same}
 use Rattle.kept_arrivals.proofs.Arrivals.{why_same, noted_same, kept_same}
-use Rattle.node_rules.proofs.Rulewise.{why_noted}
+use Rattle.node_rules.proofs.Rulewise.{for_rules, why_noted}
 
 -- Two nodes need the same. A rule of a pass may raise the regency and a decision the place, so what goes on behind it is what two nodes that
 -- need the same do, and neither of them has to be the trimmed of the other.
@@ -38,75 +37,76 @@ goes_on rule same few all agree = sym (same few) ∙ (ap (λ x. trimmed (rule x)
 pub told : {S A : Type 0} (tell : Node S → A) → ((n : Node S) → tell (trimmed n) ≡ tell n) → (few all : Node S) → Agree few all → tell few ≡ tell all
 told tell same few all agree = sym (same few) ∙ (ap tell agree ∙ same all)
 
--- ---- a pass
+-- ---- rows
 
-behind_adopts : {S : Type 0} (few all : Node S) → Agree few all → Agree (adopts few) (adopts all)
-behind_adopts few all agree = goes_on adopts adopts_same few all agree
+-- A row of two nodes that need the same, after the same has fired: behind it they need the same, and the same has fired.
+abbrev pub RowAgrees : {S : Type 0} → Row S → Type 0
+RowAgrees {S} r = (few all : Node S) (cause : Cause) (f g : List Fired) → Agree few all → f ≡ g → Agree (r few cause f).0 (r all cause g).0 × ((r few cause f).1 ≡ (r all cause g).1)
 
-behind_joins : {S : Type 0} (few all : Node S) → Agree few all → Agree (joins (adopts few)) (joins (adopts all))
-behind_joins few all agree = goes_on joins joins_same (adopts few) (adopts all) (behind_adopts few all agree)
+both_told : {a b c d : List Fired} → a ≡ b → c ≡ d → a ++ c ≡ b ++ d
+both_told first second = rw (first, second) refl
 
-behind_promises : {S : Type 0} (few all : Node S) → Agree few all → Agree (promises (joins (adopts few))) (promises (joins (adopts all)))
-behind_promises few all agree = goes_on promises promises_same (joins (adopts few)) (joins (adopts all)) (behind_joins few all agree)
+-- a rule by which what is needed stays needed, and that tells it
+rule_agrees : {S : Type 0} (rule : Node S → Node S) (tells : Node S → List Fired) → Keeps rule → ((n : Node S) → tells (trimmed n) ≡ tells n) → RowAgrees (row rule tells)
+rule_agrees rule tells same tells_same few all cause f g agree fired = (goes_on rule same few all agree, both_told fired (told tells tells_same few all agree))
 
-behind_turns : {S : Type 0} (few all : Node S) → Agree few all → Agree (turns few) (turns all)
-unfolding turns
-behind_turns few all agree = goes_on leads leads_same (promises (joins (adopts few))) (promises (joins (adopts all))) (behind_promises few all agree)
+deliver_agrees : {S : Type 0} (m : Meaning S) → RowAgrees (deliver_row m)
+deliver_agrees m few all Delivering f g agree fired =
+    rule_agrees (λ x. delivers m x) (λ x. delivery m x x.waiting) (λ n. delivers_same m n) (λ n. delivery_same m n) few all Delivering f g agree fired
+deliver_agrees m few all (Came asked) f g agree fired = (agree, fired)
+deliver_agrees m few all Ticked f g agree fired = (agree, fired)
+deliver_agrees m few all Firmed f g agree fired = (agree, fired)
 
-behind_proposes : {S : Type 0} (few all : Node S) → Agree few all → Agree (proposes few) (proposes all)
-behind_proposes few all agree = goes_on proposes proposes_same few all agree
+time_agrees : (S : Type 0) → RowAgrees {S = S} time_row
+time_agrees S few all Ticked f g agree fired =
+    rule_agrees times (λ x. fired_when fires.Timed (timing x)) times_same (λ n. ap (λ due. fired_when fires.Timed due) (timing_same n)) few all Ticked f g agree fired
+time_agrees S few all (Came asked) f g agree fired = (agree, fired)
+time_agrees S few all Delivering f g agree fired = (agree, fired)
+time_agrees S few all Firmed f g agree fired = (agree, fired)
 
-behind_writes : {S : Type 0} (few all : Node S) → Agree few all → Agree (writes (proposes few)) (writes (proposes all))
-behind_writes few all agree = goes_on writes writes_same (proposes few) (proposes all) (behind_proposes few all agree)
+answer_agrees : (S : Type 0) → RowAgrees {S = S} answer_row
+answer_agrees S few all (Came asked) f g agree fired =
+    rule_agrees (λ x. answers_again x asked) (λ x. fired_if fires.Answered (answering x asked)) (λ n. answers_same n asked)
+    (λ n. ap (λ line. fired_if fires.Answered line) (answering_same n asked)) few all (Came asked) f g agree fired
+answer_agrees S few all Ticked f g agree fired = (agree, fired)
+answer_agrees S few all Delivering f g agree fired = (agree, fired)
+answer_agrees S few all Firmed f g agree fired = (agree, fired)
 
-behind_votes : {S : Type 0} (few all : Node S) → Agree few all → Agree (votes few) (votes all)
-unfolding votes
-behind_votes few all agree = goes_on accepts accepts_same (writes (proposes few)) (writes (proposes all)) (behind_writes few all agree)
-
-behind_passes : {S : Type 0} (few all : Node S) → Agree few all → Agree (passes few) (passes all)
-unfolding passes
-behind_passes few all agree = goes_on decides decides_same (votes (turns few)) (votes (turns all)) (behind_votes (turns few) (turns all) (behind_turns few all agree))
-
--- ---- what a pass tells
-
-turns_told : {a b : Option (SignedBy Sync)} {c d : Bool} {p q : Promise} {e f : Bool} {g h : Option (List (SignedBy Report))} → a ≡ b → c ≡ d → p ≡ q → e ≡ f → g ≡ h
-    → fired_adopt a ++ (fired_when fires.Joined c ++ (fired_when (fires.Promised p) e ++ fired_if fires.Led g))
-    ≡ fired_adopt b ++ (fired_when fires.Joined d ++ (fired_when (fires.Promised q) f ++ fired_if fires.Led h))
-turns_told adopted joined promise promised led = rw (adopted, joined, promise, promised, led) refl
-
-fired_turns_same : {S : Type 0} (few all : Node S) → Agree few all → fired_turns few ≡ fired_turns all
-unfolding fired_turns
-fired_turns_same few all agree =
-    turns_told (told adoption adoption_same few all agree) (told joining joining_same (adopts few) (adopts all) (behind_adopts few all agree))
-    (told next_promise next_promise_same (joins (adopts few)) (joins (adopts all)) (behind_joins few all agree))
-    (told promising promising_same (joins (adopts few)) (joins (adopts all)) (behind_joins few all agree))
-    (told leading leading_same (promises (joins (adopts few))) (promises (joins (adopts all))) (behind_promises few all agree))
-
-three_told : {A B C : Type 0} {a b : Option A} {c d : Option B} {e f : Option C} → a ≡ b → c ≡ d → e ≡ f
-    → fired_if fires.Proposed a ++ (fired_if fires.Wrote c ++ fired_if fires.Accepted e) ≡ fired_if fires.Proposed b ++ (fired_if fires.Wrote d ++ fired_if fires.Accepted f)
-three_told proposed wrote accepted = rw (proposed, wrote, accepted) refl
-
-fired_votes_same : {S : Type 0} (few all : Node S) → Agree few all → fired_votes few ≡ fired_votes all
-unfolding fired_votes
-fired_votes_same few all agree =
-    three_told (told proposing proposing_same few all agree) (told writing writing_same (proposes few) (proposes all) (behind_proposes few all agree))
-    (told accepting accepting_same (writes (proposes few)) (writes (proposes all)) (behind_writes few all agree))
+promise_told : {S : Type 0} (n : Node S) → fired_when (fires.Promised (next_promise (trimmed n))) (promising (trimmed n)) ≡ fired_when (fires.Promised (next_promise n)) (promising n)
+promise_told n = rw (next_promise_same n, promising_same n) refl
 
 next_same : {S : Type 0} (n : Node S) → next_place (trimmed n) ≡ next_place n
 unfolding trimmed
 next_same n = refl
 
-pass_told : {A : Type 0} {a b c d : List Fired} {p q : ℕ} {e f : Option A} → a ≡ b → c ≡ d → p ≡ q → e ≡ f
-    → a ++ (c ++ fired_if (fires.Decided p) e) ≡ b ++ (d ++ fired_if (fires.Decided q) f)
-pass_told turned voted place decided = rw (turned, voted, place, decided) refl
+decide_told : {S : Type 0} (n : Node S) → fired_if (fires.Decided (next_place (trimmed n))) (deciding (trimmed n)) ≡ fired_if (fires.Decided (next_place n)) (deciding n)
+decide_told n = rw (next_same n, deciding_same n) refl
 
-fired_pass_same : {S : Type 0} (few all : Node S) → Agree few all → fired_pass few ≡ fired_pass all
-unfolding fired_pass
-fired_pass_same few all agree =
-    let turned = behind_turns few all agree in
-    let voted = behind_votes (turns few) (turns all) turned in
-    pass_told (fired_turns_same few all agree) (fired_votes_same (turns few) (turns all) turned)
-    (told next_place next_same (votes (turns few)) (votes (turns all)) voted) (told deciding deciding_same (votes (turns few)) (votes (turns all)) voted)
+-- each rule, once
+rules_agree : {S : Type 0} (m : Meaning S) → Each RowAgrees (rules m)
+rules_agree {S} m =
+    for_rules m RowAgrees (deliver_agrees m)
+    (record {
+      adopt = rule_agrees adopts _ adopts_same (λ n. ap (λ sync. fired_adopt sync) (adoption_same n));
+      join = rule_agrees joins _ joins_same (λ n. ap (λ due. fired_when fires.Joined due) (joining_same n));
+      promise = rule_agrees promises _ promises_same promise_told;
+      lead = rule_agrees leads _ leads_same (λ n. ap (λ due. fired_if fires.Led due) (leading_same n));
+      propose = rule_agrees proposes _ proposes_same (λ n. ap (λ due. fired_if fires.Proposed due) (proposing_same n));
+      write = rule_agrees writes _ writes_same (λ n. ap (λ due. fired_if fires.Wrote due) (writing_same n));
+      accept = rule_agrees accepts _ accepts_same (λ n. ap (λ due. fired_if fires.Accepted due) (accepting_same n));
+      decide = rule_agrees decides _ decides_same decide_told;
+      time = time_agrees S;
+      answer = answer_agrees S;
+    })
+
+-- so do passes
+pass_agrees : {S : Type 0} (rows : List (Row S)) (few all : Node S) (cause : Cause) (f g : List Fired) → Each RowAgrees rows → Agree few all → f ≡ g
+    → Agree (pass rows few cause f).0 (pass rows all cause g).0 × ((pass rows few cause f).1 ≡ (pass rows all cause g).1)
+unfolding pass
+pass_agrees [] few all cause f g each agree fired = (agree, fired)
+pass_agrees (r ∷ rows) few all cause f g each agree fired =
+    let next = each.0 few all cause f g agree fired in
+    pass_agrees rows (r few cause f).0 (r all cause g).0 cause (r few cause f).1 (r all cause g).1 each.1 next.0 next.1
 
 -- ---- a step
 
@@ -116,28 +116,6 @@ pub record Alike {S : Type 0} (few all : Outcome S) : Type 0 where
   pub fired : few.fired ≡ all.fired
   pub dropped : few.dropped ≡ all.dropped
 
-both_told : {a b c d : List Fired} → a ≡ b → c ≡ d → a ++ c ≡ b ++ d
-both_told first second = rw (first, second) refl
-
-alike_from : {S : Type 0} (few all : Node S) (f g : List Fired) → Agree few all → f ≡ g → Alike (outcome_from few f) (outcome_from all g)
-alike_from few all f g agree same = record { node = behind_passes few all agree; fired = both_told same (fired_pass_same few all agree); dropped = refl }
-
-alike_answered : {S : Type 0} (few all : Outcome S) (message : Message) → Alike few all → Alike (answered few message) (answered all message)
-alike_answered few all message alike = record {
-  node = goes_on (λ x. answers_again x (asked_in message)) (λ x. answers_same x (asked_in message)) few.node all.node alike.node;
-  fired =
-      both_told alike.fired
-      (ap (λ line. fired_if fires.Answered line) (told (λ x. answering x (asked_in message)) (λ x. answering_same x (asked_in message)) few.node all.node alike.node));
-  dropped = refl;
-}
-
-alike_timed : {S : Type 0} (few all : Outcome S) → Alike few all → Alike (timed few) (timed all)
-alike_timed few all alike = record {
-  node = goes_on times times_same few.node all.node alike.node;
-  fired = both_told alike.fired (ap (λ test. fired_when fires.Timed test) (told timing timing_same few.node all.node alike.node));
-  dropped = refl;
-}
-
 -- what needs the same as another's trimmed needs the same as that one
 agree_with : {S : Type 0} (few all : Node S) → few ≡ trimmed all → Agree few all
 agree_with few all same = ap (λ x. trimmed x) same ∙ trimmed_twice all
@@ -146,31 +124,46 @@ kept_noted : {S : Type 0} (n : Node S) (message : Message) → why_dropped n mes
 unfolding noted
 kept_noted n message is = ap (λ x. kept x message) (noted_same n message) ∙ kept_same (noted n message) message (why_noted n (noted n message).behind message ∙ is)
 
-alike_arrival : {S : Type 0} (n : Node S) (message : Message) (why : Option Why) → why_dropped n message ≡ why
-    → Alike (arrival_outcome (trimmed n) message why) (arrival_outcome n message why)
-alike_arrival n message None is =
-    alike_answered (outcome_from (kept (noted (trimmed n) message) message) []) (outcome_from (kept (noted n message) message) []) message
-    (alike_from (kept (noted (trimmed n) message) message) (kept (noted n message) message) [] []
-    (agree_with (kept (noted (trimmed n) message) message) (kept (noted n message) message) (kept_noted n message is)) refl)
-alike_arrival n message (Some why) is = record { node = agree_with (noted (trimmed n) message) (noted n message) (noted_same n message); fired = refl; dropped = refl }
+-- what was taken in, alike
+record AlikeTaken {S : Type 0} (few all : Taken S) : Type 0 where
+  pub node : Agree few.node all.node
+  pub cause : few.cause ≡ all.cause
+  pub dropped : few.dropped ≡ all.dropped
 
-alike_reading : {S : Type 0} (n : Node S) (read : Result Message ℕ) → Alike (reading_outcome (trimmed n) read) (reading_outcome n read)
-alike_reading n (Ok message) = rw (why_same n message) (alike_arrival n message (why_dropped n message) refl)
-alike_reading n (Err at) = record { node = trimmed_twice n; fired = refl; dropped = refl }
+alike_judged : {S : Type 0} (n : Node S) (message : Message) (why : Option Why) → why_dropped n message ≡ why → AlikeTaken (judged (trimmed n) message why) (judged n message why)
+alike_judged n message None is =
+    record { node = agree_with (kept (noted (trimmed n) message) message) (kept (noted n message) message) (kept_noted n message is); cause = refl; dropped = refl }
+alike_judged n message (Some why) is = record { node = agree_with (noted (trimmed n) message) (noted n message) (noted_same n message); cause = refl; dropped = refl }
+
+alike_reads : {S : Type 0} (n : Node S) (read : Result Message ℕ) → AlikeTaken (reads (trimmed n) read) (reads n read)
+alike_reads n (Ok message) = rw (why_same n message) (alike_judged n message (why_dropped n message) refl)
+alike_reads n (Err at) = record { node = trimmed_twice n; cause = refl; dropped = refl }
 
 firm_same : {S : Type 0} (n : Node S) (count : ℕ) → made_firm (trimmed n) count ≡ trimmed (made_firm n count)
 unfolding trimmed regency_of
 firm_same n count = refl
 
+alike_taken : {S : Type 0} (n : Node S) (event : NodeEvent) → AlikeTaken (takes_in (trimmed n) event) (takes_in n event)
+unfolding takes_in
+alike_taken n (Arrive bytes) = alike_reads n (decoded bytes)
+alike_taken n Tick = record { node = trimmed_twice n; cause = refl; dropped = refl }
+alike_taken n Deliver = record { node = trimmed_twice n; cause = refl; dropped = refl }
+alike_taken n (Firm count) = record { node = agree_with (made_firm (trimmed n) count) (made_firm n count) (firm_same n count); cause = refl; dropped = refl }
+
+alike_passed : {S : Type 0} (m : Meaning S) (few all : Taken S) (why : Option Why) → Agree few.node all.node → few.cause ≡ all.cause → Alike (passed m few why) (passed m all why)
+alike_passed m few all None agree cause =
+    let passes = pass_agrees (rules m) few.node all.node all.cause [] [] (rules_agree m) agree refl in
+    rw cause (record { node = passes.0; fired = passes.1; dropped = refl })
+alike_passed m few all (Some why) agree cause = record { node = agree; fired = refl; dropped = refl }
+
 -- a step from what is needed and a step from all
 pub steps_alike : {S : Type 0} (m : Meaning S) (n : Node S) (event : NodeEvent) → Alike (step_of m (trimmed n) event) (step_of m n event)
 unfolding step_of
-steps_alike m n (Arrive bytes) = alike_reading n (decoded bytes)
-steps_alike m n Tick = alike_timed (outcome_from (trimmed n) []) (outcome_from n []) (alike_from (trimmed n) n [] [] (trimmed_twice n) refl)
-steps_alike m n Deliver = alike_from (delivers m (trimmed n)) (delivers m n) (delivery m (trimmed n) (trimmed n).waiting) (delivery m n n.waiting) (delivers_same m n) (delivery_same m n)
-steps_alike m n (Firm count) =
-    alike_from (made_firm (trimmed n) count) (made_firm n count) [] []
-    (agree_with (made_firm (trimmed n) count) (made_firm n count) (firm_same n count)) refl
+steps_alike {S = S} m n event =
+    let few : Taken S = takes_in (trimmed n) event in
+    let all : Taken S = takes_in n event in
+    let taken : AlikeTaken few all = alike_taken n event in
+    rw taken.dropped (alike_passed m few all all.dropped taken.node taken.cause)
 
 -- ---- the core's step
 
@@ -185,12 +178,12 @@ core_step_trimmed m n event =
 pub core_step_stands : {S : Type 0} (m : Meaning S) (core n : Node S) (event : NodeEvent) → Stands core n → StepStands m core n event
 core_step_stands m core n event stands = rw stands.same (core_step_trimmed m n event)
 
-opened_same : {S : Type 0} (m : Meaning S) (secret : List ℕ) (id : ℕ) (view : View) (period : ℕ) → opened m secret id view period ≡ trimmed (opened m secret id view period)
+opened_same : {S : Type 0} (o : Outset S) → opened o ≡ trimmed (opened o)
 unfolding trimmed
-opened_same m secret id view period = refl
+opened_same o = refl
 
-pub opened_stands : {S : Type 0} (m : Meaning S) (secret : List ℕ) (id : ℕ) (view : View) (period : ℕ) → Stands (opened m secret id view period) (opened m secret id view period)
-opened_stands m secret id view period = record { same = opened_same m secret id view period }
+pub opened_stands : {S : Type 0} (o : Outset S) → Stands (opened o) (opened o)
+opened_stands o = record { same = opened_same o }
 
 pub after_stands : {S : Type 0} (m : Meaning S) (core n : Node S) (events : List NodeEvent) → Stands core n → Stands (core_after m core events) (node_after m n events)
 after_stands m core n [] stands = stands

@@ -1,9 +1,8 @@
 //! Laws of what a node keeps.
-ghost use Rattle.std.specs.Prelude.{ℕ, List};
-ghost use Rattle.smart_base.specs.Views.{View};
+ghost use Rattle.std.specs.Prelude.{List};
 ghost use Rattle.smart_statements.specs.declared.entry.NodeEvent.{NodeEvent};
 ghost use Rattle.node_rules.specs.Nodes.{Node};
-ghost use Rattle.node_rules.specs.Steps.{opened};
+ghost use Rattle.node_rules.specs.Steps.{Outset, opened};
 ghost use Rattle.node_rules.specs.Kept.{Stands, StepStands, core_after, node_after};
 
 use smart_service::service::Service;
@@ -13,8 +12,9 @@ pub fn a_core_steps_as_its_node<S: Service>()
     ensures { (core n : Node S) (event : NodeEvent) → Stands core n → StepStands S.meaning core n event }
 {}
 
-/// A core that began with an empty book stands for the node that keeps everything, whatever comes.
+/// A core that has opened its book stands for the node that keeps everything, whatever comes. Both
+/// began from one outset, whichever it is.
 pub fn a_core_stands_for_its_node<S: Service>()
-    ensures { (secret : List ℕ) (id : ℕ) (view : View) (period : ℕ) (events : List NodeEvent) →
-        Stands (core_after S.meaning (opened S.meaning secret id view period) events) (node_after S.meaning (opened S.meaning secret id view period) events) }
+    ensures { (o : Outset S) (events : List NodeEvent) →
+        Stands (core_after S.meaning (opened o) events) (node_after S.meaning (opened o) events) }
 {}

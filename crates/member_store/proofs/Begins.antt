@@ -4,9 +4,6 @@ use Rattle.std.proofs.lemmas.List.{take-take}
 use Rattle.std.proofs.Math.Seq.{take-append_seam, take-length}
 use Rattle.member_store.specs.Books.{Begins}
 
-pub begins_itself : (book : List (List ℕ)) → Begins book book
-begins_itself book = sym (take-length book)
-
 pub begins_whole : (entries more book : List (List ℕ)) → entries ++ more ≡ book → Begins entries book
 begins_whole entries more book is = sym (take-append_seam entries more) ∙ ap (λ (l : List (List ℕ)). take (length entries) l) is
 

@@ -2,7 +2,7 @@
 use Rattle.std.proofs.Common.{◌≡◌, Bool, true, false, List, [], ◌∷◌, refl, ap, ◌∙◌, cond, Option, Some, None}
 use Rattle.smart_base.specs.Views.{is_member}
 use Rattle.smart_service.specs.Services.{Meaning}
-use Rattle.smart_service.specs.declared.table.TableLine.{TableLine}
+use Rattle.smart_service.specs.declared.table.Execution.{Execution}
 use Rattle.smart_statements.specs.Batches.{Batch}
 use Rattle.node_rules.specs.Nodes.{Node, view_of}
 use Rattle.node_rules.specs.Rules.{replying, deliver_batch, delivery, delivers}
@@ -36,7 +36,7 @@ tells_none m n (Some batch) none = absurd (cc)
 same_in : (x y : Executed) → Some x ≡ Some y → x ≡ y
 same_in x y is = cc
 
-answered_by : {S : Type 0} (n : Node S) (lines : List TableLine) (t : Bool) → cond t (replying n lines) n ≡ replying n (cond t lines [])
+answered_by : {S : Type 0} (n : Node S) (lines : List Execution) (t : Bool) → cond t (replying n lines) n ≡ replying n (cond t lines [])
 answered_by n lines true = refl
 answered_by n lines false = refl
 
@@ -48,7 +48,7 @@ some_by {S = S} m n now (Some batch) e answers is some at =
     let lines = ap (λ (x : Executed). x.lines) (same_in e _ some) in
     ap (λ (x : Node S). replying x (cond answers e.lines [])) is
     ∙ (ap (λ (t : Bool). replying (executed m n (Some batch)) (cond t e.lines [])) at
-    ∙ ap (λ (ls : List TableLine). replying (executed m n (Some batch)) (cond (is_member (view_of n) n.id) ls [])) lines)
+    ∙ ap (λ (ls : List Execution). replying (executed m n (Some batch)) (cond (is_member (view_of n) n.id) ls [])) lines)
 
 pub delivers_some : {S : Type 0} (m : Meaning S) (n now later : Node S) (e : Executed) (answers : Bool) → now ≡ executed m n n.waiting → Some e ≡ execution m n n.waiting → answers ≡ is_member (view_of n) n.id
     → later ≡ cond answers (replying now e.lines) now → later ≡ delivers m n

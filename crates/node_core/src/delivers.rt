@@ -1,5 +1,6 @@
 //! Deliveries of a node, and the replies to executed requests.
 ghost use Rattle.std.specs.Prelude.{◌≡◌, ◌++◌, ◌∷◌, [], if◌then◌else◌, IfOk, OnOk, OnErr};
+ghost use Rattle.node_rules.specs.Nodes.{ring_of};
 ghost use Rattle.node_rules.specs.Rules.{reply_of, replying, delivers, delivery, answer_line, fired_if};
 ghost use Rattle.node_core.specs.Delivering.{executed, execution};
 ghost use Rattle.node_rules.specs.declared.node.Fired.TheVariants as fires;
@@ -10,13 +11,13 @@ use node_state::state::NodeState;
 use smart_base::sequence::Sequence;
 use smart_messages::message::Message;
 use smart_service::service::Service;
-use smart_service::table::TableLine;
+use smart_service::table::Execution;
 use smart_statements::statement::Answer;
 use std::alloc::AllocError;
 
 /// The node's reply to an executed request. Error: want of memory.
-fn reply_of<S: Service>(node: &NodeState<S>, line: TableLine) -> Result<Message, AllocError>
-    ensures { IfOk result (λ reply. reply ≡ reply_of node.now.secret node.now.id line) }
+fn reply_of<S: Service>(node: &NodeState<S>, line: Execution) -> Result<Message, AllocError>
+    ensures { IfOk result (λ reply. reply ≡ reply_of (ring_of node.now) node.now.id line) }
 {
     let answer = Answer {
         view: line.view,
@@ -32,7 +33,7 @@ fn reply_of<S: Service>(node: &NodeState<S>, line: TableLine) -> Result<Message,
 /// Puts the replies to executed requests into the outbox. Error: want of memory.
 fn replying<S: Service>(
     node: &mut NodeState<S>,
-    lines: Sequence<TableLine>,
+    lines: Sequence<Execution>,
 ) -> Result<(), AllocError>
     ensures node { OnOk result (node.new ≡ replying node.old lines) }
     ensures err { OnErr result (node.new.entries ≡ node.old.entries) }
@@ -45,11 +46,11 @@ fn replying<S: Service>(
     Ok(())
 }
 
-/// What a delivery gives: its event, and the lines of the executed requests.
+/// What a delivery gives: its event, and the executions.
 #[derive(Drop)]
 struct Executed {
     delivery: Delivery,
-    lines: Sequence<TableLine>,
+    lines: Sequence<Execution>,
 }
 
 /// Executes the waiting batch, if there is one, and keeps the requests that are still to be proposed.
@@ -86,44 +87,47 @@ fn tell<S: Service>(
     node: &mut NodeState<S>,
     answers: bool,
     executed: Executed,
-) -> Result<Sequence<Fired>, AllocError>
+    fired: &mut Sequence<Fired>,
+) -> Result<(), AllocError>
     ensures node { OnOk result (node.new ≡ (if answers then replying node.old executed.lines else node.old)) }
-    ensures fired { IfOk result (λ fired. fired ≡ fires.Delivered executed.delivery ∷ []) }
+    ensures fired { OnOk result (fired.new ≡ fired.old ++ fires.Delivered executed.delivery ∷ []) }
     ensures err { OnErr result (node.new.entries ≡ node.old.entries) }
 {
     let Executed { delivery, lines } = executed;
-    let mut fired = Sequence::new(node.alloc);
     fired.push(Fired::Delivered(delivery))?;
     if answers {
         replying(node, lines)?;
     }
-    Ok(fired)
+    Ok(())
 }
 
 /// The rule that delivers: the waiting batch, if there is one, is executed, and each client whose
 /// request was executed gets its reply (state machine replication). A reply leaves after the decision
 /// is firm (Dura-SMaRt, USENIX ATC 2013). Error: want of memory.
-pub fn delivers<S: Service>(node: &mut NodeState<S>) -> Result<Sequence<Fired>, AllocError>
+pub fn delivers<S: Service>(
+    node: &mut NodeState<S>,
+    fired: &mut Sequence<Fired>,
+) -> Result<(), AllocError>
     ensures node { OnOk result (node.new ≡ delivers S.meaning node.old) }
-    ensures fired { IfOk result (λ fired. fired ≡ delivery S.meaning node.old node.old.waiting) }
+    ensures fired { OnOk result (fired.new ≡ fired.old ++ delivery S.meaning node.old node.old.waiting) }
     ensures err { OnErr result (node.new.entries ≡ node.old.entries) }
 {
     let answers = node.view().is_member(node.id());
     let told = execute_waiting(node)?;
     match told {
-        None => Ok(Sequence::new(node.alloc)),
+        None => Ok(()),
         Some(executed) => {
-            let fired = tell(node, answers, executed)?;
-            Ok(fired)
+            tell(node, answers, executed, fired)?;
+            Ok(())
         }
     }
 }
 
-/// Puts the reply of a line into the outbox, if there is a line, and tells it. Error: want of memory.
+/// Puts the reply of an execution into the outbox, if there is one, and tells it. Error: want of memory.
 #[tactic(auto, unfolding(node_rules::specs::Rules::answer_line))]
 pub fn answer_line<S: Service>(
     node: &mut NodeState<S>,
-    line: Option<TableLine>,
+    line: Option<Execution>,
     fired: &mut Sequence<Fired>,
 ) -> Result<(), AllocError>
     ensures node { OnOk result (node.new ≡ answer_line node.old line) }

@@ -6,7 +6,7 @@ ghost use Rattle.node_restart.specs.declared.fault.ReopenFault.TheVariants.{Dama
 ghost use Rattle.node_rules.specs.Nodes.{view_of, regency_of};
 ghost use Rattle.node_rules.specs.Kept.{core_step};
 ghost use Rattle.node_rules.specs.Reopening.{damaged, entries_in, reopened};
-ghost use Rattle.node_rules.specs.Steps.{first_leaving, after_first, leaving, released, opened};
+ghost use Rattle.node_rules.specs.Steps.{first_leaving, after_first, leaving, released, opened, outset};
 ghost use Rattle.node_state.specs.Broken.{IsPartly};
 
 use crate::reopen::{begin, reopen};
@@ -59,7 +59,7 @@ impl<S: Service> NodeCore<S> {
         period: u32,
         ring: Ring,
     ) -> Result<Self, AllocError>
-        ensures node { IfOk result (λ core. core.node ≡ opened S.meaning ring id view period) }
+        ensures node { IfOk result (λ core. core.node ≡ opened (outset S.meaning ring id view period)) }
         ensures broken { IfOk result (λ core. core.broken ≡ false) }
     {
         let node = begin(alloc, id, view, period, ring)?;
@@ -84,11 +84,11 @@ impl<S: Service> NodeCore<S> {
         ring: Ring,
         restored: &[Bytes],
     ) -> Result<Self, ReopenFault>
-        ensures whole { OnOk result (damaged ring view restored.now ≡ None) }
-        ensures node { IfOk result (λ core. core.node ≡ reopened S.meaning ring id view period (entries_in restored.now)) }
+        ensures whole { OnOk result (damaged ring 0 view restored.now ≡ None) }
+        ensures node { IfOk result (λ core. core.node ≡ reopened S.meaning (outset S.meaning ring id view period) (entries_in restored.now)) }
         ensures broken { IfOk result (λ core. core.broken ≡ false) }
         // The number of the entry, from 1, that is the first to be damaged.
-        ensures cause { (entry : ℕ) → IsErrOf result (Damaged entry) → damaged ring view restored.now ≡ Some entry }
+        ensures cause { (entry : ℕ) → IsErrOf result (Damaged entry) → damaged ring 0 view restored.now ≡ Some entry }
     {
         match reopen(alloc, id, view, period, ring, restored) {
             Ok(node) => Ok(NodeCore {

@@ -5,13 +5,13 @@ ghost use Rattle.node_rules.specs.Reopening.{damaged, entries_in, reopened};
 ghost use Rattle.node_restart.specs.declared.fault.ReopenFault.TheVariants.{Damaged};
 ghost use Rattle.node_state.specs.Following.{Follows};
 ghost use Rattle.node_core.specs.Resuming.{going_on};
-ghost use Rattle.node_rules.specs.Steps.{opened};
+ghost use Rattle.node_rules.specs.Steps.{opened, outset};
 
 use consensus_instance::instance::Instance;
 use delivery::replica::KeptReplica;
 use node_restart::fault::ReopenFault;
 use node_restart::restart::{Restart, restarted};
-use node_state::find::{first_beginning, greatest_regency, start_at};
+use node_state::find::{first_start, greatest_regency, start_at};
 use node_state::seal::MemberKeys;
 use node_state::state::NodeState;
 use outbox::outbox::Outbox;
@@ -36,9 +36,10 @@ pub fn begin<S: Service>(
     period: u32,
     ring: Ring,
 ) -> Result<NodeState<S>, AllocError>
-    ensures { IfOk result (λ node. node ≡ opened S.meaning ring id view period) }
+    ensures { IfOk result (λ node. node ≡ opened (outset S.meaning ring id view period)) }
 {
-    let instance = Instance::begin(alloc, id, &view);
+    let instance = Instance::begin(alloc, id, view.duplicate(alloc)?);
+    let synchronizer = Synchronizer::begin(alloc, id, view.duplicate(alloc)?);
     let opening = Opening {
         member: id,
         period,
@@ -55,7 +56,7 @@ pub fn begin<S: Service>(
         waiting: None,
         pool: RequestPool::new(alloc),
         instance,
-        synchronizer: Synchronizer::begin(alloc, id),
+        synchronizer,
         book,
         restored: 0,
         firm: 0,
@@ -74,26 +75,34 @@ struct Summaries {
     synchronizer: Synchronizer,
 }
 
-/// What a restarted member keeps beside its book.
-fn summarize(alloc: Global, id: MemberId, view: &View, place: Place, book: &Book) -> Summaries
+/// What a restarted member keeps beside its book. Error: want of memory.
+fn summarize(
+    alloc: Global,
+    id: MemberId,
+    view: &View,
+    place: Place,
+    book: &Book,
+) -> Result<Summaries, AllocError>
     requires { last_made book.now.entries ≡ place }
-    ensures follows { Follows id view.now place None book.now.entries result.instance result.synchronizer }
-    ensures arrivals { result.instance.arrivals ≡ [] }
-    ensures stops { result.synchronizer.stops ≡ [] }
-    ensures reports { result.synchronizer.reports ≡ [] }
-    ensures syncs { result.synchronizer.syncs ≡ [] }
-    ensures stop_made { result.synchronizer.stop_made ≡ false }
-    ensures sync_made { result.synchronizer.sync_made ≡ false }
+    ensures follows { IfOk result (λ found. Follows id view.now place None book.now.entries found.instance found.synchronizer) }
+    ensures arrivals { IfOk result (λ found. found.instance.arrivals ≡ []) }
+    ensures stops { IfOk result (λ found. found.synchronizer.stops ≡ []) }
+    ensures reports { IfOk result (λ found. found.synchronizer.reports ≡ []) }
+    ensures syncs { IfOk result (λ found. found.synchronizer.syncs ≡ []) }
+    ensures stop_made { IfOk result (λ found. found.synchronizer.stop_made ≡ false) }
+    ensures sync_made { IfOk result (λ found. found.synchronizer.sync_made ≡ false) }
 {
     let number = view.number();
     let regency = greatest_regency(number, book.pushed());
     let start = start_at(book, view, regency);
     let votes = book.votes_at(number, place.get() + 1, regency);
-    let synced = first_beginning(book, number, regency).is_some();
-    Summaries {
-        instance: Instance::resume(alloc, id, place, regency, start, votes),
-        synchronizer: Synchronizer::resume(alloc, id, regency, synced),
-    }
+    let synced = first_start(book, number, regency).is_some();
+    let own = view.duplicate(alloc)?;
+    let other = view.duplicate(alloc)?;
+    Ok(Summaries {
+        instance: Instance::resume(alloc, id, own, place, regency, start, votes),
+        synchronizer: Synchronizer::resume(alloc, id, other, regency, synced),
+    })
 }
 
 /// The node after a restart from entries. Errors: the number of the first damaged entry; want of
@@ -106,16 +115,19 @@ pub fn reopen<S: Service>(
     ring: Ring,
     restored: &[Bytes],
 ) -> Result<NodeState<S>, ReopenFault>
-    ensures whole { OnOk result (damaged ring view restored.now ≡ None) }
-    ensures node { IfOk result (λ node. node ≡ reopened S.meaning ring id view period (entries_in restored.now)) }
-    ensures cause { (entry : ℕ) → IsErrOf result (Damaged entry) → damaged ring view restored.now ≡ Some entry }
+    ensures whole { OnOk result (damaged ring 0 view restored.now ≡ None) }
+    ensures node { IfOk result (λ node. node ≡ reopened S.meaning (outset S.meaning ring id view period) (entries_in restored.now)) }
+    ensures cause { (entry : ℕ) → IsErrOf result (Damaged entry) → damaged ring 0 view restored.now ≡ Some entry }
 {
     if restored.is_empty() {
         let node = reopen_empty(alloc, id, view, period, ring)?;
         return Ok(node);
     }
     match restarted(alloc, &ring, view, restored) {
-        Ok(back) => Ok(go_on(alloc, id, ring, back)),
+        Ok(back) => {
+            let node = go_on(alloc, id, ring, back)?;
+            Ok(node)
+        }
         Err(fault) => Err(fault),
     }
 }
@@ -129,16 +141,21 @@ fn reopen_empty<S: Service>(
     period: u32,
     ring: Ring,
 ) -> Result<NodeState<S>, AllocError>
-    ensures { IfOk result (λ node. node ≡ reopened S.meaning ring id view period []) }
+    ensures { IfOk result (λ node. node ≡ reopened S.meaning (outset S.meaning ring id view period) []) }
 {
     let mut node = begin(alloc, id, view, period, ring)?;
     node.behind = true;
     Ok(node)
 }
 
-/// The node after a restart from what its entries gave back.
-fn go_on<S: Service>(alloc: Global, id: MemberId, ring: Ring, back: Restart<S>) -> NodeState<S>
-    ensures { result ≡ going_on ring id back }
+/// The node after a restart from what its entries gave back. Error: want of memory.
+fn go_on<S: Service>(
+    alloc: Global,
+    id: MemberId,
+    ring: Ring,
+    back: Restart<S>,
+) -> Result<NodeState<S>, AllocError>
+    ensures { IfOk result (λ node. node ≡ going_on ring id back) }
 {
     let (replica, book) = back.finish();
     let Summaries {
@@ -150,9 +167,9 @@ fn go_on<S: Service>(alloc: Global, id: MemberId, ring: Ring, back: Restart<S>) 
         replica.replica().views.present(),
         replica.replica().place,
         &book,
-    );
+    )?;
     let firm = book.pushed().len() as u64;
-    NodeState {
+    Ok(NodeState {
         alloc,
         keys: MemberKeys::new(id, ring),
         replica,
@@ -167,5 +184,5 @@ fn go_on<S: Service>(alloc: Global, id: MemberId, ring: Ring, back: Restart<S>) 
         proposed: Vec::new(alloc),
         impatient: false,
         behind: true,
-    }
+    })
 }

@@ -1,5 +1,6 @@
 -- What becomes of a request that is offered to the pool.
-use Rattle.std.proofs.Common.{◌≡◌, ℕ, ◌+◌, ◌==◌, Bool, true, false, not, refl, ap, sym, ◌∙◌, cond, arith, nat_lt, nat_le, List, Option, Some, None}
+use Rattle.std.proofs.Common.{◌≡◌, ℕ, ◌+◌, ◌==◌, Bool, true, false, not, ◌&&◌, refl, ap, sym, ◌∙◌, cond, arith, nat_lt, nat_le, List, Option, Some, None}
+use Rattle.std.specs.Prelude.{is_none}
 use Rattle.std.proofs.lemmas.Bool.{ltb-true, ltb-false, leb-true, leb-false, eqb-true, eq-eqb, false_from_ne_true}
 use Rattle.std.proofs.Math.Bool.{or-false}
 use Rattle.smart_base.specs.Views.{is_member}
@@ -11,7 +12,7 @@ use Rattle.smart_statements.specs.declared.statement.Request.{Request}
 use Rattle.smart_statements.specs.declared.statement.Answer.{Answer}
 use Rattle.smart_messages.specs.declared.message.Message.{Message}
 use Rattle.smart_messages.specs.declared.message.Message.TheVariants.{Ask, Propose, Vote, Reply}
-use Rattle.smart_service.specs.Tables.{last_seq}
+use Rattle.smart_service.specs.Tables.{last_seq, kept_reply}
 use Rattle.smart_service.specs.declared.replica.Replica.{Replica}
 use Rattle.request_pool.specs.Offers.{has_client, offer_of, pool_after}
 use Rattle.request_pool.specs.declared.pool.Offer.{Offer}
@@ -49,21 +50,20 @@ abbrev answer_by : Bool → Bool → Bool → Bool → Bool → Offer
 answer_by verified stranger old ahead had =
     cond (not verified) offers.BadTag (cond stranger offers.Stranger (cond old offers.Old (cond ahead offers.Ahead (cond had offers.Replaced offers.Kept))))
 
-abbrev why_by : Bool → Bool → Bool → Bool → Option Why
-why_by verified stranger older ahead =
-    cond (not verified) (Some BadTag) (cond stranger (Some Stranger) (cond older (Some OldSeq) (cond ahead (Some FarSeq) None)))
+abbrev why_by : Bool → Bool → Bool → Bool → Bool → Option Why
+why_by verified stranger old gone ahead =
+    cond (not verified) (Some BadTag) (cond stranger (Some Stranger) (cond (old && gone) (Some OldSeq) (cond ahead (Some FarSeq) None)))
 
-same_why : (verified stranger old older ahead had : Bool) → (old ≡ false → older ≡ false) → (old ≡ true → ahead ≡ false)
-    → why_offered (answer_by verified stranger old ahead had) older ≡ why_by verified stranger older ahead
-same_why false stranger old older ahead had new near = refl
-same_why true true old older ahead had new near = refl
-same_why true false true true ahead had new near = refl
-same_why true false true false true had new near = let no : true ≡ false = near refl in absurd (cc)
-same_why true false true false false had new near = refl
-same_why true false false true ahead had new near = let no : true ≡ false = new refl in absurd (cc)
-same_why true false false false true had new near = refl
-same_why true false false false false true new near = refl
-same_why true false false false false false new near = refl
+same_why : (verified stranger old gone ahead had : Bool) → (old ≡ true → ahead ≡ false)
+    → why_offered (answer_by verified stranger old ahead had) gone ≡ why_by verified stranger old gone ahead
+same_why false stranger old gone ahead had near = refl
+same_why true true old gone ahead had near = refl
+same_why true false true true ahead had near = refl
+same_why true false true false true had near = let no : true ≡ false = near refl in absurd (cc)
+same_why true false true false false had near = refl
+same_why true false false gone true had near = refl
+same_why true false false gone false true near = refl
+same_why true false false gone false false near = refl
 
 kept_next : {S : Type 0} (n : Node S) (q : SignedBy Request) → is_next n.replica.table q.statement ≡ true → record n { pool = pool_after offers.Kept n.pool q } ≡ kept n (Ask q)
 unfolding kept
@@ -73,21 +73,18 @@ kept_last : {S : Type 0} (n : Node S) (q : SignedBy Request) → is_next n.repli
 unfolding kept
 kept_last n q next = rw next refl
 
-same_kept : {S : Type 0} (n : Node S) (q : SignedBy Request) (verified stranger old older ahead had : Bool)
+same_kept : {S : Type 0} (n : Node S) (q : SignedBy Request) (verified stranger old gone ahead had : Bool)
     → (old ≡ true → is_next n.replica.table q.statement ≡ false) → (old ≡ false → ahead ≡ false → is_next n.replica.table q.statement ≡ true)
-    → record n { pool = pool_after (answer_by verified stranger old ahead had) n.pool q } ≡ kept_unless (why_offered (answer_by verified stranger old ahead had) older) n (Ask q)
-same_kept n q false stranger old older ahead had last next = refl
-same_kept n q true true old older ahead had last next = refl
+    → record n { pool = pool_after (answer_by verified stranger old ahead had) n.pool q } ≡ kept_unless (why_offered (answer_by verified stranger old ahead had) gone) n (Ask q)
+same_kept n q false stranger old gone ahead had last next = refl
+same_kept n q true true old gone ahead had last next = refl
 same_kept n q true false true true ahead had last next = refl
 same_kept n q true false true false ahead had last next = kept_last n q (last refl)
-same_kept n q true false false older true had last next = refl
-same_kept n q true false false older false true last next = kept_next n q (next refl refl)
-same_kept n q true false false older false false last next = kept_next n q (next refl refl)
+same_kept n q true false false gone true had last next = refl
+same_kept n q true false false gone false true last next = kept_next n q (next refl refl)
+same_kept n q true false false gone false false last next = kept_next n q (next refl refl)
 
 -- where a number stands to that of the last executed request
-
-not_older : (seq last : ℕ) → nat_le seq last ≡ false → nat_lt seq last ≡ false
-not_older seq last is = false_from_ne_true (nat_lt seq last) (λ less. omega (arith, leb-false seq last is, ltb-true seq last less))
 
 not_ahead : (seq last : ℕ) → nat_le seq last ≡ true → nat_lt (last + 1) seq ≡ false
 not_ahead seq last is = false_from_ne_true (nat_lt (last + 1) seq) (λ more. omega (arith, leb-true seq last is, ltb-true (last + 1) seq more))
@@ -98,35 +95,39 @@ not_next seq last is = false_from_ne_true (seq == last + 1) (λ same. omega (ari
 is_next_where : (seq last : ℕ) → nat_le seq last ≡ false → nat_lt (last + 1) seq ≡ false → (seq == last + 1) ≡ true
 is_next_where seq last new near = eq-eqb seq (last + 1) (omega (arith, leb-false seq last new, ltb-false (last + 1) seq near))
 
+-- whether no reply to a request is kept
+abbrev gone_at : {S : Type 0} → Replica S → Request → Bool
+gone_at r q = is_none (kept_reply r.table q.client q.seq)
+
 offered_why : {S : Type 0} (n : Node S) (q : SignedBy Request) → is_member (view_of n) n.id ≡ true → q.signer ≡ q.statement.client → (q.signer == 0) ≡ false
-    → why_offered (offer_of n.secret n.pool q (last_seq n.replica.table q.statement.client)) (nat_lt q.statement.seq (last_seq n.replica.table q.statement.client)) ≡ why_ask n q
+    → why_offered (offer_of n.secret n.pool q (last_seq n.replica.table q.statement.client)) (gone_at n.replica q.statement) ≡ why_ask n q
 unfolding why_ask
 offered_why n q member own known =
     let last = last_seq n.replica.table q.statement.client in
     let seq = q.statement.seq in
-    same_why (is_verified requests n.secret q) (nat_lt 1024 q.statement.client) (nat_le seq last) (nat_lt seq last) (nat_lt (last + 1) seq) (has_client n.pool q.statement.client)
-    (not_older seq last) (not_ahead seq last)
+    same_why (is_verified requests n.secret q) (nat_lt 1024 q.statement.client) (nat_le seq last) (gone_at n.replica q.statement) (nat_lt (last + 1) seq) (has_client n.pool q.statement.client)
+    (not_ahead seq last)
     ∙ rw (member, known, own) refl
 
 offered_kept : {S : Type 0} (n : Node S) (q : SignedBy Request)
     → record n { pool = pool_after (offer_of n.secret n.pool q (last_seq n.replica.table q.statement.client)) n.pool q }
-    ≡ kept_unless (why_offered (offer_of n.secret n.pool q (last_seq n.replica.table q.statement.client)) (nat_lt q.statement.seq (last_seq n.replica.table q.statement.client))) n (Ask q)
+    ≡ kept_unless (why_offered (offer_of n.secret n.pool q (last_seq n.replica.table q.statement.client)) (gone_at n.replica q.statement)) n (Ask q)
 offered_kept n q =
     let last = last_seq n.replica.table q.statement.client in
     let seq = q.statement.seq in
-    same_kept n q (is_verified requests n.secret q) (nat_lt 1024 q.statement.client) (nat_le seq last) (nat_lt seq last) (nat_lt (last + 1) seq) (has_client n.pool q.statement.client)
+    same_kept n q (is_verified requests n.secret q) (nat_lt 1024 q.statement.client) (nat_le seq last) (gone_at n.replica q.statement) (nat_lt (last + 1) seq) (has_client n.pool q.statement.client)
     (not_next seq last) (is_next_where seq last)
 
 -- why a request is dropped that was offered to a node's pool, and the node behind it
 
-pub why_where : {S : Type 0} (n inside : Node S) (q : SignedBy Request) (asked : Request) (r : Replica S) (secret : List ℕ) (last : ℕ) (answer : Offer) (why : Option Why) → inside ≡ n
+pub why_where : {S : Type 0} (n inside : Node S) (q : SignedBy Request) (asked : Request) (r : Replica S) (secret : List ℕ) (last : ℕ) (gone : Bool) (answer : Offer) (why : Option Why) → inside ≡ n
     → is_member (view_of n) n.id ≡ true → q.signer ≡ q.statement.client → (q.signer == 0) ≡ false → asked ≡ q.statement → r ≡ inside.replica → secret ≡ inside.secret
-    → last ≡ last_seq r.table asked.client → answer ≡ offer_of secret inside.pool q last → why ≡ why_offered answer (nat_lt asked.seq last) → why ≡ why_ask n q
-why_where n inside q asked r secret last answer why same member own known is replica key found offer due =
-    rw (due, offer, found, is, replica, key, same) (offered_why n q member own known)
+    → last ≡ last_seq r.table asked.client → gone ≡ gone_at n.replica asked → answer ≡ offer_of secret inside.pool q last → why ≡ why_offered answer gone → why ≡ why_ask n q
+why_where n inside q asked r secret last gone answer why same member own known is replica key found kept offer due =
+    rw (due, kept, offer, found, is, replica, key, same) (offered_why n q member own known)
 
-pub kept_where : {S : Type 0} (n inside : Node S) (q : SignedBy Request) (asked : Request) (r : Replica S) (secret : List ℕ) (last : ℕ) (answer : Offer) (why : Option Why) (pool : Batch) → inside ≡ n
-    → asked ≡ q.statement → r ≡ inside.replica → secret ≡ inside.secret → last ≡ last_seq r.table asked.client → answer ≡ offer_of secret inside.pool q last
-    → why ≡ why_offered answer (nat_lt asked.seq last) → pool ≡ pool_after answer inside.pool q → record inside { pool = pool } ≡ kept_unless why n (Ask q)
-kept_where n inside q asked r secret last answer why pool same is replica key found offer due after =
-    rw (after, due, offer, found, is, replica, key, same) (offered_kept n q)
+pub kept_where : {S : Type 0} (n inside : Node S) (q : SignedBy Request) (asked : Request) (r : Replica S) (secret : List ℕ) (last : ℕ) (gone : Bool) (answer : Offer) (why : Option Why) (pool : Batch) → inside ≡ n
+    → asked ≡ q.statement → r ≡ inside.replica → secret ≡ inside.secret → last ≡ last_seq r.table asked.client → gone ≡ gone_at n.replica asked → answer ≡ offer_of secret inside.pool q last
+    → why ≡ why_offered answer gone → pool ≡ pool_after answer inside.pool q → record inside { pool = pool } ≡ kept_unless why n (Ask q)
+kept_where n inside q asked r secret last gone answer why pool same is replica key found kept offer due after =
+    rw (after, due, kept, offer, found, is, replica, key, same) (offered_kept n q)

@@ -1,7 +1,8 @@
 //! The judging of proposals and votes.
-ghost use Rattle.std.specs.Prelude.{◌≡◌, ◌||◌, ◌&&◌, is_none, IfOk, OnErr};
+ghost use Rattle.std.specs.Prelude.{◌≡◌, ◌||◌, ◌&&◌, None, is_none, IfOk, OnOk, OnErr};
 ghost use Rattle.replica_rules.specs.Seals.{is_verified};
-ghost use Rattle.node_rules.specs.Arrivals.{signer_why, is_unbound, why_propose, why_vote, why_reply, is_beyond, noted};
+ghost use Rattle.node_rules.specs.Nodes.{ring_of};
+ghost use Rattle.node_rules.specs.Arrivals.{signer_why, is_unbound, why_propose, why_vote, why_reply, is_beyond, noted, kept};
 ghost use Rattle.node_judging.specs.Arriving.{kept_unless};
 ghost use Rattle.smart_messages.specs.declared.message.Message.TheVariants as plain;
 
@@ -26,12 +27,23 @@ pub fn take_proposal<S: Service>(
     ensures err { OnErr result (node.new.entries ≡ node.old.entries) }
 {
     let dropped = why_propose(node, &proposed)?;
-    let Proposed { head, batch } = proposed;
-    note(node, &head, head.statement().slot);
-    if dropped.is_none() {
-        node.instance.on_propose(head, batch)?;
+    note(node, &proposed.head, proposed.head.statement().slot);
+    if dropped.is_some() {
+        return Ok(dropped);
     }
-    Ok(dropped)
+    keep_proposal(node, proposed)?;
+    Ok(None)
+}
+
+/// Keeps a PROPOSE that is not dropped. Error: want of memory.
+fn keep_proposal<S: Service>(node: &mut NodeState<S>, proposed: Proposed) -> Result<(), AllocError>
+    requires { why_propose node.old proposed ≡ None }
+    ensures node { OnOk result (node.new ≡ kept node.old (plain.Propose proposed)) }
+    ensures err { OnErr result (node.new.entries ≡ node.old.entries) }
+{
+    let Proposed { head, batch } = proposed;
+    node.instance.on_propose(head, batch)?;
+    Ok(())
 }
 
 /// Keeps a vote, or tells why it is dropped. Error: want of memory.
@@ -46,15 +58,26 @@ pub fn take_vote<S: Service>(
 {
     let dropped = why_vote(node, &ballot);
     note(node, &ballot, ballot.statement().slot);
-    if dropped.is_none() {
-        node.instance.on_vote(ballot)?;
+    if dropped.is_some() {
+        return Ok(dropped);
     }
-    Ok(dropped)
+    keep_vote(node, ballot)?;
+    Ok(None)
+}
+
+/// Keeps a vote that is not dropped. Error: want of memory.
+fn keep_vote<S: Service>(node: &mut NodeState<S>, ballot: Signed<Ballot>) -> Result<(), AllocError>
+    requires { why_vote node.old ballot ≡ None }
+    ensures node { OnOk result (node.new ≡ kept node.old (plain.Vote ballot)) }
+    ensures err { OnErr result (node.new.entries ≡ node.old.entries) }
+{
+    node.instance.on_vote(ballot)?;
+    Ok(())
 }
 
 /// Notes that the node lags, if a member's message for a slot shows it.
 fn note<S: Service, T: Statement>(node: &mut NodeState<S>, signed: &Signed<T>, slot: Slot)
-    ensures { node.new ≡ record node.old { behind = node.old.behind || (is_none (signer_why node.old (is_verified T.form node.old.secret signed.now) signed.now.signer) && is_beyond node.old slot) } }
+    ensures { node.new ≡ record node.old { behind = node.old.behind || (is_none (signer_why node.old (is_verified T.form (ring_of node.old) signed.now) signed.now.signer) && is_beyond node.old slot) } }
 {
     node.behind = node.behind || is_beyond(node, slot) && signer_why(node, signed).is_none();
 }

@@ -1,6 +1,7 @@
 //! The judging of clients' requests.
-ghost use Rattle.std.specs.Prelude.{◌≡◌, ◌==◌, true, false, IfOk, OnErr};
+ghost use Rattle.std.specs.Prelude.{◌≡◌, ◌==◌, true, false, is_none, IfOk, OnErr};
 ghost use Rattle.smart_base.specs.Views.{is_member};
+ghost use Rattle.smart_service.specs.Tables.{kept_reply};
 ghost use Rattle.node_rules.specs.Rules.{asked_in, answering};
 ghost use Rattle.node_rules.specs.Nodes.{view_of};
 ghost use Rattle.node_rules.specs.Arrivals.{why_ask};
@@ -14,26 +15,26 @@ use request_pool::pool::Offer;
 use smart_base::duplicate::Duplicate;
 use smart_messages::message::{Message, request_in};
 use smart_service::service::Service;
-use smart_service::table::TableLine;
+use smart_service::table::Execution;
 use smart_statements::signed::Signed;
 use smart_statements::statement::Request;
 use std::alloc::AllocError;
 
-/// The reason for which a request is dropped that the pool answers so. `older` tells whether its
-/// number is less than that of its client's last executed request.
-fn why_offered(offer: Offer, older: bool) -> Option<Why>
-    ensures { result ≡ why_offered offer older }
+/// The reason for which a request is dropped that the pool answers so. `gone` tells whether no reply
+/// to it is kept.
+fn why_offered(offer: Offer, gone: bool) -> Option<Why>
+    ensures { result ≡ why_offered offer gone }
 {
     match offer {
         Offer::Kept | Offer::Replaced => None,
-        Offer::Old => { if older { Some(Why::OldSeq) } else { None } }
+        Offer::Old => { if gone { Some(Why::OldSeq) } else { None } }
         Offer::Ahead => Some(Why::FarSeq),
         Offer::BadTag => Some(Why::BadTag),
         Offer::Stranger => Some(Why::Stranger),
     }
 }
 
-/// Keeps a request that is its client's next, or tells why it is dropped. INTERIM(views): the view
+/// Keeps a request that may be executed now, or tells why it is dropped. INTERIM(views): the view
 /// manager is a stranger. Error: want of memory.
 #[tactic(auto, unfolding(node_rules::specs::Arrivals::why_ask))]
 pub fn take_request<S: Service>(
@@ -58,6 +59,17 @@ pub fn take_request<S: Service>(
     }
 }
 
+/// Whether no reply to a request is kept.
+fn is_gone<S: Service>(node: &NodeState<S>, asked: &Request) -> bool
+    ensures { result ≡ is_none (kept_reply node.now.replica.table asked.now.client asked.now.seq) }
+{
+    let table = &node.replica.replica().table;
+    match table.kept_reply(asked.client, asked.seq) {
+        Some(_) => false,
+        None => true,
+    }
+}
+
 /// Offers a request to the pool, which verifies its tag. Error: want of memory.
 fn offer<S: Service>(
     node: &mut NodeState<S>,
@@ -71,10 +83,10 @@ fn offer<S: Service>(
     ensures err { OnErr result (node.new.entries ≡ node.old.entries) }
 {
     let asked = request.statement();
+    let gone = is_gone(node, asked);
     let last = node.replica.replica().table.last_seq(asked.client);
-    let older = asked.seq < last;
     let offer = node.pool.offer(node.keys.ring(), request, last)?;
-    Ok(why_offered(offer, older))
+    Ok(why_offered(offer, gone))
 }
 
 /// The client and number that a message asks for, if it is a request.
@@ -93,31 +105,27 @@ pub fn asked_in(message: &Message) -> Option<Asked>
     }
 }
 
-/// A copy of a client's line, if the number is that of the client's last executed request. Error:
-/// want of memory.
+/// A copy of a request's execution, if its reply is kept. Error: want of memory.
 #[tactic(auto, unfolding(node_rules::specs::Rules::answering))]
 fn asked_again<S: Service>(
     node: &NodeState<S>,
     asked: Asked,
-) -> Result<Option<TableLine>, AllocError>
+) -> Result<Option<Execution>, AllocError>
     ensures { IfOk result (λ line. line ≡ answering node.now (Some asked)) }
 {
     let table = &node.replica.replica().table;
-    if asked.seq != table.last_seq(asked.client) {
-        return Ok(None);
-    }
-    match table.line(asked.client) {
+    match table.kept_reply(asked.client, asked.seq) {
         None => Ok(None),
-        Some(line) => Ok(Some(line.duplicate(node.alloc)?)),
+        Some(execution) => Ok(Some(execution.duplicate(node.alloc)?)),
     }
 }
 
-/// The line with which a repeated request is answered, if there is one. Error: want of memory.
+/// The execution whose reply answers a repeated request, if there is one. Error: want of memory.
 #[tactic(auto, unfolding(node_rules::specs::Rules::answering))]
 pub fn answering<S: Service>(
     node: &NodeState<S>,
     asked: Option<Asked>,
-) -> Result<Option<TableLine>, AllocError>
+) -> Result<Option<Execution>, AllocError>
     ensures { IfOk result (λ line. line ≡ answering node.now asked) }
 {
     match asked {

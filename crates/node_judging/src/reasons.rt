@@ -1,6 +1,7 @@
 //! The reasons that several kinds of messages share.
 ghost use Rattle.std.specs.Prelude.{◌≡◌};
 ghost use Rattle.replica_rules.specs.Seals.{is_verified};
+ghost use Rattle.node_rules.specs.Nodes.{ring_of};
 ghost use Rattle.node_rules.specs.Arrivals.{view_why, place_why, regency_why, slot_why, signer_why, is_newer, is_beyond, wish_why};
 
 use node_rules::node::Why;
@@ -29,7 +30,7 @@ pub fn is_beyond<S: Service>(node: &NodeState<S>, slot: Slot) -> bool
 
 #[tactic(auto, unfolding(node_rules::specs::Arrivals::signer_why))]
 pub fn signer_why<S: Service, T: Statement>(node: &NodeState<S>, signed: &Signed<T>) -> Option<Why>
-    ensures { result ≡ signer_why node.now (is_verified T.form node.now.secret signed.now) signed.now.signer }
+    ensures { result ≡ signer_why node.now (is_verified T.form (ring_of node.now) signed.now) signed.now.signer }
 {
     if !node.view().is_member(node.id()) {
         Some(Why::NotMember)

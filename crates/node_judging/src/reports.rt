@@ -1,10 +1,11 @@
 //! The judging of the messages of a leader change.
-ghost use Rattle.std.specs.Prelude.{◌≡◌, ◌||◌, ◌&&◌, is_none, IfOk, OnErr};
+ghost use Rattle.std.specs.Prelude.{◌≡◌, ◌||◌, ◌&&◌, ◌++◌, ◌∷◌, [], None, is_none, IfOk, OnOk, OnErr};
 ghost use Rattle.std.specs.List.{list_any};
 ghost use Rattle.smart_statements.specs.Forms.{SignedBy};
 ghost use Rattle.smart_statements.specs.declared.report.Report.{Report};
 ghost use Rattle.replica_rules.specs.Seals.{is_verified};
-ghost use Rattle.node_rules.specs.Arrivals.{signer_why, why_stop, is_marks, rests_on_marks, bears_lock, is_proven, why_report, is_collect, why_sync, is_newer, noted};
+ghost use Rattle.node_rules.specs.Nodes.{ring_of};
+ghost use Rattle.node_rules.specs.Arrivals.{signer_why, why_stop, is_marks, rests_on_marks, bears_lock, is_proven, why_report, is_collect, why_sync, is_newer, noted, kept};
 ghost use Rattle.node_judging.specs.Arriving.{kept_unless};
 ghost use Rattle.smart_messages.specs.declared.message.Message.TheVariants as changes;
 
@@ -49,7 +50,7 @@ fn rest_on_marks(reports: &[Signed<Report>]) -> bool
 
 /// Notes that the node lags, if a member's message of a view shows it.
 fn note_view<S: Service, T: Statement>(node: &mut NodeState<S>, signed: &Signed<T>, view: ViewNo)
-    ensures { node.new ≡ record node.old { behind = node.old.behind || (is_none (signer_why node.old (is_verified T.form node.old.secret signed.now) signed.now.signer) && is_newer node.old view) } }
+    ensures { node.new ≡ record node.old { behind = node.old.behind || (is_none (signer_why node.old (is_verified T.form (ring_of node.old) signed.now) signed.now.signer) && is_newer node.old view) } }
 {
     node.behind = node.behind || is_newer(node, view) && signer_why(node, signed).is_none();
 }
@@ -66,10 +67,21 @@ pub fn take_stop<S: Service>(
 {
     let dropped = why_stop(node, &stop);
     note_view(node, &stop, stop.statement().view);
-    if dropped.is_none() {
-        node.synchronizer.on_stop(stop)?;
+    if dropped.is_some() {
+        return Ok(dropped);
     }
-    Ok(dropped)
+    keep_stop(node, stop)?;
+    Ok(None)
+}
+
+/// Keeps a STOP that is not dropped. Error: want of memory.
+fn keep_stop<S: Service>(node: &mut NodeState<S>, stop: Signed<Stop>) -> Result<(), AllocError>
+    requires { why_stop node.old stop ≡ None }
+    ensures node { OnOk result (node.new ≡ kept node.old (changes.Stop stop)) }
+    ensures err { OnErr result (node.new.entries ≡ node.old.entries) }
+{
+    node.synchronizer.on_stop(stop)?;
+    Ok(())
 }
 
 /// Keeps a STOPDATA, or tells why it is dropped. Error: want of memory.
@@ -83,12 +95,23 @@ pub fn take_report<S: Service>(
     ensures err { OnErr result (node.new.entries ≡ node.old.entries) }
 {
     let dropped = why_report(node, &reported)?;
-    let Reported { head, batch } = reported;
-    note_view(node, &head, head.statement().view);
-    if dropped.is_none() {
-        node.synchronizer.on_stopdata(head, batch)?;
+    note_view(node, &reported.head, reported.head.statement().view);
+    if dropped.is_some() {
+        return Ok(dropped);
     }
-    Ok(dropped)
+    keep_report(node, reported)?;
+    Ok(None)
+}
+
+/// Keeps a STOPDATA that is not dropped. Error: want of memory.
+fn keep_report<S: Service>(node: &mut NodeState<S>, reported: Reported) -> Result<(), AllocError>
+    requires { why_report node.old reported ≡ None }
+    ensures node { OnOk result (node.new ≡ kept node.old (changes.StopData reported)) }
+    ensures err { OnErr result (node.new.entries ≡ node.old.entries) }
+{
+    let Reported { head, batch } = reported;
+    node.synchronizer.on_stopdata(head, batch)?;
+    Ok(())
 }
 
 /// Keeps a SYNC, or tells why it is dropped. Error: want of memory.
@@ -103,12 +126,24 @@ pub fn take_sync<S: Service>(
 {
     let dropped = why_sync(node, &sync);
     note_view(node, &sync, sync.statement().view);
-    if dropped.is_none() {
-        let base = choice(sync.statement().collect.as_slice()).base;
-        node.behind = node.behind || node.decided_place().get() + 1 < base;
-        node.synchronizer.on_sync(sync)?;
+    if dropped.is_some() {
+        return Ok(dropped);
     }
-    Ok(dropped)
+    let base = choice(sync.statement().collect.as_slice()).base;
+    let lags = node.decided_place().get() + 1 < base;
+    keep_sync(node, sync)?;
+    node.behind = node.behind || lags;
+    Ok(None)
+}
+
+/// Keeps a SYNC that is not dropped. Error: want of memory.
+fn keep_sync<S: Service>(node: &mut NodeState<S>, sync: Signed<Sync>) -> Result<(), AllocError>
+    requires { why_sync node.old sync ≡ None }
+    ensures node { OnOk result (node.new ≡ record node.old { syncs = node.old.syncs ++ sync ∷ [] }) }
+    ensures err { OnErr result (node.new.entries ≡ node.old.entries) }
+{
+    node.synchronizer.on_sync(sync)?;
+    Ok(())
 }
 
 #[tactic(auto, unfolding(node_rules::specs::Arrivals::why_stop))]
@@ -139,7 +174,7 @@ fn bears_lock<S: Service>(
     lock: &Option<LockCertificate>,
     batch: &Option<Batch>,
 ) -> Result<bool, AllocError>
-    ensures { IfOk result (λ bears. bears ≡ bears_lock node.now.secret place lock.now batch.now) }
+    ensures { IfOk result (λ bears. bears ≡ bears_lock (ring_of node.now) place lock.now batch.now) }
 {
     match lock {
         None => Ok(true),

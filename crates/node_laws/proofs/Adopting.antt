@@ -1,5 +1,5 @@
 -- A node that adopts the reports with which a leader began a regency stays sound.
-use Rattle.std.proofs.Common.{Bool, List, None, Option, Some, append-nil, arith, cond, false, inl, inr, nat_le, nat_lt, not, refl, subst, suc, sym, true, zero, ℕ, ⊎_elim, ◌≡◌, [], ◌≤◌, ◌<◌, ◌==◌, ◌&&◌, ◌++◌, ◌∷◌, ◌∙◌}
+use Rattle.std.proofs.Common.{Bool, List, None, Option, Some, ap, append-nil, arith, cond, false, inl, inr, nat_le, nat_lt, not, refl, subst, suc, sym, true, zero, ℕ, ⊎_elim, ◌≡◌, [], ◌≤◌, ◌<◌, ◌==◌, ◌&&◌, ◌++◌, ◌∷◌, ◌∙◌}
 use Rattle.std.proofs.lemmas.Bool.{eqb-true, leb-true, ltb-false, ltb-true}
 use Rattle.std.specs.List.{flat_map, list_any}
 use Rattle.std.specs.Prelude.{is_none, is_some}
@@ -11,7 +11,7 @@ use Rattle.agreement_laws.specs.Certificates.{IsChosen, IsLockedCollect, IsLocke
 use Rattle.agreement_laws.specs.Statements.{Statement}
 use Rattle.node_rules.specs.Arrivals.{is_collect, rests_on_marks}
 use Rattle.node_rules.specs.Changes.{adoption, adopts, adopts_by, is_adoptable, promised_for, start_by_sync}
-use Rattle.node_rules.specs.Nodes.{Node, first_start, is_begun, next_place, recording, regency_of, start_in, view_of}
+use Rattle.node_rules.specs.Nodes.{Node, view_start, is_begun, next_place, recording, regency_of, view_of}
 use Rattle.regency_sync.specs.Choices.{choice}
 use Rattle.regency_sync.specs.Synchronizers.{needs_sync}
 use Rattle.smart_base.specs.Lists.{Each}
@@ -20,6 +20,7 @@ use Rattle.smart_statements.specs.Forms.{SignedBy}
 use Rattle.smart_statements.specs.Reports.{reports}
 use Rattle.smart_messages.specs.declared.regency.Sync.{Sync}
 use Rattle.smart_statements.specs.declared.report.Report.{Report}
+use Rattle.vote_book.specs.Standing.{first_start}
 use Rattle.vote_book.specs.Books.{Among}
 use Rattle.vote_book.specs.declared.entry.LogEntry.{LogEntry}
 use Rattle.vote_book.specs.declared.entry.LogEntry.TheVariants.{Promised, Synced}
@@ -76,12 +77,13 @@ chosen_by secret stated view views s same was collect =
     }
 
 pub sync_chosen : {S : Type 0} (stated : List Statement) (view : View) (n : Node S) (s : SignedBy Sync) → IsSound stated view n → SyncKept n stated view s
-    → IsChosen n.secret view stated (start_by_sync s.statement)
+    → s.statement.view ≡ (view_of n).number → IsChosen n.secret view stated (start_by_sync s.statement)
 unfolding is_collect
-sync_chosen stated view n s is kept =
+sync_chosen stated view n s is kept at =
     let fault = collect_fault n.secret n.replica.views s.statement.regency s.statement.collect in
-    let parts = and_true (is_none fault) (not (list_any (λ (r : SignedBy Report). rests_on_marks r.statement) s.statement.collect)) kept.1 in
-    chosen_by n.secret stated view n.replica.views s (in_force stated view n is) kept.2
+    let parts = and_true (is_none fault) (not (list_any (λ (r : SignedBy Report). rests_on_marks r.statement) s.statement.collect))
+    (kept.0 (at ∙ ap (λ (v : View). v.number) (in_force stated view n is))).1 in
+    chosen_by n.secret stated view n.replica.views s (in_force stated view n is) kept.1
     ((collect-exact n.secret n.replica.views s.statement.regency s.statement.collect).0 (none_is fault parts.0))
 
 -- ---- a beginning that is adopted
@@ -91,7 +93,7 @@ pub record Adopts {S : Type 0} (n : Node S) (s : SignedBy Sync) : Type 0 where
   pub view_is : s.statement.view ≡ (view_of n).number
   pub least : regency_of n ≤ s.statement.regency
   pub some : 0 < s.statement.regency
-  pub once : s.statement.regency ≡ regency_of n → is_some (start_in (view_of n).number (regency_of n) n.entries) ≡ false
+  pub once : s.statement.regency ≡ regency_of n → is_some (first_start (view_of n).number (regency_of n) n.entries) ≡ false
 
 -- a regency that has not begun is not the first, and no entry begins it
 fresh_parts : (first : Bool) (start : Start) (later : Option Start) → is_some (cond first (Some start) later) ≡ false → (first ≡ false) × (is_some later ≡ false)
@@ -109,13 +111,13 @@ adopts_it n s is =
     let r : ℕ = s.statement.regency in
     let outer = and_true (needs_sync (view_of n).number (regency_of n) s) (not (is_begun n r)) f.passes in
     let inner = and_true (s.statement.view == (view_of n).number) (nat_le (regency_of n) r) outer.0 in
-    let fresh = fresh_parts (r == 0) (first_start (view_of n)) (start_in (view_of n).number r n.entries) (not_true (is_begun n r) outer.1) in
+    let fresh = fresh_parts (r == 0) (view_start (view_of n)) (first_start (view_of n).number r n.entries) (not_true (is_begun n r) outer.1) in
     record {
       there = f.there;
       view_is = eqb-true s.statement.view (view_of n).number inner.0;
       least = leb-true (regency_of n) r inner.1;
       some = past_first r fresh.0;
-      once = λ same. subst (λ (k : ℕ). is_some (start_in (view_of n).number k n.entries) ≡ false) same fresh.1;
+      once = λ same. subst (λ (k : ℕ). is_some (first_start (view_of n).number k n.entries) ≡ false) same fresh.1;
     }
 
 -- the node with the entries of an adoption
@@ -174,7 +176,7 @@ adopts_with {S = S} stated view n (Some s) is at =
     let kept = each_among (SyncKept n stated view) n.syncs s is.syncs a.there in
     let r : ℕ = s.statement.regency in
     let es : List LogEntry = (n.entries ++ promised_for n s.statement) ++ Synced (start_by_sync s.statement) ∷ [] in
-    let begun : IsSound stated view (with_entries n es) = entries_by stated view n s (nat_lt (regency_of n) r) refl is a (sync_chosen stated view n s is kept) in
+    let begun : IsSound stated view (with_entries n es) = entries_by stated view n s (nat_lt (regency_of n) r) refl is a (sync_chosen stated view n s is kept a.view_is) in
     aside stated view (with_entries n es) n.firm n.held n.proposed (n.stop_made && (r == regency_of n)) (n.sync_made && (r == regency_of n)) false n.behind begun begun.held
 
 pub sound_adopts : {S : Type 0} (stated : List Statement) (view : View) (n : Node S) → IsSound stated view n → IsSound stated view (adopts n)

@@ -1,15 +1,15 @@
 -- A node that keeps what comes stays sound.
-use Rattle.std.proofs.Common.{Bool, List, None, Some, ap, arith, cond, nat_lt, not, subst, true, ℕ, ◌≡◌, ◌≤◌, ◌∙◌, [], ◌∷◌, ◌==◌, ◌++◌, ◌||◌, ◌+◌}
-use Rattle.std.proofs.lemmas.Bool.{eqb-true, ltb-false}
+use Rattle.std.proofs.Common.{Bool, List, None, Some, cond, nat_lt, not, subst, true, ℕ, ◌≡◌, [], ◌∷◌, ◌==◌, ◌++◌, ◌||◌, ◌+◌}
+use Rattle.std.proofs.lemmas.Bool.{eqb-true}
 use Rattle.replica_rules.specs.Pools.{offered}
 use Rattle.replica_rules.specs.Replicas.{is_next}
 use Rattle.replica_rules.specs.Seals.{is_verified}
 use Rattle.agreement_laws.specs.Statements.{Statement}
-use Rattle.node_rules.specs.Arrivals.{is_batch_for, is_collect, is_proven, kept, noted, place_why, regency_why, signer_why, slot_why, tells_behind, view_why, why_ask, why_dropped, why_propose, why_report, why_stop, why_sync, why_vote}
+use Rattle.node_rules.specs.Arrivals.{is_batch_for, is_collect, is_proven, kept, noted, regency_why, signer_why, slot_why, tells_behind, view_why, why_ask, why_dropped, why_propose, why_report, why_stop, why_sync, why_vote}
 use Rattle.node_rules.specs.Nodes.{Node, decided_place, regency_of, view_of}
-use Rattle.node_rules.specs.declared.node.Why.TheVariants.{BadProof, BadTag, InvalidBatch, NewView, NotLeader, NotMember, OldRegency, OldView, Stranger}
+use Rattle.node_rules.specs.declared.node.Why.TheVariants.{BadProof, BadTag, InvalidBatch, NotLeader, NotMember, OldRegency, Stranger}
 use Rattle.regency_sync.specs.Choices.{choice}
-use Rattle.smart_base.specs.Lists.{Each, or_else}
+use Rattle.smart_base.specs.Lists.{Each}
 use Rattle.smart_base.specs.Views.{View, is_member, leader}
 use Rattle.smart_statements.specs.Forms.{SignedBy}
 use Rattle.smart_statements.specs.Kinds.{ballots, proposals, requests}
@@ -46,24 +46,8 @@ signs n verified signer none =
     let name = no_reason (not (is_member (view_of n) signer)) Stranger None tag.1 in
     record { tagged = not_false verified tag.0; member = not_false (is_member (view_of n) signer) name.0 }
 
-same_view : {S : Type 0} (n : Node S) (view : ℕ) → view_why n view ≡ None → view ≡ (view_of n).number
-same_view n view none =
-    let old = no_reason (nat_lt view (view_of n).number) OldView (cond (nat_lt (view_of n).number view) (Some NewView) None) none in
-    let new = no_reason (nat_lt (view_of n).number view) NewView None old.1 in
-    let least : (view_of n).number ≤ view = ltb-false view (view_of n).number old.0 in
-    let most : view ≤ (view_of n).number = ltb-false (view_of n).number view new.0 in
-    omega (arith, least, most)
-
-slot_view : {S : Type 0} (n : Node S) (slot : Slot) → slot_why n slot ≡ None → slot.view ≡ (view_of n).number
-unfolding slot_why
-slot_view n slot none = same_view n slot.view (else_none (view_why n slot.view) (or_else (place_why n slot.place) (regency_why n slot.regency)) none).0
-
-members_of : {S : Type 0} (n : Node S) (view : View) (verified : Bool) (signer of : ℕ) → view_of n ≡ view → Signs n verified signer → of ≡ (view_of n).number → IsMembers view verified signer of
-members_of n view verified signer of same s at = record {
-  tagged = s.tagged;
-  member = subst (λ (v : View). is_member v signer ≡ true) same s.member;
-  of_view = at ∙ ap (λ (v : View). v.number) same;
-}
+members_of : {S : Type 0} (n : Node S) (view : View) (verified : Bool) (signer : ℕ) → view_of n ≡ view → Signs n verified signer → IsMembers view verified signer
+members_of n view verified signer same s = record { tagged = s.tagged; member = subst (λ (v : View). is_member v signer ≡ true) same s.member }
 
 -- ---- requests, proposals and votes
 
@@ -91,31 +75,29 @@ propose_kept stated view n p is none =
     let third = no_reason (not lead) NotLeader _ second.1 in
     let fourth = no_reason (not batch) InvalidBatch _ third.1 in
     record {
-      members = members_of n view (is_verified proposals n.secret p.head) p.head.signer slot.view same (signs n (is_verified proposals n.secret p.head) p.head.signer first.0) (slot_view n slot second.0);
+      members = members_of n view (is_verified proposals n.secret p.head) p.head.signer same (signs n (is_verified proposals n.secret p.head) p.head.signer first.0);
       leaders = subst (λ (v : View). p.head.signer ≡ leader v slot.regency) same (eqb-true p.head.signer (leader (view_of n) slot.regency) (not_false lead third.0));
       batch = not_false batch fourth.0;
     }
 
 vote_kept : {S : Type 0} (stated : List Statement) (view : View) (n : Node S) (b : SignedBy Ballot) → IsSound stated view n → why_vote n b ≡ None
-    → IsMembers view (is_verified ballots n.secret b) b.signer b.statement.slot.view
+    → IsMembers view (is_verified ballots n.secret b) b.signer
 unfolding why_vote
 vote_kept stated view n b is none =
     let first = else_none (signer_why n (is_verified ballots n.secret b) b.signer) _ none in
-    let second = else_none (slot_why n b.statement.slot) _ first.1 in
-    members_of n view (is_verified ballots n.secret b) b.signer b.statement.slot.view (in_force stated view n is) (signs n (is_verified ballots n.secret b) b.signer first.0) (slot_view n b.statement.slot second.0)
+    members_of n view (is_verified ballots n.secret b) b.signer (in_force stated view n is) (signs n (is_verified ballots n.secret b) b.signer first.0)
 
 -- ---- what changes the regency
 
 stop_kept : {S : Type 0} (stated : List Statement) (view : View) (n : Node S) (s : SignedBy Stop) → IsSound stated view n → why_stop n s ≡ None
-    → IsMembers view (is_verified stops n.secret s) s.signer s.statement.view
+    → IsMembers view (is_verified stops n.secret s) s.signer
 unfolding why_stop
 stop_kept stated view n s is none =
     let first = else_none (signer_why n (is_verified stops n.secret s) s.signer) _ none in
-    let second = else_none (view_why n s.statement.view) _ first.1 in
-    members_of n view (is_verified stops n.secret s) s.signer s.statement.view (in_force stated view n is) (signs n (is_verified stops n.secret s) s.signer first.0) (same_view n s.statement.view second.0)
+    members_of n view (is_verified stops n.secret s) s.signer (in_force stated view n is) (signs n (is_verified stops n.secret s) s.signer first.0)
 
 report_kept : {S : Type 0} (stated : List Statement) (view : View) (n : Node S) (r : Reported) → IsSound stated view n → why_report n r ≡ None
-    → IsMembers view (is_verified reports n.secret r.head) r.head.signer r.head.statement.view × (is_proven n r ≡ true)
+    → IsMembers view (is_verified reports n.secret r.head) r.head.signer × (is_proven n r ≡ true)
 unfolding why_report
 report_kept stated view n r is none =
     let lead : Bool = leader (view_of n) r.head.statement.regency == n.id in
@@ -124,13 +106,13 @@ report_kept stated view n r is none =
     let third = else_none (regency_why n r.head.statement.regency) _ second.1 in
     let fourth = no_reason (not lead) NotLeader _ third.1 in
     let fifth = no_reason (not (is_proven n r)) BadProof _ fourth.1 in (
-      members_of n view (is_verified reports n.secret r.head) r.head.signer r.head.statement.view (in_force stated view n is)
-          (signs n (is_verified reports n.secret r.head) r.head.signer first.0) (same_view n r.head.statement.view second.0),
+      members_of n view (is_verified reports n.secret r.head) r.head.signer (in_force stated view n is)
+          (signs n (is_verified reports n.secret r.head) r.head.signer first.0),
       not_false (is_proven n r) fifth.0,
     )
 
 sync_kept : {S : Type 0} (stated : List Statement) (view : View) (n : Node S) (s : SignedBy Sync) → IsSound stated view n → why_sync n s ≡ None
-    → IsMembers view (is_verified syncs n.secret s) s.signer s.statement.view × (is_collect n s.statement ≡ true)
+    → IsMembers view (is_verified syncs n.secret s) s.signer × (is_collect n s.statement ≡ true)
 unfolding why_sync
 sync_kept stated view n s is none =
     let lead : Bool = s.signer == leader (view_of n) s.statement.regency in
@@ -139,8 +121,8 @@ sync_kept stated view n s is none =
     let third = no_reason (nat_lt s.statement.regency (regency_of n)) OldRegency _ second.1 in
     let fourth = no_reason (not lead) NotLeader _ third.1 in
     let fifth = no_reason (not (is_collect n s.statement)) BadProof _ fourth.1 in (
-      members_of n view (is_verified syncs n.secret s) s.signer s.statement.view (in_force stated view n is)
-          (signs n (is_verified syncs n.secret s) s.signer first.0) (same_view n s.statement.view second.0),
+      members_of n view (is_verified syncs n.secret s) s.signer (in_force stated view n is)
+          (signs n (is_verified syncs n.secret s) s.signer first.0),
       not_false (is_collect n s.statement) fifth.0,
     )
 
@@ -157,21 +139,19 @@ sound_arrived {S = S} stated view n (Ask q) behind is none was =
     (aside stated view n n.firm n.held n.proposed n.stop_made n.sync_made n.impatient behind is is.held)
 sound_arrived stated view n (Propose p) behind is none was =
     keeps stated view n n.pool (n.arrivals ++ Propose p ∷ []) n.stops n.reports n.syncs behind is is.pool
-    (each_end (Arrived n.secret stated view) n.arrivals (Propose p) is.arrivals (propose_kept stated view n p is none, was)) is.stops is.reports is.syncs
+    (each_end (Arrived n.secret stated view) n.arrivals (Propose p) is.arrivals (λ of. propose_kept stated view n p is none, was)) is.stops is.reports is.syncs
 sound_arrived stated view n (Vote b) behind is none was =
     keeps stated view n n.pool (n.arrivals ++ Vote b ∷ []) n.stops n.reports n.syncs behind is is.pool
-    (each_end (Arrived n.secret stated view) n.arrivals (Vote b) is.arrivals (vote_kept stated view n b is none, was)) is.stops is.reports is.syncs
+    (each_end (Arrived n.secret stated view) n.arrivals (Vote b) is.arrivals (λ of. vote_kept stated view n b is none, was)) is.stops is.reports is.syncs
 sound_arrived stated view n (changes.Stop s) behind is none was =
     keeps stated view n n.pool n.arrivals (n.stops ++ s ∷ []) n.reports n.syncs behind is is.pool is.arrivals
-    (each_end (StopKept n.secret stated view) n.stops s is.stops (stop_kept stated view n s is none, was)) is.reports is.syncs
+    (each_end (StopKept n.secret stated view) n.stops s is.stops (λ of. stop_kept stated view n s is none, was)) is.reports is.syncs
 sound_arrived stated view n (changes.StopData r) behind is none was =
-    let k = report_kept stated view n r is none in
     keeps stated view n n.pool n.arrivals n.stops (n.reports ++ r ∷ []) n.syncs behind is is.pool is.arrivals is.stops
-    (each_end (ReportKept n stated view) n.reports r is.reports (k.0, k.1, was)) is.syncs
+    (each_end (ReportKept n stated view) n.reports r is.reports (λ of. report_kept stated view n r is none, was)) is.syncs
 sound_arrived stated view n (changes.Sync s) behind is none was =
-    let k = sync_kept stated view n s is none in
     keeps stated view n n.pool n.arrivals n.stops n.reports (n.syncs ++ s ∷ []) (behind || nat_lt (decided_place n + 1) (choice s.statement.collect).base) is is.pool is.arrivals is.stops is.reports
-    (each_end (SyncKept n stated view) n.syncs s is.syncs (k.0, k.1, was))
+    (each_end (SyncKept n stated view) n.syncs s is.syncs (λ of. sync_kept stated view n s is none, was))
 sound_arrived stated view n (Reply a) behind is none was = aside stated view n n.firm n.held n.proposed n.stop_made n.sync_made n.impatient behind is is.held
 
 pub sound_noted : {S : Type 0} (stated : List Statement) (view : View) (n : Node S) (message : Message) → IsSound stated view n → IsSound stated view (noted n message)

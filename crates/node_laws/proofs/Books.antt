@@ -7,12 +7,13 @@ use Rattle.std.specs.Prelude.{IfSome, is_some}
 use Rattle.replica_rules.specs.Seals.{digest_of}
 use Rattle.agreement_laws.specs.Diaries.{HasReached, IsShown}
 use Rattle.agreement_laws.specs.Statements.{Statement, signer_of, statements}
-use Rattle.node_rules.specs.Nodes.{greatest_regency, regency_in, start_by, start_in}
+use Rattle.node_rules.specs.Nodes.{greatest_regency, regency_in}
 use Rattle.node_rules.specs.declared.node.Held.{Held}
-use Rattle.smart_base.specs.Lists.{Each}
+use Rattle.smart_base.specs.Lists.{Each, or_else}
 use Rattle.smart_base.specs.Views.{View}
 use Rattle.smart_base.specs.declared.party.Party.TheVariants.{Member}
 use Rattle.smart_statements.specs.Batches.{Batch}
+use Rattle.vote_book.specs.Standing.{first_start, start_by}
 use Rattle.vote_book.proofs.Growth.{last_or_earlier}
 use Rattle.vote_book.specs.Books.{Among, last_made}
 use Rattle.vote_book.specs.Tidy.{promise_of}
@@ -156,11 +157,11 @@ begins_later : (view regency : ℕ) (e : LogEntry) (es : List LogEntry) (start :
 begins_later view regency e es start is = record { there = inr is.there; view_is = is.view_is; regency_is = is.regency_is }
 
 begins_step : (view regency : ℕ) (e : LogEntry) (es : List LogEntry) (start : Start) (here : Option Start) → start_by view regency e ≡ here
-    → (start_in view regency es ≡ Some start → Begins view regency es start) → cond (is_some here) here (start_in view regency es) ≡ Some start → Begins view regency (e ∷ es) start
+    → (first_start view regency es ≡ Some start → Begins view regency es start) → or_else here (first_start view regency es) ≡ Some start → Begins view regency (e ∷ es) start
 begins_step view regency e es start None at rest is = begins_later view regency e es start (rest is)
 begins_step view regency e es start (Some s) at rest is = begins_at view regency e es start (at ∙ is)
 
-pub begins : (view regency : ℕ) (es : List LogEntry) (start : Start) → start_in view regency es ≡ Some start → Begins view regency es start
+pub begins : (view regency : ℕ) (es : List LogEntry) (start : Start) → first_start view regency es ≡ Some start → Begins view regency es start
 begins view regency [] start is = absurd (cc)
 begins view regency (e ∷ es) start is = begins_step view regency e es start (start_by view regency e) refl (begins view regency es start) is
 
@@ -168,18 +169,18 @@ begins view regency (e ∷ es) start is = begins_step view regency e es start (s
 start_self : (s : Start) (view regency : ℕ) → s.view ≡ view → s.regency ≡ regency → start_by view regency (Synced s) ≡ Some s
 start_self s view regency v r = rw (eq-eqb s.view view v, eq-eqb s.regency regency r) refl
 
-none_step : (here rest : Option Start) → is_some (cond (is_some here) here rest) ≡ false → (here ≡ None) × (is_some rest ≡ false)
+none_step : (here rest : Option Start) → is_some (or_else here rest) ≡ false → (here ≡ None) × (is_some rest ≡ false)
 none_step None rest is = (refl, is)
 none_step (Some s) rest is = absurd (cc)
 
-pub none_begins : (view regency : ℕ) (es : List LogEntry) (s : Start) → is_some (start_in view regency es) ≡ false → Among (Synced s) es → s.view ≡ view → s.regency ≡ regency → ⊥
+pub none_begins : (view regency : ℕ) (es : List LogEntry) (s : Start) → is_some (first_start view regency es) ≡ false → Among (Synced s) es → s.view ≡ view → s.regency ≡ regency → ⊥
 none_begins view regency [] s none there v r = there
 none_begins view regency (e ∷ es) s none (inl is) v r =
-    let here : start_by view regency e ≡ None = (none_step (start_by view regency e) (start_in view regency es) none).0 in
+    let here : start_by view regency e ≡ None = (none_step (start_by view regency e) (first_start view regency es) none).0 in
     let own : start_by view regency e ≡ Some s = subst (λ (x : LogEntry). start_by view regency x ≡ Some s) is (start_self s view regency v r) in
     cc
 none_begins view regency (e ∷ es) s none (inr there) v r =
-    none_begins view regency es s (none_step (start_by view regency e) (start_in view regency es) none).1 there v r
+    none_begins view regency es s (none_step (start_by view regency e) (first_start view regency es) none).1 there v r
 
 -- ---- what is shown
 

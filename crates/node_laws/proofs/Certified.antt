@@ -158,11 +158,11 @@ signers_all : (f : ℕ → Option (SignedBy Ballot)) (ms : List ℕ) → Each (�
 signers_all f [] some own = refl
 signers_all f (m ∷ ms) some own = signers_step f m ms (f m) refl some.0 (own m) (signers_all f ms some.1 own)
 
--- where a quorum's votes were kept, the first of them are a certificate, and each has been stated
+-- where a quorum's votes for a slot of the view were kept, the first of them are a certificate, and each has been stated
 pub kept_certificate : (secret : List ℕ) (stated : List Statement) (view : View) (arrivals : List Message) (kind : VoteKind) (slot : Slot) (digest : List ℕ) → is_view view ≡ true
-    → Each (Arrived secret stated view) arrivals → has_quorum arrivals view kind slot digest ≡ true
+    → slot.view ≡ view.number → Each (Arrived secret stated view) arrivals → has_quorum arrivals view kind slot digest ≡ true
     → IsDrawn secret view stated (record { kind = kind; slot = slot; digest = digest }) (certificate_votes arrivals view kind slot digest)
-kept_certificate secret stated view arrivals kind slot digest viewed kept enough = record { holds = (signed, weigh); drawn = drawn }
+kept_certificate secret stated view arrivals kind slot digest viewed at kept enough = record { holds = (signed, weigh); drawn = drawn }
   where
     p : ℕ → Bool
     p = has_vote arrivals kind slot digest
@@ -179,6 +179,9 @@ kept_certificate secret stated view arrivals kind slot digest viewed kept enough
     arrived : (m : ℕ) (b : SignedBy Ballot) → f m ≡ Some b → Arrived secret stated view (Vote b)
     arrived m b is = each_among (Arrived secret stated view) arrivals (Vote b) kept (first_is arrivals kind slot digest m b is).there
 
+    of_view : (m : ℕ) (b : SignedBy Ballot) → f m ≡ Some b → b.statement.slot.view ≡ view.number
+    of_view m b is = ap (λ (x : Ballot). x.slot.view) (first_is arrivals kind slot digest m b is).statement_is ∙ at
+
     all_some : Each (λ m. is_some (f m) ≡ true) named
     all_some =
         each_take (λ m. is_some (f m) ≡ true) (quorum view) (filter p view.members)
@@ -189,10 +192,10 @@ kept_certificate secret stated view arrivals kind slot digest viewed kept enough
 
     signed : AreSigned Ballot secret ballots view (λ b. b ≡ record { kind = kind; slot = slot; digest = digest }) votes
     signed = record {
-      members = each_filter_map (λ (b : SignedBy Ballot). is_member view b.signer ≡ true) f named (λ m b is. (arrived m b is).0.member);
+      members = each_filter_map (λ (b : SignedBy Ballot). is_member view b.signer ≡ true) f named (λ m b is. ((arrived m b is).0 (of_view m b is)).member);
       distinct = subst Distinct (sym own) (rising_distinct 0 named (rising_take (quorum view) 0 (filter p view.members) (rising_filter p 0 view.members (view_rising view viewed))));
       stated = each_filter_map (λ (b : SignedBy Ballot). b.statement ≡ record { kind = kind; slot = slot; digest = digest }) f named (λ m b is. (first_is arrivals kind slot digest m b is).statement_is);
-      verified = each_filter_map (λ (b : SignedBy Ballot). is_verified ballots secret b ≡ true) f named (λ m b is. (arrived m b is).0.tagged);
+      verified = each_filter_map (λ (b : SignedBy Ballot). is_verified ballots secret b ≡ true) f named (λ m b is. ((arrived m b is).0 (of_view m b is)).tagged);
     }
 
     weigh : quorum view ≤ weight_of view (signers votes)
@@ -202,4 +205,4 @@ kept_certificate secret stated view arrivals kind slot digest viewed kept enough
         omega (arith, count, same)
 
     drawn : Each (λ b. Among (says.Voted b) stated) votes
-    drawn = each_filter_map (λ b. Among (says.Voted b) stated) f named (λ m b is. vote_stated secret stated view b (arrived m b is))
+    drawn = each_filter_map (λ b. Among (says.Voted b) stated) f named (λ m b is. vote_stated secret stated view b (arrived m b is) (of_view m b is))

@@ -38,19 +38,19 @@ use Rattle.agreement_laws.proofs.Lists.{each_among, each_append, else_some, some
 abbrev IsNamed : List ℕ → List Statement → ℕ → Named → Type 0
 IsNamed secret stated place x = IsBatchAt secret stated place x.digest x.batch
 
-named_proposed : (secret : List ℕ) (stated : List Statement) (view : View) (number place regency : ℕ) (m : Message) (x : Named) → Arrived secret stated view m
+named_proposed : (secret : List ℕ) (stated : List Statement) (view : View) (number place regency : ℕ) (m : Message) (x : Named) → number ≡ view.number → Arrived secret stated view m
     → named_in number place regency m ≡ Some x → IsNamed secret stated place x
-named_proposed secret stated view number place regency (Propose p) x is at =
+named_proposed secret stated view number place regency (Propose p) x of is at =
     let slot : Slot = p.head.statement.slot in
     let it : Named = record { digest = p.head.statement.digest; batch = p.batch } in
     let parts = guard ((slot.view == number) && (slot.place == place) && nat_le regency slot.regency) (Some it) x at in
     let tests = and_true ((slot.view == number) && (slot.place == place)) (nat_le regency slot.regency) parts.0 in
     let front = and_true (slot.view == number) (slot.place == place) tests.0 in
     let is_place : slot.place ≡ place = eqb-true slot.place place front.1 in
-    let there : IsBatchAt secret stated slot.place p.head.statement.digest p.batch = proposal_may secret stated view p slot is refl in
+    let there : IsBatchAt secret stated slot.place p.head.statement.digest p.batch = proposal_may secret stated view p slot is refl (eqb-true slot.view number front.0 ∙ of) in
     subst (λ (y : Named). IsNamed secret stated place y) (some_equal it x parts.1)
     (subst (λ (k : ℕ). IsBatchAt secret stated k p.head.statement.digest p.batch) is_place there)
-named_proposed secret stated view number place regency _ x is at = absurd (cc)
+named_proposed secret stated view number place regency _ x of is at = absurd (cc)
 
 -- an accept for a place of a view
 pub record IsAcceptFor (view place : ℕ) (e : LogEntry) (a : Accept) : Type 0 where
@@ -92,12 +92,12 @@ named_accepted secret stated view place e x has is =
     subst (λ (y : Named). IsNamed secret stated place y) (sym named.2)
     (subst (λ (k : ℕ). IsBatchAt secret stated k a.digest a.batch) for_it.place_is there)
 
-pub all_known : {S : Type 0} (stated : List Statement) (view : View) (n : Node S) (number place regency : ℕ) → IsSound stated view n
+pub all_known : {S : Type 0} (stated : List Statement) (view : View) (n : Node S) (number place regency : ℕ) → number ≡ view.number → IsSound stated view n
     → Each (IsNamed n.secret stated place) (known number place regency n.arrivals n.entries)
-all_known stated view n number place regency is =
+all_known stated view n number place regency of is =
     each_append (IsNamed n.secret stated place) (filter_map (named_in number place regency) n.arrivals) (filter_map (named_by number place) n.entries)
     (each_filter_map_in (IsNamed n.secret stated place) (named_in number place regency) n.arrivals
-    (λ m x there at. named_proposed n.secret stated view number place regency m x (each_among (Arrived n.secret stated view) n.arrivals m is.arrivals there) at))
+    (λ m x there at. named_proposed n.secret stated view number place regency m x of (each_among (Arrived n.secret stated view) n.arrivals m is.arrivals there) at))
     (each_filter_map_in (IsNamed n.secret stated place) (named_by number place) n.entries
     (λ e x there at. named_accepted n.secret stated number place e x (each_among (HasBatch n.secret stated) n.entries e is.batches there) at))
 
@@ -191,7 +191,7 @@ decides_it {S = S} stated view n d viewed is due =
     let x = due.decides.named in
     let it : Decision = it_is n r x in
     let named = each_among (IsNamed n.secret stated (next_place n)) (known (view_of n).number (next_place n) (regency_of n) n.arrivals n.entries) x
-    (all_known stated view n (view_of n).number (next_place n) (regency_of n) is) due.decides.there in
+    (all_known stated view n (view_of n).number (next_place n) (regency_of n) (ap (λ (v : View). v.number) (in_force stated view n is)) is) due.decides.there in
     let pushed : IsSound stated view (record n { entries = n.entries ++ Decided it ∷ []; waiting = Some it.batch }) =
     pushes stated view n (Decided it) (Some it.batch) is (may_decide stated view n r x viewed is due.free due.most named due.decides.accepted)
     (decides_makes stated view n it is due.free refl) in

@@ -1,7 +1,7 @@
 -- A node that delivers a batch and answers stays sound.
 use Rattle.std.proofs.Common.{Bool, List, None, Option, Some, ap, arith, cond, false, inr, nat_lt, refl, subst, sym, true, ℕ, ◌≡◌, [], ◌∷◌, ◌+◌, ◌∙◌, ◌==◌}
 use Rattle.std.specs.Option.{option_to_list}
-use Rattle.std.specs.Prelude.{IfSome, is_some}
+use Rattle.std.specs.Prelude.{IfSome, is_some, option_map}
 use Rattle.replica_rules.specs.Pools.{settled}
 use Rattle.replica_rules.specs.Replicas.{at_next, delivered, execute, execute_all, executed_lines, is_next, line_made, line_of, lines_of}
 use Rattle.node_rules.specs.Rules.{reply_of, answer_line, answering, answers_again, deliver_batch, delivers, lines_to_answer, replying}
@@ -10,7 +10,6 @@ use Rattle.agreement_laws.specs.Diaries.{HasReached}
 use Rattle.agreement_laws.specs.Statements.{Statement}
 use Rattle.node_rules.specs.Arrivals.{is_collect, is_proven}
 use Rattle.node_rules.specs.Nodes.{Node, decided_place, holding, next_place, regency_of, view_of}
-use Rattle.node_rules.specs.Steps.{answered}
 use Rattle.smart_base.specs.Lists.{Each}
 use Rattle.smart_base.specs.Views.{View, is_member}
 use Rattle.smart_statements.specs.Forms.{SignedBy}
@@ -19,8 +18,9 @@ use Rattle.smart_statements.specs.Batches.{Batch}
 use Rattle.smart_messages.specs.declared.message.Message.TheVariants.{Ask}
 use Rattle.smart_statements.specs.declared.statement.Request.{Request}
 use Rattle.smart_service.specs.Services.{Meaning}
-use Rattle.smart_service.specs.Tables.{last_seq, line_for, with_line}
+use Rattle.smart_service.specs.Tables.{last_seq, line_for, kept_reply, noting, kept_in}
 use Rattle.smart_service.specs.declared.replica.Replica.{Replica}
+use Rattle.smart_service.specs.declared.table.Execution.{Execution}
 use Rattle.smart_service.specs.declared.table.TableLine.{TableLine}
 use Rattle.vote_book.specs.Books.{last_made}
 use Rattle.vote_book.specs.declared.entry.LogEntry.{LogEntry}
@@ -34,31 +34,32 @@ use Rattle.regency_sync.proofs.Lists.{each_filter}
 use Rattle.replica_rules.proofs.Places.{place_execute, place_all, views_all}
 use Rattle.node_rules.specs.declared.node.Asked.{Asked}
 
--- ---- lines of places that are reached
+-- ---- executions at places that are reached
 
--- the entries have reached the place of a line
-abbrev pub IsReached : List LogEntry → TableLine → Type 0
+-- the entries have reached the place of an execution
+abbrev pub IsReached : List LogEntry → Execution → Type 0
 IsReached es line = HasReached es line.place
 
-pub each_with_line : (P : TableLine → Type 0) (table : List TableLine) (line : TableLine) → Each P table → P line → Each P (with_line table line)
-each_with_line P [] line each is = (is, tt)
-each_with_line P (old ∷ olds) line each is =
-    either (λ (lines : List TableLine). Each P lines) (old.client == line.client) (line ∷ olds) (cond (nat_lt line.client old.client) (line ∷ old ∷ olds) (old ∷ with_line olds line)) (is, each.1)
-    (either (λ (lines : List TableLine). Each P lines) (nat_lt line.client old.client) (line ∷ old ∷ olds) (old ∷ with_line olds line) (is, each) (each.0, each_with_line P olds line each.1 is))
+pub each_noting : (P : Execution → Type 0) (table : List TableLine) (x : Execution) → Each P (kept_in table) → P x → Each P (kept_in (noting table x))
+each_noting P [] x each is = (is, tt)
+each_noting P (old ∷ olds) x each is =
+    let line : TableLine = record { last = x } in
+    either (λ (lines : List TableLine). Each P (kept_in lines)) (old.last.client == x.client) (line ∷ olds) (cond (nat_lt x.client old.last.client) (line ∷ old ∷ olds) (old ∷ noting olds x)) (is, each.1)
+    (either (λ (lines : List TableLine). Each P (kept_in lines)) (nat_lt x.client old.last.client) (line ∷ old ∷ olds) (old ∷ noting olds x) (is, each) (each.0, each_noting P olds x each.1 is))
 
-table_execute : {S : Type 0} (m : Meaning S) (r : Replica S) (i : ℕ) (q : Request) (P : TableLine → Type 0) → Each P r.table → P (line_of m r i q) → Each P (execute m r i q).table
+table_execute : {S : Type 0} (m : Meaning S) (r : Replica S) (i : ℕ) (q : Request) (P : Execution → Type 0) → Each P (kept_in r.table) → P (line_of m r i q) → Each P (kept_in (execute m r i q).table)
 unfolding execute
 table_execute {S = S} m r i q P each is =
-    either (λ (x : Replica S). Each P x.table) (is_next r.table q) _ r (each_with_line P r.table (line_of m r i q) each is) each
+    either (λ (x : Replica S). Each P (kept_in x.table)) (is_next r.table q) _ r (each_noting P r.table (line_of m r i q) each is) each
 
-table_all : {S : Type 0} (m : Meaning S) (r : Replica S) (es : List LogEntry) (place i : ℕ) (qs : Batch) → r.place ≡ place → HasReached es place → Each (IsReached es) r.table
-    → Each (IsReached es) (execute_all m r i qs).table
+table_all : {S : Type 0} (m : Meaning S) (r : Replica S) (es : List LogEntry) (place i : ℕ) (qs : Batch) → r.place ≡ place → HasReached es place → Each (IsReached es) (kept_in r.table)
+    → Each (IsReached es) (kept_in (execute_all m r i qs).table)
 table_all m r es place i [] at reached each = each
 table_all m r es place i (q ∷ qs) at reached each =
     table_all m (execute m r i q.statement) es place (i + 1) qs (place_execute m r i q.statement ∙ at) reached
     (table_execute m r i q.statement (IsReached es) each (omega (arith, at, reached)))
 
-line_if : (P : TableLine → Type 0) (b : Bool) (line : TableLine) → P line → Each P (option_to_list (cond b (Some line) None))
+line_if : (P : Execution → Type 0) (b : Bool) (line : Execution) → P line → Each P (option_to_list (cond b (Some line) None))
 line_if P true line is = (is, tt)
 line_if P false line is = tt
 
@@ -81,8 +82,8 @@ pub delivered_is : {S : Type 0} (m : Meaning S) (r : Replica S) (batch : Batch)
 unfolding delivered
 delivered_is m r batch = replica_is (execute_all m (at_next r) 0 batch) r.views (r.place + 1) (views_all m (at_next r) 0 batch) (place_all m (at_next r) 0 batch)
 
-pub delivered_table : {S : Type 0} (m : Meaning S) (r : Replica S) (es : List LogEntry) (batch : Batch) → HasReached es (r.place + 1) → Each (IsReached es) r.table
-    → Each (IsReached es) (delivered m r batch).table
+pub delivered_table : {S : Type 0} (m : Meaning S) (r : Replica S) (es : List LogEntry) (batch : Batch) → HasReached es (r.place + 1) → Each (IsReached es) (kept_in r.table)
+    → Each (IsReached es) (kept_in (delivered m r batch).table)
 unfolding delivered
 delivered_table m r es batch reached each = table_all m (at_next r) es (r.place + 1) 0 batch refl reached each
 
@@ -105,7 +106,7 @@ onward n service table pool =
     record n { replica = record { service = service; table = table; views = n.replica.views; place = n.replica.place + 1 }; waiting = None; pool = pool; impatient = false }
 
 pub sound_onward : {S : Type 0} (stated : List Statement) (view : View) (n : Node S) (batch : Batch) (service : S) (table : List TableLine) (pool : List (SignedBy Request)) → IsSound stated view n
-    → n.waiting ≡ Some batch → Each (IsReached n.entries) table → AreAsked n.secret stated pool → IsSound stated view (onward n service table pool)
+    → n.waiting ≡ Some batch → Each (IsReached n.entries) (kept_in table) → AreAsked n.secret stated pool → IsSound stated view (onward n service table pool)
 unfolding onward regency_of is_proven is_collect
 sound_onward stated view n batch service table pool is waits answered asked =
     let same : decided_place n ≡ n.replica.place + 1 = decided_where n.waiting batch n.replica.place waits in
@@ -132,14 +133,14 @@ sound_onward stated view n batch service table pool is waits answered asked =
 
 -- ---- answer
 
-pub sound_reply : {S : Type 0} (stated : List Statement) (view : View) (n : Node S) (line : TableLine) → IsSound stated view n → IsReached n.entries line
+pub sound_reply : {S : Type 0} (stated : List Statement) (view : View) (n : Node S) (line : Execution) → IsSound stated view n → IsReached n.entries line
     → IsSound stated view (holding n (targets.Client line.client) (reply_of n.secret n.id line))
 sound_reply stated view n line is has =
     let says_it = says.Replied (signed answers n.secret n.id (answer_by line)) in
     holds stated view n (targets.Client line.client) (reply_of n.secret n.id line) is
     (each_filter (Shows stated n) (says.verifies n.secret) (says_it ∷ []) (inr (refl, has), tt))
 
-sound_replying : {S : Type 0} (stated : List Statement) (view : View) (n : Node S) (lines : List TableLine) → IsSound stated view n → Each (IsReached n.entries) lines
+sound_replying : {S : Type 0} (stated : List Statement) (view : View) (n : Node S) (lines : List Execution) → IsSound stated view n → Each (IsReached n.entries) lines
     → IsSound stated view (replying n lines)
 sound_replying stated view n [] is all = is
 sound_replying stated view n (line ∷ lines) is all =
@@ -161,7 +162,7 @@ delivers_waiting {S = S} m stated view n batch is waits =
     let next : IsSound stated view (record n { replica = r; waiting = None; pool = pool; impatient = false }) =
     subst (λ (x : Replica S). IsSound stated view (record n { replica = x; waiting = None; pool = pool; impatient = false })) (delivered_is m n.replica batch) there in
     sound_replying stated view (record n { replica = r; waiting = None; pool = pool; impatient = false }) (lines_to_answer m n batch) next
-    (either (λ (lines : List TableLine). Each (IsReached n.entries) lines) (is_member (view_of n) n.id) (executed_lines m n.replica batch) []
+    (either (λ (lines : List Execution). Each (IsReached n.entries) lines) (is_member (view_of n) n.id) (executed_lines m n.replica batch) []
     (delivered_lines m n.replica n.entries batch reached) tt)
 
 delivers_with : {S : Type 0} (m : Meaning S) (stated : List Statement) (view : View) (n : Node S) (o : Option Batch) → IsSound stated view n → n.waiting ≡ o
@@ -176,19 +177,27 @@ sound_delivers m stated view n is = delivers_with m stated view n n.waiting is r
 
 -- ---- answer again
 
-line_for_each : (P : TableLine → Type 0) (lines : List TableLine) (client : ℕ) → Each P lines → IfSome (line_for lines client) P
+kept_each : (P : Execution → Type 0) (found : Option TableLine) → IfSome found (λ line. P line.last) → IfSome (option_map (λ line. line.last) found) P
+kept_each P None is = tt
+kept_each P (Some line) is = is
+
+line_for_each : (P : Execution → Type 0) (lines : List TableLine) (client : ℕ) → Each P (kept_in lines) → IfSome (line_for lines client) (λ line. P line.last)
 line_for_each P [] client each = tt
 line_for_each P (line ∷ lines) client each =
-    either (λ (found : Option TableLine). IfSome found P) (line.client == client) (Some line) (line_for lines client) each.0 (line_for_each P lines client each.1)
+    either (λ (found : Option TableLine). IfSome found (λ line. P line.last)) (line.last.client == client) (Some line) (line_for lines client) each.0 (line_for_each P lines client each.1)
 
-answering_each : {S : Type 0} (P : TableLine → Type 0) (n : Node S) (asked : Option Asked) → Each P n.replica.table → IfSome (answering n asked) P
+-- what holds of each kept reply holds of the one of a number
+kept_reply_each : (P : Execution → Type 0) (table : List TableLine) (client seq : ℕ) → Each P (kept_in table) → IfSome (kept_reply table client seq) P
+kept_reply_each P table client seq each =
+    either (λ (found : Option Execution). IfSome found P) (seq == last_seq table client) (option_map (λ line. line.last) (line_for table client)) None
+    (kept_each P (line_for table client) (line_for_each P table client each)) tt
+
+pub answering_each : {S : Type 0} (P : Execution → Type 0) (n : Node S) (asked : Option Asked) → Each P (kept_in n.replica.table) → IfSome (answering n asked) P
 unfolding answering
 answering_each P n None each = tt
-answering_each P n (Some asked) each =
-    either (λ (found : Option TableLine). IfSome found P) (asked.seq == last_seq n.replica.table asked.client) (line_for n.replica.table asked.client) None
-    (line_for_each P n.replica.table asked.client each) tt
+answering_each P n (Some asked) each = kept_reply_each P n.replica.table asked.client asked.seq each
 
-answers_line : {S : Type 0} (stated : List Statement) (view : View) (n : Node S) (o : Option TableLine) → IsSound stated view n → IfSome o (IsReached n.entries)
+answers_line : {S : Type 0} (stated : List Statement) (view : View) (n : Node S) (o : Option Execution) → IsSound stated view n → IfSome o (IsReached n.entries)
     → IsSound stated view (answer_line n o)
 unfolding answer_line
 answers_line stated view n None is has = is

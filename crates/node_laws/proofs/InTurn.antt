@@ -1,112 +1,116 @@
 -- Entries that may be restored decide one place after the other.
-use Rattle.std.proofs.Common.{List, None, Option, Some, ap, append-nil, append_assoc, arith, inl, length, length-append, nat_le, nat_lt, not, refl, subst, sym, true, ℕ, ◌≡◌, ◌≤◌, ◌<◌, ◌∙◌, ◌+◌, ◌++◌, ◌∷◌, [], ◌||◌, ◌==◌}
-use Rattle.std.proofs.lemmas.Bool.{ltb-true}
-use Rattle.std.specs.Prelude.{is_none}
-use Rattle.certificates.specs.Certificates.{accept_of, votes_fault}
-use Rattle.node_rules.specs.Arrivals.{is_batch_for}
-use Rattle.node_rules.specs.Reopening.{decided_of, rests}
-use Rattle.replica_rules.specs.Seals.{digest_of}
-use Rattle.node_laws.proofs.Reopened.{some_place}
-use Rattle.node_laws.proofs.Resting.{each_of_three}
-use Rattle.node_laws.proofs.Restored.{decided_append}
+use Rattle.std.proofs.Common.{Bool, List, None, Option, Some, ap, append-nil, append_assoc, arith, false, inl, inr, length, length-append, max, nat_le, nat_lt, not, refl, subst, sym, true, ℕ, ◌≡◌, ◌⊎◌, ◌≤◌, ◌<◌, ◌∙◌, ◌+◌, ◌++◌, ◌∷◌, [], ◌||◌}
+use Rattle.std.proofs.lemmas.Bool.{ltb-false, ltb-true}
+use Rattle.node_rules.specs.Reopening.{decided_of}
+use Rattle.node_laws.proofs.Restored.{decided_last, decided_low, decided_none}
 use Rattle.node_laws.specs.Restoring.{DecidesInTurn}
-use Rattle.smart_base.specs.Lists.{Each}
-use Rattle.smart_base.specs.Views.{View}
+use Rattle.smart_base.specs.Lists.{or_else}
 use Rattle.smart_statements.specs.Batches.{Batch}
 use Rattle.vote_book.proofs.Last.{latest_push}
 use Rattle.vote_book.proofs.Tested.{admitting}
 use Rattle.vote_book.proofs.Tidy.{front_lawful}
 use Rattle.vote_book.specs.Admission.{is_above}
-use Rattle.vote_book.specs.Books.{Admits, Follows, Lawful, last_made, latest_made}
+use Rattle.vote_book.specs.Books.{Admits, Follows, Lawful, MayInstall, last_made, latest_made, number_or, place_made}
 use Rattle.vote_book.specs.declared.entry.Decision.{Decision}
+use Rattle.vote_book.specs.declared.entry.Installation.{Installation}
 use Rattle.vote_book.specs.declared.entry.LogEntry.{LogEntry}
 use Rattle.vote_book.specs.declared.entry.LogEntry.TheVariants.{Accepted, Decided, Installed, Marked, Opened, Promised, Synced, Wrote}
-use Rattle.agreement_laws.proofs.Lists.{among_left, among_right, each_among, each_from}
 use Rattle.smart_base.proofs.SameLists.{and_true}
-
--- ---- the place of a decision
-
--- an entry that decides nothing leaves the decided batches
-pub decided_none : (es : List LogEntry) (e : LogEntry) → decided_of (e ∷ []) ≡ [] → decided_of (es ++ e ∷ []) ≡ decided_of es
-decided_none es e none = decided_append es (e ∷ []) ∙ (ap (λ (bs : List Batch). decided_of es ++ bs) none ∙ append-nil (decided_of es))
-
-decided_some : (secret : List ℕ) (view : View) (d : Decision) → rests secret view (Decided d) ≡ true → 0 < d.slot.place
-decided_some secret view d rest =
-    some_place secret d.slot.place (digest_of d.batch) d.batch
-    (each_of_three (d.slot.view == view.number) (is_none (votes_fault secret view (accept_of d.slot (digest_of d.batch)) d.accepts))
-    (is_batch_for secret d.slot.place (digest_of d.batch) d.batch) rest).2
 
 -- ---- one place after the other
 
--- the latest place that is made, by how many batches are decided
-abbrev TurnAt : Option ℕ → ℕ → Type 0
-TurnAt None count = count ≡ 0
-TurnAt (Some latest) count = latest ≡ count
+-- the latest place that is made, by how many batches are decided past a place
+abbrev TurnAt : ℕ → Option ℕ → ℕ → Type 0
+TurnAt past None count = count ≡ 0
+TurnAt past (Some latest) count = ((latest ≤ past) × (count ≡ 0)) ⊎ (latest ≡ past + count)
 
-abbrev InTurn : List LogEntry → Type 0
-InTurn es = TurnAt (latest_made es) (length (decided_of es))
+abbrev InTurn : ℕ → List LogEntry → Type 0
+InTurn past es = TurnAt past (latest_made es) (length (decided_of past es))
 
-turn_next : (latest : Option ℕ) (count place : ℕ) → Follows 0 latest place → TurnAt latest count → 0 < place → place ≡ count + 1
-turn_next None count place follows turn some = omega (arith, follows, turn, some)
-turn_next (Some k) count place follows turn some = omega (arith, follows, turn)
+turn_next : (past : ℕ) (latest : Option ℕ) (count place : ℕ) → Follows past latest place → TurnAt past latest count → past < place → place ≡ past + count + 1
+turn_next past None count place follows turn some = omega (arith, follows, turn, some)
+turn_next past (Some k) count place follows (inl low) some = let few = low.0 in let none = low.1 in omega (arith, follows, few, none, some)
+turn_next past (Some k) count place follows (inr at) some = omega (arith, follows, at)
 
--- nothing is installed behind a decision
-turn_same : (latest : Option ℕ) (count last place : ℕ) → TurnAt latest count → is_above latest last place ≡ true → place ≤ 0 → place ≡ count
-turn_same None count last place turn above few = omega (arith, turn, few)
-turn_same (Some k) count last place turn above few = let more = ltb-true last place above in absurd (omega (arith, more, few))
+-- a decision up to the place stands before each past it
+turn_low : (past : ℕ) (latest : Option ℕ) (count place : ℕ) → Follows past latest place → TurnAt past latest count → place ≤ past → count ≡ 0
+turn_low past None count place follows turn few = turn
+turn_low past (Some k) count place follows (inl low) few = low.1
+turn_low past (Some k) count place follows (inr at) few = absurd (omega (arith, follows, at, few))
 
-keeps_turn : (xs ys : List LogEntry) → latest_made ys ≡ latest_made xs → decided_of ys ≡ decided_of xs → InTurn xs → InTurn ys
-keeps_turn xs ys latest decided is =
-    subst (λ (o : Option ℕ). TurnAt o (length (decided_of ys))) (sym latest) (subst (λ (ds : List Batch). TurnAt (latest_made xs) (length ds)) (sym decided) is)
+-- an installation up to the place stands before each decision past it
+turn_same : (past : ℕ) (latest : Option ℕ) (count last place : ℕ) → TurnAt past latest count → number_or latest 0 ≤ last → is_above latest last place ≡ true → place ≤ past → count ≡ 0
+turn_same past None count last place turn most above few = turn
+turn_same past (Some k) count last place (inl low) most above few = low.1
+turn_same past (Some k) count last place (inr at) most above few = let more = ltb-true last place above in absurd (omega (arith, at, most, more, few))
 
-turn_place : (secret : List ℕ) (view : View) (before : List LogEntry) (d : Decision) → Follows 0 (latest_made before) d.slot.place → rests secret view (Decided d) ≡ true → InTurn before
-    → d.slot.place ≡ length (decided_of before) + 1
-turn_place secret view before d follows rest is = turn_next (latest_made before) (length (decided_of before)) d.slot.place follows is (decided_some secret view d rest)
+-- the latest place is at most the last
+latest_most : (es : List LogEntry) → number_or (latest_made es) 0 ≤ last_made es
+latest_most [] = omega arith
+latest_most (e ∷ es) = by (latest_made es) (latest_most es)
+  where
+    by : (o : Option ℕ) → number_or o 0 ≤ last_made es → number_or (or_else o (place_made e)) 0 ≤ max (number_or (place_made e) 0) (last_made es)
+    by None most = omega arith
+    by (Some k) most = omega (arith, most)
 
-turn_step : (secret : List ℕ) (view : View) (restored : ℕ) (before : List LogEntry) (e : LogEntry) → length before < restored → Admits 0 restored before e
-    → rests secret view e ≡ true → InTurn before → InTurn (before ++ e ∷ [])
-turn_step secret view restored before (Opened o) few may rest is = keeps_turn before (before ++ Opened o ∷ []) (latest_push before (Opened o)) (decided_none before (Opened o) refl) is
-turn_step secret view restored before (Wrote w) few may rest is = keeps_turn before (before ++ Wrote w ∷ []) (latest_push before (Wrote w)) (decided_none before (Wrote w) refl) is
-turn_step secret view restored before (Accepted a) few may rest is = keeps_turn before (before ++ Accepted a ∷ []) (latest_push before (Accepted a)) (decided_none before (Accepted a) refl) is
-turn_step secret view restored before (Promised p) few may rest is = keeps_turn before (before ++ Promised p ∷ []) (latest_push before (Promised p)) (decided_none before (Promised p) refl) is
-turn_step secret view restored before (Synced s) few may rest is = keeps_turn before (before ++ Synced s ∷ []) (latest_push before (Synced s)) (decided_none before (Synced s) refl) is
-turn_step secret view restored before (Decided d) few may rest is =
-    let place : d.slot.place ≡ length (decided_of before) + 1 = turn_place secret view before d may rest is in
-    let more : length (decided_of (before ++ Decided d ∷ [])) ≡ length (decided_of before ++ d.batch ∷ []) = ap (λ (bs : List Batch). length bs) (decided_append before (Decided d ∷ [])) in
-    let same : d.slot.place ≡ length (decided_of (before ++ Decided d ∷ [])) = omega (arith, place, more, length-append (decided_of before) (d.batch ∷ [])) in
-    subst (λ (o : Option ℕ). TurnAt o (length (decided_of (before ++ Decided d ∷ [])))) (sym (latest_push before (Decided d))) same
-turn_step secret view restored before (Installed i) few may rest is =
-    let above = (and_true (is_above (latest_made before) (last_made before) i.place) (not (nat_lt (length before) restored) || nat_le i.place 0)
-    (admitting 0 restored before (Installed i) may)).0 in
-    let same : i.place ≡ length (decided_of before) = turn_same (latest_made before) (length (decided_of before)) (last_made before) i.place is above (may.within few) in
-    let all : i.place ≡ length (decided_of (before ++ Installed i ∷ [])) =
-    same ∙ ap (λ (bs : List Batch). length bs) (sym (decided_none before (Installed i) refl)) in
-    subst (λ (o : Option ℕ). TurnAt o (length (decided_of (before ++ Installed i ∷ [])))) (sym (latest_push before (Installed i))) all
-turn_step secret view restored before (Marked m) few may rest is = keeps_turn before (before ++ Marked m ∷ []) (latest_push before (Marked m)) (decided_none before (Marked m) refl) is
+keeps_turn : (past : ℕ) (xs ys : List LogEntry) → latest_made ys ≡ latest_made xs → decided_of past ys ≡ decided_of past xs → InTurn past xs → InTurn past ys
+keeps_turn past xs ys latest decided is =
+    subst (λ (o : Option ℕ). TurnAt past o (length (decided_of past ys))) (sym latest)
+    (subst (λ (ds : List Batch). TurnAt past (latest_made xs) (length ds)) (sym decided) is)
 
-turns_on : (secret : List ℕ) (view : View) (restored : ℕ) (before es : List LogEntry) → length before + length es ≤ restored → Lawful 0 restored (before ++ es)
-    → Each (λ e. rests secret view e ≡ true) es → InTurn before → InTurn (before ++ es)
-turns_on secret view restored before [] few lawful all is = subst InTurn (sym (append-nil before)) is
-turns_on secret view restored before (e ∷ es) few lawful all is =
+turn_decided : (past : ℕ) (before : List LogEntry) (d : Decision) → Follows past (latest_made before) d.slot.place → InTurn past before → InTurn past (before ++ Decided d ∷ [])
+turn_decided past before d follows is =
+    subst (λ (o : Option ℕ). TurnAt past o (length (decided_of past (before ++ Decided d ∷ [])))) (sym (latest_push before (Decided d))) (by (nat_lt past d.slot.place) refl)
+  where
+    by : (b : Bool) → nat_lt past d.slot.place ≡ b → TurnAt past (Some d.slot.place) (length (decided_of past (before ++ Decided d ∷ [])))
+    by true more =
+        let some : past < d.slot.place = ltb-true past d.slot.place more in
+        let place : d.slot.place ≡ past + length (decided_of past before) + 1 = turn_next past (latest_made before) (length (decided_of past before)) d.slot.place follows is some in
+        let grown : length (decided_of past (before ++ Decided d ∷ [])) ≡ length (decided_of past before ++ d.batch ∷ []) =
+        ap (λ (bs : List Batch). length bs) (decided_last past before d some) in
+        inr (omega (arith, place, grown, length-append (decided_of past before) (d.batch ∷ [])))
+    by false less =
+        let low : d.slot.place ≤ past = ltb-false past d.slot.place less in
+        let none : length (decided_of past before) ≡ 0 = turn_low past (latest_made before) (length (decided_of past before)) d.slot.place follows is low in
+        inl (low, ap (λ (bs : List Batch). length bs) (decided_none past before (Decided d) (decided_low past d [] less)) ∙ none)
+
+turn_installed : (past restored : ℕ) (before : List LogEntry) (i : Installation) → length before < restored → MayInstall past restored before i.place → InTurn past before
+    → InTurn past (before ++ Installed i ∷ [])
+turn_installed past restored before i few may is =
+    let above = (and_true (is_above (latest_made before) (last_made before) i.place) (not (nat_lt (length before) restored) || nat_le i.place past)
+    (admitting past restored before (Installed i) may)).0 in
+    let low : i.place ≤ past = may.within few in
+    let none : length (decided_of past before) ≡ 0 =
+    turn_same past (latest_made before) (length (decided_of past before)) (last_made before) i.place is (latest_most before) above low in
+    let all : length (decided_of past (before ++ Installed i ∷ [])) ≡ 0 = ap (λ (bs : List Batch). length bs) (decided_none past before (Installed i) refl) ∙ none in
+    subst (λ (o : Option ℕ). TurnAt past o (length (decided_of past (before ++ Installed i ∷ [])))) (sym (latest_push before (Installed i))) (inl (low, all))
+
+turn_step : (past restored : ℕ) (before : List LogEntry) (e : LogEntry) → length before < restored → Admits past restored before e → InTurn past before → InTurn past (before ++ e ∷ [])
+turn_step past restored before (Opened o) few may is = keeps_turn past before (before ++ Opened o ∷ []) (latest_push before (Opened o)) (decided_none past before (Opened o) refl) is
+turn_step past restored before (Wrote w) few may is = keeps_turn past before (before ++ Wrote w ∷ []) (latest_push before (Wrote w)) (decided_none past before (Wrote w) refl) is
+turn_step past restored before (Accepted a) few may is = keeps_turn past before (before ++ Accepted a ∷ []) (latest_push before (Accepted a)) (decided_none past before (Accepted a) refl) is
+turn_step past restored before (Promised p) few may is = keeps_turn past before (before ++ Promised p ∷ []) (latest_push before (Promised p)) (decided_none past before (Promised p) refl) is
+turn_step past restored before (Synced s) few may is = keeps_turn past before (before ++ Synced s ∷ []) (latest_push before (Synced s)) (decided_none past before (Synced s) refl) is
+turn_step past restored before (Decided d) few may is = turn_decided past before d may is
+turn_step past restored before (Installed i) few may is = turn_installed past restored before i few may is
+turn_step past restored before (Marked m) few may is = keeps_turn past before (before ++ Marked m ∷ []) (latest_push before (Marked m)) (decided_none past before (Marked m) refl) is
+
+turns_on : (past restored : ℕ) (before es : List LogEntry) → length before + length es ≤ restored → Lawful past restored (before ++ es) → InTurn past before → InTurn past (before ++ es)
+turns_on past restored before [] few lawful is = subst (InTurn past) (sym (append-nil before)) is
+turns_on past restored before (e ∷ es) few lawful is =
     let whole : (before ++ e ∷ []) ++ es ≡ before ++ e ∷ es = append_assoc before (e ∷ []) es in
     let next : length (before ++ e ∷ []) + length es ≤ restored = omega (arith, few, length-append before (e ∷ [])) in
-    subst InTurn whole
-    (turns_on secret view restored (before ++ e ∷ []) es next (subst (λ (xs : List LogEntry). Lawful 0 restored xs) (sym whole) lawful) all.1
-    (turn_step secret view restored before e (omega (arith, few)) (lawful before e es refl) all.0 is))
+    subst (InTurn past) whole
+    (turns_on past restored (before ++ e ∷ []) es next (subst (λ (xs : List LogEntry). Lawful past restored xs) (sym whole) lawful)
+    (turn_step past restored before e (omega (arith, few)) (lawful before e es refl) is))
 
-turns_at : (secret : List ℕ) (view : View) (restored : ℕ) (before : List LogEntry) (d : Decision) (after : List LogEntry)
-    → length (before ++ Decided d ∷ after) ≤ restored → Lawful 0 restored (before ++ Decided d ∷ after) → Each (λ e. rests secret view e ≡ true) (before ++ Decided d ∷ after)
-    → d.slot.place ≡ length (decided_of before) + 1
-turns_at secret view restored before d after few lawful all =
-    let P : LogEntry → Type 0 = λ e. rests secret view e ≡ true in
-    let es : List LogEntry = before ++ Decided d ∷ after in
-    let front : Each P before = each_from P before (λ x there. each_among P es x all (among_left x before (Decided d ∷ after) there)) in
+turns_at : (past restored : ℕ) (before : List LogEntry) (d : Decision) (after : List LogEntry) → length (before ++ Decided d ∷ after) ≤ restored
+    → Lawful past restored (before ++ Decided d ∷ after) → past < d.slot.place → d.slot.place ≡ past + length (decided_of past before) + 1
+turns_at past restored before d after few lawful some =
     let short : 0 + length before ≤ restored = omega (arith, few, length-append before (Decided d ∷ after)) in
-    let turn : InTurn before = turns_on secret view restored [] before short (front_lawful 0 restored before (Decided d ∷ after) lawful) front refl in
-    turn_place secret view before d (lawful before (Decided d) after refl) (each_among P es (Decided d) all (among_right (Decided d) before (Decided d ∷ after) (inl refl))) turn
+    let turn : InTurn past before = turns_on past restored [] before short (front_lawful past restored before (Decided d ∷ after) lawful) refl in
+    turn_next past (latest_made before) (length (decided_of past before)) d.slot.place (lawful before (Decided d) after refl) turn some
 
-pub decided_in_turn : (secret : List ℕ) (view : View) (entries : List LogEntry) → Lawful 0 (length entries) entries → Each (λ e. rests secret view e ≡ true) entries → DecidesInTurn entries
-decided_in_turn secret view entries lawful all before d after split =
-    turns_at secret view (length (before ++ Decided d ∷ after)) before d after (omega arith)
-    (subst (λ (xs : List LogEntry). Lawful 0 (length xs) xs) split lawful)
-    (subst (λ (xs : List LogEntry). Each (λ (e : LogEntry). rests secret view e ≡ true) xs) split all)
+pub decided_in_turn : (opening : ℕ) (entries : List LogEntry) → Lawful opening (length entries) entries → DecidesInTurn opening entries
+decided_in_turn opening entries lawful before d after split some =
+    turns_at opening (length (before ++ Decided d ∷ after)) before d after (omega arith) (subst (λ (xs : List LogEntry). Lawful opening (length xs) xs) split lawful) some

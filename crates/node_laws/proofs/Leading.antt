@@ -58,7 +58,7 @@ collected stated view n number regency member r is at =
     let x : Reported = first.0 in
     let there = (found (is_report number regency member) n.reports x first.1).there in
     let kept = each_among (ReportKept n stated view) n.reports x is.reports there in
-    let all = covers n.secret stated (changes.StopData x) kept.2 in
+    let all = covers n.secret stated (changes.StopData x) kept.1 in
     subst (λ (y : SignedBy Report). Covers n.secret stated (says.in_report y)) first.2
     (λ s here ok. all s (among_left s (says.in_report x.head) (flat_map says.within (says.requests_of x.batch)) here) ok)
 

@@ -19,5 +19,6 @@ pub mod Restored
 pub mod Reopened
 pub mod Resting
 pub mod InTurn
+pub mod CertifiedBooks
 pub mod Damage
 pub mod Undamaged

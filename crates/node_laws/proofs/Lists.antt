@@ -2,7 +2,6 @@
 use Rattle.std.proofs.Common.{Bool, List, None, Option, Some, cond, false, filter, inl, inr, refl, subst, sym, true, ◌≡◌, ◌++◌, [], ◌∷◌}
 use Rattle.std.specs.List.{cons_option, filter_map, list_all, list_any}
 use Rattle.std.specs.Prelude.{find}
-use Rattle.node_rules.specs.Steps.{passes}
 use Rattle.smart_base.specs.Lists.{Each}
 use Rattle.vote_book.specs.Books.{Among}
 use Rattle.smart_base.proofs.SameLists.{and_true}

@@ -5,7 +5,6 @@ use Rattle.agreement_laws.specs.Certificates.{IsBacked, IsChosen, IsDrawn}
 use Rattle.agreement_laws.specs.Diaries.{IsShown}
 use Rattle.agreement_laws.specs.Statements.{Statement, signer_of, statements}
 use Rattle.node_rules.specs.Nodes.{Node}
-use Rattle.node_rules.specs.Steps.{votes}
 use Rattle.node_rules.specs.declared.node.Held.{Held}
 use Rattle.smart_base.specs.Views.{View}
 use Rattle.smart_base.specs.declared.party.Party.TheVariants.{Member}
@@ -97,8 +96,8 @@ module _ (stated more : List Statement) (grows_to : AreAmong stated more) where
     table = is.table;
     arrivals = each-weaken (Arrived n.secret stated view) (Arrived n.secret more view) (λ m k. (k.0, areamong_more (statements n.secret m) k.1)) n.arrivals is.arrivals;
     stops = each-weaken (StopKept n.secret stated view) (StopKept n.secret more view) (λ s k. (k.0, areamong_more (statements n.secret (changes.Stop s)) k.1)) n.stops is.stops;
-    reports = each-weaken (ReportKept n stated view) (ReportKept n more view) (λ r k. (k.0, k.1, areamong_more (statements n.secret (changes.StopData r)) k.2)) n.reports is.reports;
-    syncs = each-weaken (SyncKept n stated view) (SyncKept n more view) (λ s k. (k.0, k.1, areamong_more (statements n.secret (changes.Sync s)) k.2)) n.syncs is.syncs;
+    reports = each-weaken (ReportKept n stated view) (ReportKept n more view) (λ r k. (k.0, areamong_more (statements n.secret (changes.StopData r)) k.1)) n.reports is.reports;
+    syncs = each-weaken (SyncKept n stated view) (SyncKept n more view) (λ s k. (k.0, areamong_more (statements n.secret (changes.Sync s)) k.1)) n.syncs is.syncs;
     pool = asked_more n.secret n.pool is.pool;
     held = each-weaken (IsHeld n.secret n.id stated n.entries) (IsHeld n.secret n.id more n.entries) (held_more n.secret n.id n.entries) n.held is.held;
   }

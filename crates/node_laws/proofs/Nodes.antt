@@ -10,6 +10,7 @@ use Rattle.node_rules.specs.Arrivals.{is_collect, is_proven}
 use Rattle.node_rules.specs.Nodes.{Node, decided_place, holding, next_place, recording, regency_in, regency_of, view_of}
 use Rattle.node_rules.specs.declared.node.Held.{Held}
 use Rattle.node_rules.specs.declared.node.Target.{Target}
+use Rattle.smart_service.specs.Tables.{kept_in}
 use Rattle.smart_base.specs.Lists.{Each, or_else}
 use Rattle.smart_base.specs.Views.{View, present}
 use Rattle.smart_base.specs.declared.party.Party.TheVariants.{Member}
@@ -41,15 +42,15 @@ abbrev pub Arrived : List ℕ → List Statement → View → Message → Type 0
 Arrived secret stated view m = IsKept secret view m × IsStated secret stated m
 
 abbrev pub StopKept : List ℕ → List Statement → View → SignedBy Stop → Type 0
-StopKept secret stated view s = IsMembers view (is_verified stops secret s) s.signer s.statement.view × IsStated secret stated (changes.Stop s)
+StopKept secret stated view s = (s.statement.view ≡ view.number → IsMembers view (is_verified stops secret s) s.signer) × IsStated secret stated (changes.Stop s)
 
 abbrev pub ReportKept : {S : Type 0} → Node S → List Statement → View → Reported → Type 0
 ReportKept n stated view r =
-    IsMembers view (is_verified reports n.secret r.head) r.head.signer r.head.statement.view × (is_proven n r ≡ true) × IsStated n.secret stated (changes.StopData r)
+    (r.head.statement.view ≡ view.number → IsMembers view (is_verified reports n.secret r.head) r.head.signer × (is_proven n r ≡ true)) × IsStated n.secret stated (changes.StopData r)
 
 abbrev pub SyncKept : {S : Type 0} → Node S → List Statement → View → SignedBy Sync → Type 0
 SyncKept n stated view s =
-    IsMembers view (is_verified syncs n.secret s) s.signer s.statement.view × (is_collect n s.statement ≡ true) × IsStated n.secret stated (changes.Sync s)
+    (s.statement.view ≡ view.number → IsMembers view (is_verified syncs n.secret s) s.signer × (is_collect n s.statement ≡ true)) × IsStated n.secret stated (changes.Sync s)
 
 -- ---- what is held, and what the law says nothing of
 
@@ -160,7 +161,7 @@ pushes stated view n e waiting is may made = record {
   batches = each_end (HasBatch n.secret stated) n.entries e is.batches may.batch;
   waiting = made.waiting;
   table = each-weaken (λ line. HasReached n.entries line.place) (λ line. HasReached (n.entries ++ e ∷ []) line.place)
-      (λ line has. reached_push n.entries e line.place has) n.replica.table is.table;
+      (λ line has. reached_push n.entries e line.place has) (kept_in n.replica.table) is.table;
   arrivals = is.arrivals;
   stops = is.stops;
   reports = is.reports;

@@ -1,14 +1,10 @@
 -- A node stays sound, whatever comes to it.
-use Rattle.std.proofs.Common.{Err, List, None, Ok, Option, Result, Some, arith, false, nat_le, refl, true, ℕ, ◌≡◌, [], ◌∷◌}
+use Rattle.std.proofs.Common.{Err, List, Ok, Result, arith, false, nat_le, refl, true, ℕ, ◌≡◌, [], ◌∷◌}
 use Rattle.agreement_laws.specs.Statements.{Statement}
-use Rattle.node_rules.specs.Arrivals.{kept, noted, why_dropped}
-use Rattle.node_rules.specs.Changes.{adopts, joins, promises}
 use Rattle.node_rules.specs.Nodes.{Node, recording}
 use Rattle.node_rules.specs.Reopening.{stopped}
-use Rattle.node_rules.specs.Rules.{delivers, proposes, writes, asked_in}
-use Rattle.node_rules.specs.Steps.{made_firm, arrival_outcome, opened, passes, reading_outcome, released, staying, step_of, turns, votes}
+use Rattle.node_rules.specs.Steps.{opened, outset, released, staying, step_of, takes_in}
 use Rattle.node_rules.specs.declared.node.Held.{Held}
-use Rattle.node_rules.specs.declared.node.Why.{Why}
 use Rattle.smart_base.specs.Lists.{Each}
 use Rattle.smart_base.specs.Views.{View, is_view}
 use Rattle.smart_messages.specs.Messages.{decoded}
@@ -32,41 +28,44 @@ use Rattle.node_laws.proofs.Proposing.{sound_proposes}
 use Rattle.node_laws.proofs.Voting.{sound_accepts, sound_writes}
 use Rattle.node_laws.specs.Sound.{IsHeld, IsSound, IsStated, IsStatedEvent}
 use Rattle.agreement_laws.proofs.Lists.{either}
+use Rattle.node_rules.proofs.Rulewise.{KeptByRules, ForRead, ForEvent, takes_in_as, keeps_from}
 
-sound_turns : {S : Type 0} (stated : List Statement) (view : View) (n : Node S) → IsSound stated view n → IsSound stated view (turns n)
-unfolding turns
-sound_turns stated view n is =
-    sound_leads stated view (promises (joins (adopts n))) (sound_promises stated view (joins (adopts n)) (sound_joins stated view (adopts n) (sound_adopts stated view n is)))
+sound_rules : {S : Type 0} (stated : List Statement) (view : View) → is_view view ≡ true → KeptByRules {S = S} (λ n. IsSound stated view n)
+sound_rules stated view viewed = record {
+  by_adopts = λ n is. sound_adopts stated view n is;
+  by_joins = λ n is. sound_joins stated view n is;
+  by_promises = λ n is. sound_promises stated view n is;
+  by_leads = λ n is. sound_leads stated view n is;
+  by_proposes = λ n is. sound_proposes stated view n is;
+  by_writes = λ n is. sound_writes stated view n is;
+  by_accepts = λ n is. sound_accepts stated view n viewed is;
+  by_decides = λ n is. sound_decides stated view n viewed is;
+  by_times = λ n is. sound_times stated view n is;
+  by_answers = λ n asked is. sound_answers_again stated view n asked is;
+}
 
-sound_votes : {S : Type 0} (stated : List Statement) (view : View) (n : Node S) → is_view view ≡ true → IsSound stated view n → IsSound stated view (votes n)
-unfolding votes
-sound_votes stated view n viewed is = sound_accepts stated view (writes (proposes n)) viewed (sound_writes stated view (proposes n) (sound_proposes stated view n is))
+sound_takes_in : {S : Type 0} (stated : List Statement) (view : View) (n : Node S) (event : NodeEvent) → IsSound stated view n
+    → IsStatedEvent n.secret stated event → IsSound stated view (takes_in n event).node
+sound_takes_in {S} stated view n event is was =
+    takes_in_as (λ (x : Node S). IsSound stated view x) (IsStated n.secret stated) n event (λ message. sound_noted stated view n message is)
+    (λ message none came. sound_kept stated view n message is none came)
+    (λ count. aside stated view n count n.held n.proposed n.stop_made n.sync_made n.impatient n.behind is is.held) (stated_event event was) is
+  where
+    stated_read : (read : Result Message ℕ) → ((m : Message) → read ≡ Ok m → IsStated n.secret stated m) → ForRead (IsStated n.secret stated) read
+    stated_read (Ok m) was = was m refl
+    stated_read (Err at) was = tt
 
-sound_passes : {S : Type 0} (stated : List Statement) (view : View) (n : Node S) → is_view view ≡ true → IsSound stated view n → IsSound stated view (passes n)
-unfolding passes
-sound_passes stated view n viewed is = sound_decides stated view (votes (turns n)) viewed (sound_votes stated view (turns n) viewed (sound_turns stated view n is))
-
-sound_arrival : {S : Type 0} (stated : List Statement) (view : View) (n : Node S) (message : Message) (why : Option Why) → is_view view ≡ true → IsSound stated view n
-    → IsStated n.secret stated message → why_dropped n message ≡ why → IsSound stated view (arrival_outcome n message why).node
-sound_arrival stated view n message None viewed is was at =
-    sound_answers_again stated view (passes (kept (noted n message) message)) (asked_in message)
-    (sound_passes stated view (kept (noted n message) message) viewed (sound_kept stated view n message is at was))
-sound_arrival stated view n message (Some why) viewed is was at = sound_noted stated view n message is
-
-sound_reading : {S : Type 0} (stated : List Statement) (view : View) (n : Node S) (read : Result Message ℕ) → is_view view ≡ true → IsSound stated view n
-    → ((m : Message) → read ≡ Ok m → IsStated n.secret stated m) → IsSound stated view (reading_outcome n read).node
-sound_reading stated view n (Ok message) viewed is was = sound_arrival stated view n message (why_dropped n message) viewed is (was message refl) refl
-sound_reading stated view n (Err at) viewed is was = is
+    stated_event : (e : NodeEvent) → IsStatedEvent n.secret stated e → ForEvent (IsStated n.secret stated) e
+    stated_event (Arrive bytes) was = stated_read (decoded bytes) was
+    stated_event Tick was = tt
+    stated_event Deliver was = tt
+    stated_event (Firm count) was = tt
 
 pub sound_step : {S : Type 0} (m : Meaning S) (stated : List Statement) (view : View) (n : Node S) (event : NodeEvent) → is_view view ≡ true → IsSound stated view n
     → IsStatedEvent n.secret stated event → IsSound stated view (step_of m n event).node
-unfolding step_of
-sound_step m stated view n (Arrive bytes) viewed is was = sound_reading stated view n (decoded bytes) viewed is was
-sound_step m stated view n Tick viewed is was = sound_times stated view (passes n) (sound_passes stated view n viewed is)
-sound_step m stated view n Deliver viewed is was = sound_passes stated view (delivers m n) viewed (sound_delivers m stated view n is)
-sound_step {S = S} m stated view n (Firm count) viewed is was =
-    let firmer : Node S = made_firm n count in
-    sound_passes stated view firmer viewed (aside stated view n firmer.firm n.held n.proposed n.stop_made n.sync_made n.impatient n.behind is is.held)
+sound_step {S = S} m stated view n event viewed is was =
+    let taken : IsSound stated view (takes_in n event).node = sound_takes_in stated view n event is was in
+    keeps_from m (λ (x : Node S). IsSound stated view x) n event (sound_rules stated view viewed) taken (sound_delivers m stated view (takes_in n event).node taken)
 
 -- ---- messages that leave, and the beginning
 
@@ -80,9 +79,9 @@ sound_released stated view n is =
     (each_staying (IsHeld n.secret n.id stated n.entries) n.firm n.held is.held)
 
 -- the node whose book is its opening alone
-pub sound_begun : {S : Type 0} (m : Meaning S) (stated : List Statement) (secret : List ℕ) (id : ℕ) (view : View) (o : Opening)
-    → IsSound stated view (recording (stopped m secret id view) (Opened o))
-sound_begun m stated secret id view o = record {
+pub sound_begun : {S : Type 0} (m : Meaning S) (stated : List Statement) (secret : List ℕ) (id : ℕ) (view : View) (period : ℕ) (o : Opening)
+    → IsSound stated view (recording (stopped (outset m secret id view period)) (Opened o))
+sound_begun m stated secret id view period o = record {
   views = refl;
   begun = refl;
   lawful = grows 0 0 [] (Opened o) (none_lawful 0 0) tt;
@@ -103,7 +102,7 @@ sound_begun m stated secret id view o = record {
   held = tt;
 }
 
-pub sound_opened : {S : Type 0} (m : Meaning S) (secret : List ℕ) (id : ℕ) (view : View) (period : ℕ) → IsSound [] view (opened m secret id view period)
+pub sound_opened : {S : Type 0} (m : Meaning S) (secret : List ℕ) (id : ℕ) (view : View) (period : ℕ) → IsSound [] view (opened (outset m secret id view period))
 sound_opened m secret id view period =
     let o : Opening = record { member = id; period = period; view = view } in
-    aside [] view (recording (stopped m secret id view) (Opened o)) 0 [] [] false false false false (sound_begun m [] secret id view o) tt
+    aside [] view (recording (stopped (outset m secret id view period)) (Opened o)) 0 [] [] false false false false (sound_begun m [] secret id view period o) tt

@@ -109,7 +109,7 @@ all_shown stated view n is s there ok =
 -- ---- promise
 
 sound_promise : {S : Type 0} (stated : List Statement) (view : View) (n : Node S) → IsSound stated view n → IsSound stated view (promise_next n)
-unfolding promise_next
+unfolding promise_next reported_by
 sound_promise {S = S} stated view n is =
     let pushed : IsSound stated view (recording n (Promised (next_promise n))) = records_promise stated view n (next_promise n) is refl (omega arith) in
     let m : Node S = record (recording n (Promised (next_promise n))) { stop_made = false; sync_made = false; impatient = true } in

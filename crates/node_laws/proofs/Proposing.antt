@@ -84,7 +84,7 @@ brought_covers stated view n digest batch is at =
     let of = in_batch (find p n.reports) batch at in
     let r : Reported = of.0 in
     let kept = each_among (ReportKept n stated view) n.reports r is.reports (found p n.reports r of.1).there in
-    reported_covers n.secret stated r r.batch batch refl of.2 (covers n.secret stated (changes.StopData r) kept.2)
+    reported_covers n.secret stated r r.batch batch refl of.2 (covers n.secret stated (changes.StopData r) kept.1)
 
 under_of : (o : Option Named) (batch : Batch) → option_map (λ (x : Named). x.batch) o ≡ Some batch → (x : Named) × (o ≡ Some x) × (x.batch ≡ batch)
 under_of None batch is = absurd (cc)

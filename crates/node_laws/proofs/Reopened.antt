@@ -10,6 +10,8 @@ use Rattle.agreement_laws.specs.Statements.{Statement}
 use Rattle.node_rules.specs.Arrivals.{is_batch_for, is_collect, is_proven}
 use Rattle.node_rules.specs.Nodes.{Node, greatest_regency, next_place, recording, regency_in, regency_of, view_of}
 use Rattle.node_rules.specs.Reopening.{decided_of, reopened, stopped, takes_all_back, takes_back}
+use Rattle.node_rules.specs.Steps.{Outset, outset}
+use Rattle.smart_service.specs.Tables.{kept_in}
 use Rattle.smart_base.specs.Lists.{Each, same_bytes}
 use Rattle.smart_base.specs.Views.{View}
 use Rattle.smart_statements.specs.Kinds.{requests}
@@ -27,7 +29,7 @@ use Rattle.node_laws.proofs.Nodes.{MayPush, aside, pushes, records}
 use Rattle.node_laws.proofs.Passes.{sound_begun}
 use Rattle.node_laws.proofs.Promised.{number_in_force}
 use Rattle.node_laws.proofs.Votes.{made_last, made_latest}
-use Rattle.node_laws.proofs.Restored.{front_of}
+use Rattle.node_laws.proofs.Restored.{decided_append, decided_here, front_of}
 use Rattle.node_laws.specs.Restored.{IsSoundBook}
 use Rattle.node_laws.specs.Sound.{HasBatch, IsBegun, IsSound, place_if}
 use Rattle.agreement_laws.proofs.Lists.{among_right, each_among}
@@ -100,7 +102,7 @@ decision_back {S = S} m stated view n d is none may =
     let made = decides_makes stated view n d is free at in
     let waits : IsSound stated view w = pushes stated view n (Decided d) (Some d.batch) is may made in
     let r : Replica S = delivered m n.replica d.batch in
-    let table : Each (IsReached es) r.table = delivered_table m n.replica es d.batch (reached_next stated view w d.batch waits refl) waits.table in
+    let table : Each (IsReached es) (kept_in r.table) = delivered_table m n.replica es d.batch (reached_next stated view w d.batch waits refl) waits.table in
     let there : IsSound stated view (onward w r.service r.table n.pool) = sound_onward stated view w d.batch r.service r.table n.pool waits refl table is.pool in
     let next : IsSound stated view (record w { replica = r; waiting = None; impatient = false }) =
     subst (λ (x : Replica S). IsSound stated view (record w { replica = x; waiting = None; impatient = false })) (delivered_is m n.replica d.batch) there in
@@ -109,90 +111,63 @@ decision_back {S = S} m stated view n d is none may =
     subst (λ (o : Option Batch). IsSound stated view (record w { replica = r; waiting = o })) (sym none) back
 
 sound_back : {S : Type 0} (m : Meaning S) (stated : List Statement) (view : View) (n : Node S) (e : LogEntry) → IsSound stated view n → n.waiting ≡ None
-    → MayPush stated view n e → IsSound stated view (takes_back m n e)
+    → MayPush stated view n e → IsSound stated view (takes_back m 0 n e)
 sound_back m stated view n (Opened o) is none may = records stated view n (Opened o) is may refl
 sound_back m stated view n (Wrote w) is none may = records stated view n (Wrote w) is may refl
 sound_back m stated view n (Accepted a) is none may = records stated view n (Accepted a) is may refl
 sound_back m stated view n (Promised p) is none may = records stated view n (Promised p) is may refl
 sound_back m stated view n (Synced s) is none may = records stated view n (Synced s) is may refl
-sound_back m stated view n (Decided d) is none may = decision_back m stated view n d is none may
+sound_back {S = S} m stated view n (Decided d) is none may =
+    let some : 0 < d.slot.place = some_place n.secret d.slot.place (digest_of d.batch) d.batch may.batch.may in
+    subst (λ (bs : List Batch). IsSound stated view (record (recording n (Decided d)) { replica = after_batches m n.replica bs })) (sym (decided_here 0 d [] some))
+    (decision_back m stated view n d is none may)
 sound_back m stated view n (Installed i) is none may = absurd may.within
 sound_back m stated view n (Marked k) is none may = absurd may.within
 
 -- ---- all of them
 
--- what is taken back is the book, and the replica behind its decisions
-back_is : {S : Type 0} (m : Meaning S) (n : Node S) (e : LogEntry)
-    → takes_back m n e ≡ record n { entries = n.entries ++ e ∷ []; replica = after_batches m n.replica (decided_of (e ∷ [])) }
-back_is m n (Opened o) = refl
-back_is m n (Wrote w) = refl
-back_is m n (Accepted a) = refl
-back_is m n (Promised p) = refl
-back_is m n (Synced s) = refl
-back_is m n (Decided d) = refl
-back_is m n (Installed i) = refl
-back_is m n (Marked k) = refl
+after_append : {S : Type 0} (m : Meaning S) (r : Replica S) (xs ys : List Batch) → after_batches m (after_batches m r xs) ys ≡ after_batches m r (xs ++ ys)
+after_append m r [] ys = refl
+after_append m r (x ∷ xs) ys = after_append m (delivered m r x) xs ys
 
-after_one : {S : Type 0} (m : Meaning S) (r : Replica S) (e : LogEntry) (es : List LogEntry)
-    → after_batches m (after_batches m r (decided_of (e ∷ []))) (decided_of es) ≡ after_batches m r (decided_of (e ∷ es))
-after_one m r (Opened o) es = refl
-after_one m r (Wrote w) es = refl
-after_one m r (Accepted a) es = refl
-after_one m r (Promised p) es = refl
-after_one m r (Synced s) es = refl
-after_one m r (Decided d) es = refl
-after_one m r (Installed i) es = refl
-after_one m r (Marked k) es = refl
+after_one : {S : Type 0} (m : Meaning S) (past : ℕ) (r : Replica S) (e : LogEntry) (es : List LogEntry)
+    → after_batches m (after_batches m r (decided_of past (e ∷ []))) (decided_of past es) ≡ after_batches m r (decided_of past (e ∷ es))
+after_one m past r e es =
+    after_append m r (decided_of past (e ∷ [])) (decided_of past es) ∙ ap (λ (bs : List Batch). after_batches m r bs) (sym (decided_append past (e ∷ []) es))
 
 with_book : {S : Type 0} → Node S → List LogEntry → Replica S → Node S
 with_book n entries replica = record n { entries = entries; replica = replica }
 
-all_back_is : {S : Type 0} (m : Meaning S) (n : Node S) (es : List LogEntry) → takes_all_back m n es ≡ with_book n (n.entries ++ es) (after_batches m n.replica (decided_of es))
+-- what is taken back is the book, and the replica behind its decisions
+all_back_is : {S : Type 0} (m : Meaning S) (past : ℕ) (n : Node S) (es : List LogEntry)
+    → takes_all_back m past n es ≡ with_book n (n.entries ++ es) (after_batches m n.replica (decided_of past es))
 unfolding with_book
-all_back_is m n [] = ap (λ (xs : List LogEntry). record n { entries = xs }) (sym (append-nil n.entries))
-all_back_is {S = S} m n (e ∷ es) =
-    let n' : Node S = record n { entries = n.entries ++ e ∷ []; replica = after_batches m n.replica (decided_of (e ∷ [])) } in
-    ap (λ (x : Node S). takes_all_back m x es) (back_is m n e)
-    ∙ (all_back_is m n' es
-    ∙ (ap (λ (xs : List LogEntry). with_book n xs (after_batches m (after_batches m n.replica (decided_of (e ∷ []))) (decided_of es))) (append_assoc n.entries (e ∷ []) es)
-    ∙ ap (λ (r : Replica S). with_book n (n.entries ++ e ∷ es) r) (after_one m n.replica e es)))
-
-waits_same : {S : Type 0} (m : Meaning S) (n : Node S) (e : LogEntry) → (takes_back m n e).waiting ≡ n.waiting
-waits_same m n (Opened o) = refl
-waits_same m n (Wrote w) = refl
-waits_same m n (Accepted a) = refl
-waits_same m n (Promised p) = refl
-waits_same m n (Synced s) = refl
-waits_same m n (Decided d) = refl
-waits_same m n (Installed i) = refl
-waits_same m n (Marked k) = refl
-
-book_back : {S : Type 0} (m : Meaning S) (stated : List Statement) (view : View) (n : Node S) (e : LogEntry) (es : List LogEntry)
-    → IsSoundBook n.secret stated view (n.entries ++ e ∷ es) → IsSoundBook (takes_back m n e).secret stated view ((takes_back m n e).entries ++ es)
-book_back {S = S} m stated view n e es book =
-    subst (λ (x : Node S). IsSoundBook x.secret stated view (x.entries ++ es)) (sym (back_is m n e))
-    (subst (λ (xs : List LogEntry). IsSoundBook n.secret stated view xs) (sym (append_assoc n.entries (e ∷ []) es)) book)
+all_back_is m past n [] = ap (λ (xs : List LogEntry). record n { entries = xs }) (sym (append-nil n.entries))
+all_back_is {S = S} m past n (e ∷ es) =
+    all_back_is m past (takes_back m past n e) es
+    ∙ (ap (λ (xs : List LogEntry). with_book n xs (after_batches m (after_batches m n.replica (decided_of past (e ∷ []))) (decided_of past es))) (append_assoc n.entries (e ∷ []) es)
+    ∙ ap (λ (r : Replica S). with_book n (n.entries ++ e ∷ es) r) (after_one m past n.replica e es))
 
 sound_all_back : {S : Type 0} (m : Meaning S) (stated : List Statement) (view : View) (n : Node S) (es : List LogEntry) → IsSound stated view n → n.waiting ≡ None
-    → IsSoundBook n.secret stated view (n.entries ++ es) → IsSound stated view (takes_all_back m n es)
+    → IsSoundBook n.secret stated view (n.entries ++ es) → IsSound stated view (takes_all_back m 0 n es)
 sound_all_back m stated view n [] is none book = is
 sound_all_back m stated view n (e ∷ es) is none book =
-    sound_all_back m stated view (takes_back m n e) es (sound_back m stated view n e is none (may_push stated view n e es is none book)) (waits_same m n e ∙ none)
-    (book_back m stated view n e es book)
+    sound_all_back m stated view (takes_back m 0 n e) es (sound_back m stated view n e is none (may_push stated view n e es is none book)) none
+    (subst (λ (xs : List LogEntry). IsSoundBook n.secret stated view xs) (sym (append_assoc n.entries (e ∷ []) es)) book)
 
 -- ---- the node that goes on
 
-goes_on : {S : Type 0} (m : Meaning S) (secret : List ℕ) (id : ℕ) (stated : List Statement) (view : View) (e : LogEntry) (es : List LogEntry) → IsBegun (e ∷ es)
-    → IsSoundBook secret stated view (e ∷ es) → IsSound stated view (takes_all_back m (stopped m secret id view) (e ∷ es))
-goes_on {S = S} m secret id stated view (Opened o) es begun book =
-    sound_all_back m stated view (recording (stopped m secret id view) (Opened o)) es (sound_begun m stated secret id view o) refl book
-goes_on m secret id stated view (Wrote w) es begun book = absurd (cc)
-goes_on m secret id stated view (Accepted a) es begun book = absurd (cc)
-goes_on m secret id stated view (Promised p) es begun book = absurd (cc)
-goes_on m secret id stated view (Synced s) es begun book = absurd (cc)
-goes_on m secret id stated view (Decided d) es begun book = absurd (cc)
-goes_on m secret id stated view (Installed i) es begun book = absurd (cc)
-goes_on m secret id stated view (Marked k) es begun book = absurd (cc)
+goes_on : {S : Type 0} (m : Meaning S) (secret : List ℕ) (id : ℕ) (stated : List Statement) (view : View) (period : ℕ) (e : LogEntry) (es : List LogEntry) → IsBegun (e ∷ es)
+    → IsSoundBook secret stated view (e ∷ es) → IsSound stated view (takes_all_back m 0 (stopped (outset m secret id view period)) (e ∷ es))
+goes_on {S = S} m secret id stated view period (Opened o) es begun book =
+    sound_all_back m stated view (recording (stopped (outset m secret id view period)) (Opened o)) es (sound_begun m stated secret id view period o) refl book
+goes_on m secret id stated view period (Wrote w) es begun book = absurd (cc)
+goes_on m secret id stated view period (Accepted a) es begun book = absurd (cc)
+goes_on m secret id stated view period (Promised p) es begun book = absurd (cc)
+goes_on m secret id stated view period (Synced s) es begun book = absurd (cc)
+goes_on m secret id stated view period (Decided d) es begun book = absurd (cc)
+goes_on m secret id stated view period (Installed i) es begun book = absurd (cc)
+goes_on m secret id stated view period (Marked k) es begun book = absurd (cc)
 
 is_begun : (e : LogEntry) (es : List LogEntry) → (e ∷ es ≡ []) ⊎ IsBegun (e ∷ es) → IsBegun (e ∷ es)
 is_begun e es (inl none) = absurd (cc)
@@ -224,44 +199,44 @@ restored_aside stated view n restored firm is = record {
 }
 
 pub sound_reopened : {S : Type 0} (m : Meaning S) (secret : List ℕ) (id : ℕ) (stated : List Statement) (view : View) (period : ℕ) (entries : List LogEntry)
-    → IsSoundBook secret stated view entries → IsSound stated view (reopened m secret id view period entries)
+    → IsSoundBook secret stated view entries → IsSound stated view (reopened m (outset m secret id view period) entries)
 unfolding reopened
 sound_reopened {S = S} m secret id stated view period [] book =
-    sound_begun m stated secret id view (record { member = id; period = period; view = view })
+    sound_begun m stated secret id view period (record { member = id; period = period; view = view })
 sound_reopened {S = S} m secret id stated view period (e ∷ es) book =
-    let n : Node S = takes_all_back m (stopped m secret id view) (e ∷ es) in
-    let is : IsSound stated view n = goes_on m secret id stated view e es (is_begun e es book.begun) book in
+    let n : Node S = takes_all_back m 0 (stopped (outset m secret id view period)) (e ∷ es) in
+    let is : IsSound stated view n = goes_on m secret id stated view period e es (is_begun e es book.begun) book in
     restored_aside stated view n (length (e ∷ es)) (length (e ∷ es)) is
 
--- the node that goes on from some entries, in full
-pub reopened_is : {S : Type 0} (m : Meaning S) (secret : List ℕ) (id : ℕ) (view : View) (period : ℕ) (e : LogEntry) (es : List LogEntry)
-    → reopened m secret id view period (e ∷ es)
-    ≡ record (stopped m secret id view) { entries = e ∷ es; replica = state m view (decided_of (e ∷ es)); restored = length (e ∷ es); firm = length (e ∷ es) }
+-- the node that goes on from some entries, in full, from any outset
+pub reopened_is : {S : Type 0} (m : Meaning S) (o : Outset S) (e : LogEntry) (es : List LogEntry)
+    → reopened m o (e ∷ es)
+    ≡ record (stopped o) { entries = e ∷ es; replica = after_batches m o.replica (decided_of o.replica.place (e ∷ es)); restored = length (e ∷ es); firm = length (e ∷ es) }
 unfolding reopened with_book
-reopened_is {S = S} m secret id view period e es =
-    ap (λ (n : Node S). record n { restored = length (e ∷ es); firm = length (e ∷ es) }) (all_back_is m (stopped m secret id view) (e ∷ es))
+reopened_is {S = S} m o e es =
+    ap (λ (n : Node S). record n { restored = length (e ∷ es); firm = length (e ∷ es) }) (all_back_is m o.replica.place (stopped o) (e ∷ es))
 
 -- ---- the places of what was decided
 
 pub reopened_place : {S : Type 0} (m : Meaning S) (secret : List ℕ) (id : ℕ) (view : View) (period : ℕ) (entries : List LogEntry)
-    → (reopened m secret id view period entries).replica.place ≡ length (decided_of entries)
+    → (reopened m (outset m secret id view period) entries).replica.place ≡ length (decided_of 0 entries)
 unfolding reopened
 reopened_place m secret id view period [] = refl
 reopened_place {S = S} m secret id view period (e ∷ es) =
-    ap (λ (n : Node S). n.replica.place) (reopened_is m secret id view period e es) ∙ state_place m view (decided_of (e ∷ es))
+    ap (λ (n : Node S). n.replica.place) (reopened_is m (outset m secret id view period) e es) ∙ state_place m view (decided_of 0 (e ∷ es))
 
 reopened_last : {S : Type 0} (m : Meaning S) (secret : List ℕ) (id : ℕ) (stated : List Statement) (view : View) (period : ℕ) (entries : List LogEntry)
-    → IsSoundBook secret stated view entries → (last_made entries ≡ length (decided_of entries)) × (latest_made entries ≡ place_if (length (decided_of entries)))
+    → IsSoundBook secret stated view entries → (last_made entries ≡ length (decided_of 0 entries)) × (latest_made entries ≡ place_if (length (decided_of 0 entries)))
 reopened_last m secret id stated view period [] book = (refl, refl)
 reopened_last {S = S} m secret id stated view period (e ∷ es) book =
-    let n : Node S = record (stopped m secret id view) { entries = e ∷ es; replica = state m view (decided_of (e ∷ es)); restored = length (e ∷ es); firm = length (e ∷ es) } in
-    let is : IsSound stated view n = subst (λ (x : Node S). IsSound stated view x) (reopened_is m secret id view period e es) (sound_reopened m secret id stated view period (e ∷ es) book) in
-    let at : n.replica.place ≡ length (decided_of (e ∷ es)) = state_place m view (decided_of (e ∷ es)) in
+    let n : Node S = record (stopped (outset m secret id view period)) { entries = e ∷ es; replica = state m view (decided_of 0 (e ∷ es)); restored = length (e ∷ es); firm = length (e ∷ es) } in
+    let is : IsSound stated view n = subst (λ (x : Node S). IsSound stated view x) (reopened_is m (outset m secret id view period) e es) (sound_reopened m secret id stated view period (e ∷ es) book) in
+    let at : n.replica.place ≡ length (decided_of 0 (e ∷ es)) = state_place m view (decided_of 0 (e ∷ es)) in
     (is.last ∙ at, is.latest ∙ ap place_if at)
 
 -- as many places are made as decisions stand there, and the latest is the last
 pub count_is : {S : Type 0} (m : Meaning S) (secret : List ℕ) (stated : List Statement) (view : View) (entries : List LogEntry) → IsSoundBook secret stated view entries
-    → last_made entries ≡ length (decided_of entries)
+    → last_made entries ≡ length (decided_of 0 entries)
 count_is m secret stated view entries book = (reopened_last m secret 0 stated view 0 entries book).0
 
 pub latest_is : {S : Type 0} (m : Meaning S) (secret : List ℕ) (stated : List Statement) (view : View) (entries : List LogEntry) → IsSoundBook secret stated view entries
@@ -271,17 +246,17 @@ latest_is m secret stated view entries book =
 
 -- the place of the node that goes on is the last that its entries make
 pub place_reopened : {S : Type 0} (m : Meaning S) (secret : List ℕ) (id : ℕ) (stated : List Statement) (view : View) (period : ℕ) (entries : List LogEntry)
-    → IsSoundBook secret stated view entries → (reopened m secret id view period entries).replica.place ≡ last_made entries
+    → IsSoundBook secret stated view entries → (reopened m (outset m secret id view period) entries).replica.place ≡ last_made entries
 place_reopened m secret id stated view period entries book =
     reopened_place m secret id view period entries ∙ sym (reopened_last m secret id stated view period entries book).0
 
 -- places are decided one after the other, from the first on
 pub in_turn : {S : Type 0} (m : Meaning S) (secret : List ℕ) (stated : List Statement) (view : View) (before : List LogEntry) (d : Decision) (after : List LogEntry)
-    → IsSoundBook secret stated view (before ++ Decided d ∷ after) → d.slot.place ≡ length (decided_of before) + 1
+    → IsSoundBook secret stated view (before ++ Decided d ∷ after) → d.slot.place ≡ length (decided_of 0 before) + 1
 in_turn m secret stated view before d after book =
     let front : IsSoundBook secret stated view before = front_of secret stated view before (Decided d ∷ after) book in
     let latest = (reopened_last m secret 0 stated view 0 before front).1 in
     let admits : Follows 0 (latest_made before) d.slot.place = book.lawful before (Decided d) after refl in
     let has : HasBatch secret stated (Decided d) =
     each_among (HasBatch secret stated) (before ++ Decided d ∷ after) (Decided d) book.batches (among_right (Decided d) before (Decided d ∷ after) (inl refl)) in
-    next_of (length (decided_of before)) d.slot.place (subst (λ (o : Option ℕ). Follows 0 o d.slot.place) latest admits) (some_place secret d.slot.place (digest_of d.batch) d.batch has.may)
+    next_of (length (decided_of 0 before)) d.slot.place (subst (λ (o : Option ℕ). Follows 0 o d.slot.place) latest admits) (some_place secret d.slot.place (digest_of d.batch) d.batch has.may)

@@ -1,15 +1,19 @@
 -- What a book shows without its node: a sound node's book does, each front of it, and where more has been stated.
-use Rattle.std.proofs.Common.{List, ap, drop, inl, inr, length, refl, subst, suc, sym, take, zero, ℕ, ⊎_elim, ◌≡◌, ◌⊎◌, ◌∙◌, ◌++◌, ◌∷◌, [], append_assoc}
+use Rattle.std.proofs.Common.{Bool, List, None, Option, Some, ap, append-nil, cond, drop, false, inl, inr, length, nat_lt, refl, subst, suc, sym, take, zero, ℕ, ⊎_elim, ◌≡◌, ◌⊎◌, ◌<◌, ◌∙◌, ◌++◌, ◌∷◌, [], append_assoc}
+use Rattle.std.proofs.lemmas.Bool.{lt-ltb}
+use Rattle.std.proofs.lemmas.List.Elements.{filter_map-append}
+use Rattle.std.specs.List.{cons_option}
 use Rattle.std.proofs.lemmas.List.{take-append-drop}
 use Rattle.std.proofs.Math.Seq.{take-append_seam}
 use Rattle.replica_rules.specs.Seals.{digest_of}
 use Rattle.agreement_laws.specs.Certificates.{IsBacked}
 use Rattle.agreement_laws.specs.Statements.{Statement}
 use Rattle.node_rules.specs.Nodes.{Node}
-use Rattle.node_rules.specs.Reopening.{decided_of}
+use Rattle.node_rules.specs.Reopening.{batch_past, decided_of}
 use Rattle.agreement_laws.specs.Fronts.{IsFront}
 use Rattle.smart_statements.specs.Batches.{Batch}
-use Rattle.vote_book.specs.declared.entry.LogEntry.TheVariants.{Accepted, Decided, Installed, Marked, Opened, Promised, Synced, Wrote}
+use Rattle.vote_book.specs.declared.entry.Decision.{Decision}
+use Rattle.vote_book.specs.declared.entry.LogEntry.TheVariants.{Decided}
 use Rattle.smart_base.specs.Views.{View}
 use Rattle.vote_book.proofs.Tidy.{front_lawful, front_tidy}
 use Rattle.vote_book.specs.Books.{Lawful}
@@ -56,22 +60,33 @@ front_of secret stated view front rest is =
 
 -- ---- what a front decides
 
-pub decided_append : (front rest : List LogEntry) → decided_of (front ++ rest) ≡ decided_of front ++ decided_of rest
-decided_append [] rest = refl
-decided_append (Opened o ∷ es) rest = decided_append es rest
-decided_append (Wrote w ∷ es) rest = decided_append es rest
-decided_append (Accepted a ∷ es) rest = decided_append es rest
-decided_append (Promised p ∷ es) rest = decided_append es rest
-decided_append (Synced s ∷ es) rest = decided_append es rest
-decided_append (Decided d ∷ es) rest = ap (λ (bs : List Batch). d.batch ∷ bs) (decided_append es rest)
-decided_append (Installed i ∷ es) rest = decided_append es rest
-decided_append (Marked m ∷ es) rest = decided_append es rest
+pub decided_append : (past : ℕ) (front rest : List LogEntry) → decided_of past (front ++ rest) ≡ decided_of past front ++ decided_of past rest
+decided_append past front rest = filter_map-append (batch_past past) front rest
 
-pub front_decided : (entries : List LogEntry) (k : ℕ) → IsFront (decided_of (take k entries)) (decided_of entries)
-front_decided entries k = record {
-  rest = decided_of (drop k entries);
-  is = ap decided_of (sym (take-append-drop k entries)) ∙ decided_append (take k entries) (drop k entries);
+pub front_decided : (past : ℕ) (entries : List LogEntry) (k : ℕ) → IsFront (decided_of past (take k entries)) (decided_of past entries)
+front_decided past entries k = record {
+  rest = decided_of past (drop k entries);
+  is = ap (decided_of past) (sym (take-append-drop k entries)) ∙ decided_append past (take k entries) (drop k entries);
 }
+
+-- an entry that decides nothing leaves the decided batches
+pub decided_none : (past : ℕ) (es : List LogEntry) (e : LogEntry) → decided_of past (e ∷ []) ≡ [] → decided_of past (es ++ e ∷ []) ≡ decided_of past es
+decided_none past es e none =
+    decided_append past es (e ∷ []) ∙ (ap (λ (bs : List Batch). decided_of past es ++ bs) none ∙ append-nil (decided_of past es))
+
+-- a decision past the place gives its batch
+pub decided_here : (past : ℕ) (d : Decision) (es : List LogEntry) → past < d.slot.place → decided_of past (Decided d ∷ es) ≡ d.batch ∷ decided_of past es
+decided_here past d es more =
+    ap (λ (b : Bool). cons_option (cond b (Some d.batch) None) (decided_of past es)) (lt-ltb past d.slot.place more)
+
+-- a decision up to the place gives none
+pub decided_low : (past : ℕ) (d : Decision) (es : List LogEntry) → nat_lt past d.slot.place ≡ false → decided_of past (Decided d ∷ es) ≡ decided_of past es
+decided_low past d es low = ap (λ (b : Bool). cons_option (cond b (Some d.batch) None) (decided_of past es)) low
+
+-- a decision past the place gives its batch at the end
+pub decided_last : (past : ℕ) (es : List LogEntry) (d : Decision) → past < d.slot.place → decided_of past (es ++ Decided d ∷ []) ≡ decided_of past es ++ d.batch ∷ []
+decided_last past es d more =
+    decided_append past es (Decided d ∷ []) ∙ ap (λ (bs : List Batch). decided_of past es ++ bs) (decided_here past d [] more)
 
 -- ---- more is stated
 

@@ -113,12 +113,14 @@ may_stand secret place digest batch is =
     record { tags = fits_tags secret batch place inner.0; named = same_bytes_is (digest_of batch) digest outer.1 }
 
 -- a proposal that was kept names a batch that may stand at its place, each of whose requests has been stated
-pub proposal_asked : (secret : List ℕ) (stated : List Statement) (view : View) (p : Proposed) → Arrived secret stated view (Propose p) → AreAsked secret stated p.batch
-proposal_asked secret stated view p is =
-    let may = may_stand secret p.head.statement.slot.place p.head.statement.digest p.batch is.0.batch in
+pub proposal_asked : (secret : List ℕ) (stated : List Statement) (view : View) (p : Proposed) → Arrived secret stated view (Propose p) → p.head.statement.slot.view ≡ view.number
+    → AreAsked secret stated p.batch
+proposal_asked secret stated view p is of =
+    let may = may_stand secret p.head.statement.slot.place p.head.statement.digest p.batch (is.0 of).batch in
     batch_asked secret stated (says.Proposed p.head ∷ []) p.batch (covers secret stated (Propose p) is.1) may.tags
 
 -- ---- votes
 
-pub vote_stated : (secret : List ℕ) (stated : List Statement) (view : View) (b : SignedBy Ballot) → Arrived secret stated view (Vote b) → Among (says.Voted b) stated
-vote_stated secret stated view b is = covers secret stated (Vote b) is.1 (says.Voted b) (inl refl) is.0.tagged
+pub vote_stated : (secret : List ℕ) (stated : List Statement) (view : View) (b : SignedBy Ballot) → Arrived secret stated view (Vote b) → b.statement.slot.view ≡ view.number
+    → Among (says.Voted b) stated
+vote_stated secret stated view b is of = covers secret stated (Vote b) is.1 (says.Voted b) (inl refl) (is.0 of).tagged

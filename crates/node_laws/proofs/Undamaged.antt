@@ -80,8 +80,8 @@ all_restored secret stated view entries book before e after split =
     (book.lawful before e after split)
 
 pub undamaged : (secret : List ℕ) (stated : List Statement) (view : View) (entries : List LogEntry) → IsSoundBook secret stated view entries → Each FitsEntry entries
-    → damaged secret view (map entry_text entries) ≡ None
-undamaged secret stated view entries book fit = back secret view entries fit book.begun (all_restored secret stated view entries book) (all_rest secret stated view [] entries book)
+    → damaged secret 0 view (map entry_text entries) ≡ None
+undamaged secret stated view entries book fit = back secret 0 view entries fit book.begun (all_restored secret stated view entries book) (all_rest secret stated view [] entries book)
 
 -- ---- what is read
 

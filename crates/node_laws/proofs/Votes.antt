@@ -4,12 +4,13 @@ use Rattle.std.proofs.lemmas.Bool.{eq-eqb, eqb-true, leb-true, ltb-true}
 use Rattle.std.specs.List.{list_any}
 use Rattle.std.specs.Prelude.{is_none, is_some, ◌^◌}
 use Rattle.agreement_laws.specs.Statements.{Statement}
-use Rattle.node_rules.specs.Nodes.{Node, bound_at, first_start, has_begun, is_free, is_open, is_within, next_place, open_slot, regency_of, start_at, start_in, start_of, view_of}
+use Rattle.node_rules.specs.Nodes.{Node, bound_at, view_start, has_begun, is_free, is_open, is_within, next_place, open_slot, regency_of, start_at, start_of, view_of}
 use Rattle.node_rules.specs.Steps.{opened}
 use Rattle.smart_base.specs.Lists.{Each}
 use Rattle.smart_base.specs.Views.{View, is_member, present}
 use Rattle.smart_statements.specs.Equality.{same_slot}
 use Rattle.smart_statements.specs.declared.statement.Slot.{Slot}
+use Rattle.vote_book.specs.Standing.{first_start}
 use Rattle.vote_book.proofs.Tested.{same_bytes_is, same_slot_self, latest_has}
 use Rattle.vote_book.specs.Admission.{accepts_in, writes_in}
 use Rattle.vote_book.specs.Books.{Allows, Among, HasBegun, HasMade, IsBelow, MayVote, last_made, latest_made}
@@ -67,7 +68,7 @@ within_allows : (bound : Option (List ℕ)) (digest : List ℕ) → is_within bo
 within_allows None digest is = tt
 within_allows (Some bound) digest is = sym (same_bytes_is bound digest is)
 
-not_first : (v : View) (r : ℕ) (es : List LogEntry) (t : Bool) → (r == 0) ≡ t → 0 < r → cond t (Some (first_start v)) (start_in v.number r es) ≡ start_in v.number r es
+not_first : (v : View) (r : ℕ) (es : List LogEntry) (t : Bool) → (r == 0) ≡ t → 0 < r → cond t (Some (view_start v)) (first_start v.number r es) ≡ first_start v.number r es
 not_first v r es true is some = absurd (let zero_is : r ≡ 0 = eqb-true r 0 is in omega (arith, zero_is, some))
 not_first v r es false is some = refl
 

@@ -154,14 +154,16 @@ drawn_at secret stated view v arrivals kind place regency digest same viewed kep
     subst
     (λ (w : View). has_quorum arrivals w kind (slot_of w place regency) digest ≡ true
     → IsDrawn secret view stated (record { kind = kind; slot = slot_of view place regency; digest = digest }) (certificate_votes arrivals w kind (slot_of w place regency) digest))
-    (sym same) (λ here. kept_certificate secret stated view arrivals kind (slot_of view place regency) digest viewed kept here) enough
+    (sym same) (λ here. kept_certificate secret stated view arrivals kind (slot_of view place regency) digest viewed refl kept here) enough
 
 pub proposal_may : (secret : List ℕ) (stated : List Statement) (view : View) (p : Proposed) (slot : Slot) → Arrived secret stated view (Propose p) → p.head.statement.slot ≡ slot
-    → IsBatchAt secret stated slot.place p.head.statement.digest p.batch
-proposal_may secret stated view p slot is at = record {
-  may = subst (λ (s : Slot). is_batch_for secret s.place p.head.statement.digest p.batch ≡ true) at is.0.batch;
-  asked = proposal_asked secret stated view p is;
-}
+    → slot.view ≡ view.number → IsBatchAt secret stated slot.place p.head.statement.digest p.batch
+proposal_may secret stated view p slot is at of =
+    let here : p.head.statement.slot.view ≡ view.number = ap (λ (s : Slot). s.view) at ∙ of in
+    record {
+      may = subst (λ (s : Slot). is_batch_for secret s.place p.head.statement.digest p.batch ≡ true) at (is.0 here).batch;
+      asked = proposal_asked secret stated view p is here;
+    }
 
 accept_with : {S : Type 0} (n : Node S) (p : Proposed) → Accept
 accept_with n p = record {
@@ -179,7 +181,8 @@ may_accept stated view n p viewed is a = record {
   tidy = tidy_vote stated view n is (opens n a.opened).free;
   within = open_within stated view n is;
   backed = λ of. drawn_at n.secret stated view (view_of n) n.arrivals kinds.Write (next_place n) (regency_of n) p.head.statement.digest (in_force stated view n is) viewed is.arrivals a.written;
-  batch = proposal_may n.secret stated view p (open_slot n) (each_among (Arrived n.secret stated view) n.arrivals (Propose p) is.arrivals a.proposed.there) a.proposed.slot_is;
+  batch = proposal_may n.secret stated view p (open_slot n) (each_among (Arrived n.secret stated view) n.arrivals (Propose p) is.arrivals a.proposed.there) a.proposed.slot_is
+      (ap (λ (v : View). v.number) (in_force stated view n is));
 }
 
 accepts_with : {S : Type 0} (stated : List Statement) (view : View) (n : Node S) (o : Option Proposed) → is_view view ≡ true → IsSound stated view n → accepting n ≡ o

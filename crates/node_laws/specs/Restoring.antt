@@ -1,5 +1,5 @@
 -- What entries rest on, in terms of certificates, and what makes restored bytes damaged.
-use Rattle.std.specs.Prelude.{◌≡◌, ℕ, ◌+◌, ◌⊎◌, true, false, List, [], ◌∷◌, ◌++◌, length, None, Result, Ok, Err}
+use Rattle.std.specs.Prelude.{◌≡◌, ℕ, ◌+◌, ◌<◌, ◌⊎◌, true, false, List, [], ◌∷◌, ◌++◌, length, None, Result, Ok, Err}
 use Rattle.smart_base.specs.Views.{View}
 use Rattle.certificates.specs.Certificates.{IsWriteCertificate, IsDecisionProof}
 use Rattle.vote_book.specs.Books.{Admits}
@@ -40,25 +40,26 @@ IsCertified secret view (Marked m) = Unit {0}
 -- ---- what is damaged
 
 -- The reason for which bytes may not be restored after entries, by what they are read as. They are no entry. Or they are first and no
--- opening. Or the entry may not stand after those entries. Or it lacks its evidence.
-abbrev pub IsDamage : List ℕ → View → List LogEntry → Result LogEntry ℕ → Type 0
-IsDamage secret view before (Err at) = Unit {0}
-IsDamage secret view before (Ok e) =
-    ((before ≡ []) × (is_opening e ≡ false)) ⊎ ((Admits 0 (length before + 1) before e → ⊥) ⊎ (IsCertified secret view e → ⊥))
+-- opening. Or the entry may not stand after those entries, in a book with this opening's place. Or it lacks its evidence.
+abbrev pub IsDamage : List ℕ → ℕ → View → List LogEntry → Result LogEntry ℕ → Type 0
+IsDamage secret opening view before (Err at) = Unit {0}
+IsDamage secret opening view before (Ok e) =
+    ((before ≡ []) × (is_opening e ≡ false)) ⊎ ((Admits opening (length before + 1) before e → ⊥) ⊎ (IsCertified secret view e → ⊥))
 
 -- the number, from 1, of the first damaged entry among restored bytes; none of those before it is damaged
-pub record IsFirstDamage (secret : List ℕ) (view : View) (restored : List (List ℕ)) (number : ℕ) : Type 0 where
+pub record IsFirstDamage (secret : List ℕ) (opening : ℕ) (view : View) (restored : List (List ℕ)) (number : ℕ) : Type 0 where
   pub front : List (List ℕ)
   pub bytes : List ℕ
   pub behind : List (List ℕ)
   pub split : restored ≡ front ++ bytes ∷ behind
   pub numbered : number ≡ length front + 1
-  pub undamaged : damaged secret view front ≡ None
-  pub damage : IsDamage secret view (entries_in front) (entry_decoded bytes)
+  pub undamaged : damaged secret opening view front ≡ None
+  pub damage : IsDamage secret opening view (entries_in front) (entry_decoded bytes)
 
 -- ---- the order of decisions
 
--- entries that decide one place after the other, from place 1
-abbrev pub DecidesInTurn : List LogEntry → Type 0
-DecidesInTurn entries =
-    (before : List LogEntry) (d : Decision) (after : List LogEntry) → entries ≡ before ++ Decided d ∷ after → d.slot.place ≡ length (decided_of before) + 1
+-- entries that decide one place after the other, from the place behind an opening's; decisions up to that place tell nothing
+abbrev pub DecidesInTurn : ℕ → List LogEntry → Type 0
+DecidesInTurn past entries =
+    (before : List LogEntry) (d : Decision) (after : List LogEntry) → entries ≡ before ++ Decided d ∷ after → past < d.slot.place
+    → d.slot.place ≡ past + length (decided_of past before) + 1

@@ -20,7 +20,8 @@ use Rattle.smart_messages.specs.declared.message.Message.TheVariants.{Ask, Propo
 use Rattle.smart_messages.specs.declared.message.Proposed.{Proposed}
 use Rattle.smart_statements.specs.declared.entry.NodeEvent.{NodeEvent}
 use Rattle.smart_statements.specs.declared.entry.NodeEvent.TheVariants.{Arrive, Tick, Deliver, Firm}
-use Rattle.smart_service.specs.declared.table.TableLine.{TableLine}
+use Rattle.smart_service.specs.Tables.{kept_in}
+use Rattle.smart_service.specs.declared.table.Execution.{Execution}
 use Rattle.vote_book.specs.Books.{Among, Lawful, last_made, latest_made}
 use Rattle.vote_book.specs.Tidy.{IsTidy}
 use Rattle.vote_book.specs.declared.entry.Decision.{Decision}
@@ -30,7 +31,7 @@ use Rattle.replica_rules.specs.Seals.{is_verified, digest_of}
 use Rattle.agreement_laws.specs.Statements.{Statement, statements, signer_of}
 use Rattle.agreement_laws.specs.Diaries.{IsShown, HasReached}
 use Rattle.agreement_laws.specs.Certificates.{IsBacked}
-use Rattle.node_rules.specs.Nodes.{Node, greatest_regency, regency_of, next_place, decided_place}
+use Rattle.node_rules.specs.Nodes.{Node, greatest_regency, regency_of, next_place, decided_place, ring_of}
 use Rattle.node_rules.specs.Arrivals.{is_batch_for, is_proven, is_collect}
 use Rattle.node_rules.specs.Reopening.{is_opening}
 use Rattle.node_rules.specs.declared.node.Held.{Held}
@@ -58,22 +59,21 @@ AreAsked secret stated batch = Each (λ q. (is_verified requests secret q ≡ tr
 
 -- ---- what is kept
 
--- a statement of the view that a member of the view has signed
-pub record IsMembers (view : View) (verified : Bool) (signer of : ℕ) : Type 0 where
+-- a statement that a member of the view has signed
+pub record IsMembers (view : View) (verified : Bool) (signer : ℕ) : Type 0 where
   pub tagged : verified ≡ true
   pub member : is_member view signer ≡ true
-  pub of_view : of ≡ view.number
 
 -- a leader's proposal of a batch that may stand at its place
 pub record IsProposal (secret : List ℕ) (view : View) (p : Proposed) : Type 0 where
-  pub members : IsMembers view (is_verified proposals secret p.head) p.head.signer p.head.statement.slot.view
+  pub members : IsMembers view (is_verified proposals secret p.head) p.head.signer
   pub leaders : p.head.signer ≡ leader view p.head.statement.slot.regency
   pub batch : is_batch_for secret p.head.statement.slot.place p.head.statement.digest p.batch ≡ true
 
--- a message that a node may keep among proposals and votes
+-- a message that a node may keep among proposals and votes. What is of another view than this one is no longer used, or not yet.
 abbrev pub IsKept : List ℕ → View → Message → Type 0
-IsKept secret view (Propose p) = IsProposal secret view p
-IsKept secret view (Vote b) = IsMembers view (is_verified ballots secret b) b.signer b.statement.slot.view
+IsKept secret view (Propose p) = p.head.statement.slot.view ≡ view.number → IsProposal secret view p
+IsKept secret view (Vote b) = b.statement.slot.view ≡ view.number → IsMembers view (is_verified ballots secret b) b.signer
 IsKept secret view _ = ⊥
 
 -- ---- what the book has
@@ -141,8 +141,8 @@ pub record HasDecided (entries : List LogEntry) (place : ℕ) (batch : Batch) : 
   pub place_is : decision.slot.place ≡ place
   pub batch_is : decision.batch ≡ batch
 
--- the reply that a line of the table of clients tells
-abbrev pub answer_by : TableLine → Answer
+-- the reply that tells an execution
+abbrev pub answer_by : Execution → Answer
 answer_by line = record { view = line.view; place = line.place; index = line.index; client = line.client; seq = line.seq; reply = line.reply }
 
 -- ---- what is held
@@ -167,16 +167,16 @@ pub record IsSound {S : Type 0} (stated : List Statement) (view : View) (n : Nod
   pub within : Each (IsWithin view (next_place n) (regency_of n)) n.entries
   pub ranged : AreRanged view n.entries
   -- the book rests on what has been stated
-  pub backed : Each (IsBacked n.secret digest_of view stated) n.entries
-  pub batches : Each (HasBatch n.secret stated) n.entries
-  -- the waiting batch is decided, and each line of the table of clients is of a place that the book has reached
+  pub backed : Each (IsBacked (ring_of n) digest_of view stated) n.entries
+  pub batches : Each (HasBatch (ring_of n) stated) n.entries
+  -- the waiting batch is decided, and each kept reply is of a place that the book has reached
   pub waiting : IfSome n.waiting (HasDecided n.entries (next_place n))
-  pub table : Each (λ line. HasReached n.entries line.place) n.replica.table
-  -- each kept message passed the node's checks, and has been stated
-  pub arrivals : Each (λ m. IsKept n.secret view m × IsStated n.secret stated m) n.arrivals
-  pub stops : Each (λ (s : SignedBy Stop). IsMembers view (is_verified stops n.secret s) s.signer s.statement.view × IsStated n.secret stated (changes.Stop s)) n.stops
-  pub reports : Each (λ (r : Reported). IsMembers view (is_verified reports n.secret r.head) r.head.signer r.head.statement.view × (is_proven n r ≡ true) × IsStated n.secret stated (changes.StopData r)) n.reports
-  pub syncs : Each (λ (s : SignedBy Sync). IsMembers view (is_verified syncs n.secret s) s.signer s.statement.view × (is_collect n s.statement ≡ true) × IsStated n.secret stated (changes.Sync s)) n.syncs
-  pub pool : AreAsked n.secret stated n.pool
+  pub table : Each (λ line. HasReached n.entries line.place) (kept_in n.replica.table)
+  -- each kept message has been stated, and each of the view passed the node's checks
+  pub arrivals : Each (λ m. IsKept (ring_of n) view m × IsStated (ring_of n) stated m) n.arrivals
+  pub stops : Each (λ (s : SignedBy Stop). (s.statement.view ≡ view.number → IsMembers view (is_verified stops (ring_of n) s) s.signer) × IsStated (ring_of n) stated (changes.Stop s)) n.stops
+  pub reports : Each (λ (r : Reported). (r.head.statement.view ≡ view.number → IsMembers view (is_verified reports (ring_of n) r.head) r.head.signer × (is_proven n r ≡ true)) × IsStated (ring_of n) stated (changes.StopData r)) n.reports
+  pub syncs : Each (λ (s : SignedBy Sync). (s.statement.view ≡ view.number → IsMembers view (is_verified syncs (ring_of n) s) s.signer × (is_collect n s.statement ≡ true)) × IsStated (ring_of n) stated (changes.Sync s)) n.syncs
+  pub pool : AreAsked (ring_of n) stated n.pool
   -- each held message is shown
-  pub held : Each (IsHeld n.secret n.id stated n.entries) n.held
+  pub held : Each (IsHeld (ring_of n) n.id stated n.entries) n.held

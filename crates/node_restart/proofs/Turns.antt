@@ -1,7 +1,7 @@
 -- An entry that may be restored makes no place but the one at which the replica then stands.
-use Rattle.std.proofs.Common.{◌≡◌, ℕ, zero, suc, ◌+◌, ◌≤◌, ◌<◌, ◌==◌, ◌&&◌, ◌||◌, ◌++◌, max, not, nat_lt, nat_le, Bool, true, false, List, [], ◌∷◌, length, refl, ap, sym, ◌∙◌, arith, Option, Some, None, is_none}
-use Rattle.std.proofs.lemmas.Bool.{eqb-true, ltb-true, ltb-false, leb-true}
-use Rattle.std.specs.List.{list_any, list_all}
+use Rattle.std.proofs.Common.{◌≡◌, ℕ, zero, suc, ◌+◌, ◌≤◌, ◌<◌, ◌==◌, ◌&&◌, ◌||◌, ◌++◌, max, not, nat_lt, nat_le, Bool, true, false, cond, List, [], ◌∷◌, length, refl, ap, sym, ◌∙◌, arith, Option, Some, None, is_none}
+use Rattle.std.proofs.lemmas.Bool.{eqb-true, ltb-true, ltb-false, leb-true, lt-ltb}
+use Rattle.std.specs.List.{cons_option, list_any, list_all}
 use Rattle.smart_base.specs.Lists.{or_else, same_bytes}
 use Rattle.smart_base.specs.Views.{View}
 use Rattle.smart_base.proofs.SameLists.{and_true}
@@ -9,6 +9,7 @@ use Rattle.smart_statements.specs.Kinds.{requests}
 use Rattle.smart_statements.specs.Batches.{Batch, batch_text}
 use Rattle.certificates.specs.Certificates.{votes_fault, accept_of}
 use Rattle.vote_book.specs.Admission.{follows, is_above, may_install}
+use Rattle.smart_service.specs.Services.{Meaning}
 use Rattle.smart_service.specs.declared.replica.Replica.{Replica}
 use Rattle.vote_book.specs.Books.{Book, pushed, number_or, place_made, latest_made, last_made}
 use Rattle.vote_book.proofs.Last.{latest_push, last_push}
@@ -16,10 +17,11 @@ use Rattle.vote_book.specs.declared.entry.Decision.{Decision}
 use Rattle.vote_book.specs.declared.entry.Installation.{Installation}
 use Rattle.vote_book.specs.declared.entry.LogEntry.{LogEntry}
 use Rattle.vote_book.specs.declared.entry.LogEntry.TheVariants.{Opened, Wrote, Accepted, Promised, Synced, Decided, Installed, Marked}
+use Rattle.replica_rules.specs.Replicas.{after_batches, delivered}
 use Rattle.replica_rules.specs.Seals.{digest_of, request_fits, is_managers, is_verified, fits}
 use Rattle.node_rules.specs.Arrivals.{is_batch_for}
 use Rattle.node_rules.specs.Reopening.{opens_first, rests, may_restore}
-use Rattle.node_restart.specs.Restarts.{IsInTurn, place_behind, IsReplayed}
+use Rattle.node_restart.specs.Restarts.{IsInTurn, place_behind, replayed, IsReplayed}
 
 -- no batch may stand before the first place
 
@@ -58,7 +60,7 @@ follows_next None at place stands is some = by at some (leb-true at (0 + 1) is)
     by (suc n) some most = omega (arith, stands, most)
 follows_next (Some l) at place stands is some = let e : at ≡ l + 1 = eqb-true at (l + 1) is in let l_is : l ≡ place = stands in omega (arith, e, l_is)
 
-decides_next : (secret : List ℕ) (view : View) (entries : List LogEntry) (d : Decision) (place : ℕ) → may_restore secret view entries (Decided d) ≡ true → number_or (latest_made entries) 0 ≡ place → d.slot.place ≡ place + 1
+decides_next : (secret : List ℕ) (view : View) (entries : List LogEntry) (d : Decision) (place : ℕ) → may_restore secret 0 view entries (Decided d) ≡ true → number_or (latest_made entries) 0 ≡ place → d.slot.place ≡ place + 1
 decides_next secret view entries d place is stands =
     let e1 = and_true (opens_first entries (Decided d) && follows 0 (latest_made entries) d.slot.place) (rests secret view (Decided d)) is in
     let e2 = and_true (opens_first entries (Decided d)) (follows 0 (latest_made entries) d.slot.place) e1.0 in
@@ -78,14 +80,14 @@ above_none : (o : Option ℕ) (last at place : ℕ) → number_or o 0 ≡ place 
 above_none None last at place stands above none = none ∙ stands
 above_none (Some l) last at place stands above none = let lt : last < at = ltb-true last at above in absurd (omega (arith, lt, none))
 
-installs_here : (secret : List ℕ) (view : View) (entries : List LogEntry) (i : Installation) (place : ℕ) → may_restore secret view entries (Installed i) ≡ true → number_or (latest_made entries) 0 ≡ place → i.place ≡ place
+installs_here : (secret : List ℕ) (view : View) (entries : List LogEntry) (i : Installation) (place : ℕ) → may_restore secret 0 view entries (Installed i) ≡ true → number_or (latest_made entries) 0 ≡ place → i.place ≡ place
 installs_here secret view entries i place is stands =
     let e1 = and_true (opens_first entries (Installed i) && may_install 0 (length entries + 1) entries i.place) true is in
     let e2 = and_true (opens_first entries (Installed i)) (may_install 0 (length entries + 1) entries i.place) e1.0 in
     let e3 = and_true (is_above (latest_made entries) (last_made entries) i.place) (not (nat_lt (length entries) (length entries + 1)) || nat_le i.place 0) e2.1 in
     above_none (latest_made entries) (last_made entries) i.place place stands e3.0 (nothing_over (length entries) i.place e3.1)
 
-pub in_turn : (secret : List ℕ) (view : View) (entries : List LogEntry) (place : ℕ) (e : LogEntry) → may_restore secret view entries e ≡ true → number_or (latest_made entries) 0 ≡ place → IsInTurn place e
+pub in_turn : (secret : List ℕ) (view : View) (entries : List LogEntry) (place : ℕ) (e : LogEntry) → may_restore secret 0 view entries e ≡ true → number_or (latest_made entries) 0 ≡ place → IsInTurn place e
 in_turn secret view entries place (Opened o) is stands = refl
 in_turn secret view entries place (Wrote w) is stands = refl
 in_turn secret view entries place (Accepted a) is stands = refl
@@ -94,6 +96,12 @@ in_turn secret view entries place (Synced s) is stands = refl
 in_turn secret view entries place (Decided d) is stands = decides_next secret view entries d place is stands
 in_turn secret view entries place (Installed i) is stands = installs_here secret view entries i place is stands
 in_turn secret view entries place (Marked m) is stands = refl
+
+-- a decision in turn is delivered
+pub replayed_decided : {S : Type 0} (m : Meaning S) (r : Replica S) (d : Decision) → IsInTurn r.place (Decided d) → replayed m r (Decided d) ≡ delivered m r d.batch
+replayed_decided m r d turn =
+    let at : d.slot.place ≡ r.place + 1 = turn in
+    ap (λ (b : Bool). after_batches m r (cons_option (cond b (Some d.batch) None) [])) (lt-ltb 0 d.slot.place (omega (arith, at)))
 
 -- where the replica then stands
 

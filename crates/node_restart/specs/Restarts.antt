@@ -9,25 +9,18 @@ use Rattle.vote_book.specs.Books.{Book, number_or, place_made, latest_made, last
 use Rattle.vote_book.specs.declared.entry.Accept.{Accept}
 use Rattle.vote_book.specs.declared.entry.LogEntry.{LogEntry}
 use Rattle.vote_book.specs.declared.entry.LogEntry.TheVariants.{Opened, Wrote, Accepted, Promised, Synced, Decided, Installed, Marked}
-use Rattle.replica_rules.specs.Replicas.{empty, delivered}
+use Rattle.replica_rules.specs.Replicas.{empty, after_batches}
 use Rattle.replica_rules.specs.Seals.{digest_of, is_managers, fits}
 use Rattle.node_rules.specs.Arrivals.{is_batch_for}
-use Rattle.node_rules.specs.Reopening.{may_restore}
+use Rattle.node_rules.specs.Reopening.{decided_of, may_restore}
 
 -- the digest of a batch, if the batch may stand at a place
 abbrev pub named_for : List ℕ → ℕ → Batch → Option (List ℕ)
 named_for secret place batch = if fits secret batch place && not (list_any is_managers batch) then Some (digest_of batch) else None
 
--- the replica after a restart has read one more entry
+-- The replica after a restart has read one more entry. INTERIM(checkpoints): it began with the empty one, so each decided batch is delivered.
 abbrev pub replayed : {S : Type 0} → Meaning S → Replica S → LogEntry → Replica S
-replayed m r (Opened o) = r
-replayed m r (Wrote w) = r
-replayed m r (Accepted a) = r
-replayed m r (Promised p) = r
-replayed m r (Synced s) = r
-replayed m r (Decided d) = delivered m r d.batch
-replayed m r (Installed i) = r
-replayed m r (Marked k) = r
+replayed m r e = after_batches m r (decided_of 0 (e ∷ []))
 
 abbrev pub all_replayed : {S : Type 0} → Meaning S → Replica S → List LogEntry → Replica S
 all_replayed m r [] = r
@@ -47,7 +40,7 @@ took m r e = record { replica = replayed m r.replica e; entries = r.entries ++ e
 -- what a restart gives back with one more entry; none if no entry was read, or it may not be restored there
 abbrev pub taken : {S : Type 0} → Meaning S → List ℕ → Restart S → Result LogEntry ℕ → Option (Restart S)
 taken m secret r (Err at) = None
-taken m secret r (Ok e) = if may_restore secret (present r.replica.views) r.entries e then Some (took m r e) else None
+taken m secret r (Ok e) = if may_restore secret 0 (present r.replica.views) r.entries e then Some (took m r e) else None
 
 -- ---- the accepts among what is taken back
 

@@ -9,9 +9,10 @@ ghost use Rattle.node_restart.specs.Restarts.{named_for};
 use smart_base::bytes::Digest32;
 use smart_base::equality::same_bytes;
 use smart_base::keys::Digester;
+use smart_base::limits::{BATCH_BYTES, BATCH_REQUESTS, LAST_CLIENT};
 use smart_keys::hash::Sha;
 use smart_keys::ring::Ring;
-use smart_statements::batch::{BATCH_BYTES, Batch};
+use smart_statements::batch::Batch;
 use smart_statements::signed::Signed;
 use smart_statements::statement::Request;
 use std::alloc::{AllocError, Global};
@@ -29,7 +30,7 @@ fn request_fits(ring: &Ring, place: u64, request: &Signed<Request>) -> bool
     ensures { result ≡ request_fits ring.now place request.now }
 {
     let asked = request.statement();
-    asked.client.get() <= 1024 && asked.after < place && request.verifies(ring)
+    asked.client.get() <= LAST_CLIENT && asked.after < place && request.verifies(ring)
 }
 
 fn all_fit(ring: &Ring, place: u64, batch: &[Signed<Request>]) -> bool
@@ -59,7 +60,7 @@ fn fits(ring: &Ring, batch: &[Signed<Request>], bytes: usize, place: u64) -> boo
     ensures { result ≡ fits ring.now batch.now place }
 {
     1 <= batch.len()
-        && batch.len() <= 64
+        && batch.len() <= BATCH_REQUESTS as usize
         && bytes <= BATCH_BYTES
         && all_fit(ring, place, batch)
         && (batch.len() <= 1 || !has_managers(batch))

@@ -57,6 +57,7 @@ impl<S> Model for Restart<S> {
 }
 
 /// Delivers to a replica what an entry decided. Error: want of memory.
+#[tactic(auto, using(crate::proofs::Turns::replayed_decided))]
 fn replay<S: Service>(
     alloc: Global,
     replica: &mut KeptReplica<S>,
@@ -71,6 +72,7 @@ fn replay<S: Service>(
 {
     match entry {
         LogEntry::Decided(decision) => {
+            // That a place is below 2^63 is known of its type.
             let _place = decision.slot.place.get();
             deliver(alloc, replica, &decision.batch)?;
             Ok(())
@@ -131,7 +133,7 @@ impl<S: Service> Restart<S> {
     fn may_restore(&self, ring: &Ring, entry: &LogEntry) -> Result<bool, AllocError>
         requires sound { AreSound ring.now self.now.entries }
         requires fits { FitsEntry entry.now }
-        ensures { IfOk result (λ may. may ≡ may_restore ring.now (present self.now.replica.views) self.now.entries entry.now) }
+        ensures { IfOk result (λ may. may ≡ may_restore ring.now 0 (present self.now.replica.views) self.now.entries entry.now) }
     {
         if !self.opens_first(entry) || !self.admits(entry) {
             return Ok(false);
@@ -206,11 +208,11 @@ pub fn restarted<S: Service>(
     view: View,
     restored: &[Bytes],
 ) -> Result<Restart<S>, ReopenFault>
-    ensures whole { OnOk result (damaged ring.now view restored.now ≡ None) }
+    ensures whole { OnOk result (damaged ring.now 0 view restored.now ≡ None) }
     ensures entries { IfOk result (λ r. r.entries ≡ entries_in restored.now) }
     // A node before any batch that takes the entries back has them behind its own, and this replica.
-    ensures replica { IfOk result (λ r. (n : Node S) → n.replica ≡ empty S.meaning view → takes_all_back S.meaning n (entries_in restored.now) ≡ record n { replica = r.replica; entries = n.entries ++ r.entries }) }
-    ensures cause { (entry : ℕ) → IsErrOf result (Damaged entry) → damaged ring.now view restored.now ≡ Some entry }
+    ensures replica { IfOk result (λ r. (n : Node S) → n.replica ≡ empty S.meaning view → takes_all_back S.meaning 0 n (entries_in restored.now) ≡ record n { replica = r.replica; entries = n.entries ++ r.entries }) }
+    ensures cause { (entry : ℕ) → IsErrOf result (Damaged entry) → damaged ring.now 0 view restored.now ≡ Some entry }
 {
     let mut restart = Restart::begin(alloc, view)?;
     for bytes in restored {

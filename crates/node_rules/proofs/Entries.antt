@@ -13,7 +13,7 @@ use Rattle.smart_messages.specs.declared.message.Message.{Message}
 use Rattle.smart_statements.specs.declared.entry.NodeEvent.{NodeEvent}
 use Rattle.smart_statements.specs.declared.entry.NodeEvent.TheVariants.{Arrive, Deliver, Firm, Tick}
 use Rattle.smart_service.specs.Services.{Meaning}
-use Rattle.smart_service.specs.declared.table.TableLine.{TableLine}
+use Rattle.smart_service.specs.declared.table.Execution.{Execution}
 use Rattle.vote_book.specs.declared.entry.Decision.{Decision}
 use Rattle.vote_book.specs.declared.entry.LogEntry.{LogEntry}
 use Rattle.vote_book.specs.declared.entry.LogEntry.TheVariants.{Synced}
@@ -23,10 +23,13 @@ use Rattle.node_rules.specs.Nodes.{Node}
 use Rattle.node_rules.specs.Arrivals.{why_dropped, noted, kept}
 use Rattle.node_rules.specs.Rules.{lines_to_answer, replying, deliver_batch, delivers, proposing, propose_batch, proposes, writing, write_batch, writes, accepting, accept_batch, accepts, deciding, decide_batch, decides, asked_in, answering, answer_line, answers_again}
 use Rattle.node_rules.specs.Changes.{start_by_sync, promised_for, adopts_by, adoption, adopts, asks_next, joining, joins, promising, promise_next, promises, leading, lead_with, leads, timing, passes_on, presses, times}
-use Rattle.node_rules.specs.Steps.{made_firm, turns, votes, passes, arrival_outcome, reading_outcome, step_of}
+use Rattle.node_rules.specs.Steps.{Taken, judged, reads, takes_in, Row, deliver_row, time_row, answer_row, turn_rows, vote_rows, end_rows, rules, pass, step_of}
 use Rattle.node_rules.specs.Kept.{trimmed, core_step}
 use Rattle.node_rules.specs.declared.node.Why.{Why}
 use Rattle.node_rules.specs.declared.node.Asked.{Asked}
+use Rattle.node_rules.specs.declared.node.Cause.{Cause}
+use Rattle.node_rules.specs.declared.node.Fired.{Fired}
+use Rattle.node_rules.proofs.Rulewise.{by_delivery, by_time, by_answer, by_step}
 use Rattle.node_rules.specs.Entries.{AddsAtMost}
 
 -- ---- additions
@@ -132,35 +135,6 @@ pub decides_adds : {S : Type 0} (n : Node S) → AddsAtMost 1 n.entries (decides
 unfolding decides
 decides_adds n = by_deciding n (deciding n)
 
--- ---- passes
-
-pub joins_adds : {S : Type 0} (n : Node S) → AddsAtMost 0 n.entries (joins n).entries
-joins_adds n = adds_none n.entries (joins n).entries (joins_same n)
-
-pub leads_adds : {S : Type 0} (n : Node S) → AddsAtMost 0 n.entries (leads n).entries
-leads_adds n = adds_none n.entries (leads n).entries (leads_same n)
-
-pub proposes_adds : {S : Type 0} (n : Node S) → AddsAtMost 0 n.entries (proposes n).entries
-proposes_adds n = adds_none n.entries (proposes n).entries (proposes_same n)
-
-pub turns_adds : {S : Type 0} (n : Node S) → AddsAtMost 3 n.entries (turns n).entries
-unfolding turns
-turns_adds n =
-    adds_then 2 1 n.entries (adopts n).entries _ (adopts_adds n)
-    (adds_then 0 1 (adopts n).entries (joins (adopts n)).entries _ (joins_adds (adopts n))
-    (adds_then 1 0 (joins (adopts n)).entries (promises (joins (adopts n))).entries _ (promises_adds (joins (adopts n))) (leads_adds (promises (joins (adopts n))))))
-
-pub votes_adds : {S : Type 0} (n : Node S) → AddsAtMost 2 n.entries (votes n).entries
-unfolding votes
-votes_adds n =
-    adds_then 0 2 n.entries (proposes n).entries _ (proposes_adds n)
-    (adds_then 1 1 (proposes n).entries (writes (proposes n)).entries _ (writes_adds (proposes n)) (accepts_adds (writes (proposes n))))
-
-pub passes_adds : {S : Type 0} (n : Node S) → AddsAtMost 6 n.entries (passes n).entries
-unfolding passes
-passes_adds n =
-    adds_then 3 3 n.entries (turns n).entries _ (turns_adds n) (adds_then 2 1 (turns n).entries (votes (turns n)).entries _ (votes_adds (turns n)) (decides_adds (votes (turns n))))
-
 -- ---- arrivals, time and delivery
 
 pub noted_same : {S : Type 0} (n : Node S) (m : Message) → (noted n m).entries ≡ n.entries
@@ -176,7 +150,7 @@ unfolding kept
 kept_same n (Ask q) = by_next n (offered n.pool q) (is_next n.replica.table q.statement)
 kept_same n _ = refl
 
-pub by_answering : {S : Type 0} (n : Node S) (o : Option TableLine) → (answer_line n o).entries ≡ n.entries
+pub by_answering : {S : Type 0} (n : Node S) (o : Option Execution) → (answer_line n o).entries ≡ n.entries
 unfolding answer_line
 by_answering n None = refl
 by_answering n (Some line) = refl
@@ -202,7 +176,7 @@ pub times_same : {S : Type 0} (n : Node S) → (times n).entries ≡ n.entries
 unfolding times
 times_same n = by_timing n (timing n)
 
-replying_same : {S : Type 0} (lines : List TableLine) (n : Node S) → (replying n lines).entries ≡ n.entries
+replying_same : {S : Type 0} (lines : List Execution) (n : Node S) → (replying n lines).entries ≡ n.entries
 replying_same [] n = refl
 replying_same (line ∷ lines) n = replying_same lines _
 
@@ -215,27 +189,114 @@ pub delivers_same : {S : Type 0} (m : Meaning S) (n : Node S) → (delivers m n)
 unfolding delivers
 delivers_same m n = by_waiting m n n.waiting
 
+-- ---- rows
+
+-- a row that adds at most so many entries
+abbrev pub RowAdds : {S : Type 0} → ℕ → Row S → Type 0
+RowAdds {S} most r = (n : Node S) (cause : Cause) (fired : List Fired) → AddsAtMost most n.entries (r n cause fired).0.entries
+
+-- rows that each add at most their number of entries
+abbrev pub RowsAdd : {S : Type 0} → List ℕ → List (Row S) → Type 0
+RowsAdd [] [] = Unit {0}
+RowsAdd (most ∷ mosts) (r ∷ rows) = RowAdds most r × RowsAdd mosts rows
+RowsAdd _ _ = ⊥
+
+-- all of them together
+abbrev all_of : List ℕ → ℕ
+all_of [] = 0
+all_of (most ∷ mosts) = most + all_of mosts
+
+-- a pass adds at most so many
+pass_adds : {S : Type 0} (mosts : List ℕ) (rows : List (Row S)) → RowsAdd mosts rows → (n : Node S) (cause : Cause) (fired : List Fired)
+    → AddsAtMost (all_of mosts) n.entries (pass rows n cause fired).0.entries
+unfolding pass
+pass_adds [] [] each n cause fired = adds_none n.entries n.entries refl
+pass_adds [] (r ∷ rows) each n cause fired = absurd each
+pass_adds (most ∷ mosts) [] each n cause fired = absurd each
+pass_adds (most ∷ mosts) (r ∷ rows) each n cause fired =
+    adds_then most (all_of mosts) n.entries (r n cause fired).0.entries _ (each.0 n cause fired) (pass_adds mosts rows each.1 (r n cause fired).0 cause (r n cause fired).1)
+
+-- a row that leaves the book
+same_adds : (before after : List LogEntry) → after ≡ before → AddsAtMost 0 before after
+same_adds before after same = adds_none before after same
+
+-- the row that delivers
+pub deliver_adds : {S : Type 0} (m : Meaning S) → RowAdds 0 (deliver_row m)
+deliver_adds {S = S} m n cause fired =
+    by_delivery m (λ (x : Node S) (told : List Fired). AddsAtMost 0 n.entries x.entries) n cause fired (same_adds n.entries n.entries refl)
+    (same_adds n.entries (delivers m n).entries (delivers_same m n))
+
+-- those of time and of answers
+pub time_adds : (S : Type 0) → RowAdds {S = S} 0 time_row
+time_adds S n cause fired =
+    by_time (λ (x : Node S) (told : List Fired). AddsAtMost 0 n.entries x.entries) n cause fired (same_adds n.entries n.entries refl) (same_adds n.entries (times n).entries (times_same n))
+
+pub answer_adds : (S : Type 0) → RowAdds {S = S} 0 answer_row
+answer_adds S n cause fired =
+    by_answer (λ (x : Node S) (told : List Fired). AddsAtMost 0 n.entries x.entries) n cause fired (same_adds n.entries n.entries refl)
+    (λ asked. same_adds n.entries (answers_again n asked).entries (answers_again_same n asked))
+
+-- a change of the regency adds at most three entries
+pub turns_add : (S : Type 0) → RowsAdd {S = S} (2 ∷ 0 ∷ 1 ∷ 0 ∷ []) turn_rows
+unfolding turn_rows
+turns_add S = (
+  λ n cause fired. adopts_adds n,
+  (
+    λ n cause fired. same_adds n.entries (joins n).entries (joins_same n),
+    (λ n cause fired. promises_adds n, (λ n cause fired. same_adds n.entries (leads n).entries (leads_same n), tt)),
+  ),
+)
+
+-- votes add at most two
+pub votes_add : (S : Type 0) → RowsAdd {S = S} (0 ∷ 1 ∷ 1 ∷ []) vote_rows
+unfolding vote_rows
+votes_add S =
+    (λ n cause fired. same_adds n.entries (proposes n).entries (proposes_same n), (λ n cause fired. writes_adds n, (λ n cause fired. accepts_adds n, tt)))
+
+-- and a decision one
+pub end_adds : (S : Type 0) → RowsAdd {S = S} (1 ∷ 0 ∷ 0 ∷ []) end_rows
+unfolding end_rows
+end_adds S = (λ n cause fired. decides_adds n, (λ n cause fired. time_adds S n cause fired, (λ n cause fired. answer_adds S n cause fired, tt)))
+
+adds_append : {S : Type 0} (some others : List ℕ) (first last : List (Row S)) → RowsAdd some first → RowsAdd others last → RowsAdd (some ++ others) (first ++ last)
+adds_append [] others [] last one two = two
+adds_append [] others (r ∷ first) last one two = absurd one
+adds_append (most ∷ some) others [] last one two = absurd one
+adds_append (most ∷ some) others (r ∷ first) last one two = (one.0, adds_append some others first last one.1 two)
+
+pub rules_add : {S : Type 0} (m : Meaning S) → RowsAdd (0 ∷ 2 ∷ 0 ∷ 1 ∷ 0 ∷ 0 ∷ 1 ∷ 1 ∷ 1 ∷ 0 ∷ 0 ∷ []) (rules m)
+unfolding rules
+rules_add {S = S} m = (
+  λ n cause fired. deliver_adds m n cause fired,
+  adds_append (2 ∷ 0 ∷ 1 ∷ 0 ∷ []) (0 ∷ 1 ∷ 1 ∷ 1 ∷ 0 ∷ 0 ∷ []) turn_rows (vote_rows ++ end_rows) (turns_add S)
+      (adds_append (0 ∷ 1 ∷ 1 ∷ []) (1 ∷ 0 ∷ 0 ∷ []) vote_rows end_rows (votes_add S) (end_adds S)),
+)
+
 -- ---- an event
 
--- what comes before a pass and behind it adds nothing
-around : {S : Type 0} (n : Node S) (last : List LogEntry) (pass : Node S) → pass.entries ≡ n.entries → last ≡ (passes pass).entries → AddsAtMost 6 n.entries last
-around n last pass same is = rw is (subst (λ (es : List LogEntry). AddsAtMost 6 es (passes pass).entries) same (passes_adds pass))
+judged_same : {S : Type 0} (n : Node S) (m : Message) (why : Option Why) → (judged n m why).node.entries ≡ n.entries
+judged_same n m None = kept_same (noted n m) m ∙ noted_same n m
+judged_same n m (Some why) = noted_same n m
 
-pub arrival_adds : {S : Type 0} (n : Node S) (m : Message) (why : Option Why) → AddsAtMost 6 n.entries (arrival_outcome n m why).node.entries
-arrival_adds n m None =
-    around n _ (kept (noted n m) m) (kept_same (noted n m) m ∙ noted_same n m) (answers_again_same (passes (kept (noted n m) m)) (asked_in m))
-arrival_adds n m (Some why) = adds_fewer 0 6 n.entries _ (omega arith) (adds_none n.entries _ (noted_same n m))
+reads_same : {S : Type 0} (n : Node S) (read : Result Message ℕ) → (reads n read).node.entries ≡ n.entries
+reads_same n (Ok m) = judged_same n m (why_dropped n m)
+reads_same n (Err at) = refl
 
-pub reading_adds : {S : Type 0} (n : Node S) (read : Result Message ℕ) → AddsAtMost 6 n.entries (reading_outcome n read).node.entries
-reading_adds n (Ok m) = arrival_adds n m (why_dropped n m)
-reading_adds n (Err at) = adds_fewer 0 6 n.entries n.entries (omega arith) (adds_none n.entries n.entries refl)
+-- what takes an event in adds nothing
+pub takes_in_same : {S : Type 0} (n : Node S) (event : NodeEvent) → (takes_in n event).node.entries ≡ n.entries
+unfolding takes_in
+takes_in_same n (Arrive bytes) = reads_same n (decoded bytes)
+takes_in_same n Tick = refl
+takes_in_same n Deliver = refl
+takes_in_same n (Firm count) = refl
 
 pub event_adds : {S : Type 0} (m : Meaning S) (n : Node S) (event : NodeEvent) → AddsAtMost 6 n.entries (step_of m n event).node.entries
-unfolding step_of
-event_adds m n (Arrive bytes) = reading_adds n (decoded bytes)
-event_adds m n Tick = around n _ n refl (times_same (passes n))
-event_adds m n Deliver = around n _ (delivers m n) (delivers_same m n) refl
-event_adds m n (Firm count) = passes_adds (made_firm n count)
+event_adds {S = S} m n event =
+    let t : Taken S = takes_in n event in
+    let same : t.node.entries ≡ n.entries = takes_in_same n event in
+    by_step m n event (λ (x : Node S) (told : List Fired). AddsAtMost 6 n.entries x.entries) (adds_fewer 0 6 n.entries t.node.entries (omega arith) (adds_none n.entries t.node.entries same))
+    (subst (λ (es : List LogEntry). AddsAtMost 6 es (pass (rules m) t.node t.cause []).0.entries) same
+    (pass_adds (0 ∷ 2 ∷ 0 ∷ 1 ∷ 0 ∷ 0 ∷ 1 ∷ 1 ∷ 1 ∷ 0 ∷ 0 ∷ []) (rules m) (rules_add m) t.node t.cause []))
 
 pub few_by_step : {S : Type 0} (m : Meaning S) (n : Node S) (event : NodeEvent) → AddsAtMost 8 n.entries (step_of m n event).node.entries
 few_by_step m n event = adds_fewer 6 8 n.entries _ (omega arith) (event_adds m n event)

@@ -3,6 +3,7 @@ use Rattle.std.specs.Prelude.{ℕ, ◌+◌, ◌==◌, nat_lt, nat_le, Bool, true
 use Rattle.std.specs.List.{list_any}
 use Rattle.smart_base.specs.Lists.{or_else, same_bytes}
 use Rattle.smart_base.specs.Views.{is_member, leader}
+use Rattle.smart_base.specs.declared.limits.TheConstants.{LAST_CLIENT}
 use Rattle.smart_statements.specs.Equality.{same_slot, same_kind}
 use Rattle.smart_statements.specs.Forms.{SignedBy}
 use Rattle.smart_statements.specs.Kinds.{requests, proposals, ballots, answers}
@@ -25,14 +26,14 @@ use Rattle.smart_messages.specs.declared.message.Message.{Message}
 use Rattle.smart_messages.specs.declared.message.Message.TheVariants as changes
 use Rattle.smart_messages.specs.declared.message.Message.TheVariants.{Ask, Propose, Vote, Reply}
 use Rattle.smart_messages.specs.declared.message.Proposed.{Proposed}
-use Rattle.smart_service.specs.Tables.{last_seq}
+use Rattle.smart_service.specs.Tables as tables
 use Rattle.certificates.specs.Collects.{evidence_holds, has_no_false_lock, collect_fault}
 use Rattle.regency_sync.specs.Choices.{choice}
 use Rattle.regency_sync.specs.Synchronizers.{repeats_stop, repeats_report, repeats_sync}
 use Rattle.replica_rules.specs.Replicas.{is_next}
 use Rattle.replica_rules.specs.Seals.{is_verified, digest_of, is_managers, fits}
 use Rattle.replica_rules.specs.Pools.{offered}
-use Rattle.node_rules.specs.Nodes.{Node, view_of, regency_of, start_of, is_begun, bound_at, is_within, decided_place, synchronizer_of}
+use Rattle.node_rules.specs.Nodes.{Node, view_of, regency_of, start_of, is_begun, bound_at, is_within, decided_place, synchronizer_of, ring_of}
 use Rattle.node_rules.specs.declared.node.Why.{Why}
 use Rattle.node_rules.specs.declared.node.Why.TheVariants.{NotMember, BadTag, Stranger, OldView, NewView, OldPlace, FarPlace, OldRegency, NewRegency, OldSeq, FarSeq, NotLeader, InvalidBatch, BadProof, Unbound, Unasked, Repeated}
 
@@ -88,10 +89,10 @@ is_same_vote b m =
 unfoldable pub why_ask : {S : Type 0} → Node S → SignedBy Request → Option Why
 why_ask n q =
     if not (is_member (view_of n) n.id) then Some NotMember
-    else if not (is_verified requests n.secret q) then Some BadTag
-    else if (q.signer == 0) || nat_lt 1024 q.signer then Some Stranger
-    else if nat_lt q.statement.seq (last_seq n.replica.table q.statement.client) then Some OldSeq
-    else if nat_lt (last_seq n.replica.table q.statement.client + 1) q.statement.seq then Some FarSeq
+    else if not (is_verified requests (ring_of n) q) then Some BadTag
+    else if (q.signer == 0) || nat_lt LAST_CLIENT q.signer then Some Stranger
+    else if tables.is_executed n.replica.table q.statement.client q.statement.seq && is_none (tables.kept_reply n.replica.table q.statement.client q.statement.seq) then Some OldSeq
+    else if tables.is_beyond n.replica.table q.statement.client q.statement.seq then Some FarSeq
     else None
 
 -- a batch that may stand at a place, and that a digest names. INTERIM(views): it has no request of the view manager.
@@ -107,10 +108,10 @@ is_unbound n p =
 -- the first reason to drop a PROPOSE
 unfoldable pub why_propose : {S : Type 0} → Node S → Proposed → Option Why
 why_propose n p =
-    or_else (signer_why n (is_verified proposals n.secret p.head) p.head.signer)
+    or_else (signer_why n (is_verified proposals (ring_of n) p.head) p.head.signer)
     (or_else (slot_why n p.head.statement.slot)
     (if not (p.head.signer == leader (view_of n) p.head.statement.slot.regency) then Some NotLeader
-    else if not (is_batch_for n.secret p.head.statement.slot.place p.head.statement.digest p.batch) then Some InvalidBatch
+    else if not (is_batch_for (ring_of n) p.head.statement.slot.place p.head.statement.digest p.batch) then Some InvalidBatch
     else if is_unbound n p then Some Unbound
     else if list_any (is_same_proposal p) n.arrivals then Some Repeated
     else None))
@@ -118,13 +119,13 @@ why_propose n p =
 -- the first reason to drop a vote
 unfoldable pub why_vote : {S : Type 0} → Node S → SignedBy Ballot → Option Why
 why_vote n b =
-    or_else (signer_why n (is_verified ballots n.secret b) b.signer)
+    or_else (signer_why n (is_verified ballots (ring_of n) b) b.signer)
     (or_else (slot_why n b.statement.slot)
     (if list_any (is_same_vote b) n.arrivals then Some Repeated else None))
 
 -- the first reason to drop a reply; every reply is dropped, as no member waits for one
 unfoldable pub why_reply : {S : Type 0} → Node S → SignedBy Answer → Option Why
-why_reply n a = or_else (signer_why n (is_verified answers n.secret a) a.signer) (Some Unasked)
+why_reply n a = or_else (signer_why n (is_verified answers (ring_of n) a) a.signer) (Some Unasked)
 
 -- ---- what changes the regency
 
@@ -138,7 +139,7 @@ wish_why n regency =
 -- the first reason to drop a STOP
 unfoldable pub why_stop : {S : Type 0} → Node S → SignedBy Stop → Option Why
 why_stop n s =
-    or_else (signer_why n (is_verified stops n.secret s) s.signer)
+    or_else (signer_why n (is_verified stops (ring_of n) s) s.signer)
     (or_else (view_why n s.statement.view)
     (or_else (wish_why n s.statement.regency)
     (if repeats_stop (synchronizer_of n) s then Some Repeated else None)))
@@ -162,15 +163,15 @@ bears_lock secret place (Some lock) (Some batch) = is_batch_for secret place loc
 -- a report whose evidence, lock and batch hold
 unfoldable pub is_proven : {S : Type 0} → Node S → Reported → Bool
 is_proven n r =
-    evidence_holds n.secret n.replica.views r.head.statement.last r.head.statement.evidence
+    evidence_holds (ring_of n) n.replica.views r.head.statement.last r.head.statement.evidence
     && not (rests_on_marks r.head.statement)
-    && has_no_false_lock n.secret (view_of n) r.head.statement.last r.head.statement.regency r.head.statement.lock
-    && bears_lock n.secret (r.head.statement.last + 1) r.head.statement.lock r.batch
+    && has_no_false_lock (ring_of n) (view_of n) r.head.statement.last r.head.statement.regency r.head.statement.lock
+    && bears_lock (ring_of n) (r.head.statement.last + 1) r.head.statement.lock r.batch
 
 -- the first reason to drop a STOPDATA
 unfoldable pub why_report : {S : Type 0} → Node S → Reported → Option Why
 why_report n r =
-    or_else (signer_why n (is_verified reports n.secret r.head) r.head.signer)
+    or_else (signer_why n (is_verified reports (ring_of n) r.head) r.head.signer)
     (or_else (view_why n r.head.statement.view)
     (or_else (regency_why n r.head.statement.regency)
     (if not (leader (view_of n) r.head.statement.regency == n.id) then Some NotLeader
@@ -181,13 +182,13 @@ why_report n r =
 -- the reports of a SYNC that are a valid collect
 unfoldable pub is_collect : {S : Type 0} → Node S → Sync → Bool
 is_collect n s =
-    is_none (collect_fault n.secret n.replica.views s.regency s.collect)
+    is_none (collect_fault (ring_of n) n.replica.views s.regency s.collect)
     && not (list_any (λ (r : SignedBy Report). rests_on_marks r.statement) s.collect)
 
 -- the first reason to drop a SYNC
 unfoldable pub why_sync : {S : Type 0} → Node S → SignedBy Sync → Option Why
 why_sync n s =
-    or_else (signer_why n (is_verified syncs n.secret s) s.signer)
+    or_else (signer_why n (is_verified syncs (ring_of n) s) s.signer)
     (or_else (view_why n s.statement.view)
     (if nat_lt s.statement.regency (regency_of n) then Some OldRegency
     else if not (s.signer == leader (view_of n) s.statement.regency) then Some NotLeader
@@ -219,11 +220,11 @@ is_beyond n slot = is_newer n slot.view || ((slot.view == (view_of n).number) &&
 
 -- a member's message that shows that the node lags, whether the message is dropped for a later reason or not
 abbrev pub tells_behind : {S : Type 0} → Node S → Message → Bool
-tells_behind n (Propose p) = is_none (signer_why n (is_verified proposals n.secret p.head) p.head.signer) && is_beyond n p.head.statement.slot
-tells_behind n (Vote b) = is_none (signer_why n (is_verified ballots n.secret b) b.signer) && is_beyond n b.statement.slot
-tells_behind n (changes.Stop s) = is_none (signer_why n (is_verified stops n.secret s) s.signer) && is_newer n s.statement.view
-tells_behind n (changes.StopData r) = is_none (signer_why n (is_verified reports n.secret r.head) r.head.signer) && is_newer n r.head.statement.view
-tells_behind n (changes.Sync s) = is_none (signer_why n (is_verified syncs n.secret s) s.signer) && is_newer n s.statement.view
+tells_behind n (Propose p) = is_none (signer_why n (is_verified proposals (ring_of n) p.head) p.head.signer) && is_beyond n p.head.statement.slot
+tells_behind n (Vote b) = is_none (signer_why n (is_verified ballots (ring_of n) b) b.signer) && is_beyond n b.statement.slot
+tells_behind n (changes.Stop s) = is_none (signer_why n (is_verified stops (ring_of n) s) s.signer) && is_newer n s.statement.view
+tells_behind n (changes.StopData r) = is_none (signer_why n (is_verified reports (ring_of n) r.head) r.head.signer) && is_newer n r.head.statement.view
+tells_behind n (changes.Sync s) = is_none (signer_why n (is_verified syncs (ring_of n) s) s.signer) && is_newer n s.statement.view
 tells_behind n _ = false
 
 -- the node with its note that it lags, if the message shows it or the note stands

@@ -7,6 +7,7 @@ use Rattle.smart_statements.specs.Reports.{reports}
 use Rattle.smart_messages.specs.Regencies.{stops, syncs}
 use Rattle.smart_statements.specs.declared.statement.Request.{Request}
 use Rattle.smart_statements.specs.declared.report.Report.{Report}
+use Rattle.smart_messages.specs.declared.regency.Stop.{Stop}
 use Rattle.smart_messages.specs.declared.regency.Sync.{Sync}
 use Rattle.smart_messages.specs.declared.regency.Reported.{Reported}
 use Rattle.smart_messages.specs.declared.message.Message.TheVariants as changes
@@ -21,8 +22,8 @@ use Rattle.vote_book.specs.declared.entry.LogEntry.{LogEntry}
 use Rattle.vote_book.specs.declared.entry.LogEntry.TheVariants.{Promised, Synced}
 use Rattle.regency_sync.specs.Choices.{choice}
 use Rattle.regency_sync.specs.Synchronizers.{needs_sync, is_joining, is_promising, collecting}
-use Rattle.replica_rules.specs.Seals.{signed, digest_of}
-use Rattle.node_rules.specs.Nodes.{Node, view_of, regency_of, is_begun, is_synced, synchronizer_of, holding, recording}
+use Rattle.replica_rules.specs.Seals.{digest_of}
+use Rattle.node_rules.specs.Nodes.{Node, view_of, regency_of, is_begun, is_synced, synchronizer_of, holding, signs, sending, recording}
 use Rattle.node_rules.specs.declared.node.Target.TheVariants as targets
 use Rattle.node_rules.specs.declared.node.Fired.{Fired}
 use Rattle.node_rules.specs.declared.node.Fired.TheVariants as fires
@@ -72,13 +73,17 @@ adopts n = adopts_by n (adoption n)
 
 -- ask: the node asks all members for the next regency, by STOP
 
+-- what the node asks for: the regency after the one in force
+abbrev pub wish_of : {S : Type 0} → Node S → Stop
+wish_of n = record { view = (view_of n).number; regency = regency_of n + 1 }
+
 -- the signed STOP for the regency after the one in force
 abbrev pub stop_for : {S : Type 0} → Node S → Message
-stop_for n = changes.Stop (signed stops n.secret n.id (record { view = (view_of n).number; regency = regency_of n + 1 }))
+stop_for n = changes.Stop (signs n stops (wish_of n))
 
 -- what asking does: note it, and send STOP to the view
 abbrev pub asks_next : {S : Type 0} → Node S → Node S
-asks_next n = holding (record n { stop_made = true }) targets.View (stop_for n)
+asks_next n = sending (record n { stop_made = true }) targets.View stops (wish_of n) (λ (s : SignedBy Stop). changes.Stop s)
 
 -- join: the node asks for the next regency after more than f members did, if it has not asked in this life
 
@@ -102,12 +107,13 @@ report_of n regency = record {
   lock = option_map certificate_of (lock_of (view_of n).number n.entries);
 }
 
+-- a signed report of the node, with the batch of its lock
+abbrev pub reported_with : {S : Type 0} → Node S → SignedBy Report → Reported
+reported_with n head = record { head = head; batch = option_map (λ (a : Accept). a.batch) (lock_of (view_of n).number n.entries) }
+
 -- the signed report, with the batch of its lock
 unfoldable pub reported_by : {S : Type 0} → Node S → ℕ → Reported
-reported_by n regency = record {
-  head = signed reports n.secret n.id (report_of n regency);
-  batch = option_map (λ (a : Accept). a.batch) (lock_of (view_of n).number n.entries);
-}
+reported_by n regency = reported_with n (signs n reports (report_of n regency))
 
 -- the promise of the regency after the one in force
 abbrev pub next_promise : {S : Type 0} → Node S → Promise
@@ -120,9 +126,9 @@ promising n = is_promising (view_of n) (synchronizer_of n)
 -- what a promise does: record it, begin a wait, and send the report to the new leader after the promise is firm
 unfoldable pub promise_next : {S : Type 0} → Node S → Node S
 promise_next n =
-    holding (record (recording n (Promised (next_promise n))) { stop_made = false; sync_made = false; impatient = true })
+    sending (record (recording n (Promised (next_promise n))) { stop_made = false; sync_made = false; impatient = true })
     (targets.Node (leader (view_of n) (regency_of n + 1)))
-    (changes.StopData (reported_by n (regency_of n + 1)))
+    reports (report_of n (regency_of n + 1)) (λ (head : SignedBy Report). changes.StopData (reported_with n head))
 
 -- the rule that promises: after 2f+1 members ask, the node leaves its regency and sends STOPDATA to the next leader (Mod-SMaRt, EDCC 2012)
 unfoldable pub promises : {S : Type 0} → Node S → Node S
@@ -138,8 +144,9 @@ leading n = collecting (view_of n) (synchronizer_of n)
 unfoldable pub lead_with : {S : Type 0} → Node S → Option (List (SignedBy Report)) → Node S
 lead_with n None = n
 lead_with n (Some collect) =
-    holding (record n { sync_made = true }) targets.View
-    (changes.Sync (signed syncs n.secret n.id (record { view = (view_of n).number; regency = regency_of n; collect = collect })))
+    sending (record n { sync_made = true }) targets.View syncs
+    (record { view = (view_of n).number; regency = regency_of n; collect = collect })
+    (λ (s : SignedBy Sync). changes.Sync s)
 
 -- the rule that leads: after n-f STOPDATA the leader sends SYNC with them (Mod-SMaRt, EDCC 2012)
 unfoldable pub leads : {S : Type 0} → Node S → Node S

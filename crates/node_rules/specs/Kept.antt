@@ -1,5 +1,5 @@
 -- What a node still needs of what it kept, and a core: a node that keeps nothing else.
-use Rattle.std.specs.Prelude.{◌≡◌, filter, Bool, List, [], ◌∷◌, ℕ, ◌&&◌, nat_lt, nat_le}
+use Rattle.std.specs.Prelude.{◌≡◌, filter, Bool, List, [], ◌∷◌, ℕ, ◌&&◌, ◌==◌, nat_lt, nat_le}
 use Rattle.smart_statements.specs.declared.statement.Slot.{Slot}
 use Rattle.smart_messages.specs.Messages.{slot_of, some_of}
 use Rattle.smart_messages.specs.declared.message.Message.{Message}
@@ -9,15 +9,15 @@ use Rattle.regency_sync.specs.Synchronizers.{needs_stop, needs_report, needs_syn
 use Rattle.node_rules.specs.Nodes.{Node, view_of, regency_of, decided_place}
 use Rattle.node_rules.specs.Steps.{Outcome, step_of}
 
--- a slot past a place, of a view and a regency that are given or later
+-- a slot of a view, past a place, and of a given regency or a later one
 abbrev pub is_ahead : ℕ → ℕ → ℕ → Slot → Bool
-is_ahead view place regency slot = nat_lt place slot.place && nat_le view slot.view && nat_le regency slot.regency
+is_ahead view place regency slot = nat_lt place slot.place && (slot.view == view) && nat_le regency slot.regency
 
 -- a proposal or a vote for a slot ahead
 abbrev pub is_needed : ℕ → ℕ → ℕ → Message → Bool
 is_needed view place regency m = some_of (is_ahead view place regency) (slot_of m)
 
--- a slot ahead of a node: past its last decided place, and neither its view nor its regency is over
+-- a slot ahead of a node: of the view in force, past the last decided place, and of a regency that is not over
 abbrev pub ahead_of : {S : Type 0} → Node S → Slot → Bool
 ahead_of n slot = is_ahead (view_of n).number (decided_place n) (regency_of n) slot
 

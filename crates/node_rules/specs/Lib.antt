@@ -3,6 +3,7 @@ pub mod Votes
 pub mod Arrivals
 pub mod Rules
 pub mod Changes
+pub mod Decisions
 pub mod Deliveries
 pub mod Steps
 pub mod Kept

@@ -2,7 +2,7 @@
 use Rattle.std.specs.Prelude.{ℕ, ◌+◌, ◌^◌, ◌==◌, nat_lt, nat_le, max, Bool, false, true, ◌&&◌, List, [], ◌∷◌, ◌++◌, length, if◌then◌else◌, Option, Some, None, is_some, is_none}
 use Rattle.smart_base.specs.Lists.{same_bytes}
 use Rattle.smart_base.specs.Views.{View, is_member, present}
-use Rattle.smart_statements.specs.Forms.{SignedBy}
+use Rattle.smart_statements.specs.Forms.{Form, SignedBy}
 use Rattle.smart_statements.specs.Batches.{Batch}
 use Rattle.smart_statements.specs.declared.statement.Request.{Request}
 use Rattle.smart_statements.specs.declared.statement.Slot.{Slot}
@@ -11,10 +11,12 @@ use Rattle.smart_messages.specs.declared.regency.Sync.{Sync}
 use Rattle.smart_messages.specs.declared.regency.Reported.{Reported}
 use Rattle.smart_messages.specs.declared.message.Message.{Message}
 use Rattle.smart_service.specs.declared.replica.Replica.{Replica}
+use Rattle.vote_book.specs.Standing.{first_start}
 use Rattle.vote_book.specs.declared.entry.Start.{Start}
 use Rattle.vote_book.specs.declared.entry.LogEntry.{LogEntry}
 use Rattle.vote_book.specs.declared.entry.LogEntry.TheVariants.{Opened, Wrote, Accepted, Promised, Synced, Decided, Installed, Marked}
 use Rattle.regency_sync.specs.Synchronizers.{Synchronizer}
+use Rattle.replica_rules.specs.Seals.{signed}
 use Rattle.node_rules.specs.declared.node.Held.{Held}
 use Rattle.node_rules.specs.declared.node.Target.{Target}
 
@@ -97,29 +99,13 @@ greatest_regency view (e ∷ es) = max (regency_in view e) (greatest_regency vie
 unfoldable pub regency_of : {S : Type 0} → Node S → ℕ
 regency_of n = greatest_regency (view_of n).number n.entries
 
--- the beginning that an entry states for a regency of a view, if it states one
-abbrev pub start_by : ℕ → ℕ → LogEntry → Option Start
-start_by view regency (Opened o) = None
-start_by view regency (Wrote w) = None
-start_by view regency (Accepted a) = None
-start_by view regency (Promised p) = None
-start_by view regency (Synced s) = if (s.view == view) && (s.regency == regency) then Some s else None
-start_by view regency (Decided d) = None
-start_by view regency (Installed i) = None
-start_by view regency (Marked m) = None
-
--- the first beginning that entries state for a regency of a view
-abbrev pub start_in : ℕ → ℕ → List LogEntry → Option Start
-start_in view regency [] = None
-start_in view regency (e ∷ es) = if is_some (start_by view regency e) then start_by view regency e else start_in view regency es
-
 -- the beginning of regency 0: it begins at the first place of its view, and no digest binds there
-abbrev pub first_start : View → Start
-first_start v = record { view = v.number; regency = 0; base = v.start; bound = None }
+abbrev pub view_start : View → Start
+view_start v = record { view = v.number; regency = 0; base = v.start; bound = None }
 
 -- the beginning of a regency of a view, if the book states it; regency 0 needs no entry
 abbrev pub start_at : View → ℕ → List LogEntry → Option Start
-start_at v regency entries = if regency == 0 then Some (first_start v) else start_in v.number regency entries
+start_at v regency entries = if regency == 0 then Some (view_start v) else first_start v.number regency entries
 
 -- the beginning of the regency in force; none until the node has adopted it
 unfoldable pub start_of : {S : Type 0} → Node S → Option Start
@@ -160,8 +146,9 @@ is_open n = is_member (view_of n) n.id && is_free n && has_begun (next_place n) 
 abbrev pub synchronizer_of : {S : Type 0} → Node S → Synchronizer
 synchronizer_of n = record {
   id = n.id;
+  view = view_of n;
   regency = regency_of n;
-  synced = is_some (start_in (view_of n).number (regency_of n) n.entries);
+  synced = is_some (first_start (view_of n).number (regency_of n) n.entries);
   stop_made = n.stop_made;
   sync_made = n.sync_made;
   stops = n.stops;
@@ -169,11 +156,26 @@ synchronizer_of n = record {
   syncs = n.syncs;
 }
 
+-- ---- what it signs and checks
+
+-- what the node checks tags by: the secret of the group, as its ring of keys holds it
+abbrev pub ring_of : {S : Type 0} → Node S → List ℕ
+ring_of n = n.secret
+
+-- a statement that the node signs
+abbrev pub signs : {S A : Type 0} → Node S → Form A → A → SignedBy A
+signs n form s = signed form n.secret n.id s
+
 -- ---- what it does
 
 -- a message put into the outbox; it leaves after all entries that the book has now are firm
 abbrev pub holding : {S : Type 0} → Node S → Target → Message → Node S
 holding n to message = record n { held = n.held ++ record { to = to; message = message; needs = length n.entries } ∷ [] }
+
+-- a message around a statement that the node signs, put into the outbox. Each message that a rule makes around a statement of its own goes
+-- this way.
+abbrev pub sending : {S A : Type 0} → Node S → Target → Form A → A → (SignedBy A → Message) → Node S
+sending n to form s around = holding n to (around (signs n form s))
 
 -- an entry added to the book
 abbrev pub recording : {S : Type 0} → Node S → LogEntry → Node S

@@ -9,6 +9,9 @@ use Rattle.smart_statements.specs.Kinds.{proposals, ballots, answers}
 use Rattle.smart_statements.specs.Batches.{Batch}
 use Rattle.smart_statements.specs.Forms.{SignedBy}
 use Rattle.smart_statements.specs.declared.statement.Request.{Request}
+use Rattle.smart_statements.specs.declared.statement.Proposal.{Proposal}
+use Rattle.smart_statements.specs.declared.statement.Ballot.{Ballot}
+use Rattle.smart_statements.specs.declared.statement.Answer.{Answer}
 use Rattle.smart_statements.specs.declared.statement.Slot.{Slot}
 use Rattle.smart_statements.specs.declared.statement.VoteKind.{VoteKind}
 use Rattle.smart_statements.specs.declared.statement.VoteKind.TheVariants.{Write, Accept}
@@ -17,8 +20,8 @@ use Rattle.smart_messages.specs.declared.message.Message.{Message}
 use Rattle.smart_messages.specs.declared.message.Message.TheVariants.{Propose, Vote, Reply}
 use Rattle.smart_messages.specs.declared.message.Proposed.{Proposed}
 use Rattle.smart_service.specs.Services.{Meaning}
-use Rattle.smart_service.specs.declared.table.TableLine.{TableLine}
-use Rattle.smart_service.specs.Tables.{last_seq, line_for}
+use Rattle.smart_service.specs.declared.table.Execution.{Execution}
+use Rattle.smart_service.specs.Tables.{kept_reply}
 use Rattle.vote_book.specs.Admission.{writes_in, accepts_in}
 use Rattle.vote_book.specs.declared.entry.Decision.{Decision}
 use Rattle.vote_book.specs.declared.entry.LogEntry.TheVariants.{Wrote, Accepted, Decided}
@@ -27,7 +30,7 @@ use Rattle.replica_rules.specs.Replicas.{delivered, executed_lines}
 use Rattle.replica_rules.specs.Seals.{signed, digest_of}
 use Rattle.replica_rules.specs.Pools.{settled, gathered}
 use Rattle.node_rules.specs.Votes.{has_quorum, certificate_votes, proposed_for, known, accepted_in, decision_by, accepted_under}
-use Rattle.node_rules.specs.Nodes.{Node, view_of, regency_of, start_of, next_place, open_slot, is_free, is_open, bound_at, is_within, synchronizer_of, holding, recording}
+use Rattle.node_rules.specs.Nodes.{Node, view_of, regency_of, start_of, next_place, open_slot, is_free, is_open, bound_at, is_within, synchronizer_of, signs, sending, recording}
 use Rattle.node_rules.specs.declared.node.Asked.{Asked}
 use Rattle.node_rules.specs.declared.node.Target.TheVariants as targets
 use Rattle.node_rules.specs.declared.node.Fired.{Fired}
@@ -40,22 +43,28 @@ fired_if rule (Some x) = rule ∷ []
 
 -- deliver: the waiting batch is executed, and each client whose request was executed gets its reply
 
--- the signed reply of a member that a line of the table of clients tells
-abbrev pub reply_of : List ℕ → ℕ → TableLine → Message
-reply_of secret id line =
-    Reply (signed answers secret id
-    (record { view = line.view; place = line.place; index = line.index; client = line.client; seq = line.seq; reply = line.reply }))
+-- what a member states of an execution
+abbrev pub answer_of : Execution → Answer
+answer_of line = record { view = line.view; place = line.place; index = line.index; client = line.client; seq = line.seq; reply = line.reply }
 
--- a reply put into the outbox for each line
-abbrev pub replying : {S : Type 0} → Node S → List TableLine → Node S
+-- the signed reply of a member that tells an execution
+abbrev pub reply_of : List ℕ → ℕ → Execution → Message
+reply_of secret id line = Reply (signed answers secret id (answer_of line))
+
+-- the signed reply that tells an execution, put into the outbox
+abbrev pub replies_with : {S : Type 0} → Node S → Execution → Node S
+replies_with n line = sending n (targets.Client line.client) answers (answer_of line) (λ (a : SignedBy Answer). Reply a)
+
+-- a reply put into the outbox for each execution
+abbrev pub replying : {S : Type 0} → Node S → List Execution → Node S
 replying n [] = n
-replying n (line ∷ lines) = replying (holding n (targets.Client line.client) (reply_of n.secret n.id line)) lines
+replying n (line ∷ lines) = replying (replies_with n line) lines
 
--- the lines that the node answers: those that the batch executes, if the node is a member of the view in force
-abbrev pub lines_to_answer : {S : Type 0} → Meaning S → Node S → Batch → List TableLine
+-- the executions that the node answers: those of the batch, if the node is a member of the view in force
+abbrev pub lines_to_answer : {S : Type 0} → Meaning S → Node S → Batch → List Execution
 lines_to_answer m n batch = if is_member (view_of n) n.id then executed_lines m n.replica batch else []
 
--- what delivery does: execute the batch, drop what is no longer next from the pool, end the wait, and reply
+-- what delivery does: execute the batch, drop what may not be executed now from the pool, end the wait, and reply
 unfoldable pub deliver_batch : {S : Type 0} → Meaning S → Node S → Option Batch → Node S
 deliver_batch m n None = n
 deliver_batch m n (Some batch) =
@@ -93,8 +102,9 @@ proposing n =
 unfoldable pub propose_batch : {S : Type 0} → Node S → Option Batch → Node S
 propose_batch n None = n
 propose_batch n (Some batch) =
-    holding (record n { proposed = n.proposed ++ open_slot n ∷ [] }) targets.View
-    (Propose (record { head = signed proposals n.secret n.id (record { slot = open_slot n; digest = digest_of batch }); batch = batch }))
+    sending (record n { proposed = n.proposed ++ open_slot n ∷ [] }) targets.View proposals
+    (record { slot = open_slot n; digest = digest_of batch })
+    (λ (head : SignedBy Proposal). Propose (record { head = head; batch = batch }))
 
 -- the rule that proposes: the leader of the regency in force sends PROPOSE, once in a slot (Mod-SMaRt, EDCC 2012)
 unfoldable pub proposes : {S : Type 0} → Node S → Node S
@@ -102,9 +112,17 @@ proposes n = propose_batch n (proposing n)
 
 -- write: the node votes once in the open slot for the batch proposed there, if that batch may get votes
 
+-- what a vote of the node states: its kind, and a digest in the open slot
+abbrev pub ballot_for : {S : Type 0} → Node S → VoteKind → List ℕ → Ballot
+ballot_for n kind digest = record { kind = kind; slot = open_slot n; digest = digest }
+
 -- the node's signed vote of a kind for a digest in the open slot
 abbrev pub ballot : {S : Type 0} → Node S → VoteKind → List ℕ → Message
-ballot n kind digest = Vote (signed ballots n.secret n.id (record { kind = kind; slot = open_slot n; digest = digest }))
+ballot n kind digest = Vote (signs n ballots (ballot_for n kind digest))
+
+-- a vote that the node signs, put into the outbox after what the vote rests on was recorded
+abbrev pub sends_vote : {S : Type 0} → Node S → Ballot → Node S
+sends_vote n b = sending n targets.View ballots b (λ (vote : SignedBy Ballot). Vote vote)
 
 -- a proposal whose digest may get votes at the next place
 abbrev pub votable : {S : Type 0} → Node S → Option Proposed → Option Proposed
@@ -122,7 +140,7 @@ writing n =
 unfoldable pub write_batch : {S : Type 0} → Node S → Option Proposed → Node S
 write_batch n None = n
 write_batch n (Some p) =
-    holding (recording n (Wrote (record { slot = open_slot n; digest = p.head.statement.digest }))) targets.View (ballot n Write p.head.statement.digest)
+    sends_vote (recording n (Wrote (record { slot = open_slot n; digest = p.head.statement.digest }))) (ballot_for n Write p.head.statement.digest)
 
 -- the rule that writes: the node sends WRITE for the first proposal, once in a slot (Mod-SMaRt, EDCC 2012; its entry first: this project's
 -- own)
@@ -147,12 +165,12 @@ accepting n =
 unfoldable pub accept_batch : {S : Type 0} → Node S → Option Proposed → Node S
 accept_batch n None = n
 accept_batch n (Some p) =
-    holding (recording n (Accepted (record {
+    sends_vote (recording n (Accepted (record {
       slot = open_slot n;
       digest = p.head.statement.digest;
       writes = certificate_votes n.arrivals (view_of n) Write (open_slot n) p.head.statement.digest;
       batch = p.batch;
-    }))) targets.View (ballot n Accept p.head.statement.digest)
+    }))) (ballot_for n Accept p.head.statement.digest)
 
 -- the rule that accepts: after a quorum's WRITEs the node sends ACCEPT, once in a slot (Mod-SMaRt, EDCC 2012; its entry first: this
 -- project's own)
@@ -190,7 +208,7 @@ decide_batch n (Some d) = record (recording n (Decided d)) { waiting = Some d.ba
 unfoldable pub decides : {S : Type 0} → Node S → Node S
 decides n = decide_batch n (deciding n)
 
--- answer again: a client that repeats its last executed request gets the kept reply again
+-- answer again: a client that repeats an executed request whose reply is kept gets that reply again
 
 -- the client and the number of a request
 abbrev pub asking : SignedBy Request → Asked
@@ -200,15 +218,15 @@ asking q = record { client = q.statement.client; seq = q.statement.seq }
 abbrev pub asked_in : Message → Option Asked
 asked_in m = option_map asking (request_in m)
 
--- the line that is due again: the request has the number of its client's last executed one
-unfoldable pub answering : {S : Type 0} → Node S → Option Asked → Option TableLine
+-- the execution whose reply is due again: the one of the request, if its reply is kept
+unfoldable pub answering : {S : Type 0} → Node S → Option Asked → Option Execution
 answering n None = None
-answering n (Some asked) = if asked.seq == last_seq n.replica.table asked.client then line_for n.replica.table asked.client else None
+answering n (Some asked) = kept_reply n.replica.table asked.client asked.seq
 
 -- a kept reply put into the outbox, if there is one
-unfoldable pub answer_line : {S : Type 0} → Node S → Option TableLine → Node S
+unfoldable pub answer_line : {S : Type 0} → Node S → Option Execution → Node S
 answer_line n None = n
-answer_line n (Some line) = holding n (targets.Client line.client) (reply_of n.secret n.id line)
+answer_line n (Some line) = replies_with n line
 
 -- the rule that answers a repeated request (the kept reply of state machine replication)
 unfoldable pub answers_again : {S : Type 0} → Node S → Option Asked → Node S

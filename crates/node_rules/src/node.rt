@@ -53,6 +53,19 @@ pub struct Asked {
     pub seq: u64,
 }
 
+/// What calls for the rules of a node.
+#[derive(Clone, Copy, Debug)]
+pub enum Cause {
+    /// Bytes came; a kept request names its client and number.
+    Came(Option<Asked>),
+    /// Time passed.
+    Ticked,
+    /// The service is to execute the waiting batch.
+    Delivering,
+    /// Entries became firm.
+    Firmed,
+}
+
 /// The receivers of a message.
 #[derive(Clone, Copy, Debug, PartialEq, Eq)]
 pub enum Target {

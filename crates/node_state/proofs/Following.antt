@@ -12,9 +12,11 @@ use Rattle.smart_messages.specs.declared.regency.Stop.{Stop}
 use Rattle.smart_messages.specs.declared.regency.Sync.{Sync}
 use Rattle.smart_messages.specs.declared.regency.Reported.{Reported}
 use Rattle.smart_statements.specs.declared.statement.Slot.{Slot}
+use Rattle.smart_statements.specs.declared.statement.VoteKind.{VoteKind}
 use Rattle.smart_messages.specs.declared.message.Proposed.{Proposed}
 use Rattle.vote_book.specs.Books.{Book, pushed, last_made, place_made, number_or}
-use Rattle.vote_book.specs.Standing.{first_start, own_votes}
+use Rattle.vote_book.proofs.Standing.{start_push}
+use Rattle.vote_book.specs.Standing.{first_start, own_votes, start_by}
 use Rattle.vote_book.specs.declared.votes.OwnVotes.{OwnVotes}
 use Rattle.vote_book.proofs.Last.{last_push}
 use Rattle.vote_book.specs.declared.entry.Write.{Write as Writing}
@@ -28,15 +30,15 @@ use Rattle.regency_sync.specs.Synchronizers as synchronizers
 use Rattle.regency_sync.specs.Synchronizers.{Synchronizer, adopted, promised_to}
 use Rattle.node_rules.specs.Arrivals as arrivals
 use Rattle.node_rules.specs.Nodes as nodes
-use Rattle.node_rules.specs.Nodes.{Node, view_of, regency_of, start_in, synchronizer_of, is_synced}
+use Rattle.node_rules.specs.Nodes.{Node, view_of, regency_of, synchronizer_of, is_synced}
 use Rattle.consensus_instance.specs.Instances as instances
-use Rattle.consensus_instance.specs.Instances.{Instance, decided_place, is_free, is_open, open_slot, is_bound_to, is_unbound, accepted_named, due_by, moved_on, promising, syncing}
+use Rattle.consensus_instance.specs.Instances.{Instance, decided_place, is_free, is_open, open_slot, is_bound_to, is_unbound, accepted_named, due_by, with_arrival, moved_on, promising, syncing}
 use Rattle.node_rules.specs.Kept.{is_ahead, trimmed}
-use Rattle.node_rules.specs.Votes.{named_in, accepted_in}
+use Rattle.node_rules.specs.Votes.{named_in, accepted_in, certificate_votes}
 use Rattle.consensus_instance.specs.declared.start.Start.{Start as Beginnings}
 use Rattle.consensus_instance.specs.declared.rule.Rule.{Rule}
-use Rattle.consensus_instance.specs.Nodes.{slot_behind, start_by, IsInstance, HasInstance, due_at}
-use Rattle.consensus_instance.proofs.Entries.{wrote_instance, accepted_instance, decided_instance, delivered_instance, promised_instance, synced_instance, start_passed, start_pushed, first_same, same_regency, same_decided_place, same_free, same_synced, same_open, same_slot_open, same_bound, same_unbound, due_same}
+use Rattle.consensus_instance.specs.Nodes.{slot_behind, stated_start, IsInstance, HasInstance, due_at}
+use Rattle.consensus_instance.proofs.Entries.{wrote_instance, accepted_instance, decided_instance, delivered_instance, promised_instance, synced_instance, start_passed, same_regency, same_decided_place, same_free, same_synced, same_open, same_slot_open, same_bound, same_unbound, due_same}
 use Rattle.node_state.specs.Following.{Follows, begun_at}
 
 -- an entry that makes no place
@@ -44,8 +46,8 @@ made_passed : (entries : List LogEntry) (e : LogEntry) (place : ℕ) → place_m
 made_passed entries e place none is = last_push entries e ∙ (ap (λ (o : Option ℕ). max (last_made entries) (number_or o 0)) none ∙ (omega arith ∙ is))
 
 -- an entry that begins no regency
-synced_passed : (view regency : ℕ) (entries : List LogEntry) (e : LogEntry) (synced : Bool) → nodes.start_by view regency e ≡ None → synced ≡ is_some (start_in view regency entries)
-    → synced ≡ is_some (start_in view regency (entries ++ e ∷ []))
+synced_passed : (view regency : ℕ) (entries : List LogEntry) (e : LogEntry) (synced : Bool) → start_by view regency e ≡ None → synced ≡ is_some (first_start view regency entries)
+    → synced ≡ is_some (first_start view regency (entries ++ e ∷ []))
 synced_passed view regency entries e synced none is = is ∙ ap (λ (o : Option Beginning). is_some o) (sym (start_passed view regency entries e none))
 
 -- what arrives alone changes an instance
@@ -56,6 +58,7 @@ kept_instance id view place waiting entries i now s arrivals same is =
       room = is.room;
       instance = record {
         id_same = is.instance.id_same;
+        view_same = is.instance.view_same;
         place_same = is.instance.place_same;
         decided_same = is.instance.decided_same;
         regency_same = is.instance.regency_same;
@@ -65,23 +68,54 @@ kept_instance id view place waiting entries i now s arrivals same is =
         accepted_same = is.instance.accepted_same;
       };
       member = is.member;
+      viewed = is.viewed;
       regency = is.regency;
       synced = is.synced;
       made = is.made;
     })
 
-pub arrived_after : {A E : Type 0} (id : ℕ) (view : View) (place : ℕ) (waiting : Option Batch) (entries : List LogEntry) (i now : Instance) (s : Synchronizer) (arrivals : List Message) (result : Result A E)
-    → OnOk result (now ≡ record i { arrivals = arrivals }) → OnErr result (now ≡ i) → Follows id view place waiting entries i s → Follows id view place waiting entries now s
-arrived_after id view place waiting entries i now s arrivals (Ok a) ok err is = kept_instance id view place waiting entries i now s arrivals ok is
-arrived_after id view place waiting entries i now s arrivals (Err e) ok err is = rw err is
+-- what holds of both holds of the one that is chosen
+of_chosen : {A : Type 0} (P : A → Type 0) (t : Bool) (a b : A) → P a → P b → P (cond t a b)
+of_chosen P true a b first second = first
+of_chosen P false a b first second = second
+
+-- an instance to which a message came, which it keeps or not
+pub arrived_after : {A E : Type 0} (id : ℕ) (view : View) (place : ℕ) (waiting : Option Batch) (entries : List LogEntry) (i now : Instance) (s : Synchronizer) (keeps : Bool) (m : Message) (result : Result A E)
+    → OnOk result (now ≡ cond keeps (with_arrival m i) i) → OnErr result (now ≡ i) → Follows id view place waiting entries i s → Follows id view place waiting entries now s
+arrived_after id view place waiting entries i now s keeps m (Ok a) ok err is =
+    subst (λ (x : Instance). Follows id view place waiting entries x s) (sym ok)
+    (of_chosen (λ (x : Instance). Follows id view place waiting entries x s) keeps (with_arrival m i) i (kept_instance id view place waiting entries i (with_arrival m i) s (i.arrivals ++ m ∷ []) refl is) is)
+arrived_after id view place waiting entries i now s keeps m (Err e) ok err is = rw err is
+
+-- a synchronizer that keeps other messages
+heard_same : (id : ℕ) (view : View) (place : ℕ) (waiting : Option Batch) (entries : List LogEntry) (i : Instance) (s : Synchronizer) (stops : List (SignedBy Stop)) (reports : List Reported) (syncs : List (SignedBy Sync))
+    → Follows id view place waiting entries i s → Follows id view place waiting entries i (record s { stops = stops; reports = reports; syncs = syncs })
+heard_same id view place waiting entries i s stops reports syncs is = record {
+  room = is.room;
+  instance = is.instance;
+  member = is.member;
+  viewed = is.viewed;
+  regency = is.regency;
+  synced = is.synced;
+  made = is.made;
+}
+
+-- a synchronizer to which a message came, which it keeps or not
+pub heard_after : {A E : Type 0} (id : ℕ) (view : View) (place : ℕ) (waiting : Option Batch) (entries : List LogEntry) (i : Instance) (s then : Synchronizer) (keeps : Bool)
+    (stops : List (SignedBy Stop)) (reports : List Reported) (syncs : List (SignedBy Sync)) (result : Result A E)
+    → OnOk result (then ≡ cond keeps (record s { stops = stops; reports = reports; syncs = syncs }) s) → OnErr result (then ≡ s) → Follows id view place waiting entries i s → Follows id view place waiting entries i then
+heard_after id view place waiting entries i s then keeps stops reports syncs (Ok a) ok err is =
+    subst (λ (x : Synchronizer). Follows id view place waiting entries i x) (sym ok)
+    (of_chosen (λ (x : Synchronizer). Follows id view place waiting entries i x) keeps (record s { stops = stops; reports = reports; syncs = syncs }) s (heard_same id view place waiting entries i s stops reports syncs is) is)
+heard_after id view place waiting entries i s then keeps stops reports syncs (Err e) ok err is = rw err is
 
 -- what is needed alone is kept
-pub trimmed_after : (id : ℕ) (view lent : View) (place number : ℕ) (waiting : Option Batch) (entries : List LogEntry) (i now : Instance) (s then : Synchronizer) → now ≡ instances.trimmed number i → then ≡ synchronizers.trimmed lent s
+pub trimmed_after : (id : ℕ) (view : View) (place : ℕ) (waiting : Option Batch) (entries : List LogEntry) (i now : Instance) (s then : Synchronizer) → now ≡ instances.trimmed i.view.number i → then ≡ synchronizers.trimmed s.view s
     → Follows id view place waiting entries i s → Follows id view place waiting entries now then
 unfolding instances.trimmed synchronizers.trimmed
-trimmed_after id view lent place number waiting entries i now s then same turned is =
+trimmed_after id view place waiting entries i now s then same turned is =
     let has = kept_instance id view place waiting entries i now s now.arrivals (rw same refl) is in
-    rw turned (record { room = has.room; instance = has.instance; member = has.member; regency = has.regency; synced = has.synced; made = has.made })
+    rw turned (record { room = has.room; instance = has.instance; member = has.member; viewed = has.viewed; regency = has.regency; synced = has.synced; made = has.made })
 
 pub wrote_after : (id : ℕ) (view : View) (place : ℕ) (waiting : Option Batch) (b c : Book) (i now : Instance) (s : Synchronizer) (w : Writing) → Follows id view place waiting b.entries i s
     → w.slot ≡ slot_behind view.number place i.regency → c ≡ pushed b (Wrote w) → now ≡ record i { wrote = true } → Follows id view place waiting c.entries now s
@@ -90,6 +124,7 @@ wrote_after id view place waiting b c i now s w is at grown moved =
       room = is.room;
       instance = wrote_instance id view place waiting i.arrivals b.entries i w at is.instance;
       member = is.member;
+      viewed = is.viewed;
       regency = is.regency;
       synced = synced_passed view.number i.regency b.entries (Wrote w) s.synced refl is.synced;
       made = made_passed b.entries (Wrote w) _ refl is.made;
@@ -102,6 +137,7 @@ accepted_after id view place waiting b c i now s a is at grown moved =
       room = is.room;
       instance = accepted_instance id view place waiting i.arrivals b.entries i a at is.instance;
       member = is.member;
+      viewed = is.viewed;
       regency = is.regency;
       synced = synced_passed view.number i.regency b.entries (Accepted a) s.synced refl is.synced;
       made = made_passed b.entries (Accepted a) _ refl is.made;
@@ -127,6 +163,7 @@ decided_after id view place waiting b c i now s d batch is free at grown moved =
       room = λ some. ltb-true (place + 1) (2 ^ 63) both.1;
       instance = decided_instance id view place waiting i.arrivals b.entries i d batch is.instance;
       member = is.member;
+      viewed = is.viewed;
       regency = is.regency;
       synced = synced_passed view.number i.regency b.entries (Decided d) s.synced refl is.synced;
       made = last_push b.entries (Decided d) ∙ most;
@@ -144,29 +181,31 @@ delivered_after id view later place next waiting taken entries i now s batch vot
       room = λ some. absurd (cc);
       instance = delivered_instance id view place waiting i.arrivals entries i votes voted is.instance;
       member = is.member;
+      viewed = is.viewed;
       regency = is.regency;
       synced = is.synced;
       made = made_next waiting place (last_made entries) batch some is.made;
     })
 
-pub some_mapped : (o : Option Beginning) → is_some (option_map start_by o) ≡ is_some o
+pub some_mapped : (o : Option Beginning) → is_some (option_map stated_start o) ≡ is_some o
 some_mapped None = refl
 some_mapped (Some s) = refl
 
 -- whether a regency has begun, by where it first did
-pub begun_by : (view regency : ℕ) (entries : List LogEntry) (start : Option Beginnings) → start ≡ option_map start_by (first_start view regency entries) → is_some start ≡ is_some (start_in view regency entries)
+pub begun_by : (view regency : ℕ) (entries : List LogEntry) (start : Option Beginnings) → start ≡ option_map stated_start (first_start view regency entries) → is_some start ≡ is_some (first_start view regency entries)
 begun_by view regency entries start is =
-    ap (λ (o : Option Beginnings). is_some o) is ∙ (some_mapped (first_start view regency entries) ∙ ap (λ (o : Option Beginning). is_some o) (first_same view regency entries))
+    ap (λ (o : Option Beginnings). is_some o) is ∙ some_mapped (first_start view regency entries)
 
 pub promised_after : (id : ℕ) (view : View) (place : ℕ) (waiting : Option Batch) (b c : Book) (i now : Instance) (s then : Synchronizer) (p : Promise) (start : Option Beginnings) (begun : Bool) (votes : OwnVotes)
     → Follows id view place waiting b.entries i s → p.view ≡ view.number → i.regency < p.regency
-    → start ≡ option_map start_by (first_start view.number p.regency b.entries) → begun ≡ is_some start → votes ≡ own_votes (slot_behind view.number place p.regency) b.entries
+    → start ≡ option_map stated_start (first_start view.number p.regency b.entries) → begun ≡ is_some start → votes ≡ own_votes (slot_behind view.number place p.regency) b.entries
     → c ≡ pushed b (Promised p) → now ≡ promising p.regency start votes i → then ≡ promised_to p.regency begun s → Follows id view place waiting c.entries now then
 promised_after id view place waiting b c i now s then p start begun votes is at later started has voted grown moved turned =
     rw (moved, grown, turned) (record {
       room = is.room;
       instance = promised_instance id view place waiting i.arrivals b.entries i p start votes at later started voted is.instance;
       member = is.member;
+      viewed = is.viewed;
       regency = refl;
       synced = synced_passed view.number p.regency b.entries (Promised p) begun refl (has ∙ begun_by view.number p.regency b.entries start started);
       made = made_passed b.entries (Promised p) _ refl is.made;
@@ -177,26 +216,27 @@ or_some None s = refl
 or_some (Some a) s = refl
 
 pub begun_after : (id : ℕ) (view : View) (place : ℕ) (waiting : Option Batch) (b c : Book) (i now : Instance) (s then : Synchronizer) (start : Beginning) → Follows id view place waiting b.entries i s
-    → start.view ≡ view.number → start.regency ≡ i.regency → c ≡ pushed b (Synced start) → now ≡ syncing (start_by start) i → then ≡ adopted start.regency s
+    → start.view ≡ view.number → start.regency ≡ i.regency → c ≡ pushed b (Synced start) → now ≡ syncing (stated_start start) i → then ≡ adopted start.regency s
     → Follows id view place waiting c.entries now then
 begun_after id view place waiting b c i now s then start is at same grown moved turned =
-    let here : nodes.start_by view.number i.regency (Synced start) ≡ Some start = rw (eq-eqb start.view view.number at, eq-eqb start.regency i.regency same) refl in
+    let here : start_by view.number i.regency (Synced start) ≡ Some start = rw (eq-eqb start.view view.number at, eq-eqb start.regency i.regency same) refl in
     rw (moved, grown, turned) (record {
       room = is.room;
       instance = synced_instance id view place waiting i.arrivals b.entries i start at same is.instance;
       member = is.member;
+      viewed = is.viewed;
       regency = same;
-      synced = or_some (start_in view.number i.regency b.entries) start
+      synced = or_some (first_start view.number i.regency b.entries) start
           ∙ ap (λ (o : Option Beginning). is_some o)
-          (ap (λ (o : Option Beginning). or_else (start_in view.number i.regency b.entries) o) (sym here) ∙ sym (start_pushed view.number i.regency b.entries (Synced start)));
+          (ap (λ (o : Option Beginning). or_else (first_start view.number i.regency b.entries) o) (sym here) ∙ sym (start_push view.number i.regency b.entries (Synced start)));
       made = made_passed b.entries (Synced start) _ refl is.made;
     })
 
 -- what the book says of a slot, by the node's word
 
-pub start_where : {S : Type 0} (n inside : Node S) (start : Option Beginnings) (regency : ℕ) → inside ≡ n → start ≡ option_map start_by (first_start (view_of n).number regency n.entries)
-    → start ≡ option_map start_by (first_start (view_of inside).number regency inside.entries)
-start_where {S = S} n inside start regency same is = subst (λ (m : Node S). start ≡ option_map start_by (first_start (view_of m).number regency m.entries)) (sym same) is
+pub start_where : {S : Type 0} (n inside : Node S) (start : Option Beginnings) (regency : ℕ) → inside ≡ n → start ≡ option_map stated_start (first_start (view_of n).number regency n.entries)
+    → start ≡ option_map stated_start (first_start (view_of inside).number regency inside.entries)
+start_where {S = S} n inside start regency same is = subst (λ (m : Node S). start ≡ option_map stated_start (first_start (view_of m).number regency m.entries)) (sym same) is
 
 pub votes_where : {S : Type 0} (n inside : Node S) (votes : OwnVotes) (place regency : ℕ) → inside ≡ n → place ≡ n.replica.place → votes ≡ own_votes (slot_behind (view_of n).number place regency) n.entries
     → votes ≡ own_votes (slot_behind (view_of inside).number inside.replica.place regency) inside.entries
@@ -206,18 +246,18 @@ votes_where {S = S} n inside votes place regency same at is =
 
 -- ---- what the node says
 
-same_fields : (s : Synchronizer) (id regency : ℕ) (synced stop_made sync_made : Bool) (stops : List (SignedBy Stop)) (reports : List Reported) (syncs : List (SignedBy Sync))
-    → s.id ≡ id → s.regency ≡ regency → s.synced ≡ synced → s.stop_made ≡ stop_made → s.sync_made ≡ sync_made → s.stops ≡ stops → s.reports ≡ reports → s.syncs ≡ syncs
-    → s ≡ record { id = id; regency = regency; synced = synced; stop_made = stop_made; sync_made = sync_made; stops = stops; reports = reports; syncs = syncs }
-same_fields s id regency synced stop_made sync_made stops reports syncs e0 e1 e2 e3 e4 e5 e6 e7 = rw (← e0, ← e1, ← e2, ← e3, ← e4, ← e5, ← e6, ← e7) refl
+same_fields : (s : Synchronizer) (id : ℕ) (view : View) (regency : ℕ) (synced stop_made sync_made : Bool) (stops : List (SignedBy Stop)) (reports : List Reported) (syncs : List (SignedBy Sync))
+    → s.id ≡ id → s.view ≡ view → s.regency ≡ regency → s.synced ≡ synced → s.stop_made ≡ stop_made → s.sync_made ≡ sync_made → s.stops ≡ stops → s.reports ≡ reports → s.syncs ≡ syncs
+    → s ≡ record { id = id; view = view; regency = regency; synced = synced; stop_made = stop_made; sync_made = sync_made; stops = stops; reports = reports; syncs = syncs }
+same_fields s id view regency synced stop_made sync_made stops reports syncs e0 at e1 e2 e3 e4 e5 e6 e7 = rw (← e0, ← at, ← e1, ← e2, ← e3, ← e4, ← e5, ← e6, ← e7) refl
 
 pub synchronizer_after : {S : Type 0} (n inside : Node S) (i : Instance) (s : Synchronizer) → inside ≡ n
     → Follows inside.id (view_of inside) inside.replica.place inside.waiting inside.entries i s
     → s.stop_made ≡ inside.stop_made → s.sync_made ≡ inside.sync_made → s.stops ≡ inside.stops → s.reports ≡ inside.reports → s.syncs ≡ inside.syncs → s ≡ synchronizer_of n
 unfolding regency_of
 synchronizer_after {S = S} n inside i s same is stop sync stops reports syncs =
-    same_fields s inside.id (regency_of inside) (is_some (start_in (view_of inside).number (regency_of inside) inside.entries)) inside.stop_made inside.sync_made inside.stops inside.reports inside.syncs
-    is.member (is.regency ∙ is.instance.regency_same) (is.synced ∙ ap (λ (r : ℕ). is_some (start_in (view_of inside).number r inside.entries)) is.instance.regency_same) stop sync stops reports syncs
+    same_fields s inside.id (view_of inside) (regency_of inside) (is_some (first_start (view_of inside).number (regency_of inside) inside.entries)) inside.stop_made inside.sync_made inside.stops inside.reports inside.syncs
+    is.member is.viewed (is.regency ∙ is.instance.regency_same) (is.synced ∙ ap (λ (r : ℕ). is_some (first_start (view_of inside).number r inside.entries)) is.instance.regency_same) stop sync stops reports syncs
     ∙ ap (λ (m : Node S). synchronizer_of m) same
 
 pub regency_after : {S : Type 0} (n inside : Node S) (i : Instance) → inside ≡ n → HasInstance inside i → i.regency ≡ regency_of n
@@ -232,19 +272,22 @@ free_after {S = S} n inside i same has = same_free inside i has ∙ ap (λ (m : 
 pub synced_after : {S : Type 0} (n inside : Node S) (i : Instance) → inside ≡ n → HasInstance inside i → is_some i.start ≡ is_synced n
 synced_after {S = S} n inside i same has = same_synced inside i has ∙ ap (λ (m : Node S). is_synced m) same
 
--- where the view that is lent is the node's
+-- the instance's view is the node's
 
-pub open_after : {S : Type 0} (n inside : Node S) (i : Instance) (view : View) → inside ≡ n → view ≡ view_of n → HasInstance inside i → is_open view i ≡ nodes.is_open n
-open_after {S = S} n inside i view same at has =
-    ap (λ v. is_open v i) (at ∙ sym (ap (λ (m : Node S). view_of m) same)) ∙ (same_open inside i has ∙ ap (λ (m : Node S). nodes.is_open m) same)
+pub view_after : {S : Type 0} (n inside : Node S) (i : Instance) → inside ≡ n → HasInstance inside i → i.view ≡ view_of n
+view_after {S = S} n inside i same has = has.view_same ∙ ap (λ (m : Node S). view_of m) same
 
-pub slot_after : {S : Type 0} (n inside : Node S) (i : Instance) (view : View) → inside ≡ n → view ≡ view_of n → HasInstance inside i → open_slot view i ≡ nodes.open_slot n
-slot_after {S = S} n inside i view same at has =
-    ap (λ v. open_slot v i) (at ∙ sym (ap (λ (m : Node S). view_of m) same)) ∙ (same_slot_open inside i has ∙ ap (λ (m : Node S). nodes.open_slot m) same)
+pub open_after : {S : Type 0} (n inside : Node S) (i : Instance) → inside ≡ n → HasInstance inside i → is_open i.view i ≡ nodes.is_open n
+open_after {S = S} n inside i same has =
+    ap (λ v. is_open v i) has.view_same ∙ (same_open inside i has ∙ ap (λ (m : Node S). nodes.is_open m) same)
 
-pub due_after : {S : Type 0} (rule : Rule) (n inside : Node S) (i : Instance) (view : View) → inside ≡ n → view ≡ view_of n → HasInstance inside i → due_by rule view i ≡ due_at rule n
-due_after {S = S} rule n inside i view same at has =
-    ap (λ v. due_by rule v i) (at ∙ sym (ap (λ (m : Node S). view_of m) same)) ∙ (due_same rule inside i has ∙ ap (λ (m : Node S). due_at rule m) same)
+pub slot_after : {S : Type 0} (n inside : Node S) (i : Instance) → inside ≡ n → HasInstance inside i → open_slot i.view i ≡ nodes.open_slot n
+slot_after {S = S} n inside i same has =
+    ap (λ v. open_slot v i) has.view_same ∙ (same_slot_open inside i has ∙ ap (λ (m : Node S). nodes.open_slot m) same)
+
+pub due_after : {S : Type 0} (rule : Rule) (n inside : Node S) (i : Instance) → inside ≡ n → HasInstance inside i → due_by rule i.view i ≡ due_at rule n
+due_after {S = S} rule n inside i same has =
+    ap (λ v. due_by rule v i) has.view_same ∙ (due_same rule inside i has ∙ ap (λ (m : Node S). due_at rule m) same)
 
 pub bound_after : {S : Type 0} (n inside : Node S) (i : Instance) (place : ℕ) → inside ≡ n → HasInstance inside i → is_bound_to place i ≡ nodes.bound_at place (nodes.start_of n)
 bound_after {S = S} n inside i place same has = same_bound inside i has place ∙ ap (λ (m : Node S). nodes.bound_at place (nodes.start_of m)) same
@@ -258,43 +301,39 @@ pub slot_is : {S : Type 0} (n inside : Node S) (i : Instance) (slot : Slot) → 
 slot_is {S = S} n inside i slot same has at =
     at ∙ (ap (λ (m : Node S). nodes.open_slot m) (sym same) ∙ ap (λ (r : ℕ). slot_behind (view_of inside).number inside.replica.place r) (sym (same_regency inside i has)))
 
--- where no batch waits, the book makes no place past the last that was delivered
-pub free_made : {S : Type 0} (n inside : Node S) (i : Instance) (s : Synchronizer) → inside ≡ n → Follows inside.id (view_of inside) inside.replica.place inside.waiting inside.entries i s → nodes.is_free n ≡ true
-    → last_made n.entries < n.replica.place + 1
-free_made {S = S} n inside i s same is free =
-    let here = ap (λ (m : Node S). nodes.is_free m) same ∙ free in
-    let both = and_true (is_none inside.waiting) (nat_lt (inside.replica.place + 1) (2 ^ 63)) here in
-    let last : last_made inside.entries ≡ inside.replica.place = none_made inside.id (view_of inside) inside.replica.place inside.waiting inside.entries i s is both.0 in
-    subst (λ (m : Node S). last_made m.entries < m.replica.place + 1) same (omega (arith, last))
-
 -- what of the kept messages a node needs
 
-trimmed_inside : {S : Type 0} (n : Node S) (i now : Instance) (s then : Synchronizer) (number place regency : ℕ) (view : View) (proposed : List Slot) → HasInstance n i → s.regency ≡ regency_of n
+trimmed_inside : {S : Type 0} (n : Node S) (i now : Instance) (s then : Synchronizer) (number place regency : ℕ) (proposed : List Slot) → HasInstance n i → s.view ≡ view_of n → s.regency ≡ regency_of n
     → s.stops ≡ n.stops → s.reports ≡ n.reports → s.syncs ≡ n.syncs → s.stop_made ≡ n.stop_made → s.sync_made ≡ n.sync_made
-    → number ≡ (view_of n).number → view ≡ view_of n → place ≡ nodes.decided_place n → regency ≡ regency_of n → proposed ≡ filter (is_ahead number place regency) n.proposed
-    → now ≡ instances.trimmed number i → then ≡ synchronizers.trimmed view s
+    → number ≡ (view_of n).number → place ≡ nodes.decided_place n → regency ≡ regency_of n → proposed ≡ filter (is_ahead number place regency) n.proposed
+    → now ≡ instances.trimmed i.view.number i → then ≡ synchronizers.trimmed s.view s
     → record n { arrivals = now.arrivals; stops = then.stops; reports = then.reports; syncs = then.syncs; proposed = proposed; stop_made = then.stop_made; sync_made = then.sync_made } ≡ trimmed n
 unfolding trimmed instances.trimmed synchronizers.trimmed
-trimmed_inside n i now s then number place regency view proposed has e0 e1 e2 e3 e4 e5 at lent where_ in_ slots moved turned =
-    rw (moved, turned, slots, at, lent, where_, in_, e0, e1, e2, e3, e4, e5, has.arrivals_same, same_decided_place n i has, same_regency n i has) refl
+trimmed_inside n i now s then number place regency proposed has viewed e0 e1 e2 e3 e4 e5 at where_ in_ slots moved turned =
+    rw (moved, turned, slots, at, has.view_same, viewed, where_, in_, e0, e1, e2, e3, e4, e5, has.arrivals_same, same_decided_place n i has, same_regency n i has) refl
 
-pub trimmed_where : {S : Type 0} (n inside : Node S) (i now : Instance) (s then : Synchronizer) (number place regency : ℕ) (view : View) (proposed : List Slot) → inside ≡ n
+pub trimmed_where : {S : Type 0} (n inside : Node S) (i now : Instance) (s then : Synchronizer) (number place regency : ℕ) (proposed : List Slot) → inside ≡ n
     → Follows inside.id (view_of inside) inside.replica.place inside.waiting inside.entries i s → i.arrivals ≡ inside.arrivals
     → s.stops ≡ inside.stops → s.reports ≡ inside.reports → s.syncs ≡ inside.syncs → s.stop_made ≡ inside.stop_made → s.sync_made ≡ inside.sync_made
-    → number ≡ (view_of n).number → view ≡ view_of inside → place ≡ nodes.decided_place n → regency ≡ regency_of n → proposed ≡ filter (is_ahead number place regency) inside.proposed
-    → now ≡ instances.trimmed number i → then ≡ synchronizers.trimmed view s
+    → number ≡ (view_of n).number → place ≡ nodes.decided_place n → regency ≡ regency_of n → proposed ≡ filter (is_ahead number place regency) inside.proposed
+    → now ≡ instances.trimmed i.view.number i → then ≡ synchronizers.trimmed s.view s
     → record inside { arrivals = now.arrivals; stops = then.stops; reports = then.reports; syncs = then.syncs; proposed = proposed; stop_made = then.stop_made; sync_made = then.sync_made } ≡ trimmed n
-trimmed_where {S = S} n inside i now s then number place regency view proposed same is arrived e1 e2 e3 e4 e5 at lent where_ in_ slots moved turned =
+trimmed_where {S = S} n inside i now s then number place regency proposed same is arrived e1 e2 e3 e4 e5 at where_ in_ slots moved turned =
     let has : HasInstance inside i = subst (λ ms. IsInstance inside.id (view_of inside) inside.replica.place inside.waiting ms inside.entries i) arrived is.instance in
-    trimmed_inside inside i now s then number place regency view proposed has (is.regency ∙ same_regency inside i has) e1 e2 e3 e4 e5
-    (at ∙ ap (λ (m : Node S). (view_of m).number) (sym same)) lent (where_ ∙ ap (λ (m : Node S). nodes.decided_place m) (sym same)) (in_ ∙ ap (λ (m : Node S). regency_of m) (sym same)) slots moved turned
+    trimmed_inside inside i now s then number place regency proposed has is.viewed (is.regency ∙ same_regency inside i has) e1 e2 e3 e4 e5
+    (at ∙ ap (λ (m : Node S). (view_of m).number) (sym same)) (where_ ∙ ap (λ (m : Node S). nodes.decided_place m) (sym same)) (in_ ∙ ap (λ (m : Node S). regency_of m) (sym same)) slots moved turned
     ∙ ap (λ (m : Node S). trimmed m) same
 
 -- the batches that were proposed for a slot's place, and that a quorum accepted there
-pub named_after : {S : Type 0} (n inside : Node S) (i : Instance) (view : View) (slot : Slot) → inside ≡ n → view ≡ view_of n → HasInstance inside i
-    → accepted_named view slot i ≡ accepted_in (view_of n) slot n.arrivals (filter_map (named_in slot.view slot.place (regency_of n)) n.arrivals)
-named_after {S = S} n inside i view slot same at has =
-    rw (at, ← same, has.arrivals_same, same_regency inside i has) refl
+pub named_after : {S : Type 0} (n inside : Node S) (i : Instance) (slot : Slot) → inside ≡ n → HasInstance inside i
+    → accepted_named i.view slot i ≡ accepted_in (view_of n) slot n.arrivals (filter_map (named_in slot.view slot.place (regency_of n)) n.arrivals)
+named_after {S = S} n inside i slot same has =
+    rw (← same, has.view_same, has.arrivals_same, same_regency inside i has) refl
+
+-- a certificate of kept votes
+pub certificate_after : {S : Type 0} (n inside : Node S) (i : Instance) (kind : VoteKind) (slot : Slot) (digest : List ℕ) → inside ≡ n → HasInstance inside i
+    → certificate_votes i.arrivals i.view kind slot digest ≡ certificate_votes n.arrivals (view_of n) kind slot digest
+certificate_after {S = S} n inside i kind slot digest same has = rw (← same, has.view_same, has.arrivals_same) refl
 
 -- what is behind a promise, and behind a beginning
 
@@ -316,7 +355,7 @@ adopted_here s then regency turned same =
 -- the node that takes part in its regency
 pub begun_where : {S : Type 0} (n inside : Node S) (i now : Instance) (s then : Synchronizer) (b c : Book) (start : Beginning) → inside ≡ n → start.regency ≡ s.regency
     → i.arrivals ≡ inside.arrivals → s.stop_made ≡ inside.stop_made → s.sync_made ≡ inside.sync_made → s.stops ≡ inside.stops → s.reports ≡ inside.reports → s.syncs ≡ inside.syncs → b.entries ≡ inside.entries
-    → c ≡ pushed b (Synced start) → now ≡ syncing (start_by start) i → then ≡ adopted start.regency s
+    → c ≡ pushed b (Synced start) → now ≡ syncing (stated_start start) i → then ≡ adopted start.regency s
     → record inside { arrivals = now.arrivals; entries = c.entries; stops = then.stops; reports = then.reports; syncs = then.syncs; stop_made = then.stop_made; sync_made = then.sync_made; impatient = false } ≡ begun_at n start
 begun_where {S = S} n inside i now s then b c start same here e0 e1 e2 e3 e4 e5 e6 grown moved turned =
     let done = adopted_here s then start.regency turned here in
@@ -342,8 +381,8 @@ votes_same {S = S} n inside view number place regency votes same at is voted =
     ∙ ap (λ (m : Node S). own_votes (record { view = (view_of n).number; place = place; regency = regency }) m.entries) same)
 
 pub begins_same : {S : Type 0} (n inside : Node S) (view : View) (number regency : ℕ) (start : Option Beginnings) → inside ≡ n → view ≡ view_of n → number ≡ view.number
-    → start ≡ option_map start_by (first_start number regency inside.entries) → start ≡ option_map start_by (first_start (view_of n).number regency n.entries)
+    → start ≡ option_map stated_start (first_start number regency inside.entries) → start ≡ option_map stated_start (first_start (view_of n).number regency n.entries)
 begins_same {S = S} n inside view number regency start same at is begun =
     begun
-    ∙ (ap (λ (v : ℕ). option_map start_by (first_start v regency inside.entries)) (is ∙ ap (λ (v : View). v.number) at)
-    ∙ ap (λ (m : Node S). option_map start_by (first_start (view_of n).number regency m.entries)) same)
+    ∙ (ap (λ (v : ℕ). option_map stated_start (first_start v regency inside.entries)) (is ∙ ap (λ (v : View). v.number) at)
+    ∙ ap (λ (m : Node S). option_map stated_start (first_start (view_of n).number regency m.entries)) same)

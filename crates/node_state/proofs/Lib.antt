@@ -2,3 +2,4 @@ pub mod Following
 pub mod Walks
 pub mod Broken
 pub mod Starts
+pub mod Stopped

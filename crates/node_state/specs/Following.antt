@@ -2,6 +2,7 @@
 use Rattle.std.specs.Prelude.{ℕ, ◌≡◌, ◌+◌, ◌<◌, ◌^◌, ◌==◌, nat_lt, Bool, false, not, ◌&&◌, ◌||◌, List, if◌then◌else◌, Option, IsSome, is_some}
 use Rattle.smart_base.specs.Views.{View}
 use Rattle.smart_statements.specs.Batches.{Batch}
+use Rattle.vote_book.specs.Standing.{first_start}
 use Rattle.vote_book.specs.Books.{last_made}
 use Rattle.vote_book.specs.declared.entry.Accept.{Accept}
 use Rattle.vote_book.specs.declared.entry.Promise.{Promise}
@@ -9,7 +10,7 @@ use Rattle.vote_book.specs.declared.entry.Start.{Start}
 use Rattle.vote_book.specs.declared.entry.LogEntry.{LogEntry}
 use Rattle.vote_book.specs.declared.entry.LogEntry.TheVariants.{Promised, Synced}
 use Rattle.regency_sync.specs.Synchronizers.{Synchronizer}
-use Rattle.node_rules.specs.Nodes.{Node, regency_of, is_synced, recording, start_in}
+use Rattle.node_rules.specs.Nodes.{Node, regency_of, is_synced, recording}
 use Rattle.node_rules.specs.Votes.{Named}
 use Rattle.consensus_instance.specs.Instances.{Instance}
 use Rattle.consensus_instance.specs.Nodes.{IsInstance}
@@ -20,9 +21,10 @@ pub record Follows (id : ℕ) (view : View) (place : ℕ) (waiting : Option Batc
   pub room : IsSome waiting → place + 1 < 2 ^ 63
   pub instance : IsInstance id view place waiting i.arrivals entries i
   pub member : s.id ≡ id
+  pub viewed : s.view ≡ view
   -- both are of the regency in force, and the book tells whether it has begun
   pub regency : s.regency ≡ i.regency
-  pub synced : s.synced ≡ is_some (start_in view.number i.regency entries)
+  pub synced : s.synced ≡ is_some (first_start view.number i.regency entries)
   -- the last place that the book makes is the last delivered or decided one
   pub made : last_made entries ≡ (if is_some waiting then place + 1 else place)
 

@@ -12,7 +12,7 @@ ghost use Rattle.vote_book.specs.declared.entry.Accept.{Accept};
 ghost use Rattle.node_rules.specs.Votes.{has_quorum};
 ghost use Rattle.node_rules.specs.Kept.{is_ahead};
 ghost use Rattle.node_rules.specs.Nodes.{regency_in, greatest_regency, start_at};
-ghost use Rattle.consensus_instance.specs.Nodes.{start_by};
+ghost use Rattle.consensus_instance.specs.Nodes.{stated_start};
 
 use consensus_instance::instance::Instance;
 use consensus_instance::needed::is_ahead;
@@ -60,18 +60,13 @@ pub fn accept_under<'a>(
 }
 
 /// The first accept in a slot's view and place whose batch a quorum accepted in that slot.
-pub fn accept_by_quorum<'a>(
-    book: &'a Book,
-    instance: &Instance,
-    view: &View,
-    slot: &Slot,
-) -> Option<&'a Accept>
+pub fn accept_by_quorum<'a>(book: &'a Book, instance: &Instance, slot: &Slot) -> Option<&'a Accept>
     requires { last_made book.now.entries < slot.now.place }
-    ensures { option_copied result ≡ find (λ (a : Accept). has_quorum instance.now.arrivals view.now kinds.Accept slot.now a.digest) (filter_map (accept_for slot.now.view slot.now.place) book.now.entries) }
+    ensures { option_copied result ≡ find (λ (a : Accept). has_quorum instance.now.arrivals instance.now.view kinds.Accept slot.now a.digest) (filter_map (accept_for slot.now.view slot.now.place) book.now.entries) }
 {
     for index in 0..book.pushed().len() {
         let accept = book.accept_for(slot.view, slot.place, index)?;
-        if instance.is_accepted(view, slot, &accept.digest) {
+        if instance.is_accepted(slot, &accept.digest) {
             return Some(accept);
         }
     }
@@ -79,8 +74,8 @@ pub fn accept_by_quorum<'a>(
 }
 
 /// The beginning that an entry states.
-fn beginning_of(start: &Start) -> Beginning
-    ensures { result ≡ start_by start.now }
+fn stated_start(start: &Start) -> Beginning
+    ensures { result ≡ stated_start start.now }
 {
     Beginning {
         base: start.base,
@@ -89,19 +84,19 @@ fn beginning_of(start: &Start) -> Beginning
 }
 
 /// The first beginning of a regency of a view, by a book.
-pub fn first_beginning(book: &Book, view: ViewNo, regency: Regency) -> Option<Beginning>
-    ensures { result ≡ option_map start_by (first_start view regency book.now.entries) }
+pub fn first_start(book: &Book, view: ViewNo, regency: Regency) -> Option<Beginning>
+    ensures { result ≡ option_map stated_start (first_start view regency book.now.entries) }
 {
-    match book.start_in(view, regency) {
+    match book.first_start(view, regency) {
         None => None,
-        Some(start) => Some(beginning_of(start)),
+        Some(start) => Some(stated_start(start)),
     }
 }
 
 /// The beginning of a regency of a view, if a book states it; regency 0 begins with the view.
 #[tactic(auto, using(crate::proofs::Starts::starts_at))]
 pub fn start_at(book: &Book, view: &View, regency: Regency) -> Option<Beginning>
-    ensures value { result ≡ option_map start_by (start_at view.now regency book.now.entries) }
+    ensures value { result ≡ option_map stated_start (start_at view.now regency book.now.entries) }
     ensures first { regency ≡ 0 → IsSome result }
 {
     if regency.get() == 0 {
@@ -110,7 +105,7 @@ pub fn start_at(book: &Book, view: &View, regency: Regency) -> Option<Beginning>
             bound: None,
         });
     }
-    first_beginning(book, view.number(), regency)
+    first_start(book, view.number(), regency)
 }
 
 /// The regency that an entry promises in a view; 0 if it promises none there.

@@ -4,6 +4,7 @@ ghost use Rattle.std.specs.Option.{option_copied};
 ghost use Rattle.vote_book.specs.BookReports.{lock_of};
 ghost use Rattle.vote_book.specs.Standing.{own_votes};
 ghost use Rattle.node_rules.specs.Nodes.{view_of, regency_of, is_begun, decided_place, open_slot, is_free, is_open, synchronizer_of, holding};
+ghost use Rattle.node_rules.specs.Votes.{certificate_votes};
 ghost use Rattle.node_rules.specs.Steps.{first_leaving, after_first, leaving, released};
 
 use crate::find::start_at;
@@ -14,6 +15,7 @@ use node_rules::node::{Held, Target};
 use outbox::outbox::Outbox;
 use regency_sync::synchronizer::Synchronizer;
 use request_pool::pool::RequestPool;
+use smart_base::bytes::Digest32;
 use smart_base::name::MemberId;
 use smart_base::number::{Place, Regency};
 use smart_base::sequence::Sequence;
@@ -21,7 +23,8 @@ use smart_base::view::View;
 use smart_messages::message::Message;
 use smart_service::service::Service;
 use smart_statements::batch::Batch;
-use smart_statements::statement::Slot;
+use smart_statements::signed_list::SignedList;
+use smart_statements::statement::{Ballot, Slot, VoteKind};
 use std::alloc::{AllocError, Global};
 use std::marker::Model;
 use vote_book::book::Book;
@@ -201,7 +204,7 @@ impl<S: Service> NodeState<S> {
     pub fn is_open(&self) -> bool
         ensures { result ≡ is_open self.now }
     {
-        self.instance.is_open(self.view())
+        self.instance.is_open()
     }
 
     /// The slot in which the node takes part.
@@ -209,7 +212,21 @@ impl<S: Service> NodeState<S> {
         requires { is_free self.now ≡ true }
         ensures { result ≡ open_slot self.now }
     {
-        self.instance.open_slot(self.view())
+        self.instance.open_slot()
+    }
+
+    /// A certificate for a digest in a slot: copies of the kept votes of the first members by number
+    /// that make a quorum; of all that voted so if they are fewer. Error: want of memory.
+    pub fn certificate(
+        &self,
+        kind: VoteKind,
+        slot: &Slot,
+        digest: &Digest32,
+    ) -> Result<SignedList<Ballot>, AllocError>
+        ensures { IfOk result (λ votes. votes ≡ certificate_votes self.now.arrivals (view_of self.now) kind slot.now digest.now) }
+    {
+        let votes = self.instance.votes(self.alloc, kind, slot, digest)?;
+        Ok(votes)
     }
 
     /// Puts a message into the outbox, until all entries that the book has now are firm. Error: want

@@ -6,7 +6,6 @@ use consensus_instance::start::Start;
 use smart_base::bytes::Digest32;
 use smart_base::name::MemberId;
 use smart_base::number::{Place, Regency};
-use smart_base::view::View;
 use smart_messages::message::Proposed;
 use smart_statements::statement::{Proposal, VoteKind};
 use std::alloc::Global;
@@ -30,9 +29,9 @@ fn proposal(rt: &impl Abort, alloc: Global) -> Proposed {
 }
 
 /// The instance of member 2 that has kept that proposal.
-fn proposed(rt: &impl Abort, alloc: Global, view: &View) -> Instance {
+fn proposed(rt: &impl Abort, alloc: Global) -> Instance {
     let Proposed { head, batch } = proposal(rt, alloc);
-    let mut instance = Instance::begin(alloc, MemberId::new(2), view);
+    let mut instance = Instance::begin(alloc, MemberId::new(2), view(rt, alloc));
     instance
         .on_propose(head, batch)
         .expect(rt, "there is memory");
@@ -47,17 +46,13 @@ fn promise(rt: &impl Abort, instance: &mut Instance) {
 }
 
 /// Whether the instance is open, and whether its member is to write for the proposal.
-fn is_due(instance: &Instance, view: &View) -> (bool, bool) {
-    (
-        instance.is_open(view),
-        instance.due(view, Rule::Write).is_some(),
-    )
+fn is_due(instance: &Instance) -> (bool, bool) {
+    (instance.is_open(), instance.due(Rule::Write).is_some())
 }
 
 #[test]
 fn a_regency_leaves_votes_from_its_base_on_and_there_for_the_bound(rt: HostRuntime) {
     let alloc = rt.alloc();
-    let view = view(&rt, alloc);
     let proposal = proposal(&rt, alloc);
     let digest = proposal.head.statement().digest;
     let other = Digest32::new([9; 32]);
@@ -67,11 +62,11 @@ fn a_regency_leaves_votes_from_its_base_on_and_there_for_the_bound(rt: HostRunti
         (1, Some(other), true, false),
         (2, None, false, false),
     ] {
-        let mut instance = proposed(&rt, alloc, &view);
+        let mut instance = proposed(&rt, alloc);
         promise(&rt, &mut instance);
-        assert_eq!(rt; is_due(&instance, &view), (false, false));
+        assert_eq!(rt; is_due(&instance), (false, false));
         instance.synced(Start { base, bound });
-        assert_eq!(rt; is_due(&instance, &view), (open, due));
+        assert_eq!(rt; is_due(&instance), (open, due));
         assert_eq!(rt; instance.is_unbound(&proposal), bound == Some(other));
         assert_eq!(rt; instance.is_bound_to(Place::new(1)).copied(), bound);
     }
@@ -96,13 +91,12 @@ fn hear(
 #[test]
 fn accepts_of_two_regencies_do_not_add_up(rt: HostRuntime) {
     let alloc = rt.alloc();
-    let view = view(&rt, alloc);
-    let mut instance = proposed(&rt, alloc, &view);
+    let mut instance = proposed(&rt, alloc);
     let digest = proposal(&rt, alloc).head.statement().digest;
     hear(&rt, alloc, &mut instance, 0, 2, digest);
     hear(&rt, alloc, &mut instance, 1, 3, digest);
-    assert!(rt; !instance.is_accepted(&view, &slot(0), &digest));
-    assert!(rt; instance.is_accepted(&view, &slot(1), &digest));
-    assert!(rt; instance.accepted_proposal(&view, &slot(0)).is_none());
-    assert!(rt; instance.accepted_proposal(&view, &slot(1)).is_some());
+    assert!(rt; !instance.is_accepted(&slot(0), &digest));
+    assert!(rt; instance.is_accepted(&slot(1), &digest));
+    assert!(rt; instance.accepted_proposal(&slot(0)).is_none());
+    assert!(rt; instance.accepted_proposal(&slot(1)).is_some());
 }

@@ -1,5 +1,5 @@
 -- What a turn leaves in the book where it is stopped half-way, rule by rule.
-use Rattle.std.proofs.Common.{◌≡◌, ◌++◌, nat_lt, Bool, true, false, subst, [], ◌∷◌, refl, ap, ◌∙◌, cond, Some}
+use Rattle.std.proofs.Common.{◌≡◌, ◌++◌, nat_lt, Bool, List, true, false, subst, [], ◌∷◌, refl, ap, ◌∙◌, cond, Some}
 use Rattle.smart_statements.specs.Forms.{SignedBy}
 use Rattle.smart_messages.specs.declared.regency.Sync.{Sync}
 use Rattle.vote_book.specs.declared.entry.Promise.{Promise}
@@ -7,7 +7,10 @@ use Rattle.vote_book.specs.declared.entry.Start.{Start}
 use Rattle.vote_book.specs.declared.entry.LogEntry.TheVariants.{Promised}
 use Rattle.node_rules.specs.Nodes.{Node, regency_of}
 use Rattle.node_rules.specs.Changes.{start_by_sync, adoption, adopts, joins, promising, next_promise, promise_next, promises, leads}
-use Rattle.node_rules.specs.Steps.{turns}
+use Rattle.node_rules.specs.Steps.{adopt_row, join_row, promise_row, lead_row, turn_rows, pass}
+use Rattle.node_rules.specs.declared.node.Cause.{Cause}
+use Rattle.node_rules.specs.declared.node.Fired.{Fired}
+use Rattle.node_state.proofs.Stopped.{turns_grow, stops_here, stops_later}
 use Rattle.node_rules.proofs.Entries.{adopts_adds, joins_same, promises_adds, leads_same}
 use Rattle.node_state.specs.Following.{promised_by, reached, begun_at}
 use Rattle.node_state.specs.Broken.{IsGrown, IsPartly}
@@ -17,50 +20,44 @@ use Rattle.node_turns.proofs.Changes.{adopts_where}
 grows_adopts : {S : Type 0} (n : Node S) → IsGrown n.entries (adopts n).entries
 grows_adopts n = front_of 2 n.entries (adopts n).entries (adopts_adds n)
 
-grows_joins : {S : Type 0} (n : Node S) → IsGrown n.entries (joins n).entries
-grows_joins n = front_same (joins n).entries n.entries (joins_same n)
-
 grows_promises : {S : Type 0} (n : Node S) → IsGrown n.entries (promises n).entries
 grows_promises n = front_of 1 n.entries (promises n).entries (promises_adds n)
 
-grows_leads : {S : Type 0} (n : Node S) → IsGrown n.entries (leads n).entries
-grows_leads n = front_same (leads n).entries n.entries (leads_same n)
+-- a pass that is stopped in each of its rules
 
--- from a rule on to the end of the turns
-pub from_promises : {S : Type 0} (n : Node S) → IsGrown n.entries (leads (promises n)).entries
-from_promises n = front_then n.entries (promises n).entries _ (grows_promises n) (grows_leads (promises n))
+pub adopts_stops : {S : Type 0} (n now : Node S) (cause : Cause) (f : List Fired) → IsPartly n.entries now.entries (adopts n).entries
+    → IsPartly n.entries now.entries (pass turn_rows n cause f).0.entries
+unfolding turn_rows
+adopts_stops {S = S} n now cause f part =
+    let grow = turns_grow S in
+    stops_here adopt_row (join_row ∷ (promise_row ∷ (lead_row ∷ []))) n now cause f grow.1 part
 
-pub from_joins : {S : Type 0} (n : Node S) → IsGrown n.entries (leads (promises (joins n))).entries
-from_joins n = front_then n.entries (joins n).entries _ (grows_joins n) (from_promises (joins n))
+pub joins_stops : {S : Type 0} (n a now : Node S) (cause : Cause) (f g : List Fired) → adopt_row n cause f ≡ (a, g) → now.entries ≡ a.entries
+    → IsPartly n.entries now.entries (pass turn_rows n cause f).0.entries
+unfolding turn_rows
+joins_stops {S = S} n a now cause f g adopted same =
+    let grow = turns_grow S in
+    stops_later adopt_row (join_row ∷ (promise_row ∷ (lead_row ∷ []))) n a now cause f g grow.0 adopted
+    (stops_here join_row (promise_row ∷ (lead_row ∷ [])) a now cause g grow.1.1 (partly_none a.entries now.entries _ same (grow.1.0 a cause g)))
 
-pub to_promises : {S : Type 0} (n : Node S) → IsGrown n.entries (promises (joins (adopts n))).entries
-to_promises n =
-    front_then n.entries (adopts n).entries _ (grows_adopts n) (front_then (adopts n).entries (joins (adopts n)).entries _ (grows_joins (adopts n)) (grows_promises (joins (adopts n))))
+pub promises_stops : {S : Type 0} (n a j now : Node S) (cause : Cause) (f g h : List Fired) → adopt_row n cause f ≡ (a, g) → join_row a cause g ≡ (j, h)
+    → IsPartly j.entries now.entries (promises j).entries → IsPartly n.entries now.entries (pass turn_rows n cause f).0.entries
+unfolding turn_rows
+promises_stops {S = S} n a j now cause f g h adopted joined part =
+    let grow = turns_grow S in
+    stops_later adopt_row (join_row ∷ (promise_row ∷ (lead_row ∷ []))) n a now cause f g grow.0 adopted
+    (stops_later join_row (promise_row ∷ (lead_row ∷ [])) a j now cause g h grow.1.0 joined
+    (stops_here promise_row (lead_row ∷ []) j now cause h grow.1.1.1 part))
 
-pub to_joins : {S : Type 0} (n : Node S) → IsGrown n.entries (joins (adopts n)).entries
-to_joins n = front_then n.entries (adopts n).entries _ (grows_adopts n) (grows_joins (adopts n))
-
-pub grows_turns : {S : Type 0} (n : Node S) → IsGrown n.entries (turns n).entries
-unfolding turns
-grows_turns n = front_then n.entries (adopts n).entries _ (grows_adopts n) (from_joins (adopts n))
-
-pub adopts_stops : {S : Type 0} (n now : Node S) → IsPartly n.entries now.entries (adopts n).entries → IsPartly n.entries now.entries (turns n).entries
-unfolding turns
-adopts_stops n now part = partly_in n.entries n.entries now.entries (adopts n).entries _ (front_same n.entries n.entries refl) part (from_joins (adopts n))
-
-pub joins_stops : {S : Type 0} (n m now : Node S) → m ≡ adopts n → now.entries ≡ m.entries → IsPartly n.entries now.entries (turns n).entries
-unfolding turns
-joins_stops {S = S} n m now is same = stop_at n (adopts n) now.entries _ (same ∙ ap (λ (x : Node S). x.entries) is) (grows_adopts n) (from_joins (adopts n))
-
-pub promises_stops : {S : Type 0} (n m now : Node S) → m ≡ joins (adopts n) → IsPartly m.entries now.entries (promises m).entries → IsPartly n.entries now.entries (turns n).entries
-unfolding turns
-promises_stops {S = S} n m now is part =
-    partly_in n.entries (joins (adopts n)).entries now.entries (promises (joins (adopts n))).entries _ (to_joins n) (rw (← is) part) (grows_leads (promises (joins (adopts n))))
-
-pub leads_stops : {S : Type 0} (n m now : Node S) → m ≡ promises (joins (adopts n)) → now.entries ≡ m.entries → IsPartly n.entries now.entries (turns n).entries
-unfolding turns
-leads_stops {S = S} n m now is same =
-    stop_at n (promises (joins (adopts n))) now.entries _ (same ∙ ap (λ (x : Node S). x.entries) is) (to_promises n) (grows_leads (promises (joins (adopts n))))
+pub leads_stops : {S : Type 0} (n a j p now : Node S) (cause : Cause) (f g h i : List Fired) → adopt_row n cause f ≡ (a, g) → join_row a cause g ≡ (j, h) → promise_row j cause h ≡ (p, i)
+    → now.entries ≡ p.entries → IsPartly n.entries now.entries (pass turn_rows n cause f).0.entries
+unfolding turn_rows
+leads_stops {S = S} n a j p now cause f g h i adopted joined promised same =
+    let grow = turns_grow S in
+    stops_later adopt_row (join_row ∷ (promise_row ∷ (lead_row ∷ []))) n a now cause f g grow.0 adopted
+    (stops_later join_row (promise_row ∷ (lead_row ∷ [])) a j now cause g h grow.1.0 joined
+    (stops_later promise_row (lead_row ∷ []) j p now cause h i grow.1.1.0 promised
+    (stops_here lead_row [] p now cause i tt (partly_none p.entries now.entries _ same (grow.1.1.1.0 p cause i)))))
 
 by_reaching : {S : Type 0} (n : Node S) (p : Promise) (t : Bool) → IsGrown n.entries (cond t (promised_by n p) n).entries
 by_reaching n p true = front_by n.entries _

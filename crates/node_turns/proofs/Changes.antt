@@ -96,16 +96,6 @@ adopts_where n s start is at =
         same_with n (n.entries ++ e ∷ []) ((n.entries ++ []) ++ e ∷ []) n.stop_made (n.stop_made && (r == regency_of n)) n.sync_made (n.sync_made && (r == regency_of n))
         (ap (λ (es : List LogEntry). es ++ e ∷ []) (sym (append-nil n.entries))) (and_yes n.stop_made (r == regency_of n) same) (and_yes n.sync_made (r == regency_of n) same)
 
--- where time asks for the next regency, there is one
-next_by : (pressed impatient : Bool) (regency : ℕ) → (pressed && (not impatient || nat_lt (regency + 1) (2 ^ 32))) ≡ true → impatient ≡ true → regency + 1 < 2 ^ 32
-next_by true true regency is here = ltb-true (regency + 1) (2 ^ 32) is
-next_by true false regency is here = absurd (cc)
-next_by false impatient regency is here = absurd (cc)
-
-pub next_where : {S : Type 0} (n : Node S) → timing n ≡ true → n.impatient ≡ true → regency_of n + 1 < 2 ^ 32
-unfolding timing
-next_where n is here = next_by (is_pressed n) n.impatient (regency_of n) is here
-
 -- the first of what the synchronizer keeps is the first of what the node keeps
 pub adoption_at : {S : Type 0} (n : Node S) (turn : Synchronizer) (syncs : List (SignedBy Sync)) → syncs ≡ turn.syncs → turn ≡ synchronizer_of n → find (is_adoptable n) syncs ≡ adoption n
 unfolding adoption

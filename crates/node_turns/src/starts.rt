@@ -1,14 +1,14 @@
 //! The promise of a regency, and the part in it from its beginning on.
 ghost use Rattle.std.specs.Prelude.{◌≡◌, ◌<◌, true, OnOk, option_map, OnErr};
 ghost use Rattle.vote_book.specs.Standing.{first_start};
-ghost use Rattle.consensus_instance.specs.Nodes.{start_by};
+ghost use Rattle.consensus_instance.specs.Nodes.{stated_start};
 ghost use Rattle.node_rules.specs.Nodes.{view_of, regency_of};
 ghost use Rattle.node_rules.specs.Changes.{start_by_sync};
 ghost use Rattle.node_state.specs.Following.{is_unbegun, promised_by, reached, begun_at};
 ghost use Rattle.node_state.specs.Broken.{IsPartly};
 
 use consensus_instance::start::Start as Beginning;
-use node_state::find::first_beginning;
+use node_state::find::first_start;
 use node_state::state::NodeState;
 use regency_sync::choosing::choice;
 use smart_base::number::Regency;
@@ -31,10 +31,10 @@ pub fn start_by_sync(sync: &Sync) -> Start
 }
 
 /// The first beginning of a regency of the view in force, by the book.
-fn start_in<S: Service>(node: &NodeState<S>, regency: Regency) -> Option<Beginning>
-    ensures { result ≡ option_map start_by (first_start (view_of node.now).number regency node.now.entries) }
+fn present_start<S: Service>(node: &NodeState<S>, regency: Regency) -> Option<Beginning>
+    ensures { result ≡ option_map stated_start (first_start (view_of node.now).number regency node.now.entries) }
 {
-    first_beginning(&node.book, node.view().number(), regency)
+    first_start(&node.book, node.view().number(), regency)
 }
 
 /// Promises a later regency. Error: want of memory.
@@ -46,7 +46,7 @@ pub fn promise_to<S: Service>(node: &mut NodeState<S>, promise: Promise) -> Resu
     ensures err { OnErr result (node.new.entries ≡ node.old.entries) }
 {
     let regency = promise.regency;
-    let start = start_in(node, regency);
+    let start = present_start(node, regency);
     let votes = node.votes_at(node.place().get() + 1, regency);
     node.book.push(LogEntry::Promised(promise))?;
     node.instance.promised(regency, start, votes);

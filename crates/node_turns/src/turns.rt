@@ -5,7 +5,7 @@ ghost use Rattle.std.specs.Option.{option_copied};
 ghost use Rattle.node_rules.specs.Nodes.{view_of, regency_of};
 ghost use Rattle.node_rules.specs.Rules.{fired_if};
 ghost use Rattle.node_rules.specs.Changes.{fired_when, fired_adopt, is_adoptable, adoption, adopts, joining, joins, next_promise, promising, promise_next, promises, leading, lead_with, leads};
-ghost use Rattle.node_rules.specs.Steps.{turns, fired_turns};
+ghost use Rattle.node_rules.specs.Steps.{turn_rows, pass};
 ghost use Rattle.node_state.specs.Following.{is_unbegun};
 ghost use Rattle.node_state.specs.Broken.{IsPartly};
 ghost use Rattle.node_rules.specs.declared.node.Fired.TheVariants as fires;
@@ -13,7 +13,7 @@ ghost use Rattle.node_rules.specs.declared.node.Fired.TheVariants as fires;
 use crate::asks::asks_next;
 use crate::reports::reported_by;
 use crate::starts::{adopt_start, promise_to, start_by_sync};
-use node_rules::node::{Fired, Target};
+use node_rules::node::{Cause, Fired, Target};
 use node_state::state::NodeState;
 use regency_sync::needed::needs_sync;
 use smart_base::duplicate::Duplicate;
@@ -28,15 +28,16 @@ use smart_statements::signed_list::SignedList;
 use std::alloc::AllocError;
 use vote_book::entry::Promise;
 
-/// Adopts, joins, promises and leads, each once. Error: want of memory.
-#[tactic(auto, unfolding(node_rules::specs::Steps::turns, node_rules::specs::Steps::fired_turns))]
+/// One pass of the rules of a leader change: adopts, joins, promises and leads, each once. Error: want
+/// of memory.
+#[tactic(auto, unfolding(node_rules::specs::Steps::pass, node_rules::specs::Steps::turn_rows))]
 pub fn turns<S: Service>(
     node: &mut NodeState<S>,
+    cause: Cause,
     fired: &mut Sequence<Fired>,
 ) -> Result<(), AllocError>
-    ensures node { OnOk result (node.new ≡ turns node.old) }
-    ensures fired { OnOk result (fired.new ≡ fired.old ++ fired_turns node.old) }
-    ensures err { OnErr result (IsPartly node.old.entries node.new.entries (turns node.old).entries) }
+    ensures pass { OnOk result (pass turn_rows node.old cause fired.old ≡ (node.new, fired.new)) }
+    ensures err { OnErr result (IsPartly node.old.entries node.new.entries (pass turn_rows node.old cause fired.old).0.entries) }
 {
     adopts(node, fired)?;
     joins(node, fired)?;
@@ -101,7 +102,7 @@ fn joining<S: Service>(node: &NodeState<S>) -> bool
     ensures value { result ≡ joining node.now }
     ensures next { result ≡ true → regency_of node.now + 1 < 2 ^ 32 }
 {
-    node.synchronizer().is_joining(node.view())
+    node.synchronizer().is_joining()
 }
 
 /// The rule that joins: the node asks for the next regency after more than f members did (Mod-SMaRt,
@@ -125,7 +126,7 @@ fn promising<S: Service>(node: &NodeState<S>) -> bool
     ensures value { result ≡ promising node.now }
     ensures next { result ≡ true → regency_of node.now + 1 < 2 ^ 32 }
 {
-    node.synchronizer().is_promising(node.view())
+    node.synchronizer().is_promising()
 }
 
 fn next_promise<S: Service>(node: &NodeState<S>) -> Promise
@@ -138,7 +139,7 @@ fn next_promise<S: Service>(node: &NodeState<S>) -> Promise
     }
 }
 
-#[tactic(auto, unfolding(node_rules::specs::Changes::promise_next))]
+#[tactic(auto, unfolding(node_rules::specs::Changes::promise_next, node_rules::specs::Changes::reported_by))]
 fn promise_next<S: Service>(node: &mut NodeState<S>) -> Result<(), AllocError>
     requires { regency_of node.old + 1 < 2 ^ 32 }
     ensures node { OnOk result (node.new ≡ promise_next node.old) }
@@ -179,7 +180,7 @@ fn promises<S: Service>(
 fn leading<S: Service>(node: &NodeState<S>) -> Result<Option<SignedList<Report>>, AllocError>
     ensures { IfOk result (λ reports. reports ≡ leading node.now) }
 {
-    node.synchronizer().collecting(node.alloc, node.view())
+    node.synchronizer().collecting(node.alloc)
 }
 
 #[tactic(auto, unfolding(node_rules::specs::Changes::lead_with))]

@@ -13,14 +13,14 @@ use Rattle.node_rules.specs.Nodes.{Node, view_of, open_slot}
 use Rattle.node_rules.specs.Votes.{certificate_votes}
 use Rattle.node_rules.specs.Arrivals.{kept}
 use Rattle.node_rules.specs.Rules.{proposes, writing, writes, accepting, accepts, decides}
-use Rattle.node_rules.specs.Steps.{votes}
+use Rattle.node_rules.specs.Steps.{propose_row, write_row, accept_row, vote_rows, pass}
+use Rattle.node_rules.specs.declared.node.Cause.{Cause}
+use Rattle.node_rules.specs.declared.node.Fired.{Fired}
+use Rattle.node_state.proofs.Stopped.{votes_grow, pass_grows, stops_here, stops_later}
 use Rattle.node_rules.proofs.Entries.{proposes_same, writes_adds, accepts_adds, decides_adds}
 use Rattle.node_state.specs.Broken.{IsGrown, IsPartly}
 use Rattle.node_state.proofs.Broken.{front_same, front_then, partly_none, partly_in, front_of}
 use Rattle.node_votes.proofs.Due.{writes_where, accepts_where}
-
-grows_proposes : {S : Type 0} (n : Node S) → IsGrown n.entries (proposes n).entries
-grows_proposes n = front_same (proposes n).entries n.entries (proposes_same n)
 
 grows_writes : {S : Type 0} (n : Node S) → IsGrown n.entries (writes n).entries
 grows_writes n = front_of 1 n.entries (writes n).entries (writes_adds n)
@@ -28,28 +28,25 @@ grows_writes n = front_of 1 n.entries (writes n).entries (writes_adds n)
 grows_accepts : {S : Type 0} (n : Node S) → IsGrown n.entries (accepts n).entries
 grows_accepts n = front_of 1 n.entries (accepts n).entries (accepts_adds n)
 
-pub grows_decides : {S : Type 0} (n : Node S) → IsGrown n.entries (decides n).entries
-grows_decides n = front_of 1 n.entries (decides n).entries (decides_adds n)
+-- a pass that is stopped in each of its rules
 
-pub to_writes : {S : Type 0} (n : Node S) → IsGrown n.entries (writes (proposes n)).entries
-to_writes n = front_then n.entries (proposes n).entries _ (grows_proposes n) (grows_writes (proposes n))
+pub proposes_stops : {S : Type 0} (n now : Node S) (cause : Cause) (f : List Fired) → now.entries ≡ n.entries → IsPartly n.entries now.entries (pass vote_rows n cause f).0.entries
+proposes_stops {S = S} n now cause f same = partly_none n.entries now.entries _ same (pass_grows vote_rows n cause f (votes_grow S))
 
-pub grows_votes : {S : Type 0} (n : Node S) → IsGrown n.entries (votes n).entries
-unfolding votes
-grows_votes n = front_then n.entries (writes (proposes n)).entries _ (to_writes n) (grows_accepts (writes (proposes n)))
+pub writes_stops : {S : Type 0} (n p now : Node S) (cause : Cause) (f g : List Fired) → propose_row n cause f ≡ (p, g) → IsPartly p.entries now.entries (writes p).entries
+    → IsPartly n.entries now.entries (pass vote_rows n cause f).0.entries
+unfolding vote_rows
+writes_stops {S = S} n p now cause f g proposed part =
+    let grow = votes_grow S in
+    stops_later propose_row (write_row ∷ (accept_row ∷ [])) n p now cause f g grow.0 proposed (stops_here write_row (accept_row ∷ []) p now cause g grow.1.1 part)
 
-pub proposes_stops : {S : Type 0} (n now : Node S) → now.entries ≡ n.entries → IsPartly n.entries now.entries (votes n).entries
-proposes_stops n now same = partly_none n.entries now.entries _ same (grows_votes n)
-
-pub writes_stops : {S : Type 0} (n m now : Node S) → m ≡ proposes n → IsPartly m.entries now.entries (writes m).entries → IsPartly n.entries now.entries (votes n).entries
-unfolding votes
-writes_stops {S = S} n m now is part =
-    partly_in n.entries (proposes n).entries now.entries (writes (proposes n)).entries _ (grows_proposes n) (rw (← is) part) (grows_accepts (writes (proposes n)))
-
-pub accepts_stops : {S : Type 0} (n m now : Node S) → m ≡ writes (proposes n) → IsPartly m.entries now.entries (accepts m).entries → IsPartly n.entries now.entries (votes n).entries
-unfolding votes
-accepts_stops {S = S} n m now is part =
-    partly_in n.entries (writes (proposes n)).entries now.entries (accepts (writes (proposes n))).entries _ (to_writes n) (rw (← is) part) (front_same _ _ refl)
+pub accepts_stops : {S : Type 0} (n p w now : Node S) (cause : Cause) (f g h : List Fired) → propose_row n cause f ≡ (p, g) → write_row p cause g ≡ (w, h)
+    → IsPartly w.entries now.entries (accepts w).entries → IsPartly n.entries now.entries (pass vote_rows n cause f).0.entries
+unfolding vote_rows
+accepts_stops {S = S} n p w now cause f g h proposed wrote part =
+    let grow = votes_grow S in
+    stops_later propose_row (write_row ∷ (accept_row ∷ [])) n p now cause f g grow.0 proposed
+    (stops_later write_row (accept_row ∷ []) p w now cause g h grow.1.0 wrote (stops_here accept_row [] w now cause h tt part))
 
 pub write_stops : {S : Type 0} (n now : Node S) → now.entries ≡ n.entries → IsPartly n.entries now.entries (writes n).entries
 write_stops n now same = partly_none n.entries now.entries _ same (grows_writes n)

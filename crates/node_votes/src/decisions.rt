@@ -46,10 +46,7 @@ fn decision_of<S: Service>(
     ensures decision { IfOk result (λ d. Some d ≡ decision_by (view_of node.now) slot.now node.now.arrivals (Some (record { digest = digest.now; batch = batch.now }))) }
     ensures slot { IfOk result (λ d. d.slot ≡ slot.now) }
 {
-    let view = node.view();
-    let accepts = node
-        .instance
-        .votes(node.alloc, view, VoteKind::Accept, slot, digest)?;
+    let accepts = node.certificate(VoteKind::Accept, slot, digest)?;
     Ok(Decision {
         slot: *slot,
         batch: batch.duplicate(node.alloc)?,
@@ -62,7 +59,7 @@ fn decision_of<S: Service>(
 fn proposed_by_quorum<'a, S: Service>(node: &'a NodeState<S>, slot: &Slot) -> Option<&'a Proposed>
     ensures { option_map name_of (option_copied result) ≡ accepted_in (view_of node.now) slot.now node.now.arrivals (filter_map (named_in slot.now.view slot.now.place (regency_of node.now)) node.now.arrivals) }
 {
-    node.instance.accepted_proposal(node.view(), slot)
+    node.instance.accepted_proposal(slot)
 }
 
 /// The decision in a slot for a proposed batch. Error: want of memory.
@@ -89,7 +86,7 @@ fn accepted_by_quorum<'a, S: Service>(node: &'a NodeState<S>, slot: &Slot) -> Op
     requires place { slot.now.place ≡ next_place node.now }
     ensures { option_map named (option_copied result) ≡ accepted_in (view_of node.now) slot.now node.now.arrivals (filter_map (named_by slot.now.view slot.now.place) node.now.entries) }
 {
-    accept_by_quorum(&node.book, &node.instance, node.view(), slot)
+    accept_by_quorum(&node.book, &node.instance, slot)
 }
 
 /// The decision in a slot for a batch that the node accepted. Error: want of memory.

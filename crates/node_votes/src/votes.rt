@@ -4,11 +4,10 @@ ghost use Rattle.std.specs.Prelude.{◌≡◌, ◌++◌, true, IfOk, OnOk, IsSom
 ghost use Rattle.std.specs.Option.{option_copied};
 ghost use Rattle.smart_statements.specs.Kinds.{proposals};
 ghost use Rattle.vote_book.specs.declared.entry.Accept.{Accept};
-ghost use Rattle.replica_rules.specs.Seals.{signed};
 ghost use Rattle.node_rules.specs.Rules.{batch_under, proposing, propose_batch, proposes, ballot, writing, writes, accepting, accepts, fired_if};
-ghost use Rattle.node_rules.specs.Nodes.{next_place, open_slot, is_free, holding, recording, view_of, bound_at, start_of};
+ghost use Rattle.node_rules.specs.Nodes.{next_place, open_slot, is_free, holding, recording, signs, view_of, bound_at, start_of};
 ghost use Rattle.node_rules.specs.Votes.{accepted_under, certificate_votes};
-ghost use Rattle.node_rules.specs.Steps.{votes, fired_votes};
+ghost use Rattle.node_rules.specs.Steps.{vote_rows, pass};
 ghost use Rattle.consensus_instance.specs.Nodes.{due_at};
 ghost use Rattle.node_state.specs.Broken.{IsPartly};
 ghost use Rattle.smart_statements.specs.declared.statement.VoteKind.TheVariants as kinds;
@@ -18,7 +17,7 @@ ghost use Rattle.node_rules.specs.declared.node.Fired.TheVariants as fires;
 
 use consensus_instance::rule::Rule;
 use node_restart::batch::digest_of;
-use node_rules::node::{Fired, Target};
+use node_rules::node::{Cause, Fired, Target};
 use node_state::find::{accept_under, has_proposed};
 use node_state::state::NodeState;
 use smart_base::bytes::Digest32;
@@ -33,15 +32,15 @@ use smart_statements::statement::{Ballot, Proposal, VoteKind};
 use std::alloc::AllocError;
 use vote_book::entry::{Accept, LogEntry, Write};
 
-/// Proposes, writes and accepts, each once. Error: want of memory.
-#[tactic(auto, unfolding(node_rules::specs::Steps::votes, node_rules::specs::Steps::fired_votes))]
+/// One pass of the rules that vote: proposes, writes and accepts, each once. Error: want of memory.
+#[tactic(auto, unfolding(node_rules::specs::Steps::pass, node_rules::specs::Steps::vote_rows))]
 pub fn votes<S: Service>(
     node: &mut NodeState<S>,
+    cause: Cause,
     fired: &mut Sequence<Fired>,
 ) -> Result<(), AllocError>
-    ensures node { OnOk result (node.new ≡ votes node.old) }
-    ensures fired { OnOk result (fired.new ≡ fired.old ++ fired_votes node.old) }
-    ensures err { OnErr result (IsPartly node.old.entries node.new.entries (votes node.old).entries) }
+    ensures pass { OnOk result (pass vote_rows node.old cause fired.old ≡ (node.new, fired.new)) }
+    ensures err { OnErr result (IsPartly node.old.entries node.new.entries (pass vote_rows node.old cause fired.old).0.entries) }
 {
     proposes(node, fired)?;
     writes(node, fired)?;
@@ -65,7 +64,7 @@ fn bound_batch<'a, S: Service>(node: &'a NodeState<S>, digest: &Digest32) -> Opt
     requires { is_free node.now ≡ true }
     ensures { option_copied result ≡ batch_under node.now (Some digest.now) }
 {
-    let reported = node.synchronizer().batch_of(node.view(), digest);
+    let reported = node.synchronizer().batch_of(digest);
     if reported.is_some() {
         return reported;
     }
@@ -122,7 +121,7 @@ fn proposal<S: Service>(
     digest: Digest32,
 ) -> Result<Signed<Proposal>, AllocError>
     requires { is_free node.now ≡ true }
-    ensures { IfOk result (λ head. head ≡ signed proposals node.now.secret node.now.id (record { slot = open_slot node.now; digest = digest })) }
+    ensures { IfOk result (λ head. head ≡ signs node.now proposals (record { slot = open_slot node.now; digest = digest })) }
 {
     let slot = node.open_slot();
     let proposal = Proposal { slot, digest };
@@ -184,7 +183,7 @@ fn due<S: Service>(node: &NodeState<S>, rule: Rule) -> Option<&Proposed>
     ensures proposal { option_copied result ≡ due_at rule node.now }
     ensures free { IsSome result → is_free node.now ≡ true }
 {
-    node.instance.due(node.view(), rule)
+    node.instance.due(rule)
 }
 
 /// Records a WRITE for a digest, and puts it into the outbox. Error: want of memory.
@@ -237,10 +236,7 @@ fn accept_digest<S: Service>(
 {
     let slot = node.open_slot();
     let vote = ballot(node, VoteKind::Accept, digest)?;
-    let view = node.view();
-    let writes = node
-        .instance
-        .votes(node.alloc, view, VoteKind::Write, &slot, &digest)?;
+    let writes = node.certificate(VoteKind::Write, &slot, &digest)?;
     node.book.push(LogEntry::Accepted(Accept {
         slot,
         digest,

@@ -216,10 +216,10 @@ promised_same view s =
 none_twice : {A : Type 0} (p q : A → Bool) (xs : List A) → Each (λ x. p x ≡ false) xs → filter p (filter q xs) ≡ filter p xs
 none_twice p q xs all = filter_none p (filter q xs) (each_filter (λ x. p x ≡ false) q xs all) ∙ sym (filter_none p xs all)
 
-pub moved_same : (old new : View) (s : Synchronizer) → HasNothingOf new.number s → trimmed new (moved (trimmed old s)) ≡ trimmed new (moved s)
+pub moved_same : (old new : View) (s : Synchronizer) → HasNothingOf new.number s → trimmed new (moved new (trimmed old s)) ≡ trimmed new (moved new s)
 unfolding trimmed
 moved_same old new s none =
-    same_lists (moved s)
+    same_lists (moved new s)
     (none_twice (needs_stop new.number 0) (needs_stop old.number s.regency) s.stops
     (each_as (λ (x : SignedBy Stop). (x.statement.view == new.number) ≡ false) (λ x. needs_stop new.number 0 x ≡ false)
     (λ x is. and_left (x.statement.view == new.number) (nat_le 0 x.statement.regency) is) s.stops none.no_stops))

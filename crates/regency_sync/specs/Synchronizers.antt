@@ -3,7 +3,7 @@
 use Rattle.std.specs.Prelude.{ℕ, ◌≡◌, ◌+◌, ◌^◌, ◌==◌, nat_lt, nat_le, Bool, false, true, not, ◌&&◌, ◌||◌, if◌then◌else◌, List, [], ◌∷◌, ◌++◌, length, take, filter, find, filter_map, Option, Some, None, is_some, option_map}
 use Rattle.std.specs.List.{list_any}
 use Rattle.smart_base.specs.Lists.{same_bytes, Each}
-use Rattle.smart_base.specs.Views.{View, leader}
+use Rattle.smart_base.specs.Views.{View, is_member, leader}
 use Rattle.smart_view.specs.Sizes.{collect_size, stop_size}
 use Rattle.smart_statements.specs.Forms.{SignedBy}
 use Rattle.smart_statements.specs.Batches.{Batch}
@@ -19,6 +19,8 @@ use Rattle.regency_sync.specs.declared.rule.Rule.TheVariants.{Join, Promise, Col
 pub record Synchronizer : Type 0 where
   -- the member's number
   pub id : ℕ
+  -- the view in force
+  pub view : View
   -- the greatest regency that it has promised in the view in force; 0 if it has promised none
   pub regency : ℕ
   -- whether it has adopted the beginning of that regency
@@ -27,7 +29,7 @@ pub record Synchronizer : Type 0 where
   pub stop_made : Bool
   -- whether it has sent, as leader, the SYNC of that regency in this life
   pub sync_made : Bool
-  -- what came and was kept, in the order in which it came: STOPs, STOPDATA and SYNCs
+  -- what came of members and was kept, in the order in which it came: STOPs, STOPDATA and SYNCs; of one signer one for a regency
   pub stops : List (SignedBy Stop)
   pub reports : List Reported
   pub syncs : List (SignedBy Sync)
@@ -75,6 +77,25 @@ repeats_report s report = list_any (is_same_report report) s.reports
 -- a SYNC of which one of the same signer, view and regency was kept
 abbrev pub repeats_sync : Synchronizer → SignedBy Sync → Bool
 repeats_sync s sync = list_any (is_same_sync sync) s.syncs
+
+-- a view and regency within reach: the view in force, and the regency in force or the next one
+abbrev pub is_reached : Synchronizer → ℕ → ℕ → Bool
+is_reached s v r = is_needed s.view.number s.regency v r && nat_le r (s.regency + 1)
+
+-- A STOP that may be kept: its signer is a member, it asks for the next regency of the view in force, and it repeats none.
+unfoldable pub keeps_stop : Synchronizer → SignedBy Stop → Bool
+keeps_stop s stop =
+    is_member s.view stop.signer && (is_reached s stop.statement.view stop.statement.regency && nat_lt s.regency stop.statement.regency)
+    && not (repeats_stop s stop)
+
+-- A report that may be kept: its signer is a member, its regency is within reach, and it repeats none.
+unfoldable pub keeps_report : Synchronizer → Reported → Bool
+keeps_report s r =
+    is_member s.view r.head.signer && is_reached s r.head.statement.view r.head.statement.regency && not (repeats_report s r.head)
+
+-- A SYNC that may be kept: its signer is a member, it is of the regency in force or a later one, and it repeats none.
+unfoldable pub keeps_sync : Synchronizer → SignedBy Sync → Bool
+keeps_sync s sync = is_member s.view sync.signer && needs_sync s.view.number s.regency sync && not (repeats_sync s sync)
 
 -- ---- what is due
 
@@ -156,14 +177,24 @@ batch_of view s digest = batch_in (find (bears view s digest) s.reports)
 
 -- ---- what becomes of it
 
--- a member that has promised nothing
-abbrev pub begun : ℕ → Synchronizer
-begun id = record { id = id; regency = 0; synced = false; stop_made = false; sync_made = false; stops = []; reports = []; syncs = [] }
+-- a member that has promised nothing in a view
+abbrev pub begun : ℕ → View → Synchronizer
+begun id view =
+    record { id = id; view = view; regency = 0; synced = false; stop_made = false; sync_made = false; stops = []; reports = []; syncs = [] }
 
--- a member after a restart in a regency
-abbrev pub resumed : ℕ → ℕ → Bool → Synchronizer
-resumed id regency synced =
-    record { id = id; regency = regency; synced = synced; stop_made = false; sync_made = false; stops = []; reports = []; syncs = [] }
+-- a member after a restart in a regency of a view
+abbrev pub resumed : ℕ → View → ℕ → Bool → Synchronizer
+resumed id view regency synced = record {
+  id = id;
+  view = view;
+  regency = regency;
+  synced = synced;
+  stop_made = false;
+  sync_made = false;
+  stops = [];
+  reports = [];
+  syncs = [];
+}
 
 abbrev pub with_stop : SignedBy Stop → Synchronizer → Synchronizer
 with_stop stop s = record s { stops = s.stops ++ stop ∷ [] }
@@ -173,6 +204,18 @@ with_report report batch s = record s { reports = s.reports ++ record { head = r
 
 abbrev pub with_sync : SignedBy Sync → Synchronizer → Synchronizer
 with_sync sync s = record s { syncs = s.syncs ++ sync ∷ [] }
+
+-- The member to which a STOP came. A STOP that may not be kept leaves it as it was.
+abbrev pub keeping_stop : SignedBy Stop → Synchronizer → Synchronizer
+keeping_stop stop s = if keeps_stop s stop then with_stop stop s else s
+
+-- the member to which a report came, with the batch of its lock
+abbrev pub keeping_report : SignedBy Report → Option Batch → Synchronizer → Synchronizer
+keeping_report report batch s = if keeps_report s (record { head = report; batch = batch }) then with_report report batch s else s
+
+-- the member to which a SYNC came
+abbrev pub keeping_sync : SignedBy Sync → Synchronizer → Synchronizer
+keeping_sync sync s = if keeps_sync s sync then with_sync sync s else s
 
 -- a member after it has adopted the beginning of a regency
 abbrev pub adopted : ℕ → Synchronizer → Synchronizer
@@ -200,8 +243,8 @@ abbrev pub led : Synchronizer → Synchronizer
 led s = record s { sync_made = true }
 
 -- a member after another view came into force, in which it has promised nothing
-abbrev pub moved : Synchronizer → Synchronizer
-moved s = record s { regency = 0; synced = false; stop_made = false; sync_made = false }
+abbrev pub moved : View → Synchronizer → Synchronizer
+moved view s = record s { view = view; regency = 0; synced = false; stop_made = false; sync_made = false }
 
 -- a member without what is of another view or an earlier regency
 unfoldable pub trimmed : View → Synchronizer → Synchronizer

@@ -64,5 +64,5 @@ pub fn what_is_dropped_is_not_missed()
     ensures adopted { (view : View) (s : Synchronizer) (regency : ℕ) → s.regency ≤ regency →
         trimmed view (adopted regency (trimmed view s)) ≡ trimmed view (adopted regency s) }
     ensures promised { (view : View) (s : Synchronizer) → trimmed view (promised (trimmed view s)) ≡ trimmed view (promised s) }
-    ensures moved { (old new : View) (s : Synchronizer) → HasNothingOf new.number s → trimmed new (moved (trimmed old s)) ≡ trimmed new (moved s) }
+    ensures moved { (old new : View) (s : Synchronizer) → HasNothingOf new.number s → trimmed new (moved new (trimmed old s)) ≡ trimmed new (moved new s) }
 {}

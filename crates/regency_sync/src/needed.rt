@@ -6,7 +6,8 @@ use smart_base::number::{Regency, ViewNo};
 use smart_messages::regency::{Reported, Stop, Sync};
 use smart_statements::signed::Signed;
 
-fn is_needed(view: ViewNo, regency: Regency, its_view: ViewNo, its_regency: Regency) -> bool
+/// Whether a view and a regency are this view, and this regency or a later one.
+pub fn is_needed(view: ViewNo, regency: Regency, its_view: ViewNo, its_regency: Regency) -> bool
     ensures { result ≡ is_needed view regency its_view its_regency }
 {
     its_view == view && regency <= its_regency

@@ -1,16 +1,18 @@
 //! A member's part in a leader change.
 ghost use Rattle.std.specs.Prelude.{◌≡◌, ◌+◌, ◌<◌, ◌^◌, true, length, find, IfOk, OnOk, OnErr};
 ghost use Rattle.std.specs.Option.{option_copied};
+ghost use Rattle.smart_base.specs.Views.{is_member};
 ghost use Rattle.regency_sync.specs.Synchronizers.{Synchronizer, is_synced, repeats_stop, repeats_report, repeats_sync};
 ghost use Rattle.regency_sync.specs.Synchronizers.{has_next, stoppers, is_joining, is_promising, reporters, is_collecting, collect, collecting, resumed};
-ghost use Rattle.regency_sync.specs.Synchronizers.{due, bears, batch_of, begun, with_stop, with_report, with_sync};
+ghost use Rattle.regency_sync.specs.Synchronizers.{due, bears, batch_of, begun};
+ghost use Rattle.regency_sync.specs.Synchronizers.{is_reached, keeps_stop, keeps_report, keeps_sync, keeping_stop, keeping_report, keeping_sync};
 ghost use Rattle.regency_sync.specs.Synchronizers.{adopted, stopped, promised, promised_to, led, moved, trimmed};
 
 use crate::find::{
     carries, collect, count_reporters, count_stoppers, has_same_report, has_same_stop,
     has_same_sync,
 };
-use crate::needed::{keep_reports, keep_stops, keep_syncs, needs_report};
+use crate::needed::{is_needed, keep_reports, keep_stops, keep_syncs, needs_report, needs_sync};
 use crate::rule::Rule;
 use smart_base::bytes::Digest32;
 use smart_base::name::MemberId;
@@ -25,12 +27,14 @@ use smart_view::size::{collect_size, stop_size};
 use std::alloc::{AllocError, Global};
 use std::marker::Model;
 
-/// A member's part in a leader change (the synchronisation phase of Mod-SMaRt, EDCC 2012). Its caller
-/// has checked what it keeps: signers are members, and reports and SYNCs bear their proofs. The view
-/// in force is lent to each call that needs it. What is of another view or of an earlier regency
-/// counts for nothing, and `trim` drops it.
+/// A member's part in a leader change (the synchronisation phase of Mod-SMaRt, EDCC 2012). It keeps
+/// what comes of members, of regencies within reach, and each once: what else comes leaves it as it
+/// was. Its caller has checked tags, and that reports and SYNCs bear their proofs. What is of another
+/// view or of an earlier regency counts for nothing, and `trim` drops it.
 pub struct Synchronizer {
     id: MemberId,
+    /// The view in force.
+    view: View,
     /// The greatest promised regency in the view in force; 0 if none is promised.
     regency: Regency,
     /// Whether the beginning of that regency is adopted.
@@ -50,6 +54,7 @@ impl Drop for Synchronizer {
     fn drop(self) {
         let Synchronizer {
             id: _,
+            view: _,
             regency: _,
             synced: _,
             stop_made: _,
@@ -68,6 +73,7 @@ impl Model for Synchronizer {
 
     ghost view = { λ s. record {
       id = s.id;
+      view = s.view;
       regency = s.regency;
       synced = s.synced;
       stop_made = s.stop_made;
@@ -79,12 +85,13 @@ impl Model for Synchronizer {
 }
 
 impl Synchronizer {
-    /// A member that has promised nothing. It needs no memory.
-    pub fn begin(alloc: Global, id: MemberId) -> Self
-        ensures { result ≡ begun id }
+    /// A member that has promised nothing in a view. It needs no memory.
+    pub fn begin(alloc: Global, id: MemberId, view: View) -> Self
+        ensures { result ≡ begun id view }
     {
         Synchronizer {
             id,
+            view,
             regency: Regency::new(0),
             synced: false,
             stop_made: false,
@@ -95,12 +102,14 @@ impl Synchronizer {
         }
     }
 
-    /// A member after a restart in a regency, in which it takes part or not. It needs no memory.
-    pub fn resume(alloc: Global, id: MemberId, regency: Regency, synced: bool) -> Self
-        ensures { result ≡ resumed id regency synced }
+    /// A member after a restart in a regency of a view, in which it takes part or not. It needs no
+    /// memory.
+    pub fn resume(alloc: Global, id: MemberId, view: View, regency: Regency, synced: bool) -> Self
+        ensures { result ≡ resumed id view regency synced }
     {
         Synchronizer {
             id,
+            view,
             regency,
             synced,
             stop_made: false,
@@ -127,39 +136,98 @@ impl Synchronizer {
         self.regency.get() == 0 || self.synced
     }
 
-    /// Keeps a member's STOP. Error: want of memory; nothing is kept then.
+    /// Keeps a member's STOP for the next regency, unless it repeats one; else the synchronizer stays as
+    /// it was. Error: want of memory; nothing is kept then.
     pub fn on_stop(&mut self, stop: Signed<Stop>) -> Result<(), AllocError>
-        ensures ok { OnOk result (self.new ≡ with_stop stop self.old) }
+        ensures ok { OnOk result (self.new ≡ keeping_stop stop self.old) }
         ensures err { OnErr result (self.new ≡ self.old) }
     {
+        if !self.keeps_stop(&stop) {
+            return Ok(());
+        }
         self.stops.push(stop)?;
         Ok(())
     }
 
-    /// Keeps a member's report, with the batch of its lock. Error: want of memory; nothing is kept
-    /// then.
+    /// Keeps a member's report for a regency within reach, with the batch of its lock, unless it
+    /// repeats one; else the synchronizer stays as it was. Error: want of memory; nothing is kept then.
     pub fn on_stopdata(
         &mut self,
         report: Signed<Report>,
         batch: Option<Batch>,
     ) -> Result<(), AllocError>
-        ensures ok { OnOk result (self.new ≡ with_report report batch self.old) }
+        ensures ok { OnOk result (self.new ≡ keeping_report report batch self.old) }
         ensures err { OnErr result (self.new ≡ self.old) }
     {
-        self.reports.push(Reported {
+        let reported = Reported {
             head: report,
             batch,
-        })?;
+        };
+        if !self.keeps_report(&reported) {
+            return Ok(());
+        }
+        self.reports.push(reported)?;
         Ok(())
     }
 
-    /// Keeps a SYNC. Error: want of memory; nothing is kept then.
+    /// Keeps a member's SYNC of the regency in force or a later one, unless it repeats one; else the
+    /// synchronizer stays as it was. Error: want of memory; nothing is kept then.
     pub fn on_sync(&mut self, sync: Signed<Sync>) -> Result<(), AllocError>
-        ensures ok { OnOk result (self.new ≡ with_sync sync self.old) }
+        ensures ok { OnOk result (self.new ≡ keeping_sync sync self.old) }
         ensures err { OnErr result (self.new ≡ self.old) }
     {
+        if !self.keeps_sync(&sync) {
+            return Ok(());
+        }
         self.syncs.push(sync)?;
         Ok(())
+    }
+
+    /// Whether a STOP may be kept.
+    #[tactic(auto, unfolding(crate::specs::Synchronizers::keeps_stop))]
+    fn keeps_stop(&self, stop: &Signed<Stop>) -> bool
+        ensures { result ≡ keeps_stop self.now stop.now }
+    {
+        let wish = stop.statement();
+        self.has_member(stop.signer())
+            && (self.reaches(wish.view, wish.regency) && self.regency < wish.regency)
+            && !self.repeats_stop(stop)
+    }
+
+    /// Whether a report may be kept.
+    #[tactic(auto, unfolding(crate::specs::Synchronizers::keeps_report))]
+    fn keeps_report(&self, reported: &Reported) -> bool
+        ensures { result ≡ keeps_report self.now reported.now }
+    {
+        let report = reported.head.statement();
+        self.has_member(reported.head.signer())
+            && self.reaches(report.view, report.regency)
+            && !self.repeats_report(&reported.head)
+    }
+
+    /// Whether a SYNC may be kept.
+    #[tactic(auto, unfolding(crate::specs::Synchronizers::keeps_sync))]
+    fn keeps_sync(&self, sync: &Signed<Sync>) -> bool
+        ensures { result ≡ keeps_sync self.now sync.now }
+    {
+        self.has_member(sync.signer())
+            && needs_sync(self.view.number(), self.regency, sync)
+            && !self.repeats_sync(sync)
+    }
+
+    fn has_member(&self, signer: u16) -> bool
+        ensures { result ≡ is_member self.now.view signer }
+    {
+        self.view.is_member(MemberId::new(signer))
+    }
+
+    /// Whether a view and a regency are within reach: the view in force, and the regency in force or
+    /// the next one.
+    fn reaches(&self, view: ViewNo, regency: Regency) -> bool
+        ensures { result ≡ is_reached self.now view regency }
+    {
+        is_needed(self.view.number(), self.regency, view, regency)
+            && regency.get() as u64 <= self.regency.get() as u64 + 1
     }
 
     /// The SYNCs that were kept, in the order in which they came.
@@ -192,14 +260,14 @@ impl Synchronizer {
 
     /// The first rule that is due, if there is one.
     #[tactic(auto, unfolding(crate::specs::Synchronizers::due))]
-    pub fn due(&self, view: &View) -> Option<Rule>
-        ensures { result ≡ due view.now self.now }
+    pub fn due(&self) -> Option<Rule>
+        ensures { result ≡ due self.now.view self.now }
     {
-        if self.is_joining(view) {
+        if self.is_joining() {
             Some(Rule::Join)
-        } else if self.is_promising(view) {
+        } else if self.is_promising() {
             Some(Rule::Promise)
-        } else if self.is_collecting(view) {
+        } else if self.is_collecting() {
             Some(Rule::Collect)
         } else {
             None
@@ -209,36 +277,32 @@ impl Synchronizer {
     /// Whether the member is to ask for the next regency, as more than f members do. There is no
     /// regency after 2^32 - 1.
     #[tactic(auto, unfolding(crate::specs::Synchronizers::is_joining))]
-    pub fn is_joining(&self, view: &View) -> bool
-        ensures value { result ≡ is_joining view.now self.now }
+    pub fn is_joining(&self) -> bool
+        ensures value { result ≡ is_joining self.now.view self.now }
         ensures next { result ≡ true → self.now.regency + 1 < 2 ^ 32 }
     {
-        self.has_next() && !self.stop_made && (view.f() as usize) < self.count_stoppers(view)
+        self.has_next() && !self.stop_made && (self.view.f() as usize) < self.count_stoppers()
     }
 
     /// Whether the member is to promise the next regency, as 2f+1 members ask for it. There is no
     /// regency after 2^32 - 1.
     #[tactic(auto, unfolding(crate::specs::Synchronizers::is_promising))]
-    pub fn is_promising(&self, view: &View) -> bool
-        ensures value { result ≡ is_promising view.now self.now }
+    pub fn is_promising(&self) -> bool
+        ensures value { result ≡ is_promising self.now.view self.now }
         ensures next { result ≡ true → self.now.regency + 1 < 2 ^ 32 }
     {
-        self.has_next() && stop_size(view) <= self.count_stoppers(view)
+        self.has_next() && stop_size(&self.view) <= self.count_stoppers()
     }
 
     /// The collect with which the member is to begin its regency, if it is to: it leads the regency,
     /// nobody has begun it, and n-f members have reported. It has the first report of each of the
     /// first n-f members by number. Error: want of memory.
     #[tactic(auto, unfolding(crate::specs::Synchronizers::collecting))]
-    pub fn collecting(
-        &self,
-        alloc: Global,
-        view: &View,
-    ) -> Result<Option<SignedList<Report>>, AllocError>
-        ensures { IfOk result (λ reports. reports ≡ collecting view.now self.now) }
+    pub fn collecting(&self, alloc: Global) -> Result<Option<SignedList<Report>>, AllocError>
+        ensures { IfOk result (λ reports. reports ≡ collecting self.now.view self.now) }
     {
-        if self.is_collecting(view) {
-            Ok(Some(self.collect(alloc, view)?))
+        if self.is_collecting() {
+            Ok(Some(self.collect(alloc)?))
         } else {
             Ok(None)
         }
@@ -247,10 +311,10 @@ impl Synchronizer {
     /// The batch of a digest that binds: that of the first report whose lock has the digest, and
     /// which brings a batch, from whichever member (this project's own rule).
     #[tactic(auto, unfolding(crate::specs::Synchronizers::batch_of))]
-    pub fn batch_of(&self, view: &View, digest: &Digest32) -> Option<&Batch>
-        ensures { option_copied result ≡ batch_of view.now self.now digest.now }
+    pub fn batch_of(&self, digest: &Digest32) -> Option<&Batch>
+        ensures { option_copied result ≡ batch_of self.now.view self.now digest.now }
     {
-        match self.bearer(view, digest) {
+        match self.bearer(digest) {
             None => None,
             Some(reported) => reported.batch.as_ref(),
         }
@@ -305,22 +369,23 @@ impl Synchronizer {
     }
 
     /// Moves to another view, in which nothing is promised. What is of other views is dropped.
-    pub fn moved(&mut self, view: &View)
-        ensures { self.new ≡ trimmed view.now (moved self.old) }
+    pub fn moved(&mut self, view: View)
+        ensures { self.new ≡ trimmed view (moved view self.old) }
     {
+        self.view = view;
         self.regency = Regency::new(0);
         self.synced = false;
         self.stop_made = false;
         self.sync_made = false;
-        self.trim(view);
+        self.trim();
     }
 
     /// Drops what is of another view or of an earlier regency.
     #[tactic(auto, unfolding(crate::specs::Synchronizers::trimmed))]
-    pub fn trim(&mut self, view: &View)
-        ensures { self.new ≡ trimmed view.now self.old }
+    pub fn trim(&mut self)
+        ensures { self.new ≡ trimmed self.old.view self.old }
     {
-        let number = view.number();
+        let number = self.view.number();
         keep_stops(&mut self.stops, number, self.regency);
         keep_reports(&mut self.reports, number, self.regency);
         keep_syncs(&mut self.syncs, number, self.regency);
@@ -333,54 +398,55 @@ impl Synchronizer {
     }
 
     /// The number of members that ask for the next regency.
-    fn count_stoppers(&self, view: &View) -> usize
+    fn count_stoppers(&self) -> usize
         requires { has_next self.now ≡ true }
-        ensures { result ≡ length (stoppers view.now self.now) }
+        ensures { result ≡ length (stoppers self.now.view self.now) }
     {
         let next = Regency::new(self.regency.get() + 1);
+        let view = &self.view;
         count_stoppers(self.stops.as_slice(), view.members(), view.number(), next)
     }
 
-    fn is_collecting(&self, view: &View) -> bool
-        ensures { result ≡ is_collecting view.now self.now }
+    fn is_collecting(&self) -> bool
+        ensures { result ≡ is_collecting self.now.view self.now }
     {
-        view.leader(self.regency) == self.id
+        self.view.leader(self.regency) == self.id
             && !self.is_synced()
             && !self.sync_made
-            && collect_size(view) <= self.count_reporters(view)
+            && collect_size(&self.view) <= self.count_reporters()
     }
 
     /// The number of members that have reported for the member's regency.
-    fn count_reporters(&self, view: &View) -> usize
-        ensures { result ≡ length (reporters view.now self.now) }
+    fn count_reporters(&self) -> usize
+        ensures { result ≡ length (reporters self.now.view self.now) }
     {
         count_reporters(
             self.reports.as_slice(),
-            view.members(),
-            view.number(),
+            self.view.members(),
+            self.view.number(),
             self.regency,
         )
     }
 
     /// The first reports of members, by number. Error: want of memory.
-    fn collect(&self, alloc: Global, view: &View) -> Result<SignedList<Report>, AllocError>
-        ensures { IfOk result (λ reports. reports ≡ collect view.now self.now) }
+    fn collect(&self, alloc: Global) -> Result<SignedList<Report>, AllocError>
+        ensures { IfOk result (λ reports. reports ≡ collect self.now.view self.now) }
     {
         collect(
             alloc,
             self.reports.as_slice(),
-            view.members(),
-            view.number(),
+            self.view.members(),
+            self.view.number(),
             self.regency,
-            collect_size(view),
+            collect_size(&self.view),
         )
     }
 
     /// The first report with a lock of this digest that brings a batch.
-    fn bearer(&self, view: &View, digest: &Digest32) -> Option<&Reported>
-        ensures { option_copied result ≡ find (bears view.now self.now digest.now) self.now.reports }
+    fn bearer(&self, digest: &Digest32) -> Option<&Reported>
+        ensures { option_copied result ≡ find (bears self.now.view self.now digest.now) self.now.reports }
     {
-        let number = view.number();
+        let number = self.view.number();
         self.reports.as_slice().iter().find(|reported| {
             needs_report(number, self.regency, reported) && carries(digest, reported)
         })

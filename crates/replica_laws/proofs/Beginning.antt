@@ -1,24 +1,26 @@
 -- No step begins a regency that the book has begun.
 use Rattle.std.proofs.Common.{◌≡◌, ℕ, ◌+◌, ◌≤◌, ◌++◌, ◌==◌, Bool, true, false, not, List, [], ◌∷◌, refl, ap, arith, cond, nat_lt, max, Option, Some, None, is_some, ◌∙◌, subst, sym, append-nil, eqb-true}
 use Rattle.std.specs.Prelude.{find, IfSome}
+use Rattle.smart_base.specs.Lists.{or_else}
 use Rattle.smart_base.specs.Views.{View}
 use Rattle.smart_statements.specs.Forms.{SignedBy}
 use Rattle.smart_messages.specs.declared.regency.Sync.{Sync}
 use Rattle.smart_messages.specs.declared.message.Proposed.{Proposed}
 use Rattle.smart_statements.specs.declared.entry.NodeEvent.{NodeEvent}
 use Rattle.smart_service.specs.Services.{Meaning}
+use Rattle.vote_book.specs.Standing.{first_start, start_by}
 use Rattle.vote_book.specs.declared.entry.Decision.{Decision}
 use Rattle.vote_book.specs.declared.entry.Start.{Start}
 use Rattle.vote_book.specs.declared.entry.LogEntry.{LogEntry}
 use Rattle.vote_book.specs.declared.entry.LogEntry.TheVariants.{Wrote, Promised, Synced, Decided}
 use Rattle.regency_sync.specs.Synchronizers.{needs_sync}
 use Rattle.node_rules.specs.Rules.{delivers, proposes, writing, write_batch, writes, accepting, accept_batch, accepts, deciding, decide_batch, decides, answers_again}
-use Rattle.node_rules.specs.Nodes.{Node, view_of, regency_of, open_slot, start_by, start_in, first_start, start_at, is_begun}
+use Rattle.node_rules.specs.Nodes.{Node, view_of, regency_of, open_slot, view_start, start_at, is_begun}
 use Rattle.node_rules.specs.Arrivals.{kept, noted}
 use Rattle.node_rules.specs.Changes.{start_by_sync, promised_for, adopts_by, is_adoptable, adoption, adopts, joins, next_promise, promising, promise_next, promises, leads, times}
 use Rattle.node_rules.specs.Kept.{node_after}
 use Rattle.node_rules.specs.Reopening.{reopened}
-use Rattle.node_rules.specs.Steps.{step_of, opened}
+use Rattle.node_rules.specs.Steps.{step_of, Outset, opened}
 use Rattle.node_laws.proofs.Reopened.{reopened_is}
 use Rattle.replica_laws.specs.Books.{passing, begins}
 use Rattle.replica_laws.proofs.Once.{passing-end, passed}
@@ -42,20 +44,20 @@ within-as bound es es' same is = subst (Within bound) (sym same) is
 -- a beginning
 
 -- neither of two is there
-neither : {A : Type 0} (one rest : Option A) → is_some (cond (is_some one) one rest) ≡ false → (is_some one ≡ false) × (is_some rest ≡ false)
+neither : {A : Type 0} (one rest : Option A) → is_some (or_else one rest) ≡ false → (is_some one ≡ false) × (is_some rest ≡ false)
 neither None rest none = (refl, none)
 neither (Some x) rest none = absurd (cc)
 
 -- where no entry begins a regency, none is counted
-none-begins : (view regency : ℕ) (es : List LogEntry) → is_some (start_in view regency es) ≡ false → passing (begins view regency) es ≡ 0
+none-begins : (view regency : ℕ) (es : List LogEntry) → is_some (first_start view regency es) ≡ false → passing (begins view regency) es ≡ 0
 none-begins view regency [] none = refl
 none-begins view regency (e ∷ es) none =
-    let parts = neither (start_by view regency e) (start_in view regency es) none in
+    let parts = neither (start_by view regency e) (first_start view regency es) none in
     omega (arith, ap (λ b. passed b) parts.0, none-begins view regency es parts.1)
 
 -- a regency that has not begun, is begun by no entry
-not-begun : (v : View) (regency : ℕ) (es : List LogEntry) → is_some (start_at v regency es) ≡ false → is_some (start_in v.number regency es) ≡ false
-not-begun v regency es none = other (regency == 0) (first_start v) (start_in v.number regency es) none
+not-begun : (v : View) (regency : ℕ) (es : List LogEntry) → is_some (start_at v regency es) ≡ false → is_some (first_start v.number regency es) ≡ false
+not-begun v regency es none = other (regency == 0) (view_start v) (first_start v.number regency es) none
   where
     other : (t : Bool) (x : Start) (o : Option Start) → is_some (cond t (Some x) o) ≡ false → is_some o ≡ false
     other true x o none = absurd (cc)
@@ -156,21 +158,22 @@ within-rules bound some = record {
   by_writes = λ n is. within-writes bound n is;
   by_accepts = λ n is. within-accepts bound n is;
   by_decides = λ n is. within-decides bound n is;
+  by_times = λ n is. within-as bound n.entries (times n).entries (times_same n) is;
+  by_answers = λ n message is. within-as bound n.entries (answers_again n message).entries (answers_again_same n message) is;
 }
 
 within-in_steps : {S : Type 0} (m : Meaning S) (bound : ℕ → ℕ → ℕ) → ((view regency : ℕ) → 1 ≤ bound view regency) → KeptInSteps m (λ n. Within bound n.entries) (λ message. Unit {0})
 within-in_steps m bound some = record {
   by_rules = within-rules bound some;
-  by_times = λ n is. within-as bound n.entries (times n).entries (times_same n) is;
-  by_answers = λ n message is. within-as bound n.entries (answers_again n message).entries (answers_again_same n message) is;
   by_noted = λ n message is. within-as bound n.entries (noted n message).entries (noted_same n message) is;
   by_kept = λ n message fine may is. within-as bound n.entries (kept n message).entries (kept_same n message) is;
   by_delivers = λ n is. within-as bound n.entries (delivers m n).entries (delivers_same m n) is;
+  by_firm = λ x count same. same;
 }
 
 -- a step
 within-step : {S : Type 0} (m : Meaning S) (bound : ℕ → ℕ → ℕ) → ((view regency : ℕ) → 1 ≤ bound view regency) → (n : Node S) (event : NodeEvent) → Within bound n.entries → Within bound (step_of m n event).node.entries
-within-step m bound some n event is = keeps_step m (λ x. Within bound x.entries) (λ message. Unit {0}) n event (within-in_steps m bound some) (λ x count same. same) (free-event event) is
+within-step m bound some n event is = keeps_step m (λ x. Within bound x.entries) (λ message. Unit {0}) n event (within-in_steps m bound some) (free-event event) is
 
 -- whatever comes
 within_after : {S : Type 0} (m : Meaning S) (bound : ℕ → ℕ → ℕ) → ((view regency : ℕ) → 1 ≤ bound view regency) → (n : Node S) (events : List NodeEvent) → Within bound n.entries → Within bound (node_after m n events).entries
@@ -194,20 +197,20 @@ pub begins-step : {S : Type 0} (m : Meaning S) (n : Node S) (event : NodeEvent) 
 unfolding most
 begins-step m n event view regency = within-step m (most n.entries) (most-some n.entries) n event (most-own n.entries) view regency
 
-pub begins-opened : {S : Type 0} (m : Meaning S) (secret : List ℕ) (id : ℕ) (view : View) (period : ℕ) (events : List NodeEvent) (number regency : ℕ)
-    → passing (begins number regency) (node_after m (opened m secret id view period) events).entries ≤ 1
-begins-opened m secret id view period events number regency =
-    within_after m (λ v r. 1) (λ v r. omega arith) (opened m secret id view period) events (λ v r. omega arith) number regency
+pub begins-opened : {S : Type 0} (m : Meaning S) (o : Outset S) (events : List NodeEvent) (number regency : ℕ)
+    → passing (begins number regency) (node_after m (opened o) events).entries ≤ 1
+begins-opened m o events number regency =
+    within_after m (λ v r. 1) (λ v r. omega arith) (opened o) events (λ v r. omega arith) number regency
 
 -- a node that goes on has the entries, or opens its book
-book_reopened : {S : Type 0} (m : Meaning S) (secret : List ℕ) (id : ℕ) (view : View) (period : ℕ) (entries : List LogEntry) → Within (most entries) (reopened m secret id view period entries).entries
+book_reopened : {S : Type 0} (m : Meaning S) (o : Outset S) (entries : List LogEntry) → Within (most entries) (reopened m o entries).entries
 unfolding reopened most
-book_reopened m secret id view period [] v r = omega arith
-book_reopened {S = S} m secret id view period (e ∷ es) v r =
-    subst (λ (n : Node S). passing (begins v r) n.entries ≤ max 1 (passing (begins v r) (e ∷ es))) (sym (reopened_is m secret id view period e es)) (omega arith)
+book_reopened m o [] v r = omega arith
+book_reopened {S = S} m o (e ∷ es) v r =
+    subst (λ (n : Node S). passing (begins v r) n.entries ≤ max 1 (passing (begins v r) (e ∷ es))) (sym (reopened_is m o e es)) (omega arith)
 
-pub begins-reopened : {S : Type 0} (m : Meaning S) (secret : List ℕ) (id : ℕ) (view : View) (period : ℕ) (entries : List LogEntry) (events : List NodeEvent) (number regency : ℕ)
-    → passing (begins number regency) (node_after m (reopened m secret id view period entries) events).entries ≤ max 1 (passing (begins number regency) entries)
+pub begins-reopened : {S : Type 0} (m : Meaning S) (o : Outset S) (entries : List LogEntry) (events : List NodeEvent) (number regency : ℕ)
+    → passing (begins number regency) (node_after m (reopened m o entries) events).entries ≤ max 1 (passing (begins number regency) entries)
 unfolding most
-begins-reopened m secret id view period entries events number regency =
-    within_after m (most entries) (most-some entries) (reopened m secret id view period entries) events (book_reopened m secret id view period entries) number regency
+begins-reopened m o entries events number regency =
+    within_after m (most entries) (most-some entries) (reopened m o entries) events (book_reopened m o entries) number regency

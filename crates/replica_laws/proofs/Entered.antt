@@ -6,13 +6,14 @@ use Rattle.smart_statements.specs.declared.statement.Request.{Request}
 use Rattle.smart_statements.specs.declared.statement.Slot.{Slot}
 use Rattle.smart_statements.specs.declared.report.Report.{Report}
 use Rattle.smart_messages.specs.declared.message.Message.{Message}
-use Rattle.smart_service.specs.declared.table.TableLine.{TableLine}
+use Rattle.smart_service.specs.declared.table.Execution.{Execution}
+use Rattle.vote_book.specs.Standing.{start_by}
 use Rattle.vote_book.specs.declared.entry.Accept.{Accept}
 use Rattle.vote_book.specs.declared.entry.Decision.{Decision}
 use Rattle.vote_book.specs.declared.entry.Write.{Write}
 use Rattle.vote_book.specs.declared.entry.LogEntry.{LogEntry}
 use Rattle.vote_book.specs.declared.entry.LogEntry.TheVariants.{Wrote, Accepted, Decided}
-use Rattle.node_rules.specs.Nodes.{Node, view_of, regency_of, regency_in, start_by, recording}
+use Rattle.node_rules.specs.Nodes.{Node, view_of, regency_of, regency_in, recording}
 use Rattle.node_rules.specs.Arrivals.{noted}
 use Rattle.node_rules.specs.Rules.{proposing, propose_batch, proposes, answering, answer_line, answers_again}
 use Rattle.node_rules.specs.Changes.{asks_next, joining, joins, leading, lead_with, leads, timing, passes_on, presses, times}
@@ -115,7 +116,7 @@ aside-times {S = S} n =
     (record { holds = n.held; slots = n.proposed; stopped = n.stop_made; led = n.sync_made; pressed = true; told = n.behind; same = refl }) (aside-passes_on x n.pool)))
     (aside-same n)
 
-aside-answer_line : {S : Type 0} (n : Node S) (line : Option TableLine) → Aside n (answer_line n line)
+aside-answer_line : {S : Type 0} (n : Node S) (line : Option Execution) → Aside n (answer_line n line)
 unfolding answer_line
 aside-answer_line n None = aside-same n
 aside-answer_line {S = S} n (Some line) =

@@ -8,46 +8,37 @@ use Rattle.smart_statements.specs.Forms.{SignedBy}
 use Rattle.smart_statements.specs.Batches.{Batch}
 use Rattle.smart_statements.specs.declared.statement.Request.{Request}
 use Rattle.smart_service.specs.Services.{Meaning}
-use Rattle.smart_service.specs.declared.table.TableLine.{TableLine}
+use Rattle.smart_service.specs.declared.table.Execution.{Execution}
 use Rattle.smart_service.specs.declared.replica.Replica.{Replica}
-use Rattle.replica_rules.specs.Replicas.{is_next, line_of, execute, line_made, lines_of, at_next, delivered, executed_lines, empty, after_batches, state, executions_from, executions, batch_at, request_at, view_at}
+use Rattle.replica_rules.specs.Replicas.{is_next, line_of, execute, line_made, lines_of, at_next, delivered, executed_lines, empty, after_batches, state, executions_from, executions, batch_at, request_at, views_after, view_at}
 use Rattle.replica_laws.specs.Lines.{HasLine}
 use Rattle.replica_laws.proofs.OnePlace.{each_line}
 use Rattle.agreement_laws.proofs.Lists.{each_append}
 use Rattle.smart_base.proofs.ViewFacts.{each-weaken}
-use Rattle.replica_rules.proofs.Places.{executions_append, views_execute, views_delivered, place_execute, place_delivered}
+use Rattle.replica_rules.proofs.Places.{executions_append, views_execute, state_views, place_execute, place_delivered}
 
 -- lines among lines
 
 -- a line of the first list is among both
-pub has_left : (xs ys : List TableLine) (l : TableLine) → HasLine xs l → HasLine (xs ++ ys) l
+pub has_left : (xs ys : List Execution) (l : Execution) → HasLine xs l → HasLine (xs ++ ys) l
 has_left [] ys l has = absurd has
 has_left (x ∷ xs) ys l has = elim has [ inl here ↦ inl here | inr later ↦ inr (has_left xs ys l later) ]
 
 -- a line of the second list is among both
-pub has_right : (xs ys : List TableLine) (l : TableLine) → HasLine ys l → HasLine (xs ++ ys) l
+pub has_right : (xs ys : List Execution) (l : Execution) → HasLine ys l → HasLine (xs ++ ys) l
 has_right [] ys l has = has
 has_right (x ∷ xs) ys l has = inr (has_right xs ys l has)
 
 -- a longer list
 
 -- what is executed stays executed
-pub executions-more : {S : Type 0} (m : Meaning S) (v : View) (list more : List Batch) (l : TableLine) → HasLine (executions m v list) l → HasLine (executions m v (list ++ more)) l
+pub executions-more : {S : Type 0} (m : Meaning S) (v : View) (list more : List Batch) (l : Execution) → HasLine (executions m v list) l → HasLine (executions m v (list ++ more)) l
 executions-more m v list more l has =
     subst (λ lines. HasLine lines l) (sym (executions_append m (empty m v) list more))
     (has_left (executions m v list) (executions_from m (state m v list) more) l has)
 
--- batches leave the views
-after_views : {S : Type 0} (m : Meaning S) (r : Replica S) (list : List Batch) → (after_batches m r list).views ≡ r.views
-after_views m r [] = refl
-after_views m r (batch ∷ list) = after_views m (delivered m r batch) list ∙ views_delivered m r batch
-
--- no batch changes the view
-pub state-views : {S : Type 0} (m : Meaning S) (v : View) (list : List Batch) → (state m v list).views ≡ v ∷ []
-state-views m v list = after_views m (empty m v) list
-
 -- what a batch executes in its turn, the batches execute
-executed_from : {S : Type 0} (m : Meaning S) (r : Replica S) (list : List Batch) (k : ℕ) (batch : Batch) (l : TableLine)
+executed_from : {S : Type 0} (m : Meaning S) (r : Replica S) (list : List Batch) (k : ℕ) (batch : Batch) (l : Execution)
     → slice_get list k ≡ Some batch → HasLine (executed_lines m (after_batches m r (take k list)) batch) l → HasLine (executions_from m r list) l
 executed_from m r [] k batch l at has = absurd (cc)
 executed_from m r (b ∷ list) zero batch l at has =
@@ -57,14 +48,14 @@ executed_from m r (b ∷ list) (suc k) batch l at has =
     has_right (executed_lines m r b) (executions_from m (delivered m r b) list) l (executed_from m (delivered m r b) list k batch l at has)
 
 -- what the batch at a place executes, the list executes
-pub executed-at : {S : Type 0} (m : Meaning S) (v : View) (list : List Batch) (k : ℕ) (batch : Batch) (l : TableLine)
+pub executed-at : {S : Type 0} (m : Meaning S) (v : View) (list : List Batch) (k : ℕ) (batch : Batch) (l : Execution)
     → batch_at list (k + 1) ≡ Some batch → HasLine (executed_lines m (state m v (take k list)) batch) l → HasLine (executions m v list) l
 executed-at m v list k batch l at has = executed_from m (empty m v) list k batch l (sym (ap (batch_at list) (add-one k)) ∙ at) has
 
 -- what a line says
 
 -- the request that a line is of, among requests that stand from an index on
-pub record OfRequest {S : Type 0} (r : Replica S) (from : ℕ) (qs : Batch) (l : TableLine) : Type 0 where
+pub record OfRequest {S : Type 0} (r : Replica S) (from : ℕ) (qs : Batch) (l : Execution) : Type 0 where
   pub request : SignedBy Request
   pub step : ℕ
   pub at_place : l.place ≡ r.place
@@ -80,7 +71,7 @@ of_one m r i q qs true = (record { request = q; step = 0; at_place = refl; at_in
 of_one m r i q qs false = tt
 
 -- a line of the later requests is of the requests
-of_later : {S : Type 0} (m : Meaning S) (r : Replica S) (i : ℕ) (q : SignedBy Request) (qs : Batch) (l : TableLine) → OfRequest (execute m r i q.statement) (i + 1) qs l → OfRequest r i (q ∷ qs) l
+of_later : {S : Type 0} (m : Meaning S) (r : Replica S) (i : ℕ) (q : SignedBy Request) (qs : Batch) (l : Execution) → OfRequest (execute m r i q.statement) (i + 1) qs l → OfRequest r i (q ∷ qs) l
 of_later m r i q qs l is = record {
   request = is.request;
   step = suc is.step;
@@ -106,20 +97,20 @@ unfolding executed_lines
 of_delivered m r batch = of_all m (at_next r) 0 batch
 
 -- the batch and the request that a line is of, among batches behind a replica
-record OfBatch {S : Type 0} (r : Replica S) (list : List Batch) (l : TableLine) : Type 0 where
+record OfBatch {S : Type 0} (m : Meaning S) (r : Replica S) (list : List Batch) (l : Execution) : Type 0 where
   batch : Batch
   request : SignedBy Request
   step : ℕ
   at_place : l.place ≡ r.place + suc step
-  in_view : l.view ≡ (present r.views).number
+  in_view : l.view ≡ (present (after_batches m r (take step list)).views).number
   batch_there : slice_get list step ≡ Some batch
   there : slice_get batch l.index ≡ Some request
   own_client : request.statement.client ≡ l.client
   own_seq : request.statement.seq ≡ l.seq
 
 -- a line of the first batch
-batch_here : {S : Type 0} (r : Replica S) (batch : Batch) (list : List Batch) (l : TableLine) → OfRequest (at_next r) 0 batch l → OfBatch r (batch ∷ list) l
-batch_here r batch list l is =
+batch_here : {S : Type 0} (m : Meaning S) (r : Replica S) (batch : Batch) (list : List Batch) (l : Execution) → OfRequest (at_next r) 0 batch l → OfBatch m r (batch ∷ list) l
+batch_here m r batch list l is =
     let index : l.index ≡ is.step = omega (arith, is.at_index) in
     record {
       batch = batch;
@@ -134,7 +125,7 @@ batch_here r batch list l is =
     }
 
 -- a line of the later batches is of the batches
-batch_later : {S : Type 0} (m : Meaning S) (r : Replica S) (batch : Batch) (list : List Batch) (l : TableLine) → OfBatch (delivered m r batch) list l → OfBatch r (batch ∷ list) l
+batch_later : {S : Type 0} (m : Meaning S) (r : Replica S) (batch : Batch) (list : List Batch) (l : Execution) → OfBatch m (delivered m r batch) list l → OfBatch m r (batch ∷ list) l
 batch_later m r batch list l is =
     let place = place_delivered m r batch in
     record {
@@ -142,7 +133,7 @@ batch_later m r batch list l is =
       request = is.request;
       step = suc is.step;
       at_place = omega (arith, place, is.at_place);
-      in_view = is.in_view ∙ ap (λ (vs : List View). (present vs).number) (views_delivered m r batch);
+      in_view = is.in_view;
       batch_there = is.batch_there;
       there = is.there;
       own_client = is.own_client;
@@ -150,19 +141,19 @@ batch_later m r batch list l is =
     }
 
 -- each line of batches is of one of them
-batch_all : {S : Type 0} (m : Meaning S) (r : Replica S) (list : List Batch) → Each (OfBatch r list) (executions_from m r list)
+batch_all : {S : Type 0} (m : Meaning S) (r : Replica S) (list : List Batch) → Each (OfBatch m r list) (executions_from m r list)
 batch_all m r [] = tt
 batch_all m r (batch ∷ list) =
-    each_append (OfBatch r (batch ∷ list)) (executed_lines m r batch) (executions_from m (delivered m r batch) list)
-    (each-weaken (OfRequest (at_next r) 0 batch) (OfBatch r (batch ∷ list)) (batch_here r batch list) _ (of_delivered m r batch))
-    (each-weaken (OfBatch (delivered m r batch) list) (OfBatch r (batch ∷ list)) (batch_later m r batch list) _ (batch_all m (delivered m r batch) list))
+    each_append (OfBatch m r (batch ∷ list)) (executed_lines m r batch) (executions_from m (delivered m r batch) list)
+    (each-weaken (OfRequest (at_next r) 0 batch) (OfBatch m r (batch ∷ list)) (batch_here m r batch list) _ (of_delivered m r batch))
+    (each-weaken (OfBatch m (delivered m r batch) list) (OfBatch m r (batch ∷ list)) (batch_later m r batch list) _ (batch_all m (delivered m r batch) list))
 
 -- a line of a list's executions is of one of its batches
-of_line : {S : Type 0} (m : Meaning S) (v : View) (list : List Batch) (l : TableLine) → HasLine (executions m v list) l → OfBatch (empty m v) list l
-of_line m v list l has = each_line (OfBatch (empty m v) list) (executions m v list) l (batch_all m (empty m v) list) has
+of_line : {S : Type 0} (m : Meaning S) (v : View) (list : List Batch) (l : Execution) → HasLine (executions m v list) l → OfBatch m (empty m v) list l
+of_line m v list l has = each_line (OfBatch m (empty m v) list) (executions m v list) l (batch_all m (empty m v) list) has
 
 -- the request of a line: it stands at the line's place and index
-pub record IsOfRequest (list : List Batch) (l : TableLine) : Type 0 where
+pub record IsOfRequest (list : List Batch) (l : Execution) : Type 0 where
   pub request : Request
   pub there : request_at list l.place l.index ≡ Some request
   pub client : request.client ≡ l.client
@@ -174,7 +165,7 @@ request_there : (list : List Batch) (place k index : ℕ) (batch : Batch) (q : S
 request_there list place k index batch q is at there = rw (is, at, there) refl
 
 -- a line is of the request at its place and index
-pub request-line : {S : Type 0} (m : Meaning S) (v : View) (list : List Batch) (l : TableLine) → HasLine (executions m v list) l → IsOfRequest list l
+pub request-line : {S : Type 0} (m : Meaning S) (v : View) (list : List Batch) (l : Execution) → HasLine (executions m v list) l → IsOfRequest list l
 request-line m v list l has =
     let is = of_line m v list l has in
     record {
@@ -185,7 +176,10 @@ request-line m v list l has =
     }
 
 -- a line states the view in force at its place
-pub view-line : {S : Type 0} (m : Meaning S) (v : View) (list : List Batch) (l : TableLine) → HasLine (executions m v list) l → l.view ≡ (view_at m v list l.place).number
+pub view-line : {S : Type 0} (m : Meaning S) (v : View) (list : List Batch) (l : Execution) → HasLine (executions m v list) l → l.view ≡ (view_at v list l.place).number
 view-line m v list l has =
     let is = of_line m v list l has in
-    is.in_view ∙ ap (λ (vs : List View). (present vs).number) (sym (state-views m v (take (l.place - 1) list)))
+    let behind : is.step ≡ l.place - 1 = omega (arith, is.at_place) in
+    is.in_view
+    ∙ (ap (λ (vs : List View). (present vs).number) (state_views m v (take is.step list))
+    ∙ ap (λ (k : ℕ). (present (views_after v (take k list))).number) behind)

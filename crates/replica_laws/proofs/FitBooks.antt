@@ -29,7 +29,7 @@ use Rattle.node_rules.specs.Arrivals.{kept, noted}
 use Rattle.node_rules.specs.Rules.{delivers, proposes, writing, write_batch, writes, accepting, accept_batch, accepts, deciding, decide_batch, decides, answers_again}
 use Rattle.node_rules.specs.Changes.{start_by_sync, promised_for, adopts_by, is_adoptable, adoption, adopts, joins, next_promise, promising, promise_next, promises, leads, times}
 use Rattle.node_rules.specs.Kept.{node_after}
-use Rattle.node_rules.specs.Steps.{step_of, opened}
+use Rattle.node_rules.specs.Steps.{step_of, opened, outset}
 use Rattle.replica_laws.proofs.Lists.{if_find}
 use Rattle.replica_laws.proofs.Genuine.{votes-list}
 use Rattle.node_rules.proofs.Rulewise.{KeptByRules, KeptInSteps, keeps_step}
@@ -164,27 +164,27 @@ spelled-rules secret m = record {
   by_writes = λ n is. record { node = fit-writes secret n is.node; book = spelled-writes secret n is.node is.book };
   by_accepts = λ n is. record { node = fit-accepts secret n is.node; book = spelled-accepts secret n is.node is.book };
   by_decides = λ n is. record { node = fit-decides secret n is.node; book = spelled-decides secret n is.node is.book };
+  by_times = λ n is. record { node = fit-times secret n is.node; book = book-as n.entries (times n).entries (times_same n) is.book };
+  by_answers = λ n message is. record { node = fit-answers_again secret n message is.node; book = book-as n.entries (answers_again n message).entries (answers_again_same n message) is.book };
 }
 
 spelled-in_steps : {S : Type 0} (secret : List ℕ) (m : Meaning S) → IsBrief m → KeptInSteps m (λ n. FitBook m secret n) Fits
 spelled-in_steps secret m brief = record {
   by_rules = spelled-rules secret m;
-  by_times = λ n is. record { node = fit-times secret n is.node; book = book-as n.entries (times n).entries (times_same n) is.book };
-  by_answers = λ n message is. record { node = fit-answers_again secret n message is.node; book = book-as n.entries (answers_again n message).entries (answers_again_same n message) is.book };
   by_noted = λ n message is. record { node = fit-noted secret n message is.node; book = book-as n.entries (noted n message).entries (noted_same n message) is.book };
   by_kept = λ n message fine fit is. record { node = fit-kept secret n message fine fit is.node; book = book-as n.entries (kept n message).entries (kept_same n message) is.book };
   by_delivers = λ n is. record { node = fit-delivers secret m brief n is.node; book = book-as n.entries (delivers m n).entries (delivers_same m n) is.book };
+  by_firm = λ x count good. record { node = fit-as secret x count x.proposed x.stop_made x.sync_made x.impatient x.behind good.node; book = good.book };
 }
 
 -- each event keeps it
 pub spelled-step : {S : Type 0} (secret : List ℕ) (m : Meaning S) → IsBrief m → (n : Node S) (event : NodeEvent) → FitsEvent event → FitBook m secret n → FitBook m secret (step_of m n event).node
 spelled-step secret m brief n event fit is =
-    keeps_step m (λ x. FitBook m secret x) Fits n event (spelled-in_steps secret m brief)
-    (λ x count good. record { node = fit-as secret x count x.proposed x.stop_made x.sync_made x.impatient x.behind good.node; book = good.book }) fit is
+    keeps_step m (λ x. FitBook m secret x) Fits n event (spelled-in_steps secret m brief) fit is
 
 -- a node begins so
 pub spelled-opened : {S : Type 0} (secret : List ℕ) (m : Meaning S) (id : ℕ) (view : View) (period : ℕ) → IsSigner 1 id → is_view view ≡ true → period < 2 ^ 32
-    → FitBook m secret (opened m secret id view period)
+    → FitBook m secret (opened (outset m secret id view period))
 spelled-opened secret m id view period named is low = record {
   node = fit-opened secret m id view period named is;
   book = (record { member_fits = (let least = named.0 in omega (arith, least), named.1); period_fits = low; view_fits = is }, tt);
@@ -195,6 +195,6 @@ spelled_after secret m brief n [] each is = is
 spelled_after secret m brief n (e ∷ es) each is = spelled_after secret m brief (step_of m n e).node es each.1 (spelled-step secret m brief n e (event-fits e each.0) is)
 
 pub all_spelled : {S : Type 0} (m : Meaning S) → IsBrief m → (secret : List ℕ) (id : ℕ) (view : View) (period : ℕ) (events : List NodeEvent) → IsSigner 1 id → is_view view ≡ true
-    → period < 2 ^ 32 → Each IsByteEvent events → Each FitsEntry (node_after m (opened m secret id view period) events).entries
+    → period < 2 ^ 32 → Each IsByteEvent events → Each FitsEntry (node_after m (opened (outset m secret id view period)) events).entries
 all_spelled m brief secret id view period events named viewed low each =
-    (spelled_after secret m brief (opened m secret id view period) events each (spelled-opened secret m id view period named viewed low)).book
+    (spelled_after secret m brief (opened (outset m secret id view period)) events each (spelled-opened secret m id view period named viewed low)).book

@@ -38,7 +38,8 @@ use Rattle.smart_messages.specs.declared.message.Proposed.{Proposed}
 use Rattle.smart_statements.specs.declared.entry.NodeEvent.{NodeEvent}
 use Rattle.smart_statements.specs.declared.entry.NodeEvent.TheVariants.{Arrive, Tick, Deliver, Firm}
 use Rattle.smart_service.specs.Services.{Meaning, Comes, comes_first, comes_next}
-use Rattle.smart_service.specs.declared.table.TableLine.{TableLine}
+use Rattle.smart_service.specs.Tables.{kept_in}
+use Rattle.smart_service.specs.declared.table.Execution.{Execution}
 use Rattle.smart_service.specs.declared.replica.Replica.{Replica}
 use Rattle.vote_book.specs.Books.{Among, HasMade, place_made, last_made, number_or}
 use Rattle.vote_book.specs.BookReports.{last_maker, evidence_of, accept_for, greatest_accept, lock_of, certificate_of}
@@ -56,7 +57,7 @@ use Rattle.node_rules.specs.Rules.{reply_of, replying, lines_to_answer, deliver_
 use Rattle.node_rules.specs.Nodes.{Node, view_of, regency_of, regency_in, greatest_regency, start_of, next_place, open_slot, is_free, is_open, bound_at, synchronizer_of, holding, recording}
 use Rattle.node_rules.specs.Arrivals.{signer_why, view_why, regency_why, bears_lock, is_batch_for, rests_on_marks, is_proven, why_report, why_dropped, kept, noted}
 use Rattle.node_rules.specs.Changes.{start_by_sync, promised_for, adopts_by, is_adoptable, adoption, adopts, stop_for, asks_next, joining, joins, report_of, reported_by, next_promise, promising, promise_next, promises, leading, lead_with, leads, is_pressed, timing, passes_on, presses, times}
-use Rattle.node_rules.specs.Steps.{step_of, released, opened}
+use Rattle.node_rules.specs.Steps.{step_of, released, opened, outset}
 use Rattle.node_rules.specs.declared.node.Why.TheVariants.{NotLeader, BadProof}
 use Rattle.node_rules.specs.declared.node.Held.{Held}
 use Rattle.node_rules.specs.declared.node.Target.{Target}
@@ -110,7 +111,7 @@ abbrev pub FitsProposed : List ℕ → ℕ → Batch → Type 0
 FitsProposed secret place batch = FitsAt place batch × AreVerified secret batch
 
 -- a line of the table that a reply can state
-pub record FitsLine (line : TableLine) : Type 0 where
+pub record FitsLine (line : Execution) : Type 0 where
   pub view : line.view < 2 ^ 32
   pub place : IsCount line.place
   pub index : line.index < 2 ^ 16
@@ -164,7 +165,7 @@ pub record FitNode {S : Type 0} (m : Meaning S) (secret : List ℕ) (n : Node S)
   pub view : is_view (view_of n) ≡ true
   pub views : Each (λ v. is_view v ≡ true) n.replica.views
   pub regency : regency_of n < 2 ^ 32
-  pub lines : Each FitsLine n.replica.table
+  pub lines : Each FitsLine (kept_in n.replica.table)
   pub pool : Each (FitsPool secret) n.pool
   pub arrivals : Each (FitsArrival secret) n.arrivals
   pub told : Each (FitsReported secret) n.reports
@@ -257,14 +258,14 @@ fit-recording : {S : Type 0} {m : Meaning S} (secret : List ℕ) (n : Node S) (e
 fit-recording secret n e quiet fit is = fit-book secret n (e ∷ []) (let low = is.regency in let same = regency-quiet n e quiet in omega (arith, same, low)) (fit, tt) is
 
 -- a reply has a spelling
-line-good : (secret own : List ℕ) (id : ℕ) (line : TableLine) → own ≡ secret → IsSigner 1 id → FitsLine line → IsGood secret (reply_of own id line)
+line-good : (secret own : List ℕ) (id : ℕ) (line : Execution) → own ≡ secret → IsSigner 1 id → FitsLine line → IsGood secret (reply_of own id line)
 line-good secret own id line shared named fit =
     subst (λ (s : List ℕ). IsGood secret (reply_of s id line)) (sym shared)
     (reply-good secret id (record { view = line.view; place = line.place; index = line.index; client = line.client; seq = line.seq; reply = line.reply }) named
     (record { view_fits = fit.view; place_fits = fit.place; index_fits = fit.index; client_fits = fit.client; seq_fits = fit.seq; reply_fits = fit.reply }))
 
 -- replies wait to leave
-fit-replying : {S : Type 0} {m : Meaning S} (secret : List ℕ) (n : Node S) (lines : List TableLine) → Each FitsLine lines → FitNode m secret n → FitNode m secret (replying n lines)
+fit-replying : {S : Type 0} {m : Meaning S} (secret : List ℕ) (n : Node S) (lines : List Execution) → Each FitsLine lines → FitNode m secret n → FitNode m secret (replying n lines)
 fit-replying secret n [] each is = is
 fit-replying secret n (l ∷ ls) each is =
     fit-replying secret (holding n (targets.Client l.client) (reply_of n.secret n.id l)) ls each.1
@@ -458,7 +459,7 @@ unfolding noted
 fit-noted secret n message is = fit-as secret n n.firm n.proposed n.stop_made n.sync_made n.impatient _ is
 
 -- a node answers again
-fit-answer_line : {S : Type 0} {m : Meaning S} (secret : List ℕ) (n : Node S) (line : Option TableLine) → ForLine line FitsLine → FitNode m secret n → FitNode m secret (answer_line n line)
+fit-answer_line : {S : Type 0} {m : Meaning S} (secret : List ℕ) (n : Node S) (line : Option Execution) → ForLine line FitsLine → FitNode m secret n → FitNode m secret (answer_line n line)
 unfolding answer_line
 fit-answer_line secret n None fit is = is
 fit-answer_line secret n (Some line) fit is =
@@ -483,7 +484,7 @@ brief_where m valid first next restored brief s op is = brief s op (comes_valid 
 line_made-fits : {S : Type 0} (m : Meaning S) → IsBrief m → (r : Replica S) (index : ℕ) (q : SignedBy Request) → (present r.views).number < 2 ^ 32 → IsCount r.place → index < 2 ^ 16 → Comes m r.service
     → FitsSigned requests FitsRequest q → Each FitsLine (option_to_list (line_made m r index q.statement))
 line_made-fits m brief r index q view place low come fit =
-    either (λ (line : Option TableLine). Each FitsLine (option_to_list line)) (is_next r.table q.statement) (Some (line_of m r index q.statement)) None (
+    either (λ (line : Option Execution). Each FitsLine (option_to_list line)) (is_next r.table q.statement) (Some (line_of m r index q.statement)) None (
       record {
         view = view;
         place = place;
@@ -517,7 +518,7 @@ executed_lines-fit m brief n batch view fit come =
 lines_to_answer-fit : {S : Type 0} (m : Meaning S) → IsBrief m → (n : Node S) (batch : Batch) → (view_of n).number < 2 ^ 32 → FitsAt (next_place n) batch → Comes m n.replica.service
     → Each FitsLine (lines_to_answer m n batch)
 lines_to_answer-fit m brief n batch view fit come =
-    either (λ (lines : List TableLine). Each FitsLine lines) (is_member (view_of n) n.id) (executed_lines m n.replica batch) [] (executed_lines-fit m brief n batch view fit come) tt
+    either (λ (lines : List Execution). Each FitsLine lines) (is_member (view_of n) n.id) (executed_lines m n.replica batch) [] (executed_lines-fit m brief n batch view fit come) tt
 
 -- a batch is delivered
 delivered-view : {S : Type 0} (m : Meaning S) (r : Replica S) (batch : Batch) → present (delivered m r batch).views ≡ present r.views
@@ -814,7 +815,7 @@ fit-promised secret n low is =
     omega (arith, grown, own, old)) (tt, tt) is
 
 fit-promise_next : {S : Type 0} {m : Meaning S} (secret : List ℕ) (n : Node S) → regency_of n + 1 < 2 ^ 32 → FitNode m secret n → FitNode m secret (promise_next n)
-unfolding promise_next
+unfolding promise_next reported_by
 fit-promise_next {S = S} secret n low is =
     let x : Node S = recording n (entries.Promised (next_promise n)) in
     let y : Node S = record x { stop_made = false; sync_made = false; impatient = true } in
@@ -1156,16 +1157,17 @@ fit-rules secret m = record {
   by_writes = λ n is. fit-writes secret n is;
   by_accepts = λ n is. fit-accepts secret n is;
   by_decides = λ n is. fit-decides secret n is;
+  by_times = λ n is. fit-times secret n is;
+  by_answers = λ n message is. fit-answers_again secret n message is;
 }
 
 fit-in_steps : {S : Type 0} (secret : List ℕ) (m : Meaning S) → IsBrief m → KeptInSteps m (λ n. FitNode m secret n) Fits
 fit-in_steps secret m brief = record {
   by_rules = fit-rules secret m;
-  by_times = λ n is. fit-times secret n is;
-  by_answers = λ n message is. fit-answers_again secret n message is;
   by_noted = λ n message is. fit-noted secret n message is;
   by_kept = λ n message fine fit is. fit-kept secret n message fine fit is;
   by_delivers = λ n is. fit-delivers secret m brief n is;
+  by_firm = λ x count good. fit-as secret x count x.proposed x.stop_made x.sync_made x.impatient x.behind good;
 }
 
 -- what comes has a spelling
@@ -1175,7 +1177,7 @@ FitsEvent event = ForEvent Fits event
 -- each event keeps that what a node holds has a spelling
 pub fit-step : {S : Type 0} (secret : List ℕ) (m : Meaning S) → IsBrief m → (n : Node S) (event : NodeEvent) → FitsEvent event → FitNode m secret n → FitNode m secret (step_of m n event).node
 fit-step secret m brief n event fit is =
-    keeps_step m (λ x. FitNode m secret x) Fits n event (fit-in_steps secret m brief) (λ x count good. fit-as secret x count x.proposed x.stop_made x.sync_made x.impatient x.behind good) fit is
+    keeps_step m (λ x. FitNode m secret x) Fits n event (fit-in_steps secret m brief) fit is
 
 -- what is firm has left
 pub fit-released : {S : Type 0} {m : Meaning S} (secret : List ℕ) (n : Node S) → FitNode m secret n → FitNode m secret (released n)
@@ -1199,7 +1201,7 @@ fit-released secret n is =
     }
 
 -- a node begins so
-pub fit-opened : {S : Type 0} (secret : List ℕ) (m : Meaning S) (id : ℕ) (view : View) (period : ℕ) → IsSigner 1 id → is_view view ≡ true → FitNode m secret (opened m secret id view period)
+pub fit-opened : {S : Type 0} (secret : List ℕ) (m : Meaning S) (id : ℕ) (view : View) (period : ℕ) → IsSigner 1 id → is_view view ≡ true → FitNode m secret (opened (outset m secret id view period))
 unfolding regency_of
 fit-opened secret m id view period named is =
     record {
@@ -1237,9 +1239,9 @@ fit_after secret m brief n [] each is = is
 fit_after secret m brief n (e ∷ es) each is = fit_after secret m brief (step_of m n e).node es each.1 (fit-step secret m brief n e (event-fits e each.0) is)
 
 pub holds_genuine : {S : Type 0} (m : Meaning S) → IsBrief m → (secret : List ℕ) (id : ℕ) (view : View) (period : ℕ) (events : List NodeEvent) → IsSigner 1 id → is_view view ≡ true → Each IsByteEvent events
-    → HoldsGenuine (node_after m (opened m secret id view period) events)
+    → HoldsGenuine (node_after m (opened (outset m secret id view period)) events)
 holds_genuine {S = S} m brief secret id view period events named viewed each =
-    let n : Node S = node_after m (opened m secret id view period) events in
-    let fit : FitNode m secret n = fit_after secret m brief (opened m secret id view period) events each (fit-opened secret m id view period named viewed) in
+    let n : Node S = node_after m (opened (outset m secret id view period)) events in
+    let fit : FitNode m secret n = fit_after secret m brief (opened (outset m secret id view period)) events each (fit-opened secret m id view period named viewed) in
     each-weaken (λ (h : Held). IsGood secret h.message) (λ (h : Held). IsGenuine n.secret h.message)
     (λ h good. subst (λ (s : List ℕ). IsGenuine s h.message) (sym fit.shared) (good-genuine secret h.message good)) n.held fit.held

@@ -1,6 +1,7 @@
 -- A node keeps its name, and decides one batch at a time.
-use Rattle.std.proofs.Common.{◌≡◌, ℕ, ◌+◌, ◌≤◌, ◌++◌, Bool, true, false, List, [], ◌∷◌, length, refl, ap, ◌∙◌, arith, Option, Some, None, length-append, Result, Ok, Err}
-use Rattle.std.specs.List.{flat_map}
+use Rattle.std.proofs.Common.{◌≡◌, ℕ, ◌+◌, ◌≤◌, ◌++◌, Bool, true, false, List, [], ◌∷◌, length, refl, ap, ◌∙◌, arith, Option, Some, None, is_some, nat_lt, length-append, append-nil}
+use Rattle.std.specs.List.{cons_option, flat_map}
+use Rattle.agreement_laws.proofs.Lists.{either}
 use Rattle.std.proofs.lemmas.Grind.{flat_map-append}
 use Rattle.smart_base.specs.Lists.{Each}
 use Rattle.smart_statements.specs.Forms.{SignedBy}
@@ -11,31 +12,32 @@ use Rattle.smart_messages.specs.declared.message.Message.{Message}
 use Rattle.smart_statements.specs.declared.entry.NodeEvent.{NodeEvent}
 use Rattle.smart_statements.specs.declared.entry.NodeEvent.TheVariants.{Arrive, Tick, Deliver, Firm}
 use Rattle.smart_service.specs.Services.{Meaning}
-use Rattle.smart_service.specs.declared.table.TableLine.{TableLine}
+use Rattle.smart_service.specs.declared.table.Execution.{Execution}
 use Rattle.vote_book.specs.declared.entry.Decision.{Decision}
 use Rattle.vote_book.specs.declared.entry.LogEntry.TheVariants.{Decided}
 use Rattle.replica_rules.specs.Replicas.{delivered, executed_lines}
 use Rattle.replica_rules.specs.Pools.{settled}
-use Rattle.node_rules.specs.Rules.{reply_of, replying, lines_to_answer, deliver_batch, delivers, delivery, proposing, proposes, writing, writes, accepting, deciding, decide_batch, decides, fired_if, answering, answers_again, asked_in}
+use Rattle.node_rules.specs.Rules.{reply_of, replying, lines_to_answer, deliver_batch, delivers, delivery, proposing, proposes, writing, writes, accepting, accepts, deciding, decide_batch, decides, fired_if, answering, answers_again, asked_in}
 use Rattle.node_rules.specs.declared.node.Delivery.{Delivery}
 use Rattle.node_rules.specs.Nodes.{Node, next_place, holding}
 use Rattle.node_rules.specs.Arrivals.{why_dropped, kept, noted}
-use Rattle.node_rules.specs.Changes.{fired_when, fired_adopt, adoption, adopts, joining, joins, next_promise, promising, promises, leading, timing, times}
-use Rattle.node_rules.specs.Steps.{made_firm, turns, fired_turns, votes, fired_votes, passes, fired_pass, arrival_outcome, reading_outcome, step_of}
+use Rattle.node_rules.specs.Changes.{fired_when, fired_adopt, adoption, adopts, joining, joins, next_promise, promising, promises, leading, leads, timing, times}
+use Rattle.node_rules.specs.Steps.{Taken, row, deliver_row, rules, pass, takes_in, step_of}
 use Rattle.node_rules.specs.Kept.{node_after}
-use Rattle.node_rules.specs.declared.node.Why.{Why}
+use Rattle.node_rules.specs.declared.node.Cause.{Cause}
+use Rattle.node_rules.specs.declared.node.Cause.TheVariants.{Ticked, Came}
 use Rattle.node_rules.specs.declared.node.Target.TheVariants as targets
 use Rattle.node_rules.specs.declared.node.Fired.{Fired}
 use Rattle.node_rules.specs.declared.node.Fired.TheVariants as fires
 use Rattle.node_rules.specs.Deliveries.{delivery_in}
 use Rattle.node_rules.specs.Reopening.{decided_of}
-use Rattle.replica_laws.proofs.Once.{entries-arrives}
 use Rattle.node_laws.proofs.Restored.{decided_append}
 use Rattle.replica_laws.proofs.InOrder.{decided-adopts, decided-promises, decided-writes, decided-accepts}
 use Rattle.replica_laws.proofs.Leaves.{leaves-adopts, leaves-joins, leaves-promises, leaves-leads, leaves-proposes, leaves-writes, leaves-accepts, leaves-times, leaves-answers_again, leaves-noted, leaves-kept}
-use Rattle.node_rules.proofs.Rulewise.{KeptByRules, KeptInSteps, free-event, keeps_step}
-use Rattle.agreement_laws.proofs.Lists.{each_append}
-use Rattle.node_rules.proofs.Entries.{noted_same, answers_again_same, delivers_same, joins_same, leads_same, proposes_same, times_same}
+use Rattle.node_rules.proofs.Rulewise.{RowKeeps, KeptByRules, KeptInSteps, free-event, by_delivery, by_time, by_answer, later_rows, for_later, keeps_behind, by_step, takes_in_as, keeps_from, keeps_step}
+use Rattle.smart_base.proofs.ViewFacts.{each-weaken}
+use Rattle.kept_arrivals.proofs.Rules.{decides_free}
+use Rattle.node_rules.proofs.Entries.{answers_again_same, delivers_same, joins_same, leads_same, proposes_same, takes_in_same, times_same}
 use Rattle.node_rules.specs.declared.node.Asked.{Asked}
 
 -- the same member's node
@@ -47,7 +49,7 @@ follows-same : {S : Type 0} (n : Node S) → Follows n n
 follows-same n = refl
 
 -- held replies keep its name
-follows-replying : {S : Type 0} (n : Node S) (lines : List TableLine) → Follows n (replying n lines)
+follows-replying : {S : Type 0} (n : Node S) (lines : List Execution) → Follows n (replying n lines)
 follows-replying n [] = follows-same n
 follows-replying n (l ∷ ls) = follows-replying (holding n (targets.Client l.client) (reply_of n.secret n.id l)) ls
 
@@ -85,21 +87,22 @@ follows-rules a = record {
   by_writes = λ n is. (leaves-writes n).named ∙ is;
   by_accepts = λ n is. (leaves-accepts n).named ∙ is;
   by_decides = λ n is. follows-decides n ∙ is;
+  by_times = λ n is. (leaves-times n).named ∙ is;
+  by_answers = λ n asked is. (leaves-answers_again n asked).named ∙ is;
 }
 
 follows-in_steps : {S : Type 0} (m : Meaning S) (a : Node S) → KeptInSteps m (λ n. Follows a n) (λ message. Unit {0})
 follows-in_steps m a = record {
   by_rules = follows-rules a;
-  by_times = λ n is. (leaves-times n).named ∙ is;
-  by_answers = λ n message is. (leaves-answers_again n message).named ∙ is;
   by_noted = λ n message is. (leaves-noted n message).named ∙ is;
   by_kept = λ n message fine may is. (leaves-kept n message).named ∙ is;
   by_delivers = λ n is. follows-delivers m n ∙ is;
+  by_firm = λ x count is. is;
 }
 
 -- a step
 pub follows-step : {S : Type 0} (m : Meaning S) (n : Node S) (event : NodeEvent) → Follows n (step_of m n event).node
-follows-step m n event = keeps_step m (λ x. Follows n x) (λ message. Unit {0}) n event (follows-in_steps m n) (λ x count is. is) (free-event event) refl
+follows-step m n event = keeps_step m (λ x. Follows n x) (λ message. Unit {0}) n event (follows-in_steps m n) (free-event event) refl
 
 -- whatever comes
 pub follows_after : {S : Type 0} (m : Meaning S) (n : Node S) (events : List NodeEvent) → Follows n (node_after m n events)
@@ -107,77 +110,56 @@ follows_after m n [] = refl
 follows_after m n (e ∷ es) = follows_after m (step_of m n e).node es ∙ follows-step m n e
 
 -- at most one batch more is decided, and then it waits
-pub record DecidesNext {S : Type 0} (n n' : Node S) : Type 0 where
-  pub most : length (decided_of n'.entries) ≤ length (decided_of n.entries) + 1
-  pub rest : n'.waiting ≡ None → length (decided_of n'.entries) ≤ length (decided_of n.entries)
-
--- who changes the regency decides nothing
-decided-turns : {S : Type 0} (n : Node S) → decided_of (turns n).entries ≡ decided_of n.entries
-unfolding turns
-decided-turns {S = S} n =
-    let a : Node S = adopts n in
-    let j : Node S = joins a in
-    let p : Node S = promises j in
-    ap decided_of (leads_same p) ∙ (decided-promises j ∙ (ap decided_of (joins_same a) ∙ decided-adopts n))
-
--- who votes decides nothing
-decided-votes : {S : Type 0} (n : Node S) → decided_of (votes n).entries ≡ decided_of n.entries
-unfolding votes
-decided-votes n = decided-accepts (writes (proposes n)) ∙ (decided-writes (proposes n) ∙ ap decided_of (proposes_same n))
+pub record DecidesNext {S : Type 0} (past : ℕ) (n n' : Node S) : Type 0 where
+  pub most : length (decided_of past n'.entries) ≤ length (decided_of past n.entries) + 1
+  pub rest : n'.waiting ≡ None → length (decided_of past n'.entries) ≤ length (decided_of past n.entries)
 
 -- a node that decides nothing
-next-same : {S : Type 0} (n n' : Node S) → decided_of n'.entries ≡ decided_of n.entries → DecidesNext n n'
-next-same n n' same = let e = ap (λ (bs : List Batch). length bs) same in record { most = omega (arith, e); rest = λ is. omega (arith, e) }
+next-same : {S : Type 0} (past : ℕ) (n n' : Node S) → decided_of past n'.entries ≡ decided_of past n.entries → DecidesNext past n n'
+next-same past n n' same = let e = ap (λ (bs : List Batch). length bs) same in record { most = omega (arith, e); rest = λ is. omega (arith, e) }
 
--- a node that decides has its batch wait
-next-decide_batch : {S : Type 0} (n : Node S) (decision : Option Decision) → DecidesNext n (decide_batch n decision)
-unfolding decide_batch
-next-decide_batch n None = next-same n n refl
-next-decide_batch n (Some d) =
-    let more = decided_append n.entries (Decided d ∷ []) in
-    let e = ap (λ (bs : List Batch). length bs) more ∙ length-append (decided_of n.entries) (d.batch ∷ []) in
-    record { most = omega (arith, e); rest = λ is. absurd (cc) }
-
--- a node with the same decided batches before it
-next-after : {S : Type 0} (a b c : Node S) → decided_of b.entries ≡ decided_of a.entries → DecidesNext b c → DecidesNext a c
-next-after a b c same next =
+-- a rule that decides nothing and leaves the batch that waits
+next-as : {S : Type 0} (past : ℕ) (a n n' : Node S) → decided_of past n'.entries ≡ decided_of past n.entries → n'.waiting ≡ n.waiting → DecidesNext past a n → DecidesNext past a n'
+next-as past a n n' same waits next =
     let e = ap (λ (bs : List Batch). length bs) same in
-    record { most = omega (arith, e, next.most); rest = λ is. omega (arith, e, next.rest is) }
-
--- a node with the same decided batches and the same batch that waits behind it
-next-before : {S : Type 0} (a b c : Node S) → c.entries ≡ b.entries → c.waiting ≡ b.waiting → DecidesNext a b → DecidesNext a c
-next-before a b c same waits next =
-    let e = ap (λ (bs : List Batch). length bs) (ap decided_of same) in
     record { most = omega (arith, e, next.most); rest = λ is. omega (arith, e, next.rest (rw waits at is)) }
 
--- a pass decides one batch at most
-next-passes : {S : Type 0} (n : Node S) → DecidesNext n (passes n)
-unfolding passes decides
-next-passes n = next-after n (votes (turns n)) (passes n) (decided-votes (turns n) ∙ decided-turns n) (next-decide_batch (votes (turns n)) (deciding (votes (turns n))))
+-- a node that decides had none that waited, and has its batch wait
+next-decide_batch : {S : Type 0} (past : ℕ) (a n : Node S) (decision : Option Decision) → (is_some decision ≡ true → n.waiting ≡ None) → DecidesNext past a n → DecidesNext past a (decide_batch n decision)
+unfolding decide_batch
+next-decide_batch past a n None free next = next
+next-decide_batch past a n (Some d) free next =
+    let more = decided_append past n.entries (Decided d ∷ []) in
+    let e = ap (λ (bs : List Batch). length bs) more ∙ length-append (decided_of past n.entries) (decided_of past (Decided d ∷ [])) in
+    let one : length (decided_of past (Decided d ∷ [])) ≤ 1 =
+    either (λ (o : Option Batch). length (cons_option o []) ≤ 1) (nat_lt past d.slot.place) (Some d.batch) None (omega arith) (omega arith) in
+    record { most = omega (arith, e, one, next.rest (free refl)); rest = λ is. absurd (cc) }
 
--- an answer again decides nothing
-next-answers_again : {S : Type 0} (n x : Node S) (asked : Option Asked) → DecidesNext n x → DecidesNext n (answers_again x asked)
-next-answers_again n x asked next = next-before n x (answers_again x asked) (answers_again_same x asked) (leaves-answers_again x asked).waits next
+next-decides : {S : Type 0} (past : ℕ) (a n : Node S) → DecidesNext past a n → DecidesNext past a (decides n)
+unfolding decides
+next-decides past a n next = next-decide_batch past a n (deciding n) (decides_free n) next
 
--- so does an arrival
-next-arrival : {S : Type 0} (n : Node S) (message : Message) (why : Option Why) → DecidesNext n (arrival_outcome n message why).node
-next-arrival {S = S} n message None =
-    let k : Node S = kept (noted n message) message in
-    next-answers_again n (passes k) (asked_in message) (next-after n k (passes k) (ap decided_of (entries-arrives n message)) (next-passes k))
-next-arrival n message (Some why) = next-same n (noted n message) (ap decided_of (noted_same n message))
-
--- so do bytes that come
-next-reading : {S : Type 0} (n : Node S) (read : Result Message ℕ) → DecidesNext n (reading_outcome n read).node
-next-reading n (Ok message) = next-arrival n message (why_dropped n message)
-next-reading n (Err at) = next-same n n refl
+-- the rules behind a delivery decide one batch at most
+next-rules : {S : Type 0} (past : ℕ) (a : Node S) → KeptByRules (λ n. DecidesNext past a n)
+next-rules past a = record {
+  by_adopts = λ n is. next-as past a n (adopts n) (decided-adopts past n) (leaves-adopts n).waits is;
+  by_joins = λ n is. next-as past a n (joins n) (ap (decided_of past) (joins_same n)) (leaves-joins n).waits is;
+  by_promises = λ n is. next-as past a n (promises n) (decided-promises past n) (leaves-promises n).waits is;
+  by_leads = λ n is. next-as past a n (leads n) (ap (decided_of past) (leads_same n)) (leaves-leads n).waits is;
+  by_proposes = λ n is. next-as past a n (proposes n) (ap (decided_of past) (proposes_same n)) (leaves-proposes n).waits is;
+  by_writes = λ n is. next-as past a n (writes n) (decided-writes past n) (leaves-writes n).waits is;
+  by_accepts = λ n is. next-as past a n (accepts n) (decided-accepts past n) (leaves-accepts n).waits is;
+  by_decides = λ n is. next-decides past a n is;
+  by_times = λ n is. next-as past a n (times n) (ap (decided_of past) (times_same n)) (leaves-times n).waits is;
+  by_answers = λ n asked is. next-as past a n (answers_again n asked) (ap (decided_of past) (answers_again_same n asked)) (leaves-answers_again n asked).waits is;
+}
 
 -- so does a step
-pub next-step : {S : Type 0} (m : Meaning S) (n : Node S) (event : NodeEvent) → DecidesNext n (step_of m n event).node
-unfolding step_of
-next-step m n (Arrive bytes) = next-reading n (decoded bytes)
-next-step m n Tick = next-before n (passes n) (times (passes n)) (times_same (passes n)) (leaves-times (passes n)).waits (next-passes n)
-next-step m n Deliver = next-after n (delivers m n) (passes (delivers m n)) (ap decided_of (delivers_same m n)) (next-passes (delivers m n))
-next-step m n (Firm count) = next-after n (made_firm n count) (passes (made_firm n count)) refl (next-passes (made_firm n count))
+pub next-step : {S : Type 0} (m : Meaning S) (past : ℕ) (n : Node S) (event : NodeEvent) → DecidesNext past n (step_of m n event).node
+next-step {S = S} m past n event =
+    let t : Node S = (takes_in n event).node in
+    keeps_from m (λ (x : Node S). DecidesNext past n x) n event (next-rules past n) (next-same past n t (ap (decided_of past) (takes_in_same n event)))
+    (next-same past n (delivers m t) (ap (decided_of past) (delivers_same m t ∙ takes_in_same n event)))
 
 -- what a step delivers is the batch that waited, at the next place
 
@@ -187,74 +169,87 @@ pub record WasDue {S : Type 0} (m : Meaning S) (n : Node S) (d : Delivery) : Typ
   pub place : d.place ≡ next_place n
   pub executed : d.executed ≡ length (executed_lines m n.replica d.batch)
 
--- fired rules that deliver no other
-abbrev AllDue : {S : Type 0} → Meaning S → Node S → List Fired → Type 0
-AllDue m n fired = Each (WasDue m n) (flat_map delivery_in fired)
+-- rules that fire behind others and deliver nothing
+pub quiet-behind : (fired more : List Fired) → flat_map delivery_in more ≡ [] → flat_map delivery_in (fired ++ more) ≡ flat_map delivery_in fired
+quiet-behind fired more none =
+    flat_map-append delivery_in fired more ∙ (ap (λ (ds : List Delivery). flat_map delivery_in fired ++ ds) none ∙ append-nil (flat_map delivery_in fired))
 
--- rules that fire one after the other
-due-append : {S : Type 0} (m : Meaning S) (n : Node S) (xs ys : List Fired) → AllDue m n xs → AllDue m n ys → AllDue m n (xs ++ ys)
-due-append m n xs ys dx dy = rw flat_map-append (each_append (WasDue m n) (flat_map delivery_in xs) (flat_map delivery_in ys) dx dy)
+quiet-if : {A : Type 0} (rule : Fired) (x : Option A) → delivery_in rule ≡ [] → flat_map delivery_in (fired_if rule x) ≡ []
+quiet-if rule None none = refl
+quiet-if rule (Some x) none = rw none refl
+
+quiet-when : (rule : Fired) (b : Bool) → delivery_in rule ≡ [] → flat_map delivery_in (fired_when rule b) ≡ []
+quiet-when rule true none = rw none refl
+quiet-when rule false none = refl
+
+quiet-adopt : (sync : Option (SignedBy Sync)) → flat_map delivery_in (fired_adopt sync) ≡ []
+quiet-adopt None = refl
+quiet-adopt (Some sync) = refl
+
+-- what has been delivered
+abbrev Told : {S : Type 0} → List Delivery → Node S → List Fired → Type 0
+Told ds n fired = flat_map delivery_in fired ≡ ds
 
 -- a rule that delivers nothing
-due-if : {S A : Type 0} (m : Meaning S) (n : Node S) (rule : Fired) (x : Option A) → delivery_in rule ≡ [] → AllDue m n (fired_if rule x)
-due-if m n rule None none = tt
-due-if m n rule (Some x) none = rw none tt
+quiet-row : {S : Type 0} (ds : List Delivery) (rule : Node S → Node S) (tells : Node S → List Fired) → ((n : Node S) → flat_map delivery_in (tells n) ≡ []) → RowKeeps (Told ds) (row rule tells)
+quiet-row ds rule tells none n cause fired is = quiet-behind fired (tells n) (none n) ∙ is
 
-due-when : {S : Type 0} (m : Meaning S) (n : Node S) (rule : Fired) (b : Bool) → delivery_in rule ≡ [] → AllDue m n (fired_when rule b)
-due-when m n rule true none = rw none tt
-due-when m n rule false none = tt
+-- the rules behind a delivery deliver nothing
+quiet-later : (S : Type 0) (ds : List Delivery) → Each (RowKeeps {S = S} (Told ds)) later_rows
+quiet-later S ds =
+    for_later (RowKeeps {S = S} (Told ds))
+    (record {
+      adopt = quiet-row ds adopts _ (λ n. quiet-adopt (adoption n));
+      join = quiet-row ds joins _ (λ n. quiet-when fires.Joined (joining n) refl);
+      promise = quiet-row ds promises _ (λ n. quiet-when (fires.Promised (next_promise n)) (promising n) refl);
+      lead = quiet-row ds leads _ (λ n. quiet-if fires.Led (leading n) refl);
+      propose = quiet-row ds proposes _ (λ n. quiet-if fires.Proposed (proposing n) refl);
+      write = quiet-row ds writes _ (λ n. quiet-if fires.Wrote (writing n) refl);
+      accept = quiet-row ds accepts _ (λ n. quiet-if fires.Accepted (accepting n) refl);
+      decide = quiet-row ds decides _ (λ n. quiet-if (fires.Decided (next_place n)) (deciding n) refl);
+      time = λ n cause fired is.
+          by_time (Told ds) n cause fired is (quiet-row ds times (λ x. fired_when fires.Timed (timing x)) (λ x. quiet-when fires.Timed (timing x) refl) n Ticked fired is);
+      answer = λ n cause fired is.
+          by_answer (Told ds) n cause fired is
+          (λ asked. quiet-row ds (λ x. answers_again x asked) (λ x. fired_if fires.Answered (answering x asked)) (λ x. quiet-if fires.Answered (answering x asked) refl) n (Came asked) fired is);
+    })
 
-due-adopt : {S : Type 0} (m : Meaning S) (n : Node S) (sync : Option (SignedBy Sync)) → AllDue m n (fired_adopt sync)
-due-adopt m n None = tt
-due-adopt m n (Some sync) = tt
+-- so a pass delivers what its first row delivers
+pub told-passed : {S : Type 0} (m : Meaning S) (n : Node S) (cause : Cause) (fired : List Fired)
+    → flat_map delivery_in (pass (rules m) n cause fired).1 ≡ flat_map delivery_in (deliver_row m n cause fired).1
+told-passed {S = S} m n cause fired =
+    let ds : List Delivery = flat_map delivery_in (deliver_row m n cause fired).1 in
+    keeps_behind m (Told ds) n cause fired (quiet-later S ds) refl
 
--- changes of the regency deliver nothing
-due-turns : {S : Type 0} (m : Meaning S) (n x : Node S) → AllDue m n (fired_turns x)
-unfolding fired_turns
-due-turns m n x =
-    due-append m n (fired_adopt (adoption x)) _ (due-adopt m n (adoption x))
-    (due-append m n (fired_when fires.Joined (joining (adopts x))) _ (due-when m n fires.Joined (joining (adopts x)) refl)
-    (due-append m n (fired_when (fires.Promised (next_promise (joins (adopts x)))) (promising (joins (adopts x)))) _
-    (due-when m n (fires.Promised (next_promise (joins (adopts x)))) (promising (joins (adopts x))) refl)
-    (due-if m n fires.Led (leading (promises (joins (adopts x)))) refl)))
+-- what takes an event in leaves the replica, and the batch that waits
+pub record Waits {S : Type 0} (n n' : Node S) : Type 0 where
+  pub replica_is : n'.replica ≡ n.replica
+  pub waits : n'.waiting ≡ n.waiting
 
--- nor do votes
-due-votes : {S : Type 0} (m : Meaning S) (n x : Node S) → AllDue m n (fired_votes x)
-unfolding fired_votes
-due-votes m n x =
-    due-append m n (fired_if fires.Proposed (proposing x)) _ (due-if m n fires.Proposed (proposing x) refl)
-    (due-append m n (fired_if fires.Wrote (writing (proposes x))) _ (due-if m n fires.Wrote (writing (proposes x)) refl) (due-if m n fires.Accepted (accepting (writes (proposes x))) refl))
+pub waits-takes_in : {S : Type 0} (n : Node S) (event : NodeEvent) → Waits n (takes_in n event).node
+waits-takes_in {S = S} n event =
+    takes_in_as (λ (x : Node S). Waits n x) (λ message. Unit {0}) n event
+    (λ message. record { replica_is = (leaves-noted n message).replica_is; waits = (leaves-noted n message).waits })
+    (λ message none may.
+    let l = leaves-kept (noted n message) message in
+    record { replica_is = l.replica_is ∙ (leaves-noted n message).replica_is; waits = l.waits ∙ (leaves-noted n message).waits })
+    (λ count. record { replica_is = refl; waits = refl }) (free-event event) (record { replica_is = refl; waits = refl })
 
--- a pass delivers nothing
-pub due-pass : {S : Type 0} (m : Meaning S) (n x : Node S) → AllDue m n (fired_pass x)
-unfolding fired_pass
-due-pass m n x =
-    due-append m n (fired_turns x) _ (due-turns m n x)
-    (due-append m n (fired_votes (turns x)) _ (due-votes m n (turns x))
-    (due-if m n (fires.Decided (next_place (votes (turns x)))) (deciding (votes (turns x))) refl))
-
--- an arrival delivers nothing
-due-arrival : {S : Type 0} (m : Meaning S) (n : Node S) (message : Message) (why : Option Why) → AllDue m n (arrival_outcome n message why).fired
-due-arrival {S = S} m n message None =
-    let k : Node S = kept (noted n message) message in
-    due-append m n (fired_pass k) (fired_if fires.Answered (answering (passes k) (asked_in message))) (due-pass m n k) (due-if m n fires.Answered (answering (passes k) (asked_in message)) refl)
-due-arrival m n message (Some why) = tt
-
--- nor do bytes that come
-due-reading : {S : Type 0} (m : Meaning S) (n : Node S) (read : Result Message ℕ) → AllDue m n (reading_outcome n read).fired
-due-reading m n (Ok message) = due-arrival m n message (why_dropped n message)
-due-reading m n (Err at) = tt
+-- what is due at a node is due at one with the same replica and the same batch that waits
+due-as : {S : Type 0} (m : Meaning S) (n n' : Node S) (d : Delivery) → Waits n n' → WasDue m n' d → WasDue m n d
+due-as m n n' d same due = record { batch = rw (← same.waits) due.batch; place = rw (← same.replica_is) due.place; executed = rw (← same.replica_is) due.executed }
 
 -- a delivery delivers what waited
-due-delivery : {S : Type 0} (m : Meaning S) (n : Node S) (batch : Option Batch) → n.waiting ≡ batch → AllDue m n (delivery m n batch)
+due-delivery : {S : Type 0} (m : Meaning S) (n : Node S) (batch : Option Batch) → n.waiting ≡ batch → Each (WasDue m n) (flat_map delivery_in (delivery m n batch))
 unfolding delivery
 due-delivery m n None at = tt
 due-delivery m n (Some batch) at = (record { batch = at; place = refl; executed = refl }, tt)
 
 -- a step delivers what waited at most
 pub due-step : {S : Type 0} (m : Meaning S) (n : Node S) (event : NodeEvent) → Each (WasDue m n) (flat_map delivery_in (step_of m n event).fired)
-unfolding step_of
-due-step m n (Arrive bytes) = due-reading m n (decoded bytes)
-due-step m n Tick = due-append m n (fired_pass n) (fired_when fires.Timed (timing (passes n))) (due-pass m n n) (due-when m n fires.Timed (timing (passes n)) refl)
-due-step m n Deliver = due-append m n (delivery m n n.waiting) (fired_pass (delivers m n)) (due-delivery m n n.waiting refl) (due-pass m n (delivers m n))
-due-step m n (Firm count) = due-pass m n (made_firm n count)
+due-step {S = S} m n event =
+    let t : Taken S = takes_in n event in
+    by_step m n event (λ (x : Node S) (told : List Fired). Each (WasDue m n) (flat_map delivery_in told)) tt
+    (rw (told-passed m t.node t.cause [])
+    (by_delivery m (λ (x : Node S) (told : List Fired). Each (WasDue m n) (flat_map delivery_in told)) t.node t.cause [] tt
+    (each-weaken (WasDue m t.node) (WasDue m n) (λ d due. due-as m n t.node d (waits-takes_in n event) due) _ (due-delivery m t.node t.node.waiting refl))))

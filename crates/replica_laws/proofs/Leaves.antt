@@ -8,7 +8,7 @@ use Rattle.smart_messages.specs.declared.regency.Sync.{Sync}
 use Rattle.smart_messages.specs.declared.message.Message.TheVariants.{Ask, Reply}
 use Rattle.smart_messages.specs.declared.message.Proposed.{Proposed}
 use Rattle.smart_messages.specs.declared.message.Message.{Message}
-use Rattle.smart_service.specs.declared.table.TableLine.{TableLine}
+use Rattle.smart_service.specs.declared.table.Execution.{Execution}
 use Rattle.replica_rules.specs.Replicas.{is_next}
 use Rattle.replica_rules.specs.Pools.{offered}
 use Rattle.node_rules.specs.Nodes.{Node}
@@ -99,7 +99,7 @@ leaves-times {S = S} n =
     (leaves-passes_on n (record n { impatient = true }) n.pool (record { named = refl; shared = refl; restored_is = refl; firm_is = refl; replica_is = refl; waits = refl })))
     (leaves-same n)
 
-pub leaves-answer_line : {S : Type 0} (n : Node S) (line : Option TableLine) → Leaves n (answer_line n line)
+pub leaves-answer_line : {S : Type 0} (n : Node S) (line : Option Execution) → Leaves n (answer_line n line)
 unfolding answer_line
 leaves-answer_line n None = leaves-same n
 leaves-answer_line n (Some line) = record { named = refl; shared = refl; restored_is = refl; firm_is = refl; replica_is = refl; waits = refl }

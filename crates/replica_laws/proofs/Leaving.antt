@@ -7,7 +7,7 @@ use Rattle.smart_statements.specs.declared.entry.NodeEvent.{NodeEvent}
 use Rattle.smart_service.specs.Services.{Meaning}
 use Rattle.vote_book.specs.declared.entry.LogEntry.{LogEntry}
 use Rattle.node_rules.specs.Nodes.{Node}
-use Rattle.node_rules.specs.Steps.{step_of, leaving, opened}
+use Rattle.node_rules.specs.Steps.{step_of, leaving, opened, outset}
 use Rattle.node_rules.specs.Kept.{node_after}
 use Rattle.node_rules.specs.declared.node.Held.{Held}
 use Rattle.replica_laws.specs.Sending.{IsOwn, RestsOn, LeavesFirm, HoldsOwn}
@@ -33,17 +33,17 @@ rests_after m n [] is = is
 rests_after m n (e ∷ es) is = rests_after m (step_of m n e).node es (onward-step m n e is).rests
 
 -- so what leaves rests on entries that are firm
-pub leaves_firm : {S : Type 0} (m : Meaning S) (secret : List ℕ) (id : ℕ) (view : View) (period : ℕ) (events : List NodeEvent) → LeavesFirm (node_after m (opened m secret id view period) events)
+pub leaves_firm : {S : Type 0} (m : Meaning S) (secret : List ℕ) (id : ℕ) (view : View) (period : ℕ) (events : List NodeEvent) → LeavesFirm (node_after m (opened (outset m secret id view period)) events)
 leaves_firm {S = S} m secret id view period events =
-    let n : Node S = node_after m (opened m secret id view period) events in
+    let n : Node S = node_after m (opened (outset m secret id view period)) events in
     each-weaken (λ (h : Held). IsOwn n.id h.to h.message × RestsOn (take n.firm n.entries) h.message) (λ (h : Held). RestsOn (take n.firm n.entries) h.message) (λ h is. is.1)
     (leaving n.firm n.held)
-    (leaving_rest n.id n.firm n.entries n.held (rests_after m (opened m secret id view period) events (rests-opened m secret id view period)).held)
+    (leaving_rest n.id n.firm n.entries n.held (rests_after m (opened (outset m secret id view period)) events (rests-opened m secret id view period)).held)
 
 -- and what it holds is its own
-pub holds_own : {S : Type 0} (m : Meaning S) (secret : List ℕ) (id : ℕ) (view : View) (period : ℕ) (events : List NodeEvent) → HoldsOwn id (node_after m (opened m secret id view period) events)
+pub holds_own : {S : Type 0} (m : Meaning S) (secret : List ℕ) (id : ℕ) (view : View) (period : ℕ) (events : List NodeEvent) → HoldsOwn id (node_after m (opened (outset m secret id view period)) events)
 holds_own {S = S} m secret id view period events =
-    let n : Node S = node_after m (opened m secret id view period) events in
+    let n : Node S = node_after m (opened (outset m secret id view period)) events in
     each-weaken (HoldsRight n.id n.entries) (λ (h : Held). IsOwn id h.to h.message)
-    (λ h right. subst (λ (k : ℕ). IsOwn k h.to h.message) (follows_after m (opened m secret id view period) events) right.own) n.held
-    (rests_after m (opened m secret id view period) events (rests-opened m secret id view period)).held
+    (λ h right. subst (λ (k : ℕ). IsOwn k h.to h.message) (follows_after m (opened (outset m secret id view period)) events) right.own) n.held
+    (rests_after m (opened (outset m secret id view period)) events (rests-opened m secret id view period)).held

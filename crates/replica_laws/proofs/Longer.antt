@@ -7,22 +7,21 @@ use Rattle.smart_messages.specs.declared.message.Message.{Message}
 use Rattle.smart_statements.specs.declared.entry.NodeEvent.{NodeEvent}
 use Rattle.smart_statements.specs.declared.entry.NodeEvent.TheVariants.{Arrive, Tick, Deliver, Firm}
 use Rattle.smart_service.specs.Services.{Meaning}
-use Rattle.smart_service.specs.declared.table.TableLine.{TableLine}
+use Rattle.smart_service.specs.declared.table.Execution.{Execution}
 use Rattle.vote_book.specs.declared.entry.Decision.{Decision}
 use Rattle.vote_book.specs.declared.entry.LogEntry.{LogEntry}
 use Rattle.replica_rules.specs.Pools.{settled}
 use Rattle.replica_rules.specs.Replicas.{delivered}
-use Rattle.node_rules.specs.Rules.{reply_of, replying, lines_to_answer, deliver_batch, delivers, proposes, writing, write_batch, writes, accepting, accept_batch, accepts, deciding, decide_batch, decides, answers_again, asked_in}
+use Rattle.node_rules.specs.Rules.{reply_of, replying, lines_to_answer, deliver_batch, delivers, proposes, writing, write_batch, writes, accepting, accept_batch, accepts, deciding, decide_batch, decides, answers_again}
 use Rattle.node_rules.specs.Nodes.{Node, holding}
-use Rattle.node_rules.specs.Arrivals.{why_dropped, noted, kept}
+use Rattle.node_rules.specs.Arrivals.{noted, kept}
 use Rattle.node_rules.specs.Changes.{adoption, adopts, joins, promising, promise_next, promises, leads, times}
-use Rattle.node_rules.specs.Steps.{made_firm, passes, arrival_outcome, reading_outcome, step_of}
-use Rattle.node_rules.specs.declared.node.Why.{Why}
+use Rattle.node_rules.specs.Steps.{made_firm, takes_in, step_of}
 use Rattle.node_rules.specs.declared.node.Target.TheVariants as targets
 use Rattle.agreement_laws.specs.Fronts.{IsFront}
 use Rattle.replica_laws.proofs.Once.{entries_adopted}
 use Rattle.replica_laws.proofs.Leaves.{Leaves, leaves-adopts, leaves-joins, leaves-promises, leaves-leads, leaves-proposes, leaves-writes, leaves-accepts, leaves-times, leaves-answers_again, leaves-noted, leaves-kept}
-use Rattle.node_rules.proofs.Rulewise.{KeptByRules, keeps_passes}
+use Rattle.node_rules.proofs.Rulewise.{KeptByRules, free-read, reads_as, keeps_from}
 use Rattle.agreement_laws.proofs.Lists.{either}
 use Rattle.node_rules.proofs.Entries.{noted_same, answers_again_same, kept_same, joins_same, leads_same, proposes_same, times_same}
 
@@ -95,7 +94,7 @@ unfolding decides
 longer-decides a n is = longer-decide_batch a n (deciding n) is
 
 -- a delivery
-longer-replying : {S : Type 0} (a n : Node S) (lines : List TableLine) → Longer a n → Longer a (replying n lines)
+longer-replying : {S : Type 0} (a n : Node S) (lines : List Execution) → Longer a n → Longer a (replying n lines)
 longer-replying a n [] is = is
 longer-replying a n (l ∷ ls) is =
     longer-replying a (holding n (targets.Client l.client) (reply_of n.secret n.id l)) ls
@@ -123,6 +122,8 @@ longer-rules a = record {
   by_writes = λ n is. longer-leaves a n (writes n) (leaves-writes n) (front-writes a.entries n is.book) is;
   by_accepts = λ n is. longer-leaves a n (accepts n) (leaves-accepts n) (front-accepts a.entries n is.book) is;
   by_decides = λ n is. longer-decides a n is;
+  by_times = λ n is. longer-as a n (times n) (leaves-times n) (times_same n) is;
+  by_answers = λ n asked is. longer-as a n (answers_again n asked) (leaves-answers_again n asked) (answers_again_same n asked) is;
 }
 
 -- what has been told of firmness
@@ -132,31 +133,27 @@ told_firm n Tick = n
 told_firm n Deliver = n
 told_firm n (Firm count) = made_firm n count
 
--- a pass of the rules
-longer-passes : {S : Type 0} (a n : Node S) → Longer a n → Longer a (passes n)
-longer-passes a n is = keeps_passes (λ x. Longer a x) n (longer-rules a) is
+-- what takes an event in
+longer-noted : {S : Type 0} (n : Node S) (message : Message) → Longer n (noted n message)
+longer-noted n message = longer-as n n (noted n message) (leaves-noted n message) (noted_same n message) (longer-same n)
 
--- an arrival and its pass
-longer-arrival : {S : Type 0} (m : Meaning S) (n : Node S) (message : Message) (why : Option Why) → Longer n (arrival_outcome n message why).node
-longer-arrival {S = S} m n message None =
+longer-takes_in : {S : Type 0} (n : Node S) (event : NodeEvent) → Longer (told_firm n event) (takes_in n event).node
+unfolding takes_in
+longer-takes_in {S = S} n (Arrive bytes) =
+    reads_as (λ (x : Node S). Longer n x) (λ message. Unit {0}) n (decoded bytes) (λ message. longer-noted n message)
+    (λ message none may.
     let told : Node S = noted n message in
-    let k : Node S = kept told message in
-    let one : Longer n told = longer-as n n told (leaves-noted n message) (noted_same n message) (longer-same n) in
-    let two : Longer n k = longer-as n told k (leaves-kept told message) (kept_same told message) one in
-    longer-as n (passes k) (answers_again (passes k) (asked_in message)) (leaves-answers_again (passes k) (asked_in message)) (answers_again_same (passes k) (asked_in message)) (longer-passes n k two)
-longer-arrival m n message (Some why) = longer-as n n (noted n message) (leaves-noted n message) (noted_same n message) (longer-same n)
-
-longer-reading : {S : Type 0} (m : Meaning S) (n : Node S) (read : Result Message ℕ) → Longer n (reading_outcome n read).node
-longer-reading m n (Ok message) = longer-arrival m n message (why_dropped n message)
-longer-reading m n (Err at) = longer-same n
+    longer-as n told (kept told message) (leaves-kept told message) (kept_same told message) (longer-noted n message)) (free-read (decoded bytes)) (longer-same n)
+longer-takes_in n Tick = longer-same n
+longer-takes_in n Deliver = longer-same n
+longer-takes_in n (Firm count) = longer-same (made_firm n count)
 
 -- a step
 pub longer-step : {S : Type 0} (m : Meaning S) (n : Node S) (event : NodeEvent) → Longer (told_firm n event) (step_of m n event).node
-unfolding step_of
-longer-step m n (Arrive bytes) = longer-reading m n (decoded bytes)
-longer-step m n Tick = longer-as n (passes n) (times (passes n)) (leaves-times (passes n)) (times_same (passes n)) (longer-passes n n (longer-same n))
-longer-step m n Deliver = longer-passes n (delivers m n) (longer-delivers m n n (longer-same n))
-longer-step {S = S} m n (Firm count) = let firmer : Node S = made_firm n count in longer-passes firmer firmer (longer-same firmer)
+longer-step {S = S} m n event =
+    let a : Node S = told_firm n event in
+    let taken : Longer a (takes_in n event).node = longer-takes_in n event in
+    keeps_from m (λ (x : Node S). Longer a x) n event (longer-rules a) taken (longer-delivers m a (takes_in n event).node taken)
 
 -- so each step keeps the secret
 pub secret-step : {S : Type 0} (m : Meaning S) (n : Node S) (event : NodeEvent) → (step_of m n event).node.secret ≡ n.secret

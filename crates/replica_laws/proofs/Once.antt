@@ -31,12 +31,6 @@ use Rattle.vote_book.proofs.Tested.{slot_is}
 use Rattle.node_rules.proofs.Options.{guard_passed}
 use Rattle.std.proofs.lemmas.Bool.{or_parts}
 
--- rules that record nothing
-
--- with what it tells
-pub entries-arrives : {S : Type 0} (n : Node S) (message : Message) → (kept (noted n message) message).entries ≡ n.entries
-entries-arrives n message = kept_same (noted n message) message ∙ noted_same n message
-
 -- rules that record entries
 
 -- what one more promise and one more beginning leave, the adoption of a beginning leaves
@@ -142,21 +136,22 @@ once-rules {S} = record {
   by_writes = λ n once. once-writes n once;
   by_accepts = λ n once. once-accepts n once;
   by_decides = λ n once. once-decides n once;
+  by_times = λ n once. once_as n (times n) (times_same n) once;
+  by_answers = λ n message once. once_as n (answers_again n message) (answers_again_same n message) once;
 }
 
 once-in_steps : {S : Type 0} (m : Meaning S) → KeptInSteps m (λ n. Once n) (λ message. Unit {0})
 once-in_steps m = record {
   by_rules = once-rules;
-  by_times = λ n once. once_as n (times n) (times_same n) once;
-  by_answers = λ n message once. once_as n (answers_again n message) (answers_again_same n message) once;
   by_noted = λ n message once. once_as n (noted n message) (noted_same n message) once;
   by_kept = λ n message fine may once. once_as n (kept n message) (kept_same n message) once;
   by_delivers = λ n once. once_as n (delivers m n) (delivers_same m n) once;
+  by_firm = λ x count once. once;
 }
 
 -- a step
 once-step : {S : Type 0} (m : Meaning S) (n : Node S) (event : NodeEvent) → Once n → Once (step_of m n event).node
-once-step m n event once = keeps_step m (λ n. Once n) (λ message. Unit {0}) n event (once-in_steps m) (λ x count once. once) (free-event event) once
+once-step m n event once = keeps_step m (λ n. Once n) (λ message. Unit {0}) n event (once-in_steps m) (free-event event) once
 
 -- whatever comes, a node accepts once for each slot
 pub once_after : {S : Type 0} (m : Meaning S) (n : Node S) (events : List NodeEvent) → AcceptsOnce n.entries → AcceptsOnce (node_after m n events).entries

@@ -21,7 +21,8 @@ use Rattle.smart_messages.specs.declared.message.Proposed.{Proposed}
 use Rattle.smart_statements.specs.declared.entry.NodeEvent.{NodeEvent}
 use Rattle.smart_statements.specs.declared.entry.NodeEvent.TheVariants.{Arrive, Tick, Deliver, Firm}
 use Rattle.smart_service.specs.Services.{Meaning}
-use Rattle.smart_service.specs.declared.table.TableLine.{TableLine}
+use Rattle.smart_service.specs.Tables.{kept_in}
+use Rattle.smart_service.specs.declared.table.Execution.{Execution}
 use Rattle.vote_book.specs.Books.{Among}
 use Rattle.vote_book.proofs.Tested.{made_within}
 use Rattle.vote_book.specs.declared.entry.Decision.{Decision}
@@ -36,7 +37,7 @@ use Rattle.node_rules.specs.Nodes.{Node, view_of, regency_of, next_place, open_s
 use Rattle.node_rules.specs.Votes.{Named, certificate_votes, decision_by}
 use Rattle.node_rules.specs.Arrivals.{kept, noted}
 use Rattle.node_rules.specs.Changes.{start_by_sync, promised_for, adopts_by, adoption, adopts, stop_for, asks_next, joining, joins, report_of, reported_by, next_promise, promising, promise_next, promises, leading, lead_with, leads, timing, passes_on, presses, times}
-use Rattle.node_rules.specs.Steps.{made_firm, passes, step_of, released, opened}
+use Rattle.node_rules.specs.Steps.{made_firm, takes_in, step_of, released, opened, outset}
 use Rattle.node_rules.specs.declared.node.Held.{Held}
 use Rattle.node_rules.specs.declared.node.Target.{Target}
 use Rattle.node_rules.specs.declared.node.Target.TheVariants as targets
@@ -44,7 +45,7 @@ use Rattle.replica_laws.specs.Sending.{IsOwn, RestsOn}
 use Rattle.replica_laws.proofs.Lists.{if_or, if_cond}
 use Rattle.replica_laws.proofs.Executions.{OfRequest, of_delivered}
 use Rattle.replica_laws.proofs.Again.{ForLine, answering-each, each-delivered}
-use Rattle.node_rules.proofs.Rulewise.{KeptByRules, KeptInSteps, free-read, keeps_passes, keeps_reading}
+use Rattle.node_rules.proofs.Rulewise.{KeptByRules, free-read, reads_as, keeps_from}
 use Rattle.agreement_laws.proofs.Lists.{among_left, either, each_end}
 use Rattle.node_laws.proofs.Lists.{among_last}
 use Rattle.agreement_laws.proofs.Growing.{HasReached-more, HasVoted-more}
@@ -112,14 +113,14 @@ abbrev pub IsDecided : ℕ → List LogEntry → Option Batch → Type 0
 IsDecided place es waiting = IfSome waiting (HasDecided es place)
 
 -- a reply made of a table line rests on a book
-abbrev pub LineRests : List LogEntry → TableLine → Type 0
+abbrev pub LineRests : List LogEntry → Execution → Type 0
 LineRests es line = HasReached es line.place
 
 -- all held messages are right, the batch that waits is decided, and the book has reached the place of each line of the table
 pub record NodeRests {S : Type 0} (n : Node S) : Type 0 where
   pub held : Each (HoldsRight n.id n.entries) n.held
   pub waits : IsDecided (next_place n) n.entries n.waiting
-  pub lines : Each (LineRests n.entries) n.replica.table
+  pub lines : Each (LineRests n.entries) (kept_in n.replica.table)
 
 -- a node whose book has grown, and is right
 pub record Onward {S : Type 0} (n n' : Node S) : Type 0 where
@@ -173,7 +174,7 @@ rests-holding n to message own rests is =
     record { held = each_end (HoldsRight n.id n.entries) n.held _ is.held (holds-one n to message own rests); waits = is.waits; lines = is.lines }
 
 -- lines of a table, of a longer book
-lines-more : (es more : List LogEntry) (lines : List TableLine) → Each (LineRests es) lines → Each (LineRests (es ++ more)) lines
+lines-more : (es more : List LogEntry) (lines : List Execution) → Each (LineRests es) lines → Each (LineRests (es ++ more)) lines
 lines-more es more lines each = each-weaken (LineRests es) (LineRests (es ++ more)) (λ l rests. HasReached-more es more l.place rests) lines each
 
 -- an entry is recorded
@@ -182,18 +183,18 @@ rests-recording n e is =
     record {
       held = holds-more n.id n.entries (e ∷ []) n.held is.held;
       waits = decided-more (next_place n) n.entries (e ∷ []) n.waiting is.waits;
-      lines = lines-more n.entries (e ∷ []) n.replica.table is.lines;
+      lines = lines-more n.entries (e ∷ []) (kept_in n.replica.table) is.lines;
     }
 
 -- a reply rests where its place is decided
-rests-reply : (es : List LogEntry) (place : ℕ) (batch : Batch) (l : TableLine) → HasDecided es place batch → l.place ≡ place → LineRests es l
+rests-reply : (es : List LogEntry) (place : ℕ) (batch : Batch) (l : Execution) → HasDecided es place batch → l.place ≡ place → LineRests es l
 rests-reply es place batch l decided at =
     let made = made_within (entries.Decided decided.decision) es decided.decision.slot.place decided.there refl in
     let same = decided.place_is in
     omega (arith, made, same, at)
 
 -- replies are held
-onward-replying : {S : Type 0} (n : Node S) (lines : List TableLine) → Each (LineRests n.entries) lines → NodeRests n → Onward n (replying n lines)
+onward-replying : {S : Type 0} (n : Node S) (lines : List Execution) → Each (LineRests n.entries) lines → NodeRests n → Onward n (replying n lines)
 onward-replying n [] each is = onward-same n is
 onward-replying n (l ∷ ls) each is =
     let f = onward-replying (holding n (targets.Client l.client) (reply_of n.secret n.id l)) ls each.1
@@ -208,7 +209,7 @@ lines_rest m n batch decided =
 
 replies_rest : {S : Type 0} (m : Meaning S) (n : Node S) (batch : Batch) → HasDecided n.entries (next_place n) batch → Each (LineRests n.entries) (lines_to_answer m n batch)
 replies_rest m n batch decided =
-    either (λ (ls : List TableLine). Each (LineRests n.entries) ls) (is_member (view_of n) n.id) (executed_lines m n.replica batch) [] (lines_rest m n batch decided) tt
+    either (λ (ls : List Execution). Each (LineRests n.entries) ls) (is_member (view_of n) n.id) (executed_lines m n.replica batch) [] (lines_rest m n batch decided) tt
 
 -- the batch that waits is delivered
 onward-deliver_batch : {S : Type 0} (m : Meaning S) (n : Node S) (batch : Option Batch) → n.waiting ≡ batch → NodeRests n → Onward n (deliver_batch m n batch)
@@ -248,7 +249,7 @@ onward-holding n to message own rests is =
     record { id = refl; firm = refl; more = []; book = sym (append-nil n.entries); rests = record { held = r.held; waits = r.waits; lines = r.lines } }
 
 -- a node answers again
-onward-answer_line : {S : Type 0} (n : Node S) (line : Option TableLine) → ForLine line (LineRests n.entries) → NodeRests n → Onward n (answer_line n line)
+onward-answer_line : {S : Type 0} (n : Node S) (line : Option Execution) → ForLine line (LineRests n.entries) → NodeRests n → Onward n (answer_line n line)
 unfolding answer_line
 onward-answer_line n None rests is = onward-same n is
 onward-answer_line n (Some line) rests is = onward-holding n (targets.Client line.client) (reply_of n.secret n.id line) (refl, refl) rests is
@@ -314,7 +315,7 @@ onward-promised_for {S = S} n sync is =
       rests = record {
         held = holds-more n.id n.entries [] n.held is.held;
         waits = decided-more (next_place n) n.entries [] n.waiting is.waits;
-        lines = lines-more n.entries [] n.replica.table is.lines;
+        lines = lines-more n.entries [] (kept_in n.replica.table) is.lines;
       };
     })
 
@@ -449,21 +450,9 @@ onward-rules a = record {
   by_writes = λ n is. onward-then a n (writes n) is (onward-writes n is.rests);
   by_accepts = λ n is. onward-then a n (accepts n) is (onward-accepts n is.rests);
   by_decides = λ n is. onward-then a n (decides n) is (onward-decides n is.rests);
-}
-
-onward-in_steps : {S : Type 0} (m : Meaning S) (a : Node S) → KeptInSteps m (λ n. Onward a n) (λ message. Unit {0})
-onward-in_steps m a = record {
-  by_rules = onward-rules a;
   by_times = λ n is. onward-then a n (times n) is (onward-times n is.rests);
-  by_answers = λ n message is. onward-then a n (answers_again n message) is (onward-answers_again n message is.rests);
-  by_noted = λ n message is. onward-then a n (noted n message) is (onward-noted n message is.rests);
-  by_kept = λ n message fine may is. onward-then a n (kept n message) is (onward-kept n message is.rests);
-  by_delivers = λ n is. onward-then a n (delivers m n) is (onward-delivers m n is.rests);
+  by_answers = λ n asked is. onward-then a n (answers_again n asked) is (onward-answers_again n asked is.rests);
 }
-
--- a pass of the rules
-pub onward-passes : {S : Type 0} (a n : Node S) → Onward a n → Onward a (passes n)
-onward-passes a n is = keeps_passes (λ x. Onward a x) n (onward-rules a) is
 
 -- the node as an event finds it: firmness is what the event says
 abbrev pub told_firm : {S : Type 0} → Node S → NodeEvent → Node S
@@ -472,22 +461,31 @@ told_firm n Tick = n
 told_firm n Deliver = n
 told_firm n (Firm count) = made_firm n count
 
+-- what takes an event in
+onward-takes_in : {S : Type 0} (n : Node S) (event : NodeEvent) → NodeRests n → Onward (told_firm n event) (takes_in n event).node
+unfolding takes_in
+onward-takes_in {S = S} n (Arrive bytes) is =
+    reads_as (λ (x : Node S). Onward n x) (λ message. Unit {0}) n (decoded bytes) (λ message. onward-noted n message is)
+    (λ message none may.
+    let told : Node S = noted n message in
+    let f : Onward n told = onward-noted n message is in
+    onward-then n told (kept told message) f (onward-kept told message f.rests)) (free-read (decoded bytes)) (onward-same n is)
+onward-takes_in n Tick is = onward-same n is
+onward-takes_in n Deliver is = onward-same n is
+onward-takes_in n (Firm count) is = onward-same (made_firm n count) (record { held = is.held; waits = is.waits; lines = is.lines })
+
 -- a step
 pub onward-step : {S : Type 0} (m : Meaning S) (n : Node S) (event : NodeEvent) → NodeRests n → Onward (told_firm n event) (step_of m n event).node
-unfolding step_of
-onward-step m n (Arrive bytes) is = keeps_reading m (λ x. Onward n x) (λ message. Unit {0}) n (decoded bytes) (onward-in_steps m n) (free-read (decoded bytes)) (onward-same n is)
-onward-step m n Tick is =
-    let f : Onward n (passes n) = onward-passes n n (onward-same n is) in
-    onward-then n (passes n) (times (passes n)) f (onward-times (passes n) f.rests)
-onward-step m n Deliver is = onward-passes n (delivers m n) (onward-delivers m n is)
-onward-step {S = S} m n (Firm count) is =
-    let x : Node S = made_firm n count in
-    onward-passes x x (onward-same x (record { held = is.held; waits = is.waits; lines = is.lines }))
+onward-step {S = S} m n event is =
+    let a : Node S = told_firm n event in
+    let t : Node S = (takes_in n event).node in
+    let taken : Onward a t = onward-takes_in n event is in
+    keeps_from m (λ (x : Node S). Onward a x) n event (onward-rules a) taken (onward-then a t (delivers m t) taken (onward-delivers m t taken.rests))
 
 -- what is firm has left
 pub rests-released : {S : Type 0} (n : Node S) → NodeRests n → NodeRests (released n)
 rests-released n is = record { held = each_staying (HoldsRight n.id n.entries) n.firm n.held is.held; waits = is.waits; lines = is.lines }
 
 -- a node that has opened holds nothing
-pub rests-opened : {S : Type 0} (m : Meaning S) (secret : List ℕ) (id : ℕ) (view : View) (period : ℕ) → NodeRests (opened m secret id view period)
+pub rests-opened : {S : Type 0} (m : Meaning S) (secret : List ℕ) (id : ℕ) (view : View) (period : ℕ) → NodeRests (opened (outset m secret id view period))
 rests-opened m secret id view period = record { held = tt; waits = tt; lines = tt }

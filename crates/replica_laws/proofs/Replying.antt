@@ -2,31 +2,33 @@
 use Rattle.std.proofs.Common.{◌≡◌, ◌+◌, true, false, List, [], ◌∷◌, refl, ap, ◌∙◌, Option, Some, None, is_some}
 use Rattle.smart_statements.specs.Batches.{Batch}
 use Rattle.smart_service.specs.Services.{Meaning}
-use Rattle.smart_service.specs.declared.table.TableLine.{TableLine}
+use Rattle.smart_service.specs.declared.table.Execution.{Execution}
 use Rattle.smart_service.specs.declared.replica.Replica.{Replica}
 use Rattle.vote_book.specs.declared.entry.Decision.{Decision}
 use Rattle.replica_rules.specs.Replicas.{delivered}
 use Rattle.replica_rules.specs.Pools.{settled}
 use Rattle.node_rules.specs.Rules.{reply_of, replying, lines_to_answer, deliver_batch, deciding, decide_batch, decides}
 use Rattle.node_rules.specs.Nodes.{Node, holding}
-use Rattle.node_rules.specs.Steps.{passes}
+use Rattle.node_rules.specs.Steps.{deliver_row, rules, pass}
+use Rattle.node_rules.specs.declared.node.Cause.{Cause}
+use Rattle.node_rules.specs.declared.node.Fired.{Fired}
 use Rattle.node_rules.specs.declared.node.Target.TheVariants as targets
-use Rattle.replica_laws.proofs.Leaves.{leaves-adopts, leaves-joins, leaves-promises, leaves-leads, leaves-proposes, leaves-writes, leaves-accepts}
+use Rattle.replica_laws.proofs.Leaves.{leaves-adopts, leaves-joins, leaves-promises, leaves-leads, leaves-proposes, leaves-writes, leaves-accepts, leaves-times, leaves-answers_again}
 use Rattle.replica_laws.proofs.Entered.{Aside, aside-same, aside-then}
-use Rattle.node_rules.proofs.Rulewise.{KeptByRules, keeps_passes}
+use Rattle.node_rules.proofs.Rulewise.{KeptByRules, keeps_rules}
 use Rattle.replica_rules.proofs.Places.{place_delivered}
 
 -- ---- replies
 
 -- they change what is held alone
-pub aside-replying : {S : Type 0} (n : Node S) (lines : List TableLine) → Aside n (replying n lines)
+pub aside-replying : {S : Type 0} (n : Node S) (lines : List Execution) → Aside n (replying n lines)
 aside-replying n [] = aside-same n
 aside-replying {S = S} n (l ∷ ls) =
     let x : Node S = holding n (targets.Client l.client) (reply_of n.secret n.id l) in
     aside-then n x (replying x ls) (record { holds = x.held; slots = n.proposed; stopped = n.stop_made; led = n.sync_made; pressed = n.impatient; told = n.behind; same = refl }) (aside-replying x ls)
 
 -- and leave the replica
-pub replica-replying : {S : Type 0} (n : Node S) (lines : List TableLine) → (replying n lines).replica ≡ n.replica
+pub replica-replying : {S : Type 0} (n : Node S) (lines : List Execution) → (replying n lines).replica ≡ n.replica
 replica-replying n [] = refl
 replica-replying n (l ∷ ls) = replica-replying (holding n (targets.Client l.client) (reply_of n.secret n.id l)) ls
 
@@ -52,11 +54,15 @@ replica-rules r = record {
   by_writes = λ n is. (leaves-writes n).replica_is ∙ is;
   by_accepts = λ n is. (leaves-accepts n).replica_is ∙ is;
   by_decides = λ n is. replica-decides n ∙ is;
+  by_times = λ n is. (leaves-times n).replica_is ∙ is;
+  by_answers = λ n asked is. (leaves-answers_again n asked).replica_is ∙ is;
 }
 
--- a pass leaves the replica
-pub replica-passes : {S : Type 0} (n : Node S) → (passes n).replica ≡ n.replica
-replica-passes {S = S} n = keeps_passes (λ (x : Node S). x.replica ≡ n.replica) n (replica-rules n.replica) refl
+-- a pass leaves the replica as a delivery left it
+pub replica-passed : {S : Type 0} (m : Meaning S) (n : Node S) (cause : Cause) (fired : List Fired) → (pass (rules m) n cause fired).0.replica ≡ (deliver_row m n cause fired).0.replica
+replica-passed {S = S} m n cause fired =
+    let r : Replica S = (deliver_row m n cause fired).0.replica in
+    keeps_rules m (λ (x : Node S). x.replica ≡ r) n cause fired (replica-rules r) refl
 
 -- a batch that waits takes the next place where it is delivered
 pub place-deliver_batch : {S : Type 0} (m : Meaning S) (n : Node S) (waiting : Option Batch) → is_some waiting ≡ true → (deliver_batch m n waiting).replica.place ≡ n.replica.place + 1

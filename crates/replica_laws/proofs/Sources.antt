@@ -39,7 +39,7 @@ use Rattle.node_rules.specs.Nodes.{Node, view_of, regency_of, regency_in, greate
 use Rattle.node_rules.specs.Arrivals.{kept, noted}
 use Rattle.node_rules.specs.Rules.{lines_to_answer, replying, deliver_batch, delivers, proposes, votable, writing, write_batch, writes, written, accepting, accept_batch, accepts, slot_in, deciding, decide_batch, decides, answers_again}
 use Rattle.node_rules.specs.Changes.{start_by_sync, promised_for, adopts_by, is_adoptable, adoption, adopts, joins, next_promise, promising, promise_next, promises, leads, times}
-use Rattle.node_rules.specs.Steps.{step_of, released, opened}
+use Rattle.node_rules.specs.Steps.{step_of, released, opened, outset}
 use Rattle.node_rules.specs.Reopening.{decided_of, stopped, reopened}
 use Rattle.node_laws.specs.Restored.{IsSoundBook}
 use Rattle.node_laws.proofs.Deciding.{due_is}
@@ -498,16 +498,17 @@ from_rules sources = record {
   by_writes = λ n is. is_from-writes sources n is;
   by_accepts = λ n is. is_from-accepts sources n is;
   by_decides = λ n is. is_from-decides sources n is;
+  by_times = λ n is. is_from-aside sources n (times n) (aside-times n) is;
+  by_answers = λ n message is. is_from-aside sources n (answers_again n message) (aside-answers_again n message) is;
 }
 
 from_steps : {S : Type 0} (sources : List (List ℕ)) (m : Meaning S) → KeptInSteps m (λ n. IsFrom sources n) (λ message. HasSource sources message)
 from_steps sources m = record {
   by_rules = from_rules sources;
-  by_times = λ n is. is_from-aside sources n (times n) (aside-times n) is;
-  by_answers = λ n message is. is_from-aside sources n (answers_again n message) (aside-answers_again n message) is;
   by_noted = λ n message is. is_from-aside sources n (noted n message) (aside-noted n message) is;
   by_kept = λ n message fine came is. is_from-kept sources n message came is;
   by_delivers = λ n is. is_from-delivers sources m n is;
+  by_firm = λ x count good. is_from-as sources x _ refl refl refl refl good;
 }
 
 -- where what comes has a source, each event leaves all that a node keeps and writes down with one
@@ -515,7 +516,7 @@ pub from-step : {S : Type 0} (sources : List (List ℕ)) (m : Meaning S) (n : No
     → FromSources sources n → FromSources sources (step_of m n event).node
 from-step {S = S} sources m n event came some from =
     let is : IsFrom sources (step_of m n event).node =
-    keeps_step m (λ (x : Node S). IsFrom sources x) (λ message. HasSource sources message) n event (from_steps sources m) (λ x count good. is_from-as sources x _ refl refl refl refl good) came
+    keeps_step m (λ (x : Node S). IsFrom sources x) (λ message. HasSource sources message) n event (from_steps sources m) came
     (record { from = from; some = some }) in
     is.from
 
@@ -523,19 +524,19 @@ from-step {S = S} sources m n event came some from =
 pub from-released : {S : Type 0} (sources : List (List ℕ)) (n : Node S) → FromSources sources n → FromSources sources (released n)
 from-released sources n from = record { arrivals = from.arrivals; stops = from.stops; syncs = from.syncs; book = from.book }
 
-pub from-opened : {S : Type 0} (sources : List (List ℕ)) (m : Meaning S) (secret : List ℕ) (id : ℕ) (view : View) (period : ℕ) → FromSources sources (opened m secret id view period)
+pub from-opened : {S : Type 0} (sources : List (List ℕ)) (m : Meaning S) (secret : List ℕ) (id : ℕ) (view : View) (period : ℕ) → FromSources sources (opened (outset m secret id view period))
 from-opened sources m secret id view period =
     record { arrivals = tt; stops = tt; syncs = tt; book = from-opening sources (Opened (record { member = id; period = period; view = view })) tt }
 
 -- a node that goes on after a crash has kept nothing but its book
 pub from-reopened : {S : Type 0} (sources : List (List ℕ)) (m : Meaning S) (secret : List ℕ) (id : ℕ) (view : View) (period : ℕ) (entries : List LogEntry) → FromBook sources entries
-    → FromSources sources (reopened m secret id view period entries)
+    → FromSources sources (reopened m (outset m secret id view period) entries)
 unfolding reopened
 from-reopened sources m secret id view period [] book =
     record { arrivals = tt; stops = tt; syncs = tt; book = from-opening sources (Opened (record { member = id; period = period; view = view })) tt }
 from-reopened {S = S} sources m secret id view period (e ∷ es) book =
-    let n : Node S = record (stopped m secret id view) { entries = e ∷ es; replica = state m view (decided_of (e ∷ es)); restored = length (e ∷ es); firm = length (e ∷ es) } in
-    subst (λ (x : Node S). FromSources sources x) (sym (reopened_is m secret id view period e es)) (record { arrivals = tt; stops = tt; syncs = tt; book = book })
+    let n : Node S = record (stopped (outset m secret id view period)) { entries = e ∷ es; replica = state m view (decided_of 0 (e ∷ es)); restored = length (e ∷ es); firm = length (e ∷ es) } in
+    subst (λ (x : Node S). FromSources sources x) (sym (reopened_is m (outset m secret id view period) e es)) (record { arrivals = tt; stops = tt; syncs = tt; book = book })
 
 -- ---- different keys have different sources
 

@@ -5,7 +5,6 @@ use Rattle.smart_base.specs.Lists.{Each}
 use Rattle.smart_base.specs.Views.{View, is_member}
 use Rattle.smart_statements.specs.Forms.{SignedBy}
 use Rattle.smart_statements.specs.Batches.{Batch}
-use Rattle.smart_messages.specs.Messages.{decoded}
 use Rattle.smart_statements.specs.declared.statement.Request.{Request}
 use Rattle.smart_statements.specs.declared.report.Report.{Report}
 use Rattle.smart_messages.specs.declared.regency.Sync.{Sync}
@@ -17,35 +16,36 @@ use Rattle.smart_statements.specs.declared.entry.NodeEvent.{NodeEvent}
 use Rattle.smart_statements.specs.declared.entry.NodeEvent.TheVariants.{Arrive, Tick, Deliver, Firm}
 use Rattle.smart_service.specs.Services.{Meaning}
 use Rattle.smart_service.specs.declared.replica.Replica.{Replica}
-use Rattle.smart_service.specs.declared.table.TableLine.{TableLine}
+use Rattle.smart_service.specs.Tables.{kept_in}
+use Rattle.smart_service.specs.declared.table.Execution.{Execution}
 use Rattle.vote_book.specs.declared.entry.Decision.{Decision}
 use Rattle.vote_book.specs.declared.entry.LogEntry.{LogEntry}
 use Rattle.replica_rules.specs.Replicas.{is_next, delivered, executed_lines, executions, empty}
 use Rattle.replica_rules.specs.Pools.{offered, settled}
-use Rattle.node_rules.specs.Rules.{reply_of, replying, lines_to_answer, deliver_batch, delivers, proposing, propose_batch, proposes, writing, write_batch, writes, accepting, accept_batch, accepts, deciding, decide_batch, decides, answering, answer_line, answers_again, asked_in}
+use Rattle.node_rules.specs.Rules.{reply_of, replying, lines_to_answer, deliver_batch, delivers, proposing, propose_batch, proposes, writing, write_batch, writes, accepting, accept_batch, accepts, deciding, decide_batch, decides, answering, answer_line, answers_again}
 use Rattle.node_rules.specs.Nodes.{Node, view_of, holding}
-use Rattle.node_rules.specs.Arrivals.{why_dropped, noted, kept}
+use Rattle.node_rules.specs.Arrivals.{noted, kept}
 use Rattle.node_rules.specs.Changes.{adopts_by, adoption, adopts, asks_next, joining, joins, promising, promise_next, promises, leading, lead_with, leads, timing, passes_on, presses, times}
-use Rattle.node_rules.specs.Steps.{made_firm, passes, arrival_outcome, reading_outcome, step_of}
-use Rattle.node_rules.specs.declared.node.Why.{Why}
+use Rattle.node_rules.specs.Steps.{takes_in, step_of, outset}
 use Rattle.node_rules.specs.declared.node.Held.{Held}
 use Rattle.node_rules.specs.declared.node.Target.TheVariants as targets
 use Rattle.agreement_laws.proofs.Lists.{either, each_end}
 use Rattle.replica_laws.specs.Lines.{HasLine}
 use Rattle.replica_laws.proofs.Executions.{executions-more, executed-at}
-use Rattle.replica_laws.proofs.Again.{ForLine, answering-each, each-after_batches}
-use Rattle.replica_laws.proofs.Leaves.{leaves-adopts, leaves-joins, leaves-promises, leaves-leads, leaves-proposes, leaves-writes, leaves-accepts, leaves-noted, leaves-kept}
-use Rattle.node_rules.proofs.Rulewise.{KeptByRules, keeps_passes}
-use Rattle.replica_laws.proofs.Replying.{replica-decides}
+use Rattle.replica_laws.proofs.Again.{ForLine, answering-each, each-after_batches, each-delivered}
+use Rattle.replica_laws.proofs.Leaves.{Leaves, leaves-adopts, leaves-joins, leaves-promises, leaves-leads, leaves-proposes, leaves-writes, leaves-accepts, leaves-times, leaves-answers_again, leaves-noted, leaves-kept}
+use Rattle.node_rules.proofs.Rulewise.{KeptByRules, free-event, takes_in_as, keeps_from}
+use Rattle.replica_laws.proofs.Replying.{replica-decides, replica-replying}
+use Rattle.replica_laws.proofs.Follows.{Waits, waits-takes_in}
 use Rattle.smart_base.proofs.ViewFacts.{each-weaken}
 use Rattle.agreement_laws.specs.Fronts.{IsFront}
 use Rattle.node_rules.specs.Kept.{node_after}
 use Rattle.node_rules.specs.Reopening.{decided_of}
-use Rattle.node_rules.specs.Steps.{opened}
+use Rattle.node_rules.specs.Steps.{opened, outset}
 use Rattle.replica_rules.specs.Replicas.{state, batch_at}
 use Rattle.replica_laws.specs.Books.{DeliversInOrder}
 use Rattle.replica_laws.specs.Lines.{ReplyRight, HeldRight, HoldsExecuted, line_told}
-use Rattle.replica_laws.proofs.InOrder.{in_order-step, in_order-opened}
+use Rattle.replica_laws.proofs.InOrder.{FromFirst, from_first, in_order-step, in_order-opened}
 use Rattle.replica_laws.proofs.Longer.{told_firm, longer-step}
 use Rattle.node_laws.proofs.Restored.{decided_append}
 use Rattle.node_rules.specs.declared.node.Asked.{Asked}
@@ -63,26 +63,30 @@ right-more m v list more _ right = tt
 -- rules of a node
 
 -- what holds of each line among lines, holds of each
-each_inside : (P : TableLine → Type 0) (lines : List TableLine) → ((l : TableLine) → HasLine lines l → P l) → Each P lines
+each_inside : (P : Execution → Type 0) (lines : List Execution) → ((l : Execution) → HasLine lines l → P l) → Each P lines
 each_inside P [] inside = tt
 each_inside P (l ∷ ls) inside = (inside l (inl refl), each_inside P ls (λ x has. inside x (inr has)))
 
 -- a node that replies with executions holds right replies
-held-replying : {S : Type 0} (m : Meaning S) (v : View) (chosen : List Batch) (n : Node S) (lines : List TableLine) → HeldRight m v chosen n → Each (HasLine (executions m v chosen)) lines
+held-replying : {S : Type 0} (m : Meaning S) (v : View) (chosen : List Batch) (n : Node S) (lines : List Execution) → HeldRight m v chosen n → Each (HasLine (executions m v chosen)) lines
     → HeldRight m v chosen (replying n lines)
 held-replying m v chosen n [] held each = held
 held-replying m v chosen n (l ∷ ls) held each =
     held-replying m v chosen (holding n (targets.Client l.client) (reply_of n.secret n.id l)) ls
     (each_end (λ (h : Held). ReplyRight m v chosen h.message) n.held (record { to = targets.Client l.client; message = reply_of n.secret n.id l; needs = length n.entries }) held each.0) each.1
 
--- the lines that a node answers are executions of the list along which it stands
+-- the lines of the batch that waits are executions of the list along which a node stands
+waiting_lines : {S : Type 0} (m : Meaning S) (v : View) (chosen : List Batch) (n : Node S) (batch : Batch) → Along m v chosen n → n.waiting ≡ Some batch
+    → Each (HasLine (executions m v chosen)) (executed_lines m n.replica batch)
+waiting_lines {S = S} m v chosen n batch aligned waits =
+    each_inside (HasLine (executions m v chosen)) (executed_lines m n.replica batch)
+    (λ l has. executed-at m v chosen n.replica.place batch l (aligned.waiting batch waits) (subst (λ (r : Replica S). HasLine (executed_lines m r batch) l) aligned.replica has))
+
+-- so are those that the node answers
 answered_lines : {S : Type 0} (m : Meaning S) (v : View) (chosen : List Batch) (n : Node S) (batch : Batch) → Along m v chosen n → n.waiting ≡ Some batch
     → Each (HasLine (executions m v chosen)) (lines_to_answer m n batch)
-answered_lines {S = S} m v chosen n batch aligned waits =
-    either (Each (HasLine (executions m v chosen))) (is_member (view_of n) n.id) (executed_lines m n.replica batch) []
-    (each_inside (HasLine (executions m v chosen)) (executed_lines m n.replica batch)
-    (λ l has. executed-at m v chosen n.replica.place batch l (aligned.waiting batch waits) (subst (λ (r : Replica S). HasLine (executed_lines m r batch) l) aligned.replica has)))
-    tt
+answered_lines m v chosen n batch aligned waits =
+    either (Each (HasLine (executions m v chosen))) (is_member (view_of n) n.id) (executed_lines m n.replica batch) [] (waiting_lines m v chosen n batch aligned waits) tt
 
 -- so a node that delivers holds right replies
 held-deliver_batch : {S : Type 0} (m : Meaning S) (v : View) (chosen : List Batch) (n : Node S) (waiting : Option Batch) → Along m v chosen n → n.waiting ≡ waiting
@@ -106,23 +110,23 @@ unfolding noted
 held-noted m v chosen n x held = held
 
 -- the lines of a host's table are executions of the list along which it stands
-table_lines : {S : Type 0} (m : Meaning S) (v : View) (chosen : List Batch) (n : Node S) → Along m v chosen n → Each (HasLine (executions m v chosen)) n.replica.table
+table_lines : {S : Type 0} (m : Meaning S) (v : View) (chosen : List Batch) (n : Node S) → Along m v chosen n → Each (HasLine (executions m v chosen)) (kept_in n.replica.table)
 table_lines {S = S} m v chosen n aligned =
     let k : ℕ = n.replica.place in
-    subst (λ (r : Replica S). Each (HasLine (executions m v chosen)) r.table) (sym aligned.replica)
+    subst (λ (r : Replica S). Each (HasLine (executions m v chosen)) (kept_in r.table)) (sym aligned.replica)
     (each-after_batches (HasLine (executions m v chosen)) m (empty m v) (take k chosen) tt
     (each_inside (HasLine (executions m v chosen)) (executions m v (take k chosen))
     (λ l has. subst (λ (list : List Batch). HasLine (executions m v list) l) (take-append-drop k chosen) (executions-more m v (take k chosen) (drop k chosen) l has))))
 
 -- an answer again is right where the lines of the table are executions
-held-answer_line : {S : Type 0} (m : Meaning S) (v : View) (chosen : List Batch) (n : Node S) (line : Option TableLine) → ForLine line (HasLine (executions m v chosen)) → HeldRight m v chosen n
+held-answer_line : {S : Type 0} (m : Meaning S) (v : View) (chosen : List Batch) (n : Node S) (line : Option Execution) → ForLine line (HasLine (executions m v chosen)) → HeldRight m v chosen n
     → HeldRight m v chosen (answer_line n line)
 unfolding answer_line
 held-answer_line m v chosen n None right held = held
 held-answer_line m v chosen n (Some line) right held =
     each_end (λ (h : Held). ReplyRight m v chosen h.message) n.held (record { to = targets.Client line.client; message = reply_of n.secret n.id line; needs = length n.entries }) held right
 
-held-answers_again : {S : Type 0} (m : Meaning S) (v : View) (chosen : List Batch) (n : Node S) (asked : Option Asked) → Each (HasLine (executions m v chosen)) n.replica.table → HeldRight m v chosen n
+held-answers_again : {S : Type 0} (m : Meaning S) (v : View) (chosen : List Batch) (n : Node S) (asked : Option Asked) → Each (HasLine (executions m v chosen)) (kept_in n.replica.table) → HeldRight m v chosen n
     → HeldRight m v chosen (answers_again n asked)
 unfolding answers_again
 held-answers_again m v chosen n asked lines held = held-answer_line m v chosen n (answering n asked) (answering-each (HasLine (executions m v chosen)) n asked lines) held
@@ -208,52 +212,80 @@ held-decides : {S : Type 0} (m : Meaning S) (v : View) (chosen : List Batch) (n 
 unfolding decides
 held-decides m v chosen n held = held-decide_batch m v chosen n (deciding n) held
 
--- the rules behind delivery hold no reply, and leave the replica
-held-rules : {S : Type 0} (m : Meaning S) (v : View) (chosen : List Batch) (r : Replica S) → KeptByRules (λ n. HeldRight m v chosen n × (n.replica ≡ r))
-held-rules m v chosen r = record {
-  by_adopts = λ n is. (held-adopts m v chosen n is.0, (leaves-adopts n).replica_is ∙ is.1);
-  by_joins = λ n is. (held-joins m v chosen n is.0, (leaves-joins n).replica_is ∙ is.1);
-  by_promises = λ n is. (held-promises m v chosen n is.0, (leaves-promises n).replica_is ∙ is.1);
-  by_leads = λ n is. (held-leads m v chosen n is.0, (leaves-leads n).replica_is ∙ is.1);
-  by_proposes = λ n is. (held-proposes m v chosen n is.0, (leaves-proposes n).replica_is ∙ is.1);
-  by_writes = λ n is. (held-writes m v chosen n is.0, (leaves-writes n).replica_is ∙ is.1);
-  by_accepts = λ n is. (held-accepts m v chosen n is.0, (leaves-accepts n).replica_is ∙ is.1);
-  by_decides = λ n is. (held-decides m v chosen n is.0, replica-decides n ∙ is.1);
+-- a node that holds right replies, and whose table has lines of executions alone
+pub record TellsRight {S : Type 0} (m : Meaning S) (v : View) (chosen : List Batch) (n : Node S) : Type 0 where
+  pub held : HeldRight m v chosen n
+  pub lines : Each (HasLine (executions m v chosen)) (kept_in n.replica.table)
+
+-- a rule that leaves the replica
+tells-as : {S : Type 0} (m : Meaning S) (v : View) (chosen : List Batch) (n n' : Node S) → Leaves n n' → HeldRight m v chosen n' → TellsRight m v chosen n → TellsRight m v chosen n'
+tells-as {S = S} m v chosen n n' leaves held is =
+    record { held = held; lines = subst (λ (r : Replica S). Each (HasLine (executions m v chosen)) (kept_in r.table)) (sym leaves.replica_is) is.lines }
+
+-- the rule that decides
+tells-decides : {S : Type 0} (m : Meaning S) (v : View) (chosen : List Batch) (n : Node S) → TellsRight m v chosen n → TellsRight m v chosen (decides n)
+tells-decides {S = S} m v chosen n is =
+    record { held = held-decides m v chosen n is.held; lines = subst (λ (r : Replica S). Each (HasLine (executions m v chosen)) (kept_in r.table)) (sym (replica-decides n)) is.lines }
+
+-- each rule behind a delivery
+tells-rules : {S : Type 0} (m : Meaning S) (v : View) (chosen : List Batch) → KeptByRules {S = S} (λ n. TellsRight m v chosen n)
+tells-rules m v chosen = record {
+  by_adopts = λ n is. tells-as m v chosen n (adopts n) (leaves-adopts n) (held-adopts m v chosen n is.held) is;
+  by_joins = λ n is. tells-as m v chosen n (joins n) (leaves-joins n) (held-joins m v chosen n is.held) is;
+  by_promises = λ n is. tells-as m v chosen n (promises n) (leaves-promises n) (held-promises m v chosen n is.held) is;
+  by_leads = λ n is. tells-as m v chosen n (leads n) (leaves-leads n) (held-leads m v chosen n is.held) is;
+  by_proposes = λ n is. tells-as m v chosen n (proposes n) (leaves-proposes n) (held-proposes m v chosen n is.held) is;
+  by_writes = λ n is. tells-as m v chosen n (writes n) (leaves-writes n) (held-writes m v chosen n is.held) is;
+  by_accepts = λ n is. tells-as m v chosen n (accepts n) (leaves-accepts n) (held-accepts m v chosen n is.held) is;
+  by_decides = λ n is. tells-decides m v chosen n is;
+  by_times = λ n is. tells-as m v chosen n (times n) (leaves-times n) (held-times m v chosen n is.held) is;
+  by_answers = λ n asked is. tells-as m v chosen n (answers_again n asked) (leaves-answers_again n asked) (held-answers_again m v chosen n asked is.lines is.held) is;
 }
 
-held-passes : {S : Type 0} (m : Meaning S) (v : View) (chosen : List Batch) (n : Node S) → HeldRight m v chosen n → HeldRight m v chosen (passes n) × ((passes n).replica ≡ n.replica)
-held-passes {S = S} m v chosen n held = keeps_passes (λ (x : Node S). HeldRight m v chosen x × (x.replica ≡ n.replica)) n (held-rules m v chosen n.replica) (held, refl)
+-- a delivery puts lines of executions into the table
+lines-deliver_batch : {S : Type 0} (m : Meaning S) (v : View) (chosen : List Batch) (n : Node S) (waiting : Option Batch) → Along m v chosen n → n.waiting ≡ waiting
+    → Each (HasLine (executions m v chosen)) (kept_in n.replica.table) → Each (HasLine (executions m v chosen)) (kept_in (deliver_batch m n waiting).replica.table)
+unfolding deliver_batch
+lines-deliver_batch m v chosen n None aligned waits lines = lines
+lines-deliver_batch {S = S} m v chosen n (Some batch) aligned waits lines =
+    let r : Replica S = delivered m n.replica batch in
+    subst (λ (x : Replica S). Each (HasLine (executions m v chosen)) (kept_in x.table))
+    (sym (replica-replying (record n { replica = r; waiting = None; pool = settled r.table n.pool; impatient = false }) (lines_to_answer m n batch)))
+    (each-delivered (HasLine (executions m v chosen)) m n.replica batch lines (waiting_lines m v chosen n batch aligned waits))
 
--- an arrival, kept or dropped, leaves held replies right
-held-arrival : {S : Type 0} (m : Meaning S) (v : View) (chosen : List Batch) (n : Node S) (x : Message) (why : Option Why) → HeldRight m v chosen n
-    → Each (HasLine (executions m v chosen)) n.replica.table → HeldRight m v chosen (arrival_outcome n x why).node
-held-arrival {S = S} m v chosen n x None held lines =
-    let k : Node S = kept (noted n x) x in
-    let passed = held-passes m v chosen k (held-kept m v chosen (noted n x) x (held-noted m v chosen n x held)) in
-    let same : (passes k).replica ≡ n.replica = passed.1 ∙ ((leaves-kept (noted n x) x).replica_is ∙ (leaves-noted n x).replica_is) in
-    held-answers_again m v chosen (passes k) (asked_in x) (subst (λ (r : Replica S). Each (HasLine (executions m v chosen)) r.table) (sym same) lines) passed.0
-held-arrival m v chosen n x (Some why) held lines = held-noted m v chosen n x held
+tells-delivers : {S : Type 0} (m : Meaning S) (v : View) (chosen : List Batch) (n : Node S) → Along m v chosen n → TellsRight m v chosen n → TellsRight m v chosen (delivers m n)
+unfolding delivers
+tells-delivers m v chosen n aligned is =
+    record { held = held-deliver_batch m v chosen n n.waiting aligned refl is.held; lines = lines-deliver_batch m v chosen n n.waiting aligned refl is.lines }
 
--- so do bytes
-held-reading : {S : Type 0} (m : Meaning S) (v : View) (chosen : List Batch) (n : Node S) (read : Result Message ℕ) → HeldRight m v chosen n
-    → Each (HasLine (executions m v chosen)) n.replica.table → HeldRight m v chosen (reading_outcome n read).node
-held-reading m v chosen n (Ok x) held lines = held-arrival m v chosen n x (why_dropped n x) held lines
-held-reading m v chosen n (Err at) held lines = held
+-- what takes an event in holds no reply
+tells-takes_in : {S : Type 0} (m : Meaning S) (v : View) (chosen : List Batch) (n : Node S) (event : NodeEvent) → TellsRight m v chosen n → TellsRight m v chosen (takes_in n event).node
+tells-takes_in {S = S} m v chosen n event is =
+    let told : (x : Message) → TellsRight m v chosen (noted n x) = λ x. tells-as m v chosen n (noted n x) (leaves-noted n x) (held-noted m v chosen n x is.held) is in
+    takes_in_as (λ (x : Node S). TellsRight m v chosen x) (λ message. Unit {0}) n event told
+    (λ x none may. tells-as m v chosen (noted n x) (kept (noted n x) x) (leaves-kept (noted n x) x) (held-kept m v chosen (noted n x) x (told x).held) (told x))
+    (λ count. record { held = is.held; lines = is.lines }) (free-event event) is
+
+-- a node with the same replica and the same batch that waits stands along the same list
+along-as : {S : Type 0} (m : Meaning S) (v : View) (chosen : List Batch) (n n' : Node S) → Waits n n' → Along m v chosen n → Along m v chosen n'
+along-as m v chosen n n' same aligned = record { replica = rw same.replica_is aligned.replica; waiting = rw (same.replica_is, same.waits) aligned.waiting }
 
 -- a step of a node's leaves held replies right
 pub held-step : {S : Type 0} (m : Meaning S) (v : View) (chosen : List Batch) (n : Node S) (event : NodeEvent) → Along m v chosen n → HeldRight m v chosen n
     → HeldRight m v chosen (step_of m n event).node
-unfolding step_of delivers
-held-step m v chosen n (Arrive bytes) aligned held = held-reading m v chosen n (decoded bytes) held (table_lines m v chosen n aligned)
-held-step m v chosen n Tick aligned held = held-times m v chosen (passes n) (held-passes m v chosen n held).0
-held-step m v chosen n Deliver aligned held = (held-passes m v chosen (deliver_batch m n n.waiting) (held-deliver_batch m v chosen n n.waiting aligned refl held)).0
-held-step m v chosen n (Firm count) aligned held = (held-passes m v chosen (made_firm n count) held).0
+held-step {S = S} m v chosen n event aligned held =
+    let t : Node S = (takes_in n event).node in
+    let taken : TellsRight m v chosen t = tells-takes_in m v chosen n event (record { held = held; lines = table_lines m v chosen n aligned }) in
+    let is : TellsRight m v chosen (step_of m n event).node =
+    keeps_from m (λ (x : Node S). TellsRight m v chosen x) n event (tells-rules m v chosen) taken
+    (tells-delivers m v chosen t (along-as m v chosen n t (waits-takes_in n event) aligned) taken) in
+    is.held
 
 -- whatever comes
 
 -- a node that delivers in order stands along what its book decides
-along-order : {S : Type 0} (m : Meaning S) (view : View) (n : Node S) → DeliversInOrder m view n → Along m view (decided_of n.entries) n
-along-order m view n d = record { replica = d.replica; waiting = λ batch at. ap (batch_at (decided_of n.entries)) (add-one n.replica.place) ∙ (sym d.waiting ∙ at) }
+along-order : {S : Type 0} (m : Meaning S) (view : View) (n : Node S) → FromFirst m view n → Along m view (decided_of 0 n.entries) n
+along-order m view n d = record { replica = d.replica; waiting = λ batch at. ap (batch_at (decided_of 0 n.entries)) (add-one n.replica.place) ∙ (sym d.waiting ∙ at) }
 
 -- the book of a node that is told of firmness stays
 same_told : {S : Type 0} (n : Node S) (event : NodeEvent) → (told_firm n event).entries ≡ n.entries
@@ -263,21 +295,21 @@ same_told n Deliver = refl
 same_told n (Firm count) = refl
 
 -- so a step keeps that each reply that it holds tells an execution of what its book decides
-executed-step : {S : Type 0} (m : Meaning S) (view : View) (n : Node S) (event : NodeEvent) → DeliversInOrder m view n → HoldsExecuted m view n → HoldsExecuted m view (step_of m n event).node
+executed-step : {S : Type 0} (m : Meaning S) (view : View) (n : Node S) (event : NodeEvent) → DeliversInOrder m (empty m view) n → HoldsExecuted m view n → HoldsExecuted m view (step_of m n event).node
 executed-step {S = S} m view n event d held =
     let n' : Node S = (step_of m n event).node in
     let book : IsFront (told_firm n event).entries n'.entries = (longer-step m n event).book in
-    let decided : decided_of n'.entries ≡ decided_of n.entries ++ decided_of book.rest =
-    ap decided_of book.is ∙ (decided_append (told_firm n event).entries book.rest ∙ ap (λ (es : List LogEntry). decided_of es ++ decided_of book.rest) (same_told n event)) in
-    each-weaken (λ (h : Held). ReplyRight m view (decided_of n.entries) h.message) (λ (h : Held). ReplyRight m view (decided_of n'.entries) h.message)
-    (λ h right. subst (λ (list : List Batch). ReplyRight m view list h.message) (sym decided) (right-more m view (decided_of n.entries) (decided_of book.rest) h.message right)) n'.held
-    (held-step m view (decided_of n.entries) n event (along-order m view n d) held)
+    let decided : decided_of 0 n'.entries ≡ decided_of 0 n.entries ++ decided_of 0 book.rest =
+    ap (decided_of 0) book.is ∙ (decided_append 0 (told_firm n event).entries book.rest ∙ ap (λ (es : List LogEntry). decided_of 0 es ++ decided_of 0 book.rest) (same_told n event)) in
+    each-weaken (λ (h : Held). ReplyRight m view (decided_of 0 n.entries) h.message) (λ (h : Held). ReplyRight m view (decided_of 0 n'.entries) h.message)
+    (λ h right. subst (λ (list : List Batch). ReplyRight m view list h.message) (sym decided) (right-more m view (decided_of 0 n.entries) (decided_of 0 book.rest) h.message right)) n'.held
+    (held-step m view (decided_of 0 n.entries) n event (along-order m view n (from_first m view n d)) held)
 
-pub executed_after : {S : Type 0} (m : Meaning S) (view : View) (n : Node S) (events : List NodeEvent) → DeliversInOrder m view n → HoldsExecuted m view n → HoldsExecuted m view (node_after m n events)
+pub executed_after : {S : Type 0} (m : Meaning S) (view : View) (n : Node S) (events : List NodeEvent) → DeliversInOrder m (empty m view) n → HoldsExecuted m view n → HoldsExecuted m view (node_after m n events)
 executed_after m view n [] d held = held
-executed_after m view n (e ∷ es) d held = executed_after m view (step_of m n e).node es (in_order-step m view n e d) (executed-step m view n e d held)
+executed_after m view n (e ∷ es) d held = executed_after m view (step_of m n e).node es (in_order-step m (empty m view) n e d) (executed-step m view n e d held)
 
 -- whatever comes to a node that has been opened, each reply that it holds tells an execution of what its book decides
 pub holds_executed : {S : Type 0} (m : Meaning S) (secret : List ℕ) (id : ℕ) (view : View) (period : ℕ) (events : List NodeEvent)
-    → HoldsExecuted m view (node_after m (opened m secret id view period) events)
-holds_executed m secret id view period events = executed_after m view (opened m secret id view period) events (in_order-opened m secret id view period) tt
+    → HoldsExecuted m view (node_after m (opened (outset m secret id view period)) events)
+holds_executed m secret id view period events = executed_after m view (opened (outset m secret id view period)) events (in_order-opened m (outset m secret id view period)) tt

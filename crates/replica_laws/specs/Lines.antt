@@ -1,4 +1,4 @@
--- The lines of the executions of a list of batches.
+-- The executions of a list of batches.
 use Rattle.std.specs.Prelude.{◌≡◌, ◌<◌, ◌⊎◌, List, [], ◌∷◌, IfSome}
 use Rattle.smart_base.specs.Views.{View}
 use Rattle.smart_statements.specs.Batches.{Batch}
@@ -10,28 +10,28 @@ use Rattle.replica_rules.specs.Replicas.{executions}
 use Rattle.node_rules.specs.Nodes.{Node}
 use Rattle.node_rules.specs.Reopening.{decided_of}
 use Rattle.smart_base.specs.Lists.{Each}
-use Rattle.smart_service.specs.declared.table.TableLine.{TableLine}
+use Rattle.smart_service.specs.declared.table.Execution.{Execution}
 use Rattle.smart_messages.specs.Messages.{reply_in}
 
--- lines among which a line is
-abbrev pub HasLine : List TableLine → TableLine → Type 0
+-- executions among which one is
+abbrev pub HasLine : List Execution → Execution → Type 0
 HasLine [] line = ⊥
 HasLine (l ∷ ls) line = (l ≡ line) ⊎ HasLine ls line
 
--- A line that stands before another, at an earlier place or at an earlier index of one place. Its number is lower if both are one client's.
-pub record Before (a b : TableLine) : Type 0 where
+-- An execution that stands before another, at an earlier place or at an earlier index of one place. They are not of one client and number.
+pub record Before (a b : Execution) : Type 0 where
   pub stands : (a.place < b.place) ⊎ ((a.place ≡ b.place) × (a.index < b.index))
-  pub rises : a.client ≡ b.client → a.seq < b.seq
+  pub apart : a.client ≡ b.client → a.seq ≡ b.seq → ⊥
 
--- lines of which each stands before all later ones; none stands twice
-abbrev pub InOrder : List TableLine → Type 0
+-- executions of which each stands before all later ones; none stands twice
+abbrev pub InOrder : List Execution → Type 0
 InOrder [] = Unit {0}
 InOrder (l ∷ ls) = Each (Before l) ls × InOrder ls
 
 -- ---- replies
 
--- the line of the execution that a reply tells
-abbrev pub line_told : Answer → TableLine
+-- the execution that a reply tells
+abbrev pub line_told : Answer → Execution
 line_told a = record { client = a.client; seq = a.seq; place = a.place; index = a.index; view = a.view; reply = a.reply }
 
 -- a reply that tells an execution of a list
@@ -48,4 +48,4 @@ HeldRight m view list n = Each (λ h. ReplyRight m view list h.message) n.held
 
 -- a node of which each held reply tells an execution of the batches that its book decides
 abbrev pub HoldsExecuted : {S : Type 0} → Meaning S → View → Node S → Type 0
-HoldsExecuted m view n = HeldRight m view (decided_of n.entries) n
+HoldsExecuted m view n = HeldRight m view (decided_of 0 n.entries) n

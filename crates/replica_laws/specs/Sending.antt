@@ -18,7 +18,7 @@ use Rattle.smart_messages.specs.declared.message.Message.{Message}
 use Rattle.vote_book.specs.declared.entry.LogEntry.{LogEntry}
 use Rattle.replica_rules.specs.Seals.{is_verified, digest_of}
 use Rattle.agreement_laws.specs.Diaries.{HasVoted, HasReached, HasReported}
-use Rattle.node_rules.specs.Nodes.{Node}
+use Rattle.node_rules.specs.Nodes.{Node, ring_of}
 use Rattle.node_rules.specs.Steps.{leaving}
 use Rattle.node_rules.specs.declared.node.Target.{Target}
 use Rattle.node_rules.specs.declared.node.Target.TheVariants as targets
@@ -91,7 +91,7 @@ pub record IsGenuine (secret : List ℕ) (message : Message) : Type 0 where
 
 -- a node of which each held message is genuine
 abbrev pub HoldsGenuine : {S : Type 0} → Node S → Type 0
-HoldsGenuine n = Each (λ h. IsGenuine n.secret h.message) n.held
+HoldsGenuine n = Each (λ h. IsGenuine (ring_of n) h.message) n.held
 
 -- an event whose arriving bytes are numbers below 256
 abbrev pub IsByteEvent : NodeEvent → Type 0

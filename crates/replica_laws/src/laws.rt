@@ -5,12 +5,12 @@ ghost use Rattle.smart_base.specs.Views.{View, is_view};
 ghost use Rattle.smart_statements.specs.Spelling.{IsSigner};
 ghost use Rattle.smart_statements.specs.Batches.{Batch};
 ghost use Rattle.smart_statements.specs.declared.entry.NodeEvent.{NodeEvent};
-ghost use Rattle.smart_service.specs.declared.table.TableLine.{TableLine};
+ghost use Rattle.smart_service.specs.declared.table.Execution.{Execution};
 ghost use Rattle.vote_book.specs.Entries.{FitsEntry};
 ghost use Rattle.vote_book.specs.declared.entry.LogEntry.{LogEntry};
 ghost use Rattle.replica_rules.specs.Replicas.{executions};
 ghost use Rattle.node_rules.specs.Nodes.{Node};
-ghost use Rattle.node_rules.specs.Steps.{step_of, opened};
+ghost use Rattle.node_rules.specs.Steps.{step_of, Outset, outset, opened};
 ghost use Rattle.node_rules.specs.Reopening.{reopened};
 ghost use Rattle.node_rules.specs.Kept.{node_after};
 ghost use Rattle.replica_laws.specs.Books.{passing, begins, AcceptsOnce, DeliversInOrder};
@@ -19,22 +19,22 @@ ghost use Rattle.replica_laws.specs.Sending.{LeavesFirm, HoldsOwn, IsByteEvent, 
 
 use smart_service::service::Service;
 
-/// A node accepts at most one batch in a slot, whatever comes in whatever order.
+/// A node accepts at most one batch in a slot, whatever it begins from, and whatever comes in whatever
+/// order.
 pub fn accepts_once<S: Service>()
-    ensures { (secret : List ℕ) (id : ℕ) (view : View) (period : ℕ) (events : List NodeEvent) → AcceptsOnce (node_after S.meaning (opened S.meaning secret id view period) events).entries }
+    ensures { (o : Outset S) (events : List NodeEvent) → AcceptsOnce (node_after S.meaning (opened o) events).entries }
 {}
 
-/// A node's replica is the state after its decided batches, in order, whatever comes. If a batch
-/// waits, the replica lacks it.
+/// A node's replica is the one that it began with after the batches that it decided past that one's
+/// place, in order, whatever comes. If a batch waits, the replica lacks it.
 pub fn delivers_in_order<S: Service>()
-    ensures { (secret : List ℕ) (id : ℕ) (view : View) (period : ℕ) (events : List NodeEvent) → DeliversInOrder S.meaning view (node_after S.meaning (opened S.meaning secret id view period) events) }
+    ensures { (o : Outset S) (events : List NodeEvent) → DeliversInOrder S.meaning o.replica (node_after S.meaning (opened o) events) }
 {}
 
 /// A client's request of a number is executed at most once, whatever batches are delivered (state
-/// machine replication). Executions stand in the order of their places and indices, each once. The
-/// numbers of each client's executions rise.
+/// machine replication). Executions stand in the order of their places and indices, each once.
 pub fn executes_once<S: Service>()
-    ensures one { (view : View) (list : List Batch) (a b : TableLine) → HasLine (executions S.meaning view list) a → HasLine (executions S.meaning view list) b →
+    ensures one { (view : View) (list : List Batch) (a b : Execution) → HasLine (executions S.meaning view list) a → HasLine (executions S.meaning view list) b →
         a.client ≡ b.client → a.seq ≡ b.seq → a ≡ b }
     ensures ordered { (view : View) (list : List Batch) → InOrder (executions S.meaning view list) }
 {}
@@ -44,9 +44,9 @@ pub fn executes_once<S: Service>()
 /// view. So it is of a node that has been opened, and of one that has been reopened, from whatever
 /// entries.
 pub fn replies_tell_executions<S: Service>()
-    ensures opened { (secret : List ℕ) (id : ℕ) (view : View) (period : ℕ) (events : List NodeEvent) → HoldsExecuted S.meaning view (node_after S.meaning (opened S.meaning secret id view period) events) }
+    ensures opened { (secret : List ℕ) (id : ℕ) (view : View) (period : ℕ) (events : List NodeEvent) → HoldsExecuted S.meaning view (node_after S.meaning (opened (outset S.meaning secret id view period)) events) }
     ensures reopened { (secret : List ℕ) (id : ℕ) (view : View) (period : ℕ) (entries : List LogEntry) (events : List NodeEvent) →
-        HoldsExecuted S.meaning view (node_after S.meaning (reopened S.meaning secret id view period entries) events) }
+        HoldsExecuted S.meaning view (node_after S.meaning (reopened S.meaning (outset S.meaning secret id view period) entries) events) }
 {}
 
 /// No step begins a regency that the book has begun, whatever the book is: of each regency of a view a
@@ -56,10 +56,10 @@ pub fn replies_tell_executions<S: Service>()
 pub fn a_regency_begins_once<S: Service>()
     ensures step { (n : Node S) (event : NodeEvent) (view regency : ℕ) →
         passing (begins view regency) (step_of S.meaning n event).node.entries ≤ max 1 (passing (begins view regency) n.entries) }
-    ensures opened { (secret : List ℕ) (id : ℕ) (view : View) (period : ℕ) (events : List NodeEvent) (number regency : ℕ) →
-        passing (begins number regency) (node_after S.meaning (opened S.meaning secret id view period) events).entries ≤ 1 }
-    ensures reopened { (secret : List ℕ) (id : ℕ) (view : View) (period : ℕ) (entries : List LogEntry) (events : List NodeEvent) (number regency : ℕ) →
-        passing (begins number regency) (node_after S.meaning (reopened S.meaning secret id view period entries) events).entries ≤ max 1 (passing (begins number regency) entries) }
+    ensures opened { (o : Outset S) (events : List NodeEvent) (number regency : ℕ) →
+        passing (begins number regency) (node_after S.meaning (opened o) events).entries ≤ 1 }
+    ensures reopened { (o : Outset S) (entries : List LogEntry) (events : List NodeEvent) (number regency : ℕ) →
+        passing (begins number regency) (node_after S.meaning (reopened S.meaning o entries) events).entries ≤ max 1 (passing (begins number regency) entries) }
 {}
 
 /// A vote leaves only after its entry is firm. A reply leaves only after firm entries make its place
@@ -70,14 +70,14 @@ pub fn a_regency_begins_once<S: Service>()
 /// Whatever comes to a node that has let nothing go yet, each vote, report and reply that would leave
 /// it now rests on firm entries.
 pub fn votes_leave_when_firm<S: Service>()
-    ensures { (secret : List ℕ) (id : ℕ) (view : View) (period : ℕ) (events : List NodeEvent) → LeavesFirm (node_after S.meaning (opened S.meaning secret id view period) events) }
+    ensures { (secret : List ℕ) (id : ℕ) (view : View) (period : ℕ) (events : List NodeEvent) → LeavesFirm (node_after S.meaning (opened (outset S.meaning secret id view period)) events) }
 {}
 
 /// A message that a node holds names the node as its signer, whatever comes. The exception is a
 /// client's request that it passes on to one member. A reply goes to the client that it names, and a
 /// report to one member.
 pub fn holds_its_own<S: Service>()
-    ensures { (secret : List ℕ) (id : ℕ) (view : View) (period : ℕ) (events : List NodeEvent) → HoldsOwn id (node_after S.meaning (opened S.meaning secret id view period) events) }
+    ensures { (secret : List ℕ) (id : ℕ) (view : View) (period : ℕ) (events : List NodeEvent) → HoldsOwn id (node_after S.meaning (opened (outset S.meaning secret id view period)) events) }
 {}
 
 /// A message that a node holds bears its signer's tag, whatever bytes come. Each request of a batch
@@ -85,11 +85,11 @@ pub fn holds_its_own<S: Service>()
 /// is read as itself if no report in it with last place 0 bears evidence.
 pub fn what_is_held_is_read<S: Service>()
     ensures { (secret : List ℕ) (id : ℕ) (view : View) (period : ℕ) (events : List NodeEvent) → IsSigner 1 id → is_view view ≡ true → Each IsByteEvent events →
-        HoldsGenuine (node_after S.meaning (opened S.meaning secret id view period) events) }
+        HoldsGenuine (node_after S.meaning (opened (outset S.meaning secret id view period)) events) }
 {}
 
 /// An entry of a node's book has a spelling that a disk can hold, whatever bytes come.
 pub fn what_is_recorded_has_a_spelling<S: Service>()
     ensures { (secret : List ℕ) (id : ℕ) (view : View) (period : ℕ) (events : List NodeEvent) → IsSigner 1 id → is_view view ≡ true → period < 2 ^ 32 → Each IsByteEvent events →
-        Each FitsEntry (node_after S.meaning (opened S.meaning secret id view period) events).entries }
+        Each FitsEntry (node_after S.meaning (opened (outset S.meaning secret id view period)) events).entries }
 {}

@@ -5,7 +5,7 @@ use Rattle.smart_statements.specs.Batches.{Batch}
 use Rattle.smart_statements.specs.declared.statement.Request.{Request}
 use Rattle.smart_service.specs.Services.{Meaning}
 use Rattle.smart_service.specs.declared.replica.Replica.{Replica}
-use Rattle.replica_rules.specs.Replicas.{is_next, execute, execute_all, at_next, delivered, executed_lines, empty, after_batches, state, executions_from}
+use Rattle.replica_rules.specs.Replicas.{is_next, execute, execute_all, at_next, delivered, executed_lines, empty, after_batches, state, executions_from, views_after}
 
 -- ---- the place
 
@@ -57,6 +57,15 @@ views_all m r i (q ∷ qs) = views_all m (execute m r i q.statement) (i + 1) qs 
 pub views_delivered : {S : Type 0} (m : Meaning S) (r : Replica S) (batch : Batch) → (delivered m r batch).views ≡ r.views
 unfolding delivered
 views_delivered m r batch = views_all m (at_next r) 0 batch
+
+after_views : {S : Type 0} (m : Meaning S) (r : Replica S) (list : List Batch) → (after_batches m r list).views ≡ r.views
+after_views m r [] = refl
+after_views m r (batch ∷ list) = after_views m (delivered m r batch) list ∙ views_delivered m r batch
+
+-- a replica has the views that its list of batches makes
+pub state_views : {S : Type 0} (m : Meaning S) (v : View) (list : List Batch) → (state m v list).views ≡ views_after v list
+unfolding views_after
+state_views m v list = after_views m (empty m v) list
 
 -- ---- what is executed
 

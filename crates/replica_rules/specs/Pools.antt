@@ -1,5 +1,6 @@
 -- The pool: requests that wait to be proposed, one for each client, in the order in which the clients came.
 use Rattle.std.specs.Prelude.{ℕ, ◌==◌, nat_lt, nat_le, Bool, not, ◌&&◌, List, [], ◌∷◌, ◌++◌, length, filter, if◌then◌else◌, Option, Some, None}
+use Rattle.smart_base.specs.declared.limits.TheConstants.{BATCH_BYTES, BATCH_REQUESTS}
 use Rattle.smart_statements.specs.Forms.{SignedBy}
 use Rattle.smart_statements.specs.Batches.{Batch, batch_text}
 use Rattle.smart_statements.specs.declared.statement.Request.{Request}
@@ -12,13 +13,13 @@ abbrev pub offered : List (SignedBy Request) → SignedBy Request → List (Sign
 offered [] q = q ∷ []
 offered (old ∷ olds) q = if old.statement.client == q.statement.client then q ∷ olds else old ∷ offered olds q
 
--- the pool without the requests that are no longer their client's next
+-- the pool without the requests that may not be executed now
 abbrev pub settled : List TableLine → List (SignedBy Request) → List (SignedBy Request)
 settled table pool = filter (λ q. is_next table q.statement) pool
 
 -- a batch within the limits: at most 64 requests and 262,144 bytes
 abbrev pub is_within : Batch → Bool
-is_within batch = nat_le (length batch) 64 && nat_le (length (batch_text batch)) 262144
+is_within batch = nat_le (length batch) BATCH_REQUESTS && nat_le (length (batch_text batch)) BATCH_BYTES
 
 -- a batch with more requests, up to the first that would pass a limit
 abbrev pub filled : Batch → List (SignedBy Request) → Batch

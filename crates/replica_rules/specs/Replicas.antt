@@ -5,24 +5,25 @@ use Rattle.smart_base.specs.Views.{View, present}
 use Rattle.smart_statements.specs.Batches.{Batch}
 use Rattle.smart_statements.specs.declared.statement.Request.{Request}
 use Rattle.smart_service.specs.Services.{Meaning}
-use Rattle.smart_service.specs.Tables.{last_seq, with_line}
+use Rattle.smart_service.specs.Tables.{may_execute, noting}
+use Rattle.smart_service.specs.declared.table.Execution.{Execution}
 use Rattle.smart_service.specs.declared.table.TableLine.{TableLine}
 use Rattle.smart_service.specs.declared.replica.Replica.{Replica}
 
--- a request that is executed: its number is its client's next; any other request is passed over
+-- a request that is executed: its client's number may be executed now; any other request is passed over
 abbrev pub is_next : List TableLine → Request → Bool
-is_next table q = q.seq == last_seq table q.client + 1
+is_next table q = may_execute table q.client q.seq
 
--- the line of the table of clients that an executed request makes
-abbrev pub line_of : {S : Type 0} → Meaning S → Replica S → ℕ → Request → TableLine
+-- the execution of a request at an index
+abbrev pub line_of : {S : Type 0} → Meaning S → Replica S → ℕ → Request → Execution
 line_of m r index q =
     record { client = q.client; seq = q.seq; place = r.place; index = index; view = (present r.views).number; reply = m.reply r.service q.op }
 
--- the replica after a request; a request that is not its client's next changes nothing
+-- the replica after a request; a request that may not be executed changes nothing
 unfoldable pub execute : {S : Type 0} → Meaning S → Replica S → ℕ → Request → Replica S
 execute m r index q =
     if is_next r.table q
-    then record { service = m.next r.service q.op; table = with_line r.table (line_of m r index q); views = r.views; place = r.place }
+    then record { service = m.next r.service q.op; table = noting r.table (line_of m r index q); views = r.views; place = r.place }
     else r
 
 -- the replica after requests that stand from an index on
@@ -30,12 +31,12 @@ abbrev pub execute_all : {S : Type 0} → Meaning S → Replica S → ℕ → Ba
 execute_all m r index [] = r
 execute_all m r index (q ∷ qs) = execute_all m (execute m r index q.statement) (index + 1) qs
 
--- the line of a request, if it is executed
-abbrev pub line_made : {S : Type 0} → Meaning S → Replica S → ℕ → Request → Option TableLine
+-- the execution of a request, if it is executed
+abbrev pub line_made : {S : Type 0} → Meaning S → Replica S → ℕ → Request → Option Execution
 line_made m r index q = if is_next r.table q then Some (line_of m r index q) else None
 
--- the lines of the executed requests among those that stand from an index on, in order
-abbrev pub lines_of : {S : Type 0} → Meaning S → Replica S → ℕ → Batch → List TableLine
+-- the executions of requests that stand from an index on, in order
+abbrev pub lines_of : {S : Type 0} → Meaning S → Replica S → ℕ → Batch → List Execution
 lines_of m r index [] = []
 lines_of m r index (q ∷ qs) = option_to_list (line_made m r index q.statement) ++ lines_of m (execute m r index q.statement) (index + 1) qs
 
@@ -47,8 +48,8 @@ at_next r = record { service = r.service; table = r.table; views = r.views; plac
 unfoldable pub delivered : {S : Type 0} → Meaning S → Replica S → Batch → Replica S
 delivered m r batch = execute_all m (at_next r) 0 batch
 
--- the lines of the executed requests of one more batch, in order
-unfoldable pub executed_lines : {S : Type 0} → Meaning S → Replica S → Batch → List TableLine
+-- the executions of one more batch, in order
+unfoldable pub executed_lines : {S : Type 0} → Meaning S → Replica S → Batch → List Execution
 executed_lines m r batch = lines_of m (at_next r) 0 batch
 
 -- the replica before any batch
@@ -64,17 +65,17 @@ after_batches m r (batch ∷ batches) = after_batches m (delivered m r batch) ba
 abbrev pub state : {S : Type 0} → Meaning S → View → List Batch → Replica S
 state m view list = after_batches m (empty m view) list
 
--- the lines of all requests that more batches execute, in order
-abbrev pub executions_from : {S : Type 0} → Meaning S → Replica S → List Batch → List TableLine
+-- the executions of more batches, in order
+abbrev pub executions_from : {S : Type 0} → Meaning S → Replica S → List Batch → List Execution
 executions_from m r [] = []
 executions_from m r (batch ∷ batches) = executed_lines m r batch ++ executions_from m (delivered m r batch) batches
 
--- the lines of all requests that a list of batches executes, in order
-abbrev pub executions : {S : Type 0} → Meaning S → View → List Batch → List TableLine
+-- the executions of a list of batches, in order
+abbrev pub executions : {S : Type 0} → Meaning S → View → List Batch → List Execution
 executions m view list = executions_from m (empty m view) list
 
--- the first line that passes a test
-abbrev pub first_line : (TableLine → Bool) → List TableLine → Option TableLine
+-- the first execution that passes a test
+abbrev pub first_line : (Execution → Bool) → List Execution → Option Execution
 first_line p [] = None
 first_line p (line ∷ lines) = if p line then Some line else first_line p lines
 
@@ -97,6 +98,11 @@ batch_at list (suc k) = slice_get list k
 abbrev pub request_at : List Batch → ℕ → ℕ → Option Request
 request_at list place index = option_and_then (λ batch. option_map (λ q. q.statement) (slice_get batch index)) (batch_at list place)
 
+-- The views behind a list of batches, the present one last. They follow from the list alone, whatever the service is. INTERIM(views): no
+-- batch changes the view.
+unfoldable pub views_after : View → List Batch → List View
+views_after view list = view ∷ []
+
 -- the view in force at a place: the present one after all earlier places
-abbrev pub view_at : {S : Type 0} → Meaning S → View → List Batch → ℕ → View
-view_at m view list place = present (state m view (take (place - 1) list)).views
+abbrev pub view_at : View → List Batch → ℕ → View
+view_at view list place = present (views_after view (take (place - 1) list))

@@ -1,6 +1,7 @@
 -- How members and clients sign statements, and what names a batch.
 use Rattle.std.specs.Prelude.{ℕ, ◌==◌, nat_le, nat_lt, Bool, not, ◌&&◌, ◌||◌, List, length}
 use Rattle.std.specs.List.{list_any, list_all}
+use Rattle.smart_base.specs.declared.limits.TheConstants.{BATCH_BYTES, BATCH_REQUESTS, LAST_CLIENT}
 use Rattle.smart_keys.specs.Keys.{digest, tag_of, is_tag}
 use Rattle.smart_statements.specs.Forms.{Form, SignedBy, party_of}
 use Rattle.smart_statements.specs.Kinds.{requests}
@@ -21,7 +22,7 @@ digest_of batch = digest (batch_text batch)
 
 -- a request that may stand at a place: its client signed it, and it states an earlier place
 abbrev pub request_fits : List ℕ → ℕ → SignedBy Request → Bool
-request_fits secret place q = nat_le q.statement.client 1024 && nat_lt q.statement.after place && is_verified requests secret q
+request_fits secret place q = nat_le q.statement.client LAST_CLIENT && nat_lt q.statement.after place && is_verified requests secret q
 
 -- a request of the view manager, which is client 0
 abbrev pub is_managers : SignedBy Request → Bool
@@ -31,5 +32,5 @@ is_managers q = q.statement.client == 0
 -- view manager stands alone.
 unfoldable pub fits : List ℕ → Batch → ℕ → Bool
 fits secret batch place =
-    nat_le 1 (length batch) && nat_le (length batch) 64 && nat_le (length (batch_text batch)) 262144
+    nat_le 1 (length batch) && nat_le (length batch) BATCH_REQUESTS && nat_le (length (batch_text batch)) BATCH_BYTES
     && list_all (request_fits secret place) batch && (nat_le (length batch) 1 || not (list_any is_managers batch))

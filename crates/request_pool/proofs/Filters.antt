@@ -16,20 +16,6 @@ step_at xs i x within is = drop_more xs i x within ∙ ap (λ y. y ∷ drop (i +
 keep_one : (place : ℕ) (q : SignedBy Request) (qs : List (SignedBy Request)) → nat_lt q.statement.after place ≡ true → is_managers q ≡ false → besides place (q ∷ qs) ≡ q ∷ besides place qs
 keep_one place q qs due clients = rw due (rw clients refl)
 
-pass_early : (place : ℕ) (q : SignedBy Request) (qs : List (SignedBy Request)) → nat_lt q.statement.after place ≡ false → besides place (q ∷ qs) ≡ besides place qs
-pass_early place q qs early = rw early refl
-
-pass_managers : (place : ℕ) (q : SignedBy Request) (qs : List (SignedBy Request)) → nat_lt q.statement.after place ≡ true → is_managers q ≡ true → besides place (q ∷ qs) ≡ besides place qs
-pass_managers place q qs due managers = rw due (rw managers refl)
-
 pub kept_at : (place : ℕ) (pool : List (SignedBy Request)) (i : ℕ) (q : SignedBy Request) → i < length pool → q ≡ get_or pool i q
     → nat_lt q.statement.after place ≡ true → is_managers q ≡ false → besides place (drop i pool) ≡ q ∷ besides place (drop (i + 1) pool)
 kept_at place pool i q within is due clients = ap (λ qs. besides place qs) (step_at pool i q within is) ∙ keep_one place q (drop (i + 1) pool) due clients
-
-pub early_at : (place : ℕ) (pool : List (SignedBy Request)) (i : ℕ) (q : SignedBy Request) → i < length pool → q ≡ get_or pool i q
-    → nat_lt q.statement.after place ≡ false → besides place (drop i pool) ≡ besides place (drop (i + 1) pool)
-early_at place pool i q within is early = ap (λ qs. besides place qs) (step_at pool i q within is) ∙ pass_early place q (drop (i + 1) pool) early
-
-pub managers_at : (place : ℕ) (pool : List (SignedBy Request)) (i : ℕ) (q : SignedBy Request) → i < length pool → q ≡ get_or pool i q
-    → nat_lt q.statement.after place ≡ true → is_managers q ≡ true → besides place (drop i pool) ≡ besides place (drop (i + 1) pool)
-managers_at place pool i q within is due managers = ap (λ qs. besides place qs) (step_at pool i q within is) ∙ pass_managers place q (drop (i + 1) pool) due managers

@@ -5,10 +5,6 @@ use Rattle.std.specs.List.{list_any, list_all}
 use Rattle.smart_base.specs.Lists.{Each}
 use Rattle.request_pool.specs.Orders.{IsSubsequence}
 
-skip_one : {A : Type 0} (xs : List A) (y : A) (ys : List A) → IsSubsequence xs ys → IsSubsequence xs (y ∷ ys)
-skip_one [] y ys sub = tt
-skip_one (x ∷ xs) y ys sub = inr sub
-
 pub within_same : {A : Type 0} (xs : List A) → IsSubsequence xs xs
 within_same [] = tt
 within_same (x ∷ xs) = inl (refl, within_same xs)

@@ -1,6 +1,7 @@
 -- What becomes of a request that is offered to a pool.
 use Rattle.std.specs.Prelude.{◌≡◌, ℕ, ◌+◌, ◌≤◌, ◌==◌, nat_le, nat_lt, Bool, true, not, List, [], ◌∷◌, length, map, if◌then◌else◌}
 use Rattle.std.specs.List.{list_any}
+use Rattle.smart_base.specs.declared.limits.TheConstants.{BATCH_BYTES, LAST_CLIENT}
 use Rattle.smart_statements.specs.Forms.{SignedBy}
 use Rattle.smart_statements.specs.Kinds.{requests}
 use Rattle.smart_statements.specs.Batches.{batch_text}
@@ -22,7 +23,7 @@ has_client pool client = list_any (λ old. old.statement.client == client) pool
 abbrev pub offer_of : List ℕ → List (SignedBy Request) → SignedBy Request → ℕ → Offer
 offer_of secret pool q last =
     if not (is_verified requests secret q) then BadTag
-    else if nat_lt 1024 q.statement.client then Stranger
+    else if nat_lt LAST_CLIENT q.statement.client then Stranger
     else if nat_le q.statement.seq last then Old
     else if nat_lt (last + 1) q.statement.seq then Ahead
     else if has_client pool q.statement.client then Replaced
@@ -40,5 +41,5 @@ pool_after Stranger pool q = pool
 -- A request that may stand in a batch: its client is known and signed it, and alone it has no more bytes than a batch may have.
 pub record IsSound (secret : List ℕ) (q : SignedBy Request) : Type 0 where
   pub verified : is_verified requests secret q ≡ true
-  pub known : q.statement.client ≤ 1024
-  pub small : length (batch_text (q ∷ [])) ≤ 262144
+  pub known : q.statement.client ≤ LAST_CLIENT
+  pub small : length (batch_text (q ∷ [])) ≤ BATCH_BYTES

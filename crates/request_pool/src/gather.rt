@@ -5,9 +5,10 @@ ghost use Rattle.replica_rules.specs.Seals.{is_managers};
 ghost use Rattle.replica_rules.specs.Pools.{is_within, filled, batch_of, gathered};
 
 use smart_base::duplicate::Duplicate;
+use smart_base::limits::{BATCH_BYTES, BATCH_REQUESTS};
 use smart_base::number::Place;
 use smart_base::sequence::Sequence;
-use smart_statements::batch::{BATCH_BYTES, BATCH_REQUESTS, Batch};
+use smart_statements::batch::Batch;
 use smart_statements::signed::Signed;
 use smart_statements::statement::Request;
 use std::alloc::{AllocError, Global};
@@ -25,6 +26,7 @@ struct Gathering {
 
 impl Model for Gathering {
     ghost use Rattle.std.specs.Prelude.{◌≡◌, ◌<◌, ◌≤◌, ◌^◌, List, length};
+    ghost use Rattle.smart_base.specs.declared.limits.TheConstants.{BATCH_REQUESTS};
     ghost use Rattle.smart_statements.specs.Forms.{SignedBy};
     ghost use Rattle.smart_statements.specs.Batches.{batch_text};
     ghost use Rattle.smart_statements.specs.declared.statement.Request.{Request};
@@ -33,7 +35,7 @@ impl Model for Gathering {
 
     ghost view = { λ g. g.list };
 
-    ghost invariant = { λ g. (0 < length g.list) × (length g.list ≤ 64) × (g.bytes ≡ length (batch_text g.list)) × (g.bytes < 2 ^ 40) };
+    ghost invariant = { λ g. (0 < length g.list) × (length g.list ≤ BATCH_REQUESTS) × (g.bytes ≡ length (batch_text g.list)) × (g.bytes < 2 ^ 40) };
 }
 
 impl Gathering {

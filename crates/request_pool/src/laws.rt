@@ -2,6 +2,7 @@
 ghost use Rattle.std.specs.Prelude.{◌≡◌, ◌≤◌, ℕ, List, [], ◌∷◌, true, false, Some, None, length, nat_lt};
 ghost use Rattle.std.specs.List.{list_any};
 ghost use Rattle.smart_base.specs.Lists.{Each, Distinct};
+ghost use Rattle.smart_base.specs.declared.limits.TheConstants.{BATCH_BYTES};
 ghost use Rattle.smart_statements.specs.Forms.{SignedBy};
 ghost use Rattle.smart_statements.specs.Kinds.{requests};
 ghost use Rattle.smart_statements.specs.Batches.{Batch, batch_text};
@@ -39,12 +40,12 @@ pub fn a_client_has_one_request()
 /// Sound requests stay sound, whatever is settled, and whatever is offered if it is small enough
 /// alone.
 pub fn a_pool_stays_sound()
-    ensures offered { (secret : List ℕ) (pool : List (SignedBy Request)) (q : SignedBy Request) (last : ℕ) → length (batch_text (q ∷ [])) ≤ 262144 →
+    ensures offered { (secret : List ℕ) (pool : List (SignedBy Request)) (q : SignedBy Request) (last : ℕ) → length (batch_text (q ∷ [])) ≤ BATCH_BYTES →
         Each (IsSound secret) pool → Each (IsSound secret) (pool_after (offer_of secret pool q last) pool q) }
     ensures settled { (secret : List ℕ) (table : List TableLine) (pool : List (SignedBy Request)) → Each (IsSound secret) pool → Each (IsSound secret) (settled table pool) }
 {}
 
 /// A request that has bytes is small enough alone.
 pub fn a_spelled_request_is_small()
-    ensures { (q : SignedBy Request) → FitsSigned requests FitsRequest q → length (batch_text (q ∷ [])) ≤ 262144 }
+    ensures { (q : SignedBy Request) → FitsSigned requests FitsRequest q → length (batch_text (q ∷ [])) ≤ BATCH_BYTES }
 {}

@@ -7,6 +7,7 @@ ghost use Rattle.request_pool.specs.Offers.{clients_of, has_client, offer_of, po
 
 use crate::gather::gathered;
 use indexmap::IndexMap;
+use smart_base::limits::LAST_CLIENT;
 use smart_base::number::Place;
 use smart_keys::ring::Ring;
 use smart_service::table::ClientTable;
@@ -15,9 +16,6 @@ use smart_statements::signed::Signed;
 use smart_statements::statement::Request;
 use std::alloc::{AllocError, Global};
 use std::marker::Model;
-
-/// The greatest number of a client.
-const CLIENTS: u16 = 1024;
 
 /// The answer to an offered request: it is kept, or the first reason not to keep it.
 #[derive(Clone, Copy, Debug, PartialEq, Eq)]
@@ -90,7 +88,7 @@ impl RequestPool {
         if !request.verifies(ring) {
             return Ok(Offer::BadTag);
         }
-        if CLIENTS < client {
+        if LAST_CLIENT < client {
             return Ok(Offer::Stranger);
         }
         if seq <= last {
@@ -136,7 +134,7 @@ impl RequestPool {
                 ensures { (result ≡ is_next table.entry.now request.old.statement) × (request.new ≡ request.old) }
             {
                 let asked = request.statement();
-                table.is_next(asked.client, asked.seq)
+                table.may_execute(asked.client, asked.seq)
             },
         );
     }

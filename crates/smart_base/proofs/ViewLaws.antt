@@ -9,7 +9,7 @@ use Rattle.std.proofs.lemmas.List.Concat.{flat_map-cons}
 use Rattle.smart_base.specs.Cuts.{Cut, Read, IsBytes, ◌>>=◌, ranged, number_at, Gives}
 use Rattle.smart_base.specs.Spelling.{u16, Spelled, Law}
 use Rattle.smart_base.specs.Views.{View, ascends, is_view}
-use Rattle.smart_base.specs.ViewBytes.{view_text, view_number_at, start_at, faulty_at, member_count_at, members_at, view_at}
+use Rattle.smart_base.specs.ViewBytes.{view_text, view_number_at, first_place_at, faulty_at, member_count_at, members_at, view_at}
 use Rattle.smart_base.specs.Laws.{bind_ok, bind_is, ok_is, done, empty, spelled-bytes, spelled-then, spelled-front, spelled-back, middle, then_law, last_law, refit, ranged_law, with_front, regroup}
 use Rattle.smart_base.specs.FieldLaws.{u8_law, u16_law, u32_law, u64_law, and_true}
 use Rattle.smart_base.specs.declared.fault.ReadError.{ReadError}
@@ -138,7 +138,7 @@ view_law =
     refit FitsParts (λ v. is_view v ≡ true) view_text view_at
     (then_law (λ (v : View). v.number) (λ v. Unit {0}) (λ n. (n < 2 ^ 32) × (leb n 1023 ≡ true)) (to_be_bytes w32) view_number_at _ _ _
     (ranged_law (λ n. n < 2 ^ 32) (to_be_bytes w32) (number_at w32) (λ n. leb n 1023) u32_law) λ n is_n.
-    then_law (λ (v : View). v.start) (λ v. Unit {0} × (v.number ≡ n)) (λ n. (n < 2 ^ 64) × ((leb 1 n && leb n (2 ^ 63)) ≡ true)) (to_be_bytes w64) start_at _ _ _
+    then_law (λ (v : View). v.start) (λ v. Unit {0} × (v.number ≡ n)) (λ n. (n < 2 ^ 64) × ((leb 1 n && leb n (2 ^ 63)) ≡ true)) (to_be_bytes w64) first_place_at _ _ _
     (ranged_law (λ n. n < 2 ^ 64) (to_be_bytes w64) (number_at w64) (λ n. leb 1 n && leb n (2 ^ 63)) u64_law) λ s is_s.
     then_law (λ (v : View). v.f) (λ v. (Unit {0} × (v.number ≡ n)) × (v.start ≡ s)) (λ n. (n < 2 ^ 8) × (leb n 10 ≡ true)) (to_be_bytes w8) faulty_at
     (λ v. CountFits v.f (length v.members) × (ascends 0 v.members ≡ true)) _ _

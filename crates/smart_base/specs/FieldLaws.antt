@@ -6,6 +6,7 @@ use Rattle.smart_base.specs.Cuts.{fixed_at, number_at, ranged, text_at}
 use Rattle.smart_base.specs.Spelling.{IsCount, IsTag, IsPayload, behind, Law}
 use Rattle.smart_base.specs.Fields.{kind_at, same_at, count_at, items_at, digest_at, tag_at, text_to, payload_at}
 use Rattle.smart_base.specs.Laws.{refit, ranged_law, contents_law, fixed_field, text_field, number_law, wide8, wide16, wide32, wide64}
+use Rattle.smart_base.specs.declared.limits.TheConstants.{PAYLOAD_BYTES, TAG_BYTES}
 
 pub u8_law : Law (λ n. n < 2 ^ 8) (to_be_bytes w8) (number_at w8)
 u8_law = number_law w8 (2 ^ 8) wide8
@@ -61,10 +62,10 @@ digest_law = contents_law (λ t. length t ≡ 32) (λ t. t) (fixed_at 32) (fixed
 
 pub tag_law : Law IsTag (behind w16) tag_at
 tag_law =
-    refit (λ t. (length t < 2 ^ 16) × ((ltb 0 (length t) && leb (length t) 4096) ≡ true)) IsTag (behind w16) tag_at
-    (contents_law _ (behind w16) (text_at w16 (λ n. ltb 0 n && leb n 4096)) (text_field w16 (2 ^ 16) (λ n. ltb 0 n && leb n 4096) wide16))
-    (λ t h. let u = and_true (ltb 0 (length t)) (leb (length t) 4096) h.1 in (ltb-true 0 (length t) u.0, leb-true (length t) 4096 u.1))
-    (λ t h. (omega (arith, h.1), rw (lt-ltb 0 (length t) h.0, le-leb (length t) 4096 h.1) refl))
+    refit (λ t. (length t < 2 ^ 16) × ((ltb 0 (length t) && leb (length t) TAG_BYTES) ≡ true)) IsTag (behind w16) tag_at
+    (contents_law _ (behind w16) (text_at w16 (λ n. ltb 0 n && leb n TAG_BYTES)) (text_field w16 (2 ^ 16) (λ n. ltb 0 n && leb n TAG_BYTES) wide16))
+    (λ t h. let u = and_true (ltb 0 (length t)) (leb (length t) TAG_BYTES) h.1 in (ltb-true 0 (length t) u.0, leb-true (length t) TAG_BYTES u.1))
+    (λ t h. (omega (arith, h.1), rw (lt-ltb 0 (length t) h.0, le-leb (length t) TAG_BYTES h.1) refl))
 
 pub text_law : (most : ℕ) → most < 2 ^ 32 → Law (λ t. length t ≤ most) (behind w32) (text_to most)
 text_law most small =
@@ -73,4 +74,4 @@ text_law most small =
     (λ t h. leb-true (length t) most h.1) (λ t h. (omega (arith, h, small), le-leb (length t) most h))
 
 pub payload_law : Law IsPayload (behind w32) payload_at
-payload_law = text_law 4096 (omega arith)
+payload_law = text_law PAYLOAD_BYTES (omega arith)

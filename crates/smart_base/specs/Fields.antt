@@ -2,6 +2,7 @@
 use Rattle.std.specs.Prelude.{ℕ, ◌^◌, List, nat_lt, nat_le, ◌==◌, ◌&&◌}
 use Rattle.std.specs.Int.{w8, w16, w32, w64}
 use Rattle.smart_base.specs.Cuts.{Cut, Read, ranged, number_at, text_at, fixed_at, contents}
+use Rattle.smart_base.specs.declared.limits.TheConstants.{PAYLOAD_BYTES, TAG_BYTES}
 
 -- the byte k
 abbrev pub kind_at : ℕ → Cut → Read ℕ
@@ -23,7 +24,7 @@ abbrev pub digest_at : Cut → Read (List ℕ)
 digest_at = contents (fixed_at 32)
 
 abbrev pub tag_at : Cut → Read (List ℕ)
-tag_at = contents (text_at w16 (λ n. nat_lt 0 n && nat_le n 4096))
+tag_at = contents (text_at w16 (λ n. nat_lt 0 n && nat_le n TAG_BYTES))
 
 -- a text of at most so many bytes
 abbrev pub text_to : ℕ → Cut → Read (List ℕ)
@@ -31,4 +32,4 @@ text_to most = contents (text_at w32 (λ n. nat_le n most))
 
 -- an operation or a reply
 abbrev pub payload_at : Cut → Read (List ℕ)
-payload_at = text_to 4096
+payload_at = text_to PAYLOAD_BYTES

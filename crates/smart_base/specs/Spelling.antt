@@ -2,6 +2,7 @@
 use Rattle.std.specs.Prelude.{◌≡◌, ℕ, ◌+◌, ◌<◌, ◌≤◌, ◌^◌, List, ◌++◌, length, Ok}
 use Rattle.std.specs.Int.{Width, w8, w16, w32, w64, to_be_bytes}
 use Rattle.smart_base.specs.Cuts.{Cut, Read, IsBytes}
+use Rattle.smart_base.specs.declared.limits.TheConstants.{PAYLOAD_BYTES, TAG_BYTES}
 
 -- ---- numbers have their high byte first
 
@@ -29,11 +30,11 @@ IsCount n = (0 < n) × (n < 2 ^ 63)
 
 -- tags
 abbrev pub IsTag : List ℕ → Type 0
-IsTag t = (0 < length t) × (length t ≤ 4096)
+IsTag t = (0 < length t) × (length t ≤ TAG_BYTES)
 
 -- operations and replies
 abbrev pub IsPayload : List ℕ → Type 0
-IsPayload t = length t ≤ 4096
+IsPayload t = length t ≤ PAYLOAD_BYTES
 
 -- the kinds of those who sign
 abbrev pub member_kind : ℕ

@@ -1,6 +1,7 @@
 -- Views, quorums and leaders (quorums and regencies: Mod-SMaRt, EDCC 2012).
 use Rattle.std.specs.Prelude.{ℕ, ◌+◌, ◌*◌, ◌/◌, ◌%◌, ◌^◌, ◌==◌, nat_lt, nat_le, Bool, true, ◌&&◌, List, [], ◌∷◌, length, filter, take, slice_index}
 use Rattle.std.specs.List.{list_any}
+use Rattle.smart_base.specs.declared.limits.TheConstants.{FAULTY, LAST_VIEW, MEMBERS}
 
 -- a view: the members of a group from a place on, and how many of them may be faulty (f)
 pub record View : Type 0 where
@@ -18,8 +19,8 @@ ascends last (m ∷ ms) = nat_lt last m && nat_le m 65535 && ascends m ms
 -- a valid view: it has 3f+1 to 31 members, ascending; f is at most 10, the number at most 1,023, and the start from 1 to 2^63
 unfoldable pub is_view : View → Bool
 is_view v =
-    nat_le v.number 1023 && nat_le 1 v.start && nat_le v.start (2 ^ 63) && nat_le v.f 10
-    && nat_le (3 * v.f + 1) (length v.members) && nat_le (length v.members) 31 && ascends 0 v.members
+    nat_le v.number LAST_VIEW && nat_le 1 v.start && nat_le v.start (2 ^ 63) && nat_le v.f FAULTY
+    && nat_le (3 * v.f + 1) (length v.members) && nat_le (length v.members) MEMBERS && ascends 0 v.members
 
 -- the weight of members together: one each
 abbrev pub weight_of : View → List ℕ → ℕ

@@ -1,5 +1,6 @@
 //! Strings of bytes whose lengths are limited.
 ghost use Rattle.std.specs.Prelude.{◌≡◌, ◌<◌, ◌≤◌, length, IfOk};
+ghost use Rattle.smart_base.specs.declared.limits.TheConstants.{PAYLOAD_BYTES, TAG_BYTES};
 
 use crate::duplicate::Duplicate;
 use crate::sequence::Bytes;
@@ -49,9 +50,6 @@ impl Duplicate for Digest32 {
     }
 }
 
-/// The most bytes that a tag has.
-pub const TAG_BYTES: usize = 4096;
-
 /// What a signer makes over bytes, so that others can tell who stated them: 1 to 4,096 bytes.
 pub struct Tag {
     bytes: Bytes,
@@ -66,18 +64,19 @@ impl Drop for Tag {
 
 impl Model for Tag {
     ghost use Rattle.std.specs.Prelude.{List, ℕ, length, ◌<◌, ◌≤◌};
+    ghost use Rattle.smart_base.specs.declared.limits.TheConstants.{TAG_BYTES};
 
     ghost Value = { List ℕ };
 
     ghost view = { λ t. t.bytes };
 
-    ghost invariant = { λ t. (0 < length t.bytes) × (length t.bytes ≤ 4096) };
+    ghost invariant = { λ t. (0 < length t.bytes) × (length t.bytes ≤ TAG_BYTES) };
 }
 
 impl Tag {
     pub fn new(bytes: Bytes) -> Self
         requires some { 0 < length bytes }
-        requires short { length bytes ≤ 4096 }
+        requires short { length bytes ≤ TAG_BYTES }
         ensures { result ≡ bytes }
     {
         Tag { bytes }
@@ -86,7 +85,7 @@ impl Tag {
     pub fn as_slice(&self) -> &[u8]
         ensures value { result.now ≡ self.now }
         ensures some { 0 < length result.now }
-        ensures short { length result.now ≤ 4096 }
+        ensures short { length result.now ≤ TAG_BYTES }
     {
         self.bytes.as_slice()
     }
@@ -99,9 +98,6 @@ impl Duplicate for Tag {
         })
     }
 }
-
-/// The most bytes that an operation or a reply has.
-pub const PAYLOAD_BYTES: usize = 4096;
 
 /// An operation of a service or its reply: at most 4,096 bytes.
 pub struct Payload {
@@ -117,17 +113,18 @@ impl Drop for Payload {
 
 impl Model for Payload {
     ghost use Rattle.std.specs.Prelude.{List, ℕ, length, ◌≤◌};
+    ghost use Rattle.smart_base.specs.declared.limits.TheConstants.{PAYLOAD_BYTES};
 
     ghost Value = { List ℕ };
 
     ghost view = { λ p. p.bytes };
 
-    ghost invariant = { λ p. length p.bytes ≤ 4096 };
+    ghost invariant = { λ p. length p.bytes ≤ PAYLOAD_BYTES };
 }
 
 impl Payload {
     pub fn new(bytes: Bytes) -> Self
-        requires { length bytes ≤ 4096 }
+        requires { length bytes ≤ PAYLOAD_BYTES }
         ensures { result ≡ bytes }
     {
         Payload { bytes }
@@ -135,7 +132,7 @@ impl Payload {
 
     /// A copy of bytes.
     pub fn from_slice(alloc: Global, bytes: &[u8]) -> Result<Self, AllocError>
-        requires { length bytes.now ≤ 4096 }
+        requires { length bytes.now ≤ PAYLOAD_BYTES }
         ensures { IfOk result (λ p. p ≡ bytes.now) }
     {
         Ok(Payload {
@@ -145,7 +142,7 @@ impl Payload {
 
     pub fn as_slice(&self) -> &[u8]
         ensures value { result.now ≡ self.now }
-        ensures short { length result.now ≤ 4096 }
+        ensures short { length result.now ≤ PAYLOAD_BYTES }
     {
         self.bytes.as_slice()
     }

@@ -5,9 +5,10 @@ ghost use Rattle.smart_base.specs.Cuts.{IsBytes, Gives, Takes};
 ghost use Rattle.smart_base.specs.Spelling.{u8, u16, u32, u64, behind, Extends};
 ghost use Rattle.smart_base.specs.Fields.{kind_at, same_at, count_at, items_at, digest_at, tag_at, text_to, payload_at};
 
-use crate::bytes::{Digest32, PAYLOAD_BYTES, Payload, TAG_BYTES, Tag};
+use crate::bytes::{Digest32, Payload, Tag};
 use crate::cursor::Cursor;
 use crate::fault::{ReadError, Unread};
+use crate::limits::{PAYLOAD_BYTES, TAG_BYTES};
 use crate::sequence::Bytes;
 use std::alloc::{AllocError, Global};
 

@@ -9,6 +9,7 @@ pub mod equality;
 pub mod fault;
 pub mod field;
 pub mod keys;
+pub mod limits;
 pub mod name;
 pub mod number;
 pub mod party;

@@ -3,20 +3,12 @@ ghost use Rattle.std.specs.Prelude.{◌≡◌, [], ◌∷◌, IfOk, Option, if�
 ghost use Rattle.smart_base.specs.Views.{is_view, ascends, quorum, is_member, leader, present};
 
 use crate::duplicate::Duplicate;
+use crate::limits::{FAULTY, LAST_VIEW, MEMBERS};
 use crate::name::MemberId;
 use crate::number::{Regency, ViewNo};
 use crate::sequence::Sequence;
 use std::alloc::{AllocError, Global};
 use std::marker::Model;
-
-/// The most members of a view.
-pub const MEMBERS: usize = 31;
-
-/// The most members of a view that may be faulty.
-pub const FAULTY: u8 = 10;
-
-/// The greatest number of a view.
-pub const LAST_VIEW: u32 = 1023;
 
 /// The members of a group from a place on, and how many of them may be faulty
 /// (Mod-SMaRt, EDCC 2012; views that change: BFT-SMaRt, DSN 2014). There are at most 31 members,

@@ -5,15 +5,16 @@ ghost use Rattle.std.specs.Int.{w16};
 ghost use Rattle.smart_base.specs.Cuts.{Cut, IsBytes, Gives, Takes, ranged, number_at};
 ghost use Rattle.smart_base.specs.Spelling.{u16, Spelled, Extends};
 ghost use Rattle.smart_base.specs.Views.{View, is_view};
-ghost use Rattle.smart_base.specs.ViewBytes.{view_text, view_number_at, start_at, faulty_at, member_count_at, members_at, view_at};
+ghost use Rattle.smart_base.specs.ViewBytes.{view_text, view_number_at, first_place_at, faulty_at, member_count_at, members_at, view_at};
 
 use crate::cursor::Cursor;
 use crate::fault::{ReadError, Unread};
 use crate::field::{put_u8, put_u16, put_u32, put_u64};
+use crate::limits::{FAULTY, LAST_VIEW, MEMBERS};
 use crate::name::MemberId;
 use crate::number::ViewNo;
 use crate::sequence::Sequence;
-use crate::view::{FAULTY, LAST_VIEW, MEMBERS, View};
+use crate::view::View;
 use std::alloc::{AllocError, Global};
 
 #[tactic(auto, unfolding(crate::specs::Cuts::ranged))]
@@ -31,7 +32,7 @@ fn take_view_number(cut: &mut Cursor<'_>) -> Result<u32, Unread>
 
 #[tactic(auto, unfolding(crate::specs::Cuts::ranged))]
 fn take_start(cut: &mut Cursor<'_>) -> Result<u64, Unread>
-    ensures { Takes result cut.new (start_at cut.old) }
+    ensures { Takes result cut.new (first_place_at cut.old) }
 {
     let at = cut.at();
     let found = cut.take_u64()?;
@@ -103,6 +104,7 @@ fn take_view(alloc: Global, cut: &mut Cursor<'_>) -> Result<View, ReadError>
     ensures exact { Gives result cut.new (view_at cut.old) }
     ensures bytes { IsBytes cut.old.left }
 {
+    // That these are bytes is known of the cursor.
     let _all = cut.rest();
     let number = take_view_number(cut)?;
     let start = take_start(cut)?;

@@ -23,10 +23,6 @@ pub tag_of-length : (secret : List ℕ) (who : Party) (text : List ℕ) → leng
 unfolding tag_of
 tag_of-length secret who text = hmac-length _ text
 
-pub tag_of-bytes : (secret : List ℕ) (who : Party) (text : List ℕ) → Each (λ byte. byte < 256) (tag_of secret who text)
-unfolding tag_of
-tag_of-bytes secret who text = hmac-bytes _ text
-
 pub is_tag-tag_of : (secret : List ℕ) (who : Party) (text : List ℕ) → is_tag secret who text (tag_of secret who text) ≡ true
 unfolding is_tag
 is_tag-tag_of secret who text = same_bytes-refl (tag_of secret who text)

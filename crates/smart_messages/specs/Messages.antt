@@ -3,6 +3,7 @@ use Rattle.std.specs.Prelude.{ℕ, ◌≤◌, List, ◌++◌, length, Bool, fals
 use Rattle.std.specs.Int.{w8}
 use Rattle.smart_base.specs.Cuts.{Cut, Read, ◌>>=◌, number_at, ranged, limited, whole}
 use Rattle.smart_base.specs.Spelling.{u8}
+use Rattle.smart_base.specs.declared.limits.TheConstants.{MESSAGE_BYTES}
 use Rattle.smart_statements.specs.Forms.{SignedBy}
 use Rattle.smart_statements.specs.Batches.{Batch, batch_text, FitsBatch}
 use Rattle.smart_statements.specs.Kinds.{proposals, ballots, answers, requests}
@@ -63,7 +64,7 @@ FitsContent (Reply r) = FitsSigned answers (λ signer. FitsAnswer) r
 -- a message that has bytes: each field is within its limits, and all are at most 1,048,576 bytes
 pub record Fits (m : Message) : Type 0 where
   pub content_fits : FitsContent m
-  pub bytes_fit : length (spelling m) ≤ 1048576
+  pub bytes_fit : length (spelling m) ≤ MESSAGE_BYTES
 
 -- ---- reading
 
@@ -128,7 +129,7 @@ message_at c = do
 
 -- the message that bytes are, or the lowest offset of a field that is none, or of a byte left over
 unfoldable pub decoded : List ℕ → Result Message ℕ
-decoded bytes = whole (limited 1048576 message_at) (record { at = 0; left = bytes })
+decoded bytes = whole (limited MESSAGE_BYTES message_at) (record { at = 0; left = bytes })
 
 -- ---- a message as one of a kind
 

@@ -2,6 +2,7 @@
 ghost use Rattle.std.specs.Prelude.{◌≡◌, ◌++◌, IfOk, OnOk, OnErr, Ok};
 ghost use Rattle.smart_base.specs.Cuts.{Gives, GivesAll, Takes, limited};
 ghost use Rattle.smart_base.specs.Spelling.{Extends};
+ghost use Rattle.smart_base.specs.declared.limits.TheConstants.{MESSAGE_BYTES};
 ghost use Rattle.smart_statements.specs.Batches.{batch_text};
 ghost use Rattle.smart_statements.specs.Kinds.{proposals, requests};
 ghost use Rattle.smart_statements.specs.Reading.{batch_at};
@@ -15,15 +16,13 @@ use crate::regency::{Reported, Stop, Sync};
 use smart_base::cursor::Cursor;
 use smart_base::fault::{ReadError, Unread};
 use smart_base::field::put_u8;
+use smart_base::limits::MESSAGE_BYTES;
 use smart_statements::batch::Batch;
 use smart_statements::optional::take_flag;
 use smart_statements::report::Report;
 use smart_statements::signed::Signed;
 use smart_statements::statement::{Answer, Ballot, Proposal, Request};
 use std::alloc::{AllocError, Global};
-
-/// The greatest length of a message, in bytes.
-pub const MESSAGE_BYTES: usize = 1_048_576;
 
 #[tactic(auto, unfolding(crate::specs::Messages::ask_at))]
 fn read_ask(alloc: Global, cut: &mut Cursor<'_>) -> Result<Message, ReadError>
@@ -136,7 +135,7 @@ fn read_message(alloc: Global, cut: &mut Cursor<'_>) -> Result<Message, ReadErro
 /// Reads a message within the limit; a field that ends past the limit cannot be read.
 #[tactic(auto, unfolding(smart_base::specs::Cuts::limited))]
 fn read_limited(alloc: Global, cut: &mut Cursor<'_>) -> Result<Message, ReadError>
-    ensures { Gives result cut.new (limited 1048576 message_at cut.old) }
+    ensures { Gives result cut.new (limited MESSAGE_BYTES message_at cut.old) }
 {
     let mut inner = cut.front(MESSAGE_BYTES);
     let room = inner.rest().len();

@@ -1,7 +1,7 @@
 //! The messages of members and clients.
 ghost use Rattle.std.specs.Prelude.{◌≡◌, IfOk};
 ghost use Rattle.std.specs.Option.{option_copied};
-ghost use Rattle.smart_messages.specs.Messages.{request_in, proposal_in, vote_in, stop_in, report_in, sync_in, reply_in, slot_of, batch_in};
+ghost use Rattle.smart_messages.specs.Messages.{request_in, proposal_in, vote_in, report_in, slot_of, batch_in};
 
 use crate::regency::{Reported, Stop, Sync};
 use smart_base::duplicate::Duplicate;
@@ -89,42 +89,12 @@ pub fn vote_in(message: &Message) -> Option<&Signed<Ballot>>
     }
 }
 
-/// The STOP that a message is, if it is one.
-pub fn stop_in(message: &Message) -> Option<&Signed<Stop>>
-    ensures { option_copied result ≡ stop_in message.now }
-{
-    match message {
-        Message::Stop(stop) => Some(stop),
-        _ => None,
-    }
-}
-
 /// The STOPDATA that a message is, if it is one.
 pub fn report_in(message: &Message) -> Option<&Reported>
     ensures { option_copied result ≡ report_in message.now }
 {
     match message {
         Message::StopData(reported) => Some(reported),
-        _ => None,
-    }
-}
-
-/// The SYNC that a message is, if it is one.
-pub fn sync_in(message: &Message) -> Option<&Signed<Sync>>
-    ensures { option_copied result ≡ sync_in message.now }
-{
-    match message {
-        Message::Sync(sync) => Some(sync),
-        _ => None,
-    }
-}
-
-/// The reply that a message is, if it is one.
-pub fn reply_in(message: &Message) -> Option<&Signed<Answer>>
-    ensures { option_copied result ≡ reply_in message.now }
-{
-    match message {
-        Message::Reply(answer) => Some(answer),
         _ => None,
     }
 }

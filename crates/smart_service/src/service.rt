@@ -2,6 +2,7 @@
 ghost use Rattle.std.specs.Prelude.{◌≡◌, ◌≤◌, ℕ, List, length, Some, IfOk, OnOk, OnErr};
 ghost use Rattle.smart_base.specs.Cuts.{IsBytes};
 ghost use Rattle.smart_base.specs.Lists.{Each};
+ghost use Rattle.smart_base.specs.declared.limits.TheConstants.{PAYLOAD_BYTES, STATE_BYTES};
 ghost use Rattle.smart_service.specs.Services.{Meaning, Restores, IsPrintable};
 
 use crate::fault::RestoreError;
@@ -40,7 +41,7 @@ pub trait Service: Drop {
         ensures { Restores result (Meaning.restore meaning bytes.now) };
 
     // The law of short replies: a reply in a valid state has at most 4,096 bytes.
-    ghost brief: { (s : Self) (op : List ℕ) → valid s → length (Meaning.reply meaning s op) ≤ 4096 };
+    ghost brief: { (s : Self) (op : List ℕ) → valid s → length (Meaning.reply meaning s op) ≤ PAYLOAD_BYTES };
 
     // The law of printable replies: the bytes of a reply in a valid state are from 32 to 126.
     ghost printable: { (s : Self) (op : List ℕ) → valid s → Each IsPrintable (Meaning.reply meaning s op) };
@@ -51,7 +52,7 @@ pub trait Service: Drop {
     ghost valid_next: { (s : Self) (op : List ℕ) → valid s → valid (Meaning.next meaning s op) };
 
     // The law of small snapshots: a snapshot of a valid state has at most 12,000,000 bytes.
-    ghost small: { (s : Self) → valid s → length (Meaning.snapshot meaning s) ≤ 12000000 };
+    ghost small: { (s : Self) → valid s → length (Meaning.snapshot meaning s) ≤ STATE_BYTES };
 
     // The law of restoring: a snapshot of a valid state restores that state.
     ghost restores: { (s : Self) → valid s → Meaning.restore meaning (Meaning.snapshot meaning s) ≡ Some s };

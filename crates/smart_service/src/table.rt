@@ -1,6 +1,6 @@
 //! The table of clients.
-ghost use Rattle.std.specs.Prelude.{◌≡◌, ◌≤◌, ◌==◌, ◌+◌, [], length, option_copied, OnOk, OnErr, IfOk, IfErr};
-ghost use Rattle.smart_service.specs.Tables.{last_seq, line_for, with_line, Ascends, lines_before, Found, Missing};
+ghost use Rattle.std.specs.Prelude.{◌≡◌, ◌≤◌, [], length, option_copied, OnOk, OnErr, IfOk, IfErr};
+ghost use Rattle.smart_service.specs.Tables.{last_seq, may_execute, is_executed, is_beyond, kept_reply, noting, line_for, Ascends, lines_before, Found, Missing};
 
 use smart_base::bytes::Payload;
 use smart_base::duplicate::Duplicate;
@@ -9,10 +9,10 @@ use smart_base::number::{Place, ViewNo};
 use std::alloc::{AllocError, Global};
 use std::marker::Model;
 
-/// A client's last executed request: its place in the list, the number of the view in force there,
-/// and its reply.
+/// An executed request: where it stands in the list, the number of the view in force there, and its
+/// reply.
 #[derive(Drop)]
-pub struct TableLine {
+pub struct Execution {
     pub client: ClientId,
     pub seq: u64,
     pub place: Place,
@@ -22,9 +22,9 @@ pub struct TableLine {
     pub reply: Payload,
 }
 
-impl Duplicate for TableLine {
-    fn duplicate(&self, alloc: Global) -> Result<TableLine, AllocError> {
-        Ok(TableLine {
+impl Duplicate for Execution {
+    fn duplicate(&self, alloc: Global) -> Result<Execution, AllocError> {
+        Ok(Execution {
             client: self.client,
             seq: self.seq,
             place: self.place,
@@ -33,6 +33,12 @@ impl Duplicate for TableLine {
             reply: self.reply.duplicate(alloc)?,
         })
     }
+}
+
+/// What is kept of a client: its last executed request.
+#[derive(Drop)]
+pub struct TableLine {
+    pub last: Execution,
 }
 
 /// The table of clients: a line for each client that had a request executed, by ascending client.
@@ -65,7 +71,7 @@ fn lines_before(lines: &[TableLine], client: ClientId) -> usize
     ensures place { result ≡ lines_before lines.now client }
     ensures within { result ≤ length lines.now }
 {
-    lines.partition_point(|line| line.client < client)
+    lines.partition_point(|line| line.last.client < client)
 }
 
 /// The index of a client's line, or else the index at which it belongs.
@@ -78,7 +84,7 @@ fn place_of(lines: &[TableLine], client: ClientId) -> Result<usize, usize>
     if at == lines.len() {
         return Err(at);
     }
-    if lines[at].client == client {
+    if lines[at].last.client == client {
         Ok(at)
     } else {
         Err(at)
@@ -95,15 +101,15 @@ fn line_of(lines: &[TableLine], client: ClientId) -> Option<&TableLine>
     }
 }
 
-fn put_line(lines: &mut Vec<TableLine>, line: TableLine) -> Result<(), AllocError>
+fn put_line(lines: &mut Vec<TableLine>, execution: Execution) -> Result<(), AllocError>
     requires { Ascends lines.old.items }
-    ensures line { OnOk result (lines.new.items ≡ with_line lines.old.items line) }
+    ensures noted { OnOk result (lines.new.items ≡ noting lines.old.items execution) }
     ensures err { OnErr result (lines.new.items ≡ lines.old.items) }
     ensures order { Ascends lines.new.items }
 {
-    match place_of(lines.as_slice(), line.client) {
-        Ok(at) => lines[at] = line,
-        Err(at) => lines.insert(at, line)?,
+    match place_of(lines.as_slice(), execution.client) {
+        Ok(at) => lines[at] = TableLine { last: execution },
+        Err(at) => lines.insert(at, TableLine { last: execution })?,
     }
     Ok(())
 }
@@ -133,8 +139,8 @@ impl ClientTable {
         self.lines.as_slice()
     }
 
-    /// The line of a client's last executed request, if there is one.
-    pub fn line(&self, client: ClientId) -> Option<&TableLine>
+    /// What is kept of a client, if it had a request executed.
+    fn line(&self, client: ClientId) -> Option<&TableLine>
         ensures { option_copied result ≡ line_for self.now client }
     {
         line_of(self.lines.as_slice(), client)
@@ -145,25 +151,55 @@ impl ClientTable {
         ensures { result ≡ last_seq self.now client }
     {
         match self.line(client) {
-            Some(line) => line.seq,
+            Some(line) => line.last.seq,
             None => 0,
         }
     }
 
-    /// Whether a number is the next after a client's last executed request.
-    pub fn is_next(&self, client: ClientId, seq: u64) -> bool
-        ensures { result ≡ (seq == last_seq self.now client + 1) }
+    /// Whether a client's request of a number may be executed now.
+    pub fn may_execute(&self, client: ClientId, seq: u64) -> bool
+        ensures { result ≡ may_execute self.now client seq }
     {
         let last = self.last_seq(client);
         seq.checked_sub(last) == Some(1)
     }
 
-    /// Puts a line in place of its client's earlier one. Error: want of memory; nothing has changed
-    /// then.
-    pub fn put(&mut self, line: TableLine) -> Result<(), AllocError>
-        ensures line { OnOk result (self.new ≡ with_line self.old line) }
+    /// Whether a client's request of a number has been executed, as far as the table tells.
+    pub fn is_executed(&self, client: ClientId, seq: u64) -> bool
+        ensures { result ≡ is_executed self.now client seq }
+    {
+        seq <= self.last_seq(client)
+    }
+
+    /// Whether a number is beyond those that a client may use now.
+    pub fn is_beyond(&self, client: ClientId, seq: u64) -> bool
+        ensures { result ≡ is_beyond self.now client seq }
+    {
+        let last = self.last_seq(client);
+        last < seq && 1 < seq - last
+    }
+
+    /// The execution of a client's request of a number, if its reply is kept.
+    pub fn kept_reply(&self, client: ClientId, seq: u64) -> Option<&Execution>
+        ensures { option_copied result ≡ kept_reply self.now client seq }
+    {
+        match self.line(client) {
+            Some(line) => {
+                if line.last.seq == seq {
+                    Some(&line.last)
+                } else {
+                    None
+                }
+            }
+            None => None,
+        }
+    }
+
+    /// Notes an execution. Error: want of memory; nothing has changed then.
+    pub fn put(&mut self, execution: Execution) -> Result<(), AllocError>
+        ensures noted { OnOk result (self.new ≡ noting self.old execution) }
         ensures err { OnErr result (self.new ≡ self.old) }
     {
-        put_line(&mut self.lines, line)
+        put_line(&mut self.lines, execution)
     }
 }

@@ -3,6 +3,7 @@ use Rattle.std.specs.Prelude.{ℕ, List, Ok, nat_le, ◌==◌, ◌||◌, if◌th
 use Rattle.std.specs.Int.{w8, w16, w32, w64}
 use Rattle.smart_base.specs.Cuts.{Cut, Read, ◌>>=◌, ranged, number_at, sized_at, times_at, limited}
 use Rattle.smart_base.specs.Fields.{kind_at, same_at, count_at, items_at, digest_at, tag_at, payload_at}
+use Rattle.smart_base.specs.declared.limits.TheConstants.{BATCH_BYTES, BATCH_REQUESTS}
 use Rattle.smart_statements.specs.Forms.{Form, SignedBy, least_signer}
 use Rattle.smart_statements.specs.declared.statement.Slot.{Slot}
 use Rattle.smart_statements.specs.declared.statement.VoteKind.{VoteKind}
@@ -74,8 +75,8 @@ signed_at f c = do
 -- 1 to 64 requests are read
 unfoldable pub requests_at : Form Request → Cut → Read (List (SignedBy Request))
 requests_at f c = do
-  n ← items_at 64 c
+  n ← items_at BATCH_REQUESTS c
   times_at (signed_at f) n.0 n.1
 
 unfoldable pub batch_at : Form Request → Cut → Read (List (SignedBy Request))
-batch_at f = limited 262144 (requests_at f)
+batch_at f = limited BATCH_BYTES (requests_at f)

@@ -7,6 +7,7 @@ use Rattle.smart_base.specs.Spelling.{IsCount, IsTag, IsPayload, behind, Law}
 use Rattle.smart_base.specs.Fields.{kind_at, same_at, count_at, digest_at, tag_at, payload_at}
 use Rattle.smart_base.specs.Laws.{then_law, last_law, refit, ranged_law, sized_law}
 use Rattle.smart_base.specs.FieldLaws.{u8_law, u16_law, u32_law, u64_law, kind_law, same_law, count_law, digest_law, tag_law, payload_law}
+use Rattle.smart_base.specs.declared.limits.TheConstants.{PAYLOAD_BYTES}
 use Rattle.smart_statements.specs.Forms.{Form, SignedBy, least_signer}
 use Rattle.smart_statements.specs.Spelling.{slot, proposal, vote_kind, ballot, answer, request, signed, FitsSlot, FitsProposal, FitsBallot, FitsAnswer, FitsRequest, IsSigner, FitsSigned}
 use Rattle.smart_statements.specs.Reading.{slot_at, proposal_at, vote_kind_of, vote_kind_at, ballot_at, answer_at, request_at, signer_at, signed_at}
@@ -146,7 +147,7 @@ answer_law signer =
     })
     (λ a h. (tt, ((refl, omega arith), (h.view_fits, (h.place_fits, (h.index_fits, (h.client_fits, (h.seq_fits, h.reply_fits))))))))
 
-pub answer_small : (a : Answer) → length a.reply ≤ 4096 → length (answer a) < 2 ^ 32
+pub answer_small : (a : Answer) → length a.reply ≤ PAYLOAD_BYTES → length (answer a) < 2 ^ 32
 answer_small a h = let long : length (answer a) ≡ 29 + length a.reply = omega arith in omega (arith, long, h)
 
 -- ---- requests
@@ -180,7 +181,7 @@ request_law signer =
     })
     (λ r h. (tt, ((refl, omega arith), ((h.client_is, h.client_fits), (h.seq_fits, (h.after_fits, h.op_fits))))))
 
-pub request_small : (r : Request) → length r.op ≤ 4096 → length (request r) < 2 ^ 32
+pub request_small : (r : Request) → length r.op ≤ PAYLOAD_BYTES → length (request r) < 2 ^ 32
 request_small r h = let long : length (request r) ≡ 23 + length r.op = omega arith in omega (arith, long, h)
 
 -- ---- signed statements, of any kind

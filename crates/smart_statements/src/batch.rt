@@ -2,6 +2,7 @@
 ghost use Rattle.std.specs.Prelude.{◌≡◌, ◌<◌, ◌≤◌, [], ◌∷◌, ◌++◌, length, IfOk, OnOk, OnErr};
 ghost use Rattle.smart_base.specs.Cuts.{Gives};
 ghost use Rattle.smart_base.specs.Spelling.{Extends};
+ghost use Rattle.smart_base.specs.declared.limits.TheConstants.{BATCH_REQUESTS};
 ghost use Rattle.smart_statements.specs.Kinds.{requests};
 ghost use Rattle.smart_statements.specs.Batches.{batch_text};
 ghost use Rattle.smart_statements.specs.Reading.{requests_at, batch_at};
@@ -13,15 +14,10 @@ use smart_base::cursor::Cursor;
 use smart_base::duplicate::Duplicate;
 use smart_base::fault::ReadError;
 use smart_base::field::{put_u16, take_items};
+use smart_base::limits::{BATCH_BYTES, BATCH_REQUESTS};
 use smart_base::sequence::Sequence;
 use std::alloc::{AllocError, Global};
 use std::marker::Model;
-
-/// The greatest number of requests in a batch.
-pub const BATCH_REQUESTS: u16 = 64;
-
-/// The greatest length of a batch, in bytes.
-pub const BATCH_BYTES: usize = 262_144;
 
 /// A batch: 1 to 64 signed requests of one place, in the order in which they are executed; at most
 /// 262,144 bytes.
@@ -38,6 +34,7 @@ impl Drop for Batch {
 
 impl Model for Batch {
     ghost use Rattle.std.specs.Prelude.{List, length, ◌<◌, ◌≤◌};
+    ghost use Rattle.smart_base.specs.declared.limits.TheConstants.{BATCH_REQUESTS};
     ghost use Rattle.smart_statements.specs.Forms.{SignedBy};
     ghost use Rattle.smart_statements.specs.declared.statement.Request.{Request};
 
@@ -45,13 +42,13 @@ impl Model for Batch {
 
     ghost view = { λ b. b.list };
 
-    ghost invariant = { λ b. (0 < length b.list) × (length b.list ≤ 64) };
+    ghost invariant = { λ b. (0 < length b.list) × (length b.list ≤ BATCH_REQUESTS) };
 }
 
 impl Batch {
     pub fn from_list(list: Sequence<Signed<Request>>) -> Batch
         requires some { 0 < length list }
-        requires few { length list ≤ 64 }
+        requires few { length list ≤ BATCH_REQUESTS }
         ensures { result ≡ list }
     {
         Batch { list }
@@ -71,7 +68,7 @@ impl Batch {
     pub fn len(&self) -> usize
         ensures value { result ≡ length self.now }
         ensures some { 0 < result }
-        ensures few { result ≤ 64 }
+        ensures few { result ≤ BATCH_REQUESTS }
     {
         self.list.len()
     }
@@ -79,7 +76,7 @@ impl Batch {
     pub fn as_slice(&self) -> &[Signed<Request>]
         ensures value { result.now ≡ self.now }
         ensures some { 0 < length result.now }
-        ensures few { length result.now ≤ 64 }
+        ensures few { length result.now ≤ BATCH_REQUESTS }
     {
         self.list.as_slice()
     }

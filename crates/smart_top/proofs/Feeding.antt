@@ -20,10 +20,6 @@ appends-then (Some a) None c xs ys first next = absurd first
 appends-then (Some a) (Some b) None xs ys first next = absurd next
 appends-then (Some a) (Some b) (Some c) xs ys first next = next ∙ (ap (λ zs. zs ++ ys) first ∙ append_assoc a xs ys)
 
-pub appends-nothing : (a : Option (List ℕ)) → Appends a a []
-appends-nothing None = tt
-appends-nothing (Some a) = sym (append-nil a)
-
 -- a line that ends
 
 pub script-feed : (courses : Courses) (bytes : List ℕ) → script_after courses (bytes ++ 10 ∷ []) ≡ line_taken courses (script_after courses bytes) (rest_of [] bytes)

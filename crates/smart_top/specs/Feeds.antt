@@ -1,6 +1,7 @@
 -- How far a run has come with its input, and how it breaks off.
 use Rattle.std.specs.Prelude.{ℕ, ◌≡◌, ◌<◌, ◌≤◌, ◌+◌, ◌*◌, ◌^◌, ◌⊎◌, true, List, [], ◌∷◌, ◌++◌, length, Option, None, is_some, take}
 use Rattle.std.specs.Io.KnownBytes.{Appends, Consumes}
+use Rattle.smart_base.specs.declared.limits.TheConstants.{LINE_BYTES}
 use Rattle.world_rules.specs.Texts.{text_of}
 use Rattle.smart_top.specs.declared.status.Status.{Status}
 use Rattle.smart_top.specs.declared.status.Status.TheVariants as ends
@@ -24,13 +25,13 @@ pub record HasTaken (courses : Courses) (bytes : List ℕ) (written written' : O
   pub going : script.refused ≡ None
   pub text : Appends written written' (text_after courses bytes)
   -- each line is short, and the lines are few; the bytes are no more than these lines have
-  pub short : length line ≤ 65536
+  pub short : length line ≤ LINE_BYTES
   pub within : script.count ≤ 2 ^ 20
-  pub few : length bytes ≤ 65537 * script.count + length line
+  pub few : length bytes ≤ (LINE_BYTES + 1) * script.count + length line
 
 -- bytes as they are, or with a line feed added if the line that they have begun is already too long
 abbrev pub Closes : List ℕ → List ℕ → Type 0
-Closes bytes closed = (closed ≡ bytes) ⊎ ((closed ≡ bytes ++ 10 ∷ []) × (65536 < length (rest_of [] bytes)))
+Closes bytes closed = (closed ≡ bytes) ⊎ ((closed ≡ bytes ++ 10 ∷ []) × (LINE_BYTES < length (rest_of [] bytes)))
 
 -- A run that has refused a line of bytes, and told the lines before it. A line feed counts as added if the last line is already too long.
 pub record HasRefused (courses : Courses) (bytes : List ℕ) (written written' : Option (List ℕ)) (script : Reading) : Type 0 where

@@ -9,14 +9,12 @@ ghost use Rattle.smart_top.specs.Feeds.{HasTaken, Halted};
 
 use crate::script::Script;
 use faults::Fault;
+use smart_base::limits::LINE_BYTES;
 use smart_base::sequence::{Bytes, Sequence};
 use smart_io::stream::{Sink, write_all};
 use std::alloc::{AllocError, Global};
 use world_rules::line::OutLine;
 use world_text::text::out_text;
-
-/// The greatest length of a line, in bytes.
-const LONGEST: usize = 65536;
 
 /// The reason for which the taking of bytes stopped.
 #[derive(Clone, Copy, Debug, PartialEq, Eq)]
@@ -120,7 +118,7 @@ pub fn take_byte<O: Sink>(reader: &mut Reader, output: &mut O, byte: u8) -> Resu
         return end_line(reader, output);
     }
     reader.line.push(byte)?;
-    if reader.line.len() > LONGEST {
+    if reader.line.len() > LINE_BYTES {
         let _ = reader.script.take_line(reader.line.as_slice())?;
         return Err(Halt::Refused);
     }

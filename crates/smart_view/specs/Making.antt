@@ -2,6 +2,7 @@
 use Rattle.std.specs.Prelude.{ℕ, ◌+◌, ◌*◌, ◌==◌, nat_lt, nat_le, Bool, false, ◌||◌, List, [], ◌∷◌, length, codes, if◌then◌else◌, Option, Some, None, Result, Ok, Err}
 use Rattle.std.specs.List.{list_any}
 use Rattle.smart_base.specs.Views.{View}
+use Rattle.smart_base.specs.declared.limits.TheConstants.{LAST_VIEW, MEMBERS}
 use Rattle.smart_view.specs.declared.fault.ViewFault.{ViewFault}
 use Rattle.smart_view.specs.declared.fault.ViewFault.TheVariants.{TooFew, TooMany, Repeated, Zero, Spent}
 
@@ -14,10 +15,10 @@ repeats (m ∷ ms) = list_any (λ x. x == m) ms || repeats ms
 unfoldable pub fault_of : ℕ → List ℕ → ℕ → Option ViewFault
 fault_of number members f =
     if nat_lt (length members) (3 * f + 1) then Some TooFew
-    else (if nat_lt 31 (length members) then Some TooMany
+    else (if nat_lt MEMBERS (length members) then Some TooMany
     else (if repeats members then Some Repeated
     else (if list_any (λ m. m == 0) members then Some Zero
-    else (if nat_lt 1023 number then Some Spent
+    else (if nat_lt LAST_VIEW number then Some Spent
     else None))))
 
 -- a number put before the first one that is not less

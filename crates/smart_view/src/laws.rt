@@ -2,6 +2,7 @@
 ghost use Rattle.std.specs.Prelude.{◌≡◌, ℕ, ◌+◌, ◌*◌, ◌<◌, ◌≤◌, ◌⊎◌, List, true, false, length, slice_index, MatchOption, Some};
 ghost use Rattle.smart_base.specs.Lists.{Each, Distinct};
 ghost use Rattle.smart_base.specs.Views.{View, is_view, quorum, is_member};
+ghost use Rattle.smart_base.specs.declared.limits.TheConstants.{FAULTY};
 ghost use Rattle.smart_view.specs.Making.{fault_of};
 ghost use Rattle.smart_view.specs.Sizes.{collect_size, stop_size, index_of};
 ghost use Rattle.smart_view.specs.declared.fault.ViewFault.{ViewFault};
@@ -36,5 +37,5 @@ pub fn an_index_is_the_place_of_a_member()
 
 /// If more than 10 members may be faulty, the members are too few or too many.
 pub fn no_view_bears_more_than_10_faults()
-    ensures { (number : ℕ) (members : List ℕ) (f : ℕ) → 10 < f → (fault_of number members f ≡ Some TooFew) ⊎ (fault_of number members f ≡ Some TooMany) }
+    ensures { (number : ℕ) (members : List ℕ) (f : ℕ) → FAULTY < f → (fault_of number members f ≡ Some TooFew) ⊎ (fault_of number members f ≡ Some TooMany) }
 {}

@@ -5,8 +5,9 @@ ghost use Rattle.smart_base.specs.Lists.{Each};
 ghost use Rattle.smart_view.specs.Making.{repeats, fault_of, sorted, made};
 
 use crate::fault::ViewFault;
+use smart_base::limits::{LAST_VIEW, MEMBERS};
 use smart_base::name::MemberId;
-use smart_base::view::{LAST_VIEW, MEMBERS, View};
+use smart_base::view::View;
 
 fn contains(members: &[MemberId], member: MemberId) -> bool
     ensures { result ≡ list_any (λ m. m == member) members.now }

@@ -69,8 +69,8 @@ each_if P false xs ys ex ey = ey
 each_with : (P : TableLine → Type 0) (table : List TableLine) (line : TableLine) → Each P table → P line → Each P (with_line table line)
 each_with P [] line each is = (is, tt)
 each_with P (old ∷ olds) line each is =
-    each_if P (old.client == line.client) (line ∷ olds) (cond (ltb line.client old.client) (line ∷ old ∷ olds) (old ∷ with_line olds line)) (is, each.1)
-    (each_if P (ltb line.client old.client) (line ∷ old ∷ olds) (old ∷ with_line olds line) (is, each) (each.0, each_with P olds line each.1 is))
+    each_if P (old.last.client == line.last.client) (line ∷ olds) (cond (ltb line.last.client old.last.client) (line ∷ old ∷ olds) (old ∷ with_line olds line)) (is, each.1)
+    (each_if P (ltb line.last.client old.last.client) (line ∷ old ∷ olds) (old ∷ with_line olds line) (is, each) (each.0, each_with P olds line each.1 is))
 
 line_later : (place views : ℕ) (line : TableLine) → FitsLine place views line → FitsLine (place + 1) views line
 line_later place views line h = record {
@@ -109,7 +109,7 @@ module _ {S : Type 0} (m : Meaning S) (valid : S → Type 0) (next : (s : S) (op
         views_fit = h.views_fit;
         few_views = h.few_views;
         views_in_turn = h.views_in_turn;
-        lines_fit = each_with (FitsLine r.place (length r.views)) r.table (line_of m r i q) h.lines_fit (record {
+        lines_fit = each_with (FitsLine r.place (length r.views)) r.table (record { last = line_of m r i q }) h.lines_fit (record {
           client_fits = known;
           seq_fits = count;
           some_place = some;
@@ -118,7 +118,7 @@ module _ {S : Type 0} (m : Meaning S) (valid : S → Type 0) (next : (s : S) (op
           view_fits = present_low r.place r.views h.views_in_turn;
           reply_fits = brief r.service q.op h.service_fits;
         });
-        lines_in_turn = ascends_with r.table (line_of m r i q) h.lines_in_turn;
+        lines_in_turn = ascends_with r.table (record { last = line_of m r i q }) h.lines_in_turn;
         service_fits = next r.service q.op h.service_fits;
       }) h
 

@@ -37,11 +37,11 @@ short_text text = omega (arith, length-append (u32 (length text)) text)
 
 short_line : (place views : ℕ) (l : TableLine) → FitsLine place views l → length (line_text l) ≤ 4124
 short_line place views l h =
-    let r = behind w32 l.reply in
-    let v = u32 l.view ++ r in
-    let n = u16 l.index ++ v in
-    let p = u64 l.place ++ n in
-    omega (arith, h.reply_fits, short_text l.reply, length-append (u32 l.view) r, length-append (u16 l.index) v, length-append (u64 l.place) n, length-append (u64 l.seq) p, length-append (u16 l.client) (u64 l.seq ++ p))
+    let r = behind w32 l.last.reply in
+    let v = u32 l.last.view ++ r in
+    let n = u16 l.last.index ++ v in
+    let p = u64 l.last.place ++ n in
+    omega (arith, h.reply_fits, short_text l.last.reply, length-append (u32 l.last.view) r, length-append (u16 l.last.index) v, length-append (u64 l.last.place) n, length-append (u64 l.last.seq) p, length-append (u16 l.last.client) (u64 l.last.seq ++ p))
 
 short_lines : (place views : ℕ) (ls : List TableLine) → Each (FitsLine place views) ls → length (flat_map line_text ls) ≤ 4124 * length ls
 short_lines place views [] h = omega arith

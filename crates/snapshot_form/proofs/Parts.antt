@@ -41,27 +41,27 @@ index_law =
 -- a line by itself
 abbrev pub IsLine : TableLine → Type 0
 IsLine line =
-    (line.client ≤ 1024) × (IsCount line.seq × (IsCount line.place × ((line.index < 64) × ((line.view < 2 ^ 32) × IsPayload line.reply))))
+    (line.last.client ≤ 1024) × (IsCount line.last.seq × (IsCount line.last.place × ((line.last.index < 64) × ((line.last.view < 2 ^ 32) × IsPayload line.last.reply))))
 
 abbrev make_line : (client seq place index view : ℕ) → List ℕ → TableLine
-make_line i s p n v r = record { client = i; seq = s; place = p; index = n; view = v; reply = r }
+make_line i s p n v r = record { last = record { client = i; seq = s; place = p; index = n; view = v; reply = r } }
 
-line_is : (line : TableLine) (i s p n v : ℕ) → line.client ≡ i → line.seq ≡ s → line.place ≡ p → line.index ≡ n → line.view ≡ v
-    → make_line i s p n v line.reply ≡ line
+line_is : (line : TableLine) (i s p n v : ℕ) → line.last.client ≡ i → line.last.seq ≡ s → line.last.place ≡ p → line.last.index ≡ n → line.last.view ≡ v
+    → make_line i s p n v line.last.reply ≡ line
 line_is line i s p n v a b c d e = rw (← a, ← b, ← c, ← d, ← e) refl
 
 line_law : Law IsLine line_text line_at
 unfolding line_at
 line_law =
     refit _ IsLine line_text line_at
-    (then_law (λ (l : TableLine). l.client) (λ l. Unit {0}) (λ n. n ≤ 1024) (to_be_bytes w16) client_at _ _ _ client_law λ i is_i.
-    then_law (λ (l : TableLine). l.seq) (λ l. Unit {0} × (l.client ≡ i)) IsCount (to_be_bytes w64) count_at _ _ _ count_law λ s is_s.
-    then_law (λ (l : TableLine). l.place) (λ l. (Unit {0} × (l.client ≡ i)) × (l.seq ≡ s)) IsCount (to_be_bytes w64) count_at _ _ _ count_law λ p is_p.
-    then_law (λ (l : TableLine). l.index) (λ l. ((Unit {0} × (l.client ≡ i)) × (l.seq ≡ s)) × (l.place ≡ p)) (λ n. n < 64) (to_be_bytes w16) index_at _ _ _
+    (then_law (λ (l : TableLine). l.last.client) (λ l. Unit {0}) (λ n. n ≤ 1024) (to_be_bytes w16) client_at _ _ _ client_law λ i is_i.
+    then_law (λ (l : TableLine). l.last.seq) (λ l. Unit {0} × (l.last.client ≡ i)) IsCount (to_be_bytes w64) count_at _ _ _ count_law λ s is_s.
+    then_law (λ (l : TableLine). l.last.place) (λ l. (Unit {0} × (l.last.client ≡ i)) × (l.last.seq ≡ s)) IsCount (to_be_bytes w64) count_at _ _ _ count_law λ p is_p.
+    then_law (λ (l : TableLine). l.last.index) (λ l. ((Unit {0} × (l.last.client ≡ i)) × (l.last.seq ≡ s)) × (l.last.place ≡ p)) (λ n. n < 64) (to_be_bytes w16) index_at _ _ _
     index_law λ n is_n.
-    then_law (λ (l : TableLine). l.view) (λ l. (((Unit {0} × (l.client ≡ i)) × (l.seq ≡ s)) × (l.place ≡ p)) × (l.index ≡ n)) (λ n. n < 2 ^ 32)
+    then_law (λ (l : TableLine). l.last.view) (λ l. (((Unit {0} × (l.last.client ≡ i)) × (l.last.seq ≡ s)) × (l.last.place ≡ p)) × (l.last.index ≡ n)) (λ n. n < 2 ^ 32)
     (to_be_bytes w32) (number_at w32) _ _ _ u32_law λ v is_v.
-    last_law (λ (l : TableLine). l.reply) (λ l. ((((Unit {0} × (l.client ≡ i)) × (l.seq ≡ s)) × (l.place ≡ p)) × (l.index ≡ n)) × (l.view ≡ v))
+    last_law (λ (l : TableLine). l.last.reply) (λ l. ((((Unit {0} × (l.last.client ≡ i)) × (l.last.seq ≡ s)) × (l.last.place ≡ p)) × (l.last.index ≡ n)) × (l.last.view ≡ v))
     IsPayload (behind w32) payload_at (λ r. make_line i s p n v r) payload_law
     (λ r h. (((((tt, refl), refl), refl), refl), refl)) (λ r. refl) (λ l h. line_is l i s p n v h.0.0.0.0.1 h.0.0.0.1 h.0.0.1 h.0.1 h.1))
     (λ l h. h.1) (λ l h. (tt, h))

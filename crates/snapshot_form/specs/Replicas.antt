@@ -3,6 +3,7 @@ use Rattle.std.specs.Prelude.{◌≡◌, ℕ, ◌+◌, ◌<◌, ◌≤◌, ◌^�
 use Rattle.smart_base.specs.Lists.{Each}
 use Rattle.smart_base.specs.Spelling.{IsCount, IsPayload}
 use Rattle.smart_base.specs.Views.{View, is_view}
+use Rattle.smart_base.specs.declared.limits.TheConstants.{BATCH_REQUESTS, LAST_CLIENT, VIEWS}
 use Rattle.smart_statements.specs.Batches.{Batch, FitsBatch}
 use Rattle.smart_service.specs.Tables.{Ascends}
 use Rattle.smart_service.specs.declared.replica.Replica.{Replica}
@@ -27,19 +28,19 @@ views_follow place (v ∷ vs) = is_first_view v && follow place 0 1 vs
 
 -- the line of a client in a replica at a place, with so many views
 pub record FitsLine (place views : ℕ) (line : TableLine) : Type 0 where
-  pub client_fits : line.client ≤ 1024
-  pub seq_fits : IsCount line.seq
-  pub some_place : 1 ≤ line.place
-  pub past_place : line.place ≤ place
-  pub index_fits : line.index < 64
-  pub view_fits : line.view < views
-  pub reply_fits : IsPayload line.reply
+  pub client_fits : line.last.client ≤ LAST_CLIENT
+  pub seq_fits : IsCount line.last.seq
+  pub some_place : 1 ≤ line.last.place
+  pub past_place : line.last.place ≤ place
+  pub index_fits : line.last.index < BATCH_REQUESTS
+  pub view_fits : line.last.view < views
+  pub reply_fits : IsPayload line.last.reply
 
 -- the replicas that have a snapshot, of a service with these valid states
 pub record FitsReplica {S : Type 0} (valid : S → Type 0) (r : Replica S) : Type 0 where
   pub place_fits : r.place < 2 ^ 63
   pub views_fit : Each (λ v. is_view v ≡ true) r.views
-  pub few_views : length r.views ≤ 1024
+  pub few_views : length r.views ≤ VIEWS
   pub views_in_turn : views_follow r.place r.views ≡ true
   pub lines_fit : Each (FitsLine r.place (length r.views)) r.table
   pub lines_in_turn : Ascends r.table
@@ -47,4 +48,4 @@ pub record FitsReplica {S : Type 0} (valid : S → Type 0) (r : Replica S) : Typ
 
 -- a batch whose clients there are, and which has a spelling: a replica that has a snapshot may execute it
 abbrev pub IsOfClients : Batch → Type 0
-IsOfClients batch = FitsBatch batch × Each (λ q. q.statement.client ≤ 1024) batch
+IsOfClients batch = FitsBatch batch × Each (λ q. q.statement.client ≤ LAST_CLIENT) batch

@@ -1,5 +1,5 @@
 -- How replicas are spelled and read.
-use Rattle.std.specs.Prelude.{ℕ, zero, suc, ◌+◌, ◌*◌, ◌/◌, ◌^◌, nat_lt, nat_le, Bool, true, ◌&&◌, List, [], ◌∷◌, ◌++◌, length, take, drop, if◌then◌else◌, Result, Ok, Err, Option, Some, None, option_map}
+use Rattle.std.specs.Prelude.{ℕ, zero, suc, ◌+◌, ◌*◌, ◌-◌, ◌/◌, ◌^◌, nat_lt, nat_le, Bool, true, ◌&&◌, List, [], ◌∷◌, ◌++◌, length, take, drop, if◌then◌else◌, Result, Ok, Err, Option, Some, None, option_map}
 use Rattle.std.specs.Int.{w16, w32, w64}
 use Rattle.std.specs.List.{flat_map}
 use Rattle.smart_base.specs.Cuts.{Cut, Read, ◌>>=◌, number_at, ranged, contents, bytes_at, times_at, whole}
@@ -7,6 +7,7 @@ use Rattle.smart_base.specs.Fields.{count_at, items_at, payload_at}
 use Rattle.smart_base.specs.Spelling.{u16, u32, u64, behind}
 use Rattle.smart_base.specs.Views.{View}
 use Rattle.smart_base.specs.ViewBytes.{view_text, view_at}
+use Rattle.smart_base.specs.declared.limits.TheConstants.{BATCH_REQUESTS, LAST_CLIENT, PIECE_BYTES, VIEWS}
 use Rattle.smart_service.specs.Services.{Meaning}
 use Rattle.smart_service.specs.declared.replica.Replica.{Replica}
 use Rattle.smart_service.specs.declared.table.TableLine.{TableLine}
@@ -18,7 +19,7 @@ use Rattle.snapshot_form.specs.declared.reading.Parts.{Parts}
 -- a client's line
 abbrev pub line_text : TableLine → List ℕ
 line_text line =
-    u16 line.client ++ (u64 line.seq ++ (u64 line.place ++ (u16 line.index ++ (u32 line.view ++ behind w32 line.reply))))
+    u16 line.last.client ++ (u64 line.last.seq ++ (u64 line.last.place ++ (u16 line.last.index ++ (u32 line.last.view ++ behind w32 line.last.reply))))
 
 -- how many values, and each
 abbrev pub counted : {A : Type 0} → (A → List ℕ) → List A → List ℕ
@@ -41,10 +42,10 @@ abbrev pub place_at : Cut → Read ℕ
 place_at = ranged (λ n. nat_lt n (2 ^ 63)) (number_at w64)
 
 abbrev pub client_at : Cut → Read ℕ
-client_at = ranged (λ n. nat_le n 1024) (number_at w16)
+client_at = ranged (λ n. nat_le n LAST_CLIENT) (number_at w16)
 
 abbrev pub index_at : Cut → Read ℕ
-index_at = ranged (λ n. nat_lt n 64) (number_at w16)
+index_at = ranged (λ n. nat_lt n BATCH_REQUESTS) (number_at w16)
 
 unfoldable pub line_at : Cut → Read TableLine
 line_at c = do
@@ -54,11 +55,11 @@ line_at c = do
   n ← index_at p.1
   v ← number_at w32 n.1
   r ← payload_at v.1
-  Ok (record { client = i.0; seq = s.0; place = p.0; index = n.0; view = v.0; reply = r.0 }, r.1)
+  Ok (record { last = record { client = i.0; seq = s.0; place = p.0; index = n.0; view = v.0; reply = r.0 } }, r.1)
 
 unfoldable pub views_at : Cut → Read (List View)
 views_at c = do
-  n ← items_at 1024 c
+  n ← items_at VIEWS c
   times_at view_at n.0 n.1
 
 unfoldable pub lines_at : Cut → Read (List TableLine)
@@ -76,20 +77,20 @@ parts_at c = do
 
 -- a line above one client, of a place up to this one and a view below so many
 abbrev pub is_next_line : ℕ → ℕ → ℕ → TableLine → Bool
-is_next_line place views client line = nat_lt client line.client && nat_le line.place place && nat_lt line.view views
+is_next_line place views client line = nat_lt client line.last.client && nat_le line.last.place place && nat_lt line.last.view views
 
 -- lines that ascend by client, all above one client
 abbrev pub lines_above : ℕ → ℕ → ℕ → List TableLine → Bool
 lines_above place views client [] = true
-lines_above place views client (line ∷ lines) = is_next_line place views client line && lines_above place views line.client lines
+lines_above place views client (line ∷ lines) = is_next_line place views client line && lines_above place views line.last.client lines
 
 abbrev pub is_first_line : ℕ → ℕ → TableLine → Bool
-is_first_line place views line = nat_le line.place place && nat_lt line.view views
+is_first_line place views line = nat_le line.last.place place && nat_lt line.last.view views
 
 -- lines that ascend by client
 abbrev pub lines_follow : ℕ → ℕ → List TableLine → Bool
 lines_follow place views [] = true
-lines_follow place views (line ∷ lines) = is_first_line place views line && lines_above place views line.client lines
+lines_follow place views (line ∷ lines) = is_first_line place views line && lines_above place views line.last.client lines
 
 -- the parts of a replica suit each other
 unfoldable pub is_tied : Parts → Bool
@@ -117,11 +118,11 @@ restored m bytes = replica_read m (read_parts bytes)
 
 -- a snapshot's piece of a number: 65,536 bytes, the last one shorter
 abbrev pub piece : List ℕ → ℕ → Option (List ℕ)
-piece bytes i = if nat_lt (65536 * i) (length bytes) then Some (take 65536 (drop (65536 * i) bytes)) else None
+piece bytes i = if nat_lt (PIECE_BYTES * i) (length bytes) then Some (take PIECE_BYTES (drop (PIECE_BYTES * i) bytes)) else None
 
 -- how many pieces a snapshot has
 abbrev pub pieces : List ℕ → ℕ
-pieces bytes = (length bytes + 65535) / 65536
+pieces bytes = (length bytes + (PIECE_BYTES - 1)) / PIECE_BYTES
 
 -- the bytes of a piece, none where there is no such piece
 abbrev pub piece_bytes : Option (List ℕ) → List ℕ

@@ -3,6 +3,7 @@ ghost use Rattle.std.specs.Prelude.{◌≡◌, ◌+◌, ◌^◌, ◌<◌, ◌≤
 ghost use Rattle.smart_base.specs.Cuts.{IsBytes};
 ghost use Rattle.smart_base.specs.Lists.{Each};
 ghost use Rattle.smart_base.specs.Views.{View, is_view};
+ghost use Rattle.smart_base.specs.declared.limits.TheConstants.{SNAPSHOT_BYTES};
 ghost use Rattle.smart_statements.specs.Batches.{Batch};
 ghost use Rattle.smart_service.specs.declared.replica.Replica.{Replica};
 ghost use Rattle.replica_rules.specs.Replicas.{empty, delivered, state};
@@ -21,7 +22,7 @@ pub fn a_replica_has_one_spelling<S: Service>()
 
 /// A snapshot has at most 16,777,216 bytes.
 pub fn a_snapshot_is_short<S: Service>()
-    ensures { (r : Replica S) → FitsReplica S.valid r → length (snapshot_text S.meaning r) ≤ 16777216 }
+    ensures { (r : Replica S) → FitsReplica S.valid r → length (snapshot_text S.meaning r) ≤ SNAPSHOT_BYTES }
 {}
 
 /// The pieces of a snapshot, one after the other, are the snapshot.

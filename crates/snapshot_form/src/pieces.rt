@@ -5,10 +5,8 @@ ghost use Rattle.snapshot_form.specs.Snapshots.{piece, pieces};
 
 use smart_base::bytes::Digest32;
 use smart_base::keys::Digester;
+use smart_base::limits::PIECE_BYTES;
 use smart_keys::hash::Sha;
-
-/// The bytes of each piece but the last, which may have fewer.
-pub const PIECE_BYTES: usize = 65536;
 
 /// The digest of a snapshot.
 pub fn digest(bytes: &[u8]) -> Digest32

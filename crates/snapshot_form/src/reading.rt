@@ -11,6 +11,7 @@ ghost use Rattle.snapshot_form.specs.Snapshots.{place_at, client_at, index_at, l
 use smart_base::cursor::Cursor;
 use smart_base::fault::{ReadError, Unread};
 use smart_base::field::{take_count, take_items, take_payload};
+use smart_base::limits::{BATCH_REQUESTS, LAST_CLIENT, VIEWS};
 use smart_base::name::ClientId;
 use smart_base::number::{Place, ViewNo};
 use smart_base::sequence::Sequence;
@@ -19,18 +20,9 @@ use smart_base::view_bytes::read_view;
 use smart_service::fault::RestoreError;
 use smart_service::replica::Replica;
 use smart_service::service::Service;
-use smart_service::table::{ClientTable, TableLine};
+use smart_service::table::{ClientTable, Execution, TableLine};
 use std::alloc::Global;
 use std::marker::Model;
-
-/// The most views of a replica.
-const VIEWS: u16 = 1024;
-
-/// The greatest number of a client.
-const CLIENTS: u16 = 1024;
-
-/// The most requests of a batch.
-const REQUESTS: u16 = 64;
 
 /// Bytes that stand in others.
 #[derive(Drop)]
@@ -104,7 +96,7 @@ fn take_client(cut: &mut Cursor<'_>) -> Result<u16, Unread>
 {
     let at = cut.at();
     let found = cut.take_u16()?;
-    if found <= CLIENTS {
+    if found <= LAST_CLIENT {
         Ok(found)
     } else {
         Err(Unread { at })
@@ -117,7 +109,7 @@ fn take_index(cut: &mut Cursor<'_>) -> Result<u16, Unread>
 {
     let at = cut.at();
     let found = cut.take_u16()?;
-    if found < REQUESTS {
+    if found < BATCH_REQUESTS {
         Ok(found)
     } else {
         Err(Unread { at })
@@ -134,14 +126,15 @@ fn take_line(alloc: Global, cut: &mut Cursor<'_>) -> Result<TableLine, ReadError
     let index = take_index(cut)?;
     let view = ViewNo::new(cut.take_u32()?);
     let reply = take_payload(alloc, cut)?;
-    Ok(TableLine {
+    let last = Execution {
         client,
         seq,
         place,
         index,
         view,
         reply,
-    })
+    };
+    Ok(TableLine { last })
 }
 
 fn take_each_view(
@@ -262,13 +255,13 @@ fn views_follow(place: Place, views: &[View]) -> bool
 fn is_first_line(place: Place, views: usize, line: &TableLine) -> bool
     ensures { result ≡ is_first_line place views line.now }
 {
-    line.place <= place && (line.view.get() as usize) < views
+    line.last.place <= place && (line.last.view.get() as usize) < views
 }
 
 fn is_next_line(place: Place, views: usize, client: ClientId, line: &TableLine) -> bool
     ensures { result ≡ is_next_line place views client line.now }
 {
-    client < line.client && line.place <= place && (line.view.get() as usize) < views
+    client < line.last.client && line.last.place <= place && (line.last.view.get() as usize) < views
 }
 
 /// Whether lines ascend by client, with places up to this one and views below so many.
@@ -281,12 +274,12 @@ fn lines_follow(place: Place, views: usize, lines: &[TableLine]) -> bool
     if !is_first_line(place, views, first) {
         return false;
     }
-    let mut last = first.client;
+    let mut last = first.last.client;
     for line in others {
         if !is_next_line(place, views, last, line) {
             return false;
         }
-        last = line.client;
+        last = line.last.client;
     }
     true
 }

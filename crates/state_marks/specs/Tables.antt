@@ -7,6 +7,7 @@ use Rattle.std.specs.declared.cmp.Ordering.TheVariants.{Greater}
 use Rattle.std.specs.Cmp.Lexicographic.{slice_cmp}
 use Rattle.smart_base.specs.Lists.{same_bytes, Each, Distinct}
 use Rattle.smart_base.specs.Views.{View, is_member}
+use Rattle.smart_base.specs.declared.limits.TheConstants.{MARKS}
 use Rattle.smart_statements.specs.Forms.{SignedBy}
 use Rattle.smart_statements.specs.declared.report.Mark.{Mark}
 
@@ -45,7 +46,7 @@ without member place table = filter (λ mark. not (is_at member place mark)) tab
 unfoldable pub noted : SignedBy Mark → List (SignedBy Mark) → List (SignedBy Mark)
 noted mark table =
     if repeats table mark then table
-    else if nat_le 64 (count_of mark.signer table)
+    else if nat_le MARKS (count_of mark.signer table)
     then without mark.signer (least_of mark.signer mark.statement.place table) (table ++ mark ∷ [])
     else table ++ mark ∷ []
 
@@ -56,7 +57,7 @@ OneOfEachPlace (mark ∷ table) = (repeats table mark ≡ false) × OneOfEachPla
 
 -- What a table may be: at most 64 marks of a member, of different places.
 pub record IsTable (table : List (SignedBy Mark)) : Type 0 where
-  pub few : (member : ℕ) → count_of member table ≤ 64
+  pub few : (member : ℕ) → count_of member table ≤ MARKS
   pub different : OneOfEachPlace table
 
 -- ---- what enough members marked

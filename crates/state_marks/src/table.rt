@@ -4,15 +4,13 @@ ghost use Rattle.state_marks.specs.Tables.{is_at, repeats, noted, certified};
 
 use crate::counting::{certified, count_of, is_at, least_of, repeats};
 use smart_base::bytes::Digest32;
+use smart_base::limits::MARKS;
 use smart_base::number::Place;
 use smart_base::view::View;
 use smart_statements::report::Mark;
 use smart_statements::signed::Signed;
 use std::alloc::{AllocError, Global};
 use std::marker::Model;
-
-/// The most marks that are kept of a member.
-pub const MARKS: usize = 64;
 
 /// The marks that a node keeps: of each member one of each place, and of those the 64 greatest
 /// places (this project's own rule). They stand in the order in which they came. Who calls it has

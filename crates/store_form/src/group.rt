@@ -109,6 +109,7 @@ pub fn put_group(alloc: Global, out: &mut Vec<u8>, entries: &[Bytes]) -> Result<
     ensures fits { OnOk result (IsGroup entries.now) }
     ensures err { OnErr result (Extends out.old.items out.new.items) }
 {
+    // That the number of entries fits 64 bits is known of its type.
     let _count = entries.len();
     let text = payload_of(alloc, entries)?;
     put_u64(out, text.len() as u64)?;

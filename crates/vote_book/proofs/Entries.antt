@@ -7,7 +7,7 @@ use Rattle.smart_base.specs.Cuts.{Cut, Read, IsBytes, number_at, GivesAll}
 use Rattle.smart_base.specs.Spelling.{IsCount, Spelled, Law}
 use Rattle.smart_base.specs.Fields.{count_at, digest_at}
 use Rattle.smart_base.specs.Views.{View, is_view}
-use Rattle.smart_base.specs.ViewBytes.{view_text, start_at, view_at}
+use Rattle.smart_base.specs.ViewBytes.{view_text, first_place_at, view_at}
 use Rattle.smart_base.specs.Laws.{bind_ok, bind_is, ok_is, then_law, last_law, refit, ranged_law, whole_takes, whole_again}
 use Rattle.smart_base.specs.FieldLaws.{u8_law, u16_law, u32_law, u64_law, count_law, digest_law, and_true}
 use Rattle.smart_base.specs.declared.fault.ReadError.{ReadError}
@@ -130,9 +130,9 @@ promise_law =
 abbrev IsBase : ℕ → Type 0
 IsBase n = (1 ≤ n) × (n ≤ 2 ^ 63)
 
-base_law : Law IsBase (to_be_bytes w64) start_at
+base_law : Law IsBase (to_be_bytes w64) first_place_at
 base_law =
-    refit (λ n. (n < 2 ^ 64) × ((leb 1 n && leb n (2 ^ 63)) ≡ true)) IsBase (to_be_bytes w64) start_at
+    refit (λ n. (n < 2 ^ 64) × ((leb 1 n && leb n (2 ^ 63)) ≡ true)) IsBase (to_be_bytes w64) first_place_at
     (ranged_law (λ n. n < 2 ^ 64) (to_be_bytes w64) (number_at w64) (λ n. leb 1 n && leb n (2 ^ 63)) u64_law)
     (λ n h. let t = and_true (leb 1 n) (leb n (2 ^ 63)) h.1 in (leb-true 1 n t.0, leb-true n (2 ^ 63) t.1))
     (λ n h. (omega (arith, h.1), rw (le-leb 1 n h.0, le-leb n (2 ^ 63) h.1) refl))
@@ -152,7 +152,7 @@ start_law =
     refit _ FitsStart start regency_start_at
     (then_law (λ (s : Start). s.view) (λ s. Unit {0}) (λ n. n < 2 ^ 32) (to_be_bytes w32) (number_at w32) _ _ _ u32_law λ v is_v.
     then_law (λ (s : Start). s.regency) (λ s. Unit {0} × (s.view ≡ v)) (λ n. n < 2 ^ 32) (to_be_bytes w32) (number_at w32) _ _ _ u32_law λ r is_r.
-    then_law (λ (s : Start). s.base) (λ s. (Unit {0} × (s.view ≡ v)) × (s.regency ≡ r)) IsBase (to_be_bytes w64) start_at _ _ _ base_law λ b is_b.
+    then_law (λ (s : Start). s.base) (λ s. (Unit {0} × (s.view ≡ v)) × (s.regency ≡ r)) IsBase (to_be_bytes w64) first_place_at _ _ _ base_law λ b is_b.
     last_law (λ (s : Start). s.bound) (λ s. ((Unit {0} × (s.view ≡ v)) × (s.regency ≡ r)) × (s.base ≡ b))
     (FitsOptional (λ d. length d ≡ 32)) (optional (λ d. d)) (optional_at digest_at)
     (λ d. make_start v r b d) bound_law

@@ -5,7 +5,7 @@ use Rattle.smart_base.proofs.SameLists.{and_true}
 use Rattle.smart_base.specs.Lists.{or_else}
 use Rattle.vote_book.specs.declared.entry.Start.{Start}
 use Rattle.vote_book.specs.declared.entry.LogEntry.{LogEntry}
-use Rattle.vote_book.specs.Standing.{start_of, start_by, first_start, start_under}
+use Rattle.vote_book.specs.Standing.{start_if, start_by, first_start, start_under}
 
 else_none : {A : Type 0} (o : Option A) → o ≡ or_else o None
 else_none None = refl
@@ -25,7 +25,7 @@ else_assoc (Some x) b c = refl
 
 -- a start of a regency that has begun
 pub under_kept : (starts : List ((ℕ × ℕ) × Start)) (s : Start) → is_none (start_under s.view s.regency starts) ≡ false → (view regency : ℕ)
-    → start_under view regency starts ≡ or_else (start_under view regency starts) (start_of view regency s)
+    → start_under view regency starts ≡ or_else (start_under view regency starts) (start_if view regency s)
 under_kept starts s begun view regency = by (s.view == view && s.regency == regency) refl
   where
     by : (t : Bool) → (s.view == view && s.regency == regency) ≡ t → start_under view regency starts ≡ or_else (start_under view regency starts) (cond t (Some s) None)
@@ -38,7 +38,7 @@ under_kept starts s begun view regency = by (s.view == view && s.regency == rege
 -- the first start of a regency
 pub under_put : (starts later : List ((ℕ × ℕ) × Start)) (s : Start) (view regency : ℕ) → is_none (start_under s.view s.regency starts) ≡ true
     → start_under view regency later ≡ cond (nat_eq s.view view && nat_eq s.regency regency) (Some s) (start_under view regency starts)
-    → start_under view regency later ≡ or_else (start_under view regency starts) (start_of view regency s)
+    → start_under view regency later ≡ or_else (start_under view regency starts) (start_if view regency s)
 under_put starts later s view regency none put = put ∙ by (s.view == view && s.regency == regency) refl
   where
     by : (t : Bool) → (s.view == view && s.regency == regency) ≡ t
@@ -51,7 +51,7 @@ under_put starts later s view regency none put = put ∙ by (s.view == view && s
 
 pub under_put_at : (starts later : List ((ℕ × ℕ) × Start)) (s : Start) (view regency v r : ℕ) → v ≡ s.view → r ≡ s.regency → is_none (start_under s.view s.regency starts) ≡ true
     → start_under view regency later ≡ cond (nat_eq v view && nat_eq r regency) (Some s) (start_under view regency starts)
-    → start_under view regency later ≡ or_else (start_under view regency starts) (start_of view regency s)
+    → start_under view regency later ≡ or_else (start_under view regency starts) (start_if view regency s)
 under_put_at starts later s view regency v r at in_ none put =
     under_put starts later s view regency none
     (subst (λ (y : ℕ). start_under view regency later ≡ cond (nat_eq s.view view && nat_eq y regency) (Some s) (start_under view regency starts)) in_

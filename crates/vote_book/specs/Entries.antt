@@ -5,7 +5,7 @@ use Rattle.smart_base.specs.Cuts.{Cut, Read, ◌>>=◌, number_at, ranged, whole
 use Rattle.smart_base.specs.Fields.{count_at, digest_at}
 use Rattle.smart_base.specs.Spelling.{u8, u16, u32, u64, IsCount}
 use Rattle.smart_base.specs.Views.{is_view}
-use Rattle.smart_base.specs.ViewBytes.{view_text, start_at, view_at}
+use Rattle.smart_base.specs.ViewBytes.{view_text, first_place_at, view_at}
 use Rattle.smart_statements.specs.Kinds.{requests}
 use Rattle.smart_statements.specs.Spelling.{slot, FitsSlot}
 use Rattle.smart_statements.specs.Reading.{slot_at, batch_at}
@@ -106,7 +106,7 @@ unfoldable pub regency_start_at : Cut → Read Start
 regency_start_at c = do
   v ← number_at w32 c
   r ← number_at w32 v.1
-  b ← start_at r.1
+  b ← first_place_at r.1
   d ← optional_at digest_at b.1
   Ok (record { view = v.0; regency = r.0; base = b.0; bound = d.0 }, d.1)
 

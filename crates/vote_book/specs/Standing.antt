@@ -11,20 +11,21 @@ use Rattle.vote_book.specs.Admission.{writes_in, accepts_in}
 use Rattle.vote_book.specs.declared.votes.OwnVotes.{OwnVotes}
 
 -- a beginning, if it is of this regency of a view
-abbrev pub start_of : ℕ → ℕ → Start → Option Start
-start_of view regency s = if s.view == view && s.regency == regency then Some s else None
+abbrev pub start_if : ℕ → ℕ → Start → Option Start
+start_if view regency s = if s.view == view && s.regency == regency then Some s else None
 
+-- the beginning that an entry states for a regency of a view, if it states one
 abbrev pub start_by : ℕ → ℕ → LogEntry → Option Start
 start_by view regency (Opened o) = None
 start_by view regency (Wrote w) = None
 start_by view regency (Accepted a) = None
 start_by view regency (Promised p) = None
-start_by view regency (Synced s) = start_of view regency s
+start_by view regency (Synced s) = start_if view regency s
 start_by view regency (Decided d) = None
 start_by view regency (Installed i) = None
 start_by view regency (Marked m) = None
 
--- the first beginning of a regency of a view
+-- the first beginning that entries state for a regency of a view
 abbrev pub first_start : ℕ → ℕ → List LogEntry → Option Start
 first_start view regency [] = None
 first_start view regency (e ∷ es) = or_else (start_by view regency e) (first_start view regency es)

@@ -189,7 +189,7 @@ impl Book {
 
     /// The first beginning of a regency of a view, if there is one. It needs no memory, and walks no
     /// entries.
-    pub fn start_in(&self, view: ViewNo, regency: Regency) -> Option<&Start>
+    pub fn first_start(&self, view: ViewNo, regency: Regency) -> Option<&Start>
         ensures { option_copied result ≡ first_start view regency self.now.entries }
     {
         self.index.starts.get(view, regency)

@@ -2,7 +2,7 @@
 ghost use Rattle.std.specs.Prelude.{◌≡◌, ◌++◌, ℕ, List, IfOk, OnOk, Ok};
 ghost use Rattle.smart_base.specs.Cuts.{IsBytes, Gives, GivesAll, Takes};
 ghost use Rattle.smart_base.specs.Fields.{digest_at};
-ghost use Rattle.smart_base.specs.ViewBytes.{start_at};
+ghost use Rattle.smart_base.specs.ViewBytes.{first_place_at};
 ghost use Rattle.smart_statements.specs.Reading.{slot_at};
 ghost use Rattle.smart_statements.specs.Spelling.{slot as slot_text};
 ghost use Rattle.smart_statements.specs.SignedLists.{optional, optional_at};
@@ -158,7 +158,7 @@ impl Promise {
 /// Reads a base: a place, or the one after the last, from 1 to 2^63.
 #[tactic(auto, unfolding(smart_base::specs::Cuts::ranged))]
 fn take_base(cut: &mut Cursor<'_>) -> Result<u64, Unread>
-    ensures { Takes result cut.new (start_at cut.old) }
+    ensures { Takes result cut.new (first_place_at cut.old) }
 {
     let at = cut.at();
     let found = cut.take_u64()?;

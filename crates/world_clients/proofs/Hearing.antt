@@ -1,8 +1,8 @@
 -- To take the reply that bytes are is to take the bytes.
-use Rattle.std.proofs.Common.{◌≡◌, ℕ, List, Option, Some, None, is_some, cond, refl, ap}
+use Rattle.std.proofs.Common.{◌≡◌, ℕ, List, Option, Some, None, cond, refl, ap}
 use Rattle.std.specs.Prelude.{slice_get}
 use Rattle.smart_messages.specs.Messages.{decoded}
-use Rattle.world_rules.specs.Worlds.{World, hears_bytes, client_takes}
+use Rattle.world_rules.specs.Worlds.{World, hears_bytes, client_takes, is_halted}
 use Rattle.client_quorum.specs.declared.client.Client.{Client}
 use Rattle.client_quorum.specs.Clients.{reply_read}
 use Rattle.world_clients.specs.Replies.{takes_by, takes_reply}
@@ -14,4 +14,4 @@ takes-found w i bytes (Some c) = refl
 
 pub takes_bytes : {S : Type 0} (w : World S) (i : ℕ) (bytes : List ℕ) → takes_reply i (reply_read (decoded bytes)) w ≡ client_takes i bytes w
 unfolding takes_reply client_takes
-takes_bytes w i bytes = ap (λ v. cond (is_some w.ending) w v) (takes-found w i bytes (slice_get w.clients i))
+takes_bytes w i bytes = ap (λ v. cond (is_halted w) w v) (takes-found w i bytes (slice_get w.clients i))

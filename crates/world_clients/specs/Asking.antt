@@ -12,7 +12,7 @@ use Rattle.world_rules.specs.declared.message.Origin.TheVariants as origins
 -- the world after a client sent a signed request, or was told idle
 abbrev pub repeats_by : {S : Type 0} → World S → ℕ → Option (SignedBy Request) → World S
 repeats_by w id None = telling w (outs.IdleClient id)
-repeats_by w id (Some q) = sends w (origins.Client id) targets.View (Ask q)
+repeats_by w id (Some q) = sends w (origins.Client id) w.view targets.View (Ask q)
 
 -- the world after a client that is not rogue sent its waiting request again
 abbrev pub repeats_found : {S : Type 0} → World S → Option Client → World S

@@ -25,7 +25,7 @@ use smart_statements::statement::{Answer, Request};
 use std::alloc::{AllocError, Global};
 use world_rules::line::OutLine;
 use world_rules::message::Origin;
-use world_state::state::WorldState;
+use world_state::state::{WorldState, heard_by};
 
 /// What a transcript tells of what a client heard.
 fn told_heard(alloc: Global, id: ClientId, heard: &Heard) -> Result<OutLine, AllocError>
@@ -117,7 +117,7 @@ fn takes_reply<S: Service>(
 ) -> Result<(), AllocError>
     ensures { OnOk result (world.new ≡ takes_reply i reply.now world.old) }
 {
-    if world.ending.is_some() || i >= world.clients.len() {
+    if world.is_halted() || i >= world.clients.len() {
         return Ok(());
     }
     match reply {
@@ -164,7 +164,7 @@ pub fn client_takes<S: Service>(
 pub fn ask<S: Service>(world: &mut WorldState<S>, i: usize, op: &Payload) -> Result<(), AllocError>
     ensures { OnOk result (world.new ≡ asks i op.now world.old) }
 {
-    if world.ending.is_some() || i >= world.clients.len() {
+    if world.is_halted() || i >= world.clients.len() {
         return Ok(());
     }
     let client = world.clients[i].id;
@@ -198,7 +198,7 @@ pub fn ask<S: Service>(world: &mut WorldState<S>, i: usize, op: &Payload) -> Res
 pub fn repeat<S: Service>(world: &mut WorldState<S>, i: usize) -> Result<(), AllocError>
     ensures { OnOk result (world.new ≡ repeats i world.old) }
 {
-    if world.ending.is_some() || i >= world.clients.len() {
+    if world.is_halted() || i >= world.clients.len() {
         return Ok(());
     }
     let id = world.clients[i].id;
@@ -239,10 +239,10 @@ fn send_ask<S: Service>(
     client: ClientId,
     request: Signed<Request>,
 ) -> Result<(), AllocError>
-    ensures { OnOk result (world.new ≡ sends world.old (Origin.Client client) Target.View (plains.Ask request)) }
+    ensures { OnOk result (world.new ≡ sends world.old (Origin.Client client) world.old.view Target.View (plains.Ask request)) }
 {
-    let message = Message::Ask(request);
-    world.send(Origin::Client(client), Target::View, message)
+    let to = heard_by(world.alloc, &world.view, Target::View)?;
+    world.send(Origin::Client(client), to, Message::Ask(request))
 }
 
 /// Tells the client at an index of a place. Error: want of memory.
@@ -268,7 +268,7 @@ pub fn tell_client<S: Service>(
 ) -> Result<(), AllocError>
     ensures { OnOk result (world.new ≡ tells from to world.old) }
 {
-    if world.ending.is_some() || from >= world.clients.len() {
+    if world.is_halted() || from >= world.clients.len() {
         return Ok(());
     }
     let teller = world.clients[from].id;

@@ -4,6 +4,7 @@ ghost use Rattle.world_rules.specs.Premises.{is_among, too_many};
 ghost use Rattle.world_rules.specs.Worlds.{declares_faulty, declares_rogue, injects_content, injects};
 
 use smart_base::name::{ClientId, MemberId};
+use smart_base::sequence::Sequence;
 use smart_base::view::View;
 use smart_service::service::Service;
 use std::alloc::AllocError;
@@ -38,7 +39,7 @@ pub fn declare_faulty<S: Service>(
 ) -> Result<(), AllocError>
     ensures { OnOk result (world.new ≡ declares_faulty member world.old) }
 {
-    if world.ending.is_some() || world.is_gone(member) {
+    if world.is_halted() || world.is_gone(member) {
         return Ok(());
     }
     world.faulty.push(member)?;
@@ -57,7 +58,7 @@ pub fn declare_rogue<S: Service>(
 ) -> Result<(), AllocError>
     ensures { OnOk result (world.new ≡ declares_rogue client world.old) }
 {
-    if world.ending.is_some() || world.is_rogue(client) {
+    if world.is_halted() || world.is_rogue(client) {
         return Ok(());
     }
     world.rogue.push(client)?;
@@ -83,7 +84,7 @@ fn inject_content<S: Service>(world: &mut WorldState<S>, content: Content) -> Re
     }
     let sent = Sent {
         origin: Origin::Script,
-        to: None,
+        to: Sequence::new(world.alloc),
         content,
     };
     world.post(sent)
@@ -94,7 +95,7 @@ fn inject_content<S: Service>(world: &mut WorldState<S>, content: Content) -> Re
 pub fn inject<S: Service>(world: &mut WorldState<S>, form: &Injection) -> Result<(), AllocError>
     ensures { OnOk result (world.new ≡ injects form.now world.old) }
 {
-    if world.ending.is_some() {
+    if world.is_halted() {
         return Ok(());
     }
     let made = injected(world.alloc, world.ring.get(), world.sent.as_slice(), form)?;

@@ -2,11 +2,13 @@
 ghost use Rattle.std.specs.Prelude.{◌≡◌, ◌+◌, ◌++◌, ◌==◌, ◌&&◌, [], true, IfOk, OnOk, length, map, drop, is_some};
 ghost use Rattle.std.specs.List.{flat_map};
 ghost use Rattle.std.specs.Option.{option_copied};
-ghost use Rattle.node_rules.specs.Nodes.{next_place};
+ghost use Rattle.smart_base.specs.declared.limits.TheConstants.{PERIOD};
+ghost use Rattle.node_rules.specs.Nodes.{next_place, view_of};
 ghost use Rattle.node_rules.specs.Kept.{core_step};
-ghost use Rattle.node_rules.specs.Steps.{leaving, released, opened};
+ghost use Rattle.node_rules.specs.Steps.{leaving, released, opened, outset};
 ghost use Rattle.durable_store.specs.Exact.{call_due};
 ghost use Rattle.node_rules.specs.Deliveries.{delivery_in};
+ghost use Rattle.world_rules.specs.Secrets.{period};
 ghost use Rattle.world_rules.specs.Worlds.{core_course, host_of_node, disk_called, told_drop, told_fired, chosen_with, host_after, host_index, shown_host};
 ghost use Rattle.world_rules.specs.Premises.{is_among};
 ghost use Rattle.world_hosts.specs.Hearing.{firmness, is_idle};
@@ -16,6 +18,7 @@ use member_store::store::MemberStore;
 use node_core::node::NodeCore;
 use node_rules::node::{Delivery, Fired, Held, Why};
 use smart_base::duplicate::Duplicate;
+use smart_base::limits::PERIOD;
 use smart_base::name::MemberId;
 use smart_base::number::Place;
 use smart_base::sequence::Sequence;
@@ -29,9 +32,6 @@ use std::marker::Model;
 use std::mem::drop;
 use vote_book::entry::LogEntry;
 use world_rules::line::OutLine;
-
-/// The number of places from one mark to the next.
-pub(crate) const PERIOD: u32 = 1024;
 
 /// A member's host: its node, and the store of what the node writes, which runs if the node does. It
 /// has the place at which this life began, and the batches that steps delivered, in this life and in
@@ -187,7 +187,7 @@ fn is_idle(fired: &[Fired]) -> bool
 impl<S: Service> Host<S> {
     /// The host of a new node, over devices that hold nothing. Error: want of memory.
     pub fn begin(alloc: Global, id: MemberId, view: View, ring: Ring) -> Result<Self, AllocError>
-        ensures { IfOk result (λ h. h ≡ host_of_node (opened S.meaning ring id view 1024)) }
+        ensures { IfOk result (λ h. h ≡ host_of_node (opened (outset S.meaning ring id view period))) }
     {
         let node: NodeCore<S> = NodeCore::begin(alloc, id, view, PERIOD, ring)?;
         let mut store = match MemberStore::empty(alloc) {
@@ -216,6 +216,13 @@ impl<S: Service> Host<S> {
         ensures { result ≡ self.now.node.id }
     {
         self.node.id()
+    }
+
+    /// The view that its node is in.
+    pub fn view(&self) -> &View
+        ensures { result.now ≡ view_of self.now.node }
+    {
+        self.node.view()
     }
 
     /// The book of its node.

@@ -5,16 +5,17 @@ ghost use Rattle.durable_store.specs.Restored.{restores};
 ghost use Rattle.world_rules.specs.Crashes.{bytes_held, images_left, wrong_images};
 ghost use Rattle.member_store.specs.Left.{Tells};
 ghost use Rattle.node_rules.specs.Reopening.{damaged};
-ghost use Rattle.world_rules.specs.Secrets.{group_secret};
+ghost use Rattle.world_rules.specs.Secrets.{group_secret, outset_place};
 ghost use Rattle.world_rules.specs.Worlds.{core_course, spelled_behind, host_crashed, host_resumed};
 ghost use Rattle.world_hosts.specs.Lives.{held, node_from, node_in, host_with, told_with};
 
-use crate::host::{Host, PERIOD, behind};
+use crate::host::{Host, behind};
 use member_store::crash::CrashFault;
 use member_store::store::MemberStore;
 use node_core::node::NodeCore;
 use node_restart::fault::ReopenFault;
 use smart_base::duplicate::Duplicate;
+use smart_base::limits::PERIOD;
 use smart_base::name::MemberId;
 use smart_base::sequence::{Bytes, Sequence};
 use smart_base::view::View;
@@ -58,7 +59,7 @@ fn reopened<S: Service>(
     restored: &[Bytes],
 ) -> Result<Option<NodeCore<S>>, AllocError>
     requires { ring.now ≡ group_secret }
-    ensures { IfOk result (λ node. option_map (λ n. n.node) node ≡ node_from S.meaning view.now id restored.now (damaged group_secret view.now restored.now)) }
+    ensures { IfOk result (λ node. option_map (λ n. n.node) node ≡ node_from S.meaning view.now id restored.now (damaged group_secret outset_place view.now restored.now)) }
 {
     let view = view.duplicate(alloc)?;
     let ring = ring.duplicate(alloc)?;

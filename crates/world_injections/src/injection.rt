@@ -2,6 +2,7 @@
 ghost use Rattle.std.specs.Prelude.{◌≡◌, ◌<◌, ◌≤◌, ◌^◌, true, Some, None, if◌then◌else◌, nat_lt, length, is_some, IfOk, IfSome, option_copied, option_map};
 ghost use Rattle.std.specs.List.{flat_map};
 ghost use Rattle.std.specs.Option.{option_and_then};
+ghost use Rattle.smart_base.specs.declared.limits.TheConstants.{BATCH_REQUESTS};
 ghost use Rattle.smart_statements.specs.Kinds.{requests, proposals, ballots};
 ghost use Rattle.smart_statements.specs.Reports.{reports};
 ghost use Rattle.smart_messages.specs.Messages.{spelling};
@@ -19,16 +20,17 @@ use crate::size::{batch_len, lock_len};
 use smart_base::bytes::{Digest32, Payload};
 use smart_base::duplicate::Duplicate;
 use smart_base::keys::Digester;
+use smart_base::limits::{BATCH_BYTES, BATCH_REQUESTS, MESSAGE_BYTES};
 use smart_base::name::{ClientId, MemberId};
 use smart_base::number::{Place, Regency, ViewNo};
 use smart_base::sequence::{Bytes, Sequence};
 use smart_keys::hash::Sha;
 use smart_keys::ring::Ring;
-use smart_messages::codec::{MESSAGE_BYTES, encode};
+use smart_messages::codec::encode;
 use smart_messages::message::{Message, Proposed, report_in, request_in};
 use smart_messages::party::party_of;
 use smart_messages::regency::{Reported, Stop, Sync};
-use smart_statements::batch::{BATCH_BYTES, BATCH_REQUESTS, Batch};
+use smart_statements::batch::Batch;
 use smart_statements::optional::duplicate_optional;
 use smart_statements::report::{Evidence, LockCertificate, Report};
 use smart_statements::signed::{Signed, Statement};
@@ -122,7 +124,7 @@ fn batch_at(sent: &[Sent], number: u64) -> Option<&Batch>
 
 /// How many bytes the requests of messages have, where all are there.
 fn requests_len(sent: &[Sent], asks: &[u64]) -> Option<usize>
-    requires { length asks.now ≤ 64 }
+    requires { length asks.now ≤ BATCH_REQUESTS }
     ensures value { result ≡ option_map (λ qs. length (flat_map (signed_text requests) qs)) (requests_at sent.now asks.now) }
     ensures small { IfSome result (λ bytes. bytes < 2 ^ 40) }
 {

@@ -1,16 +1,16 @@
 -- Each reply that a client accepted is the right one: the service's answer at its request's one place in the list.
 use Rattle.std.proofs.Common.{◌≤◌, ◌&&◌, Bool, true, false, filter, eqb-true, inl, inr, ◌≡◌, ℕ, ◌+◌, ◌==◌, ◌++◌, List, [], ◌∷◌, length, refl, ap, ◌∙◌, sym, Option, Some, None, subst, append-nil}
 use Rattle.smart_base.specs.Lists.{Each, same_bytes}
-use Rattle.smart_base.specs.Views.{View, quorum}
+use Rattle.smart_base.specs.Views.{View, weight_of, quorum}
 use Rattle.smart_statements.specs.Forms.{SignedBy}
 use Rattle.smart_statements.specs.Batches.{Batch}
 use Rattle.smart_statements.specs.declared.statement.Request.{Request}
 use Rattle.smart_statements.specs.declared.statement.Answer.{Answer}
 use Rattle.smart_messages.specs.declared.message.Message.TheVariants.{Reply}
 use Rattle.smart_service.specs.Services.{Meaning}
-use Rattle.smart_service.specs.declared.table.TableLine.{TableLine}
+use Rattle.smart_service.specs.declared.table.Execution.{Execution}
 use Rattle.replica_rules.specs.Replicas.{executions}
-use Rattle.node_rules.specs.Nodes.{next_place}
+use Rattle.node_rules.specs.Nodes.{next_place, view_of}
 use Rattle.node_rules.specs.Steps.{Outcome, step_of, leaving}
 use Rattle.client_quorum.specs.Clients.{acceptance, same_answer, has_answer, have, is_waited_for}
 use Rattle.world_rules.specs.Clients.{heard}
@@ -45,7 +45,7 @@ use Rattle.smart_base.proofs.ViewFacts.{each-weaken}
 use Rattle.vote_book.proofs.Tested.{same_bytes_is}
 
 -- the line of the execution that an accepted reply tells
-abbrev pub line_accepted : Acceptance → TableLine
+abbrev pub line_accepted : Acceptance → Execution
 line_accepted a = record { client = a.request.client; seq = a.request.seq; place = a.place; index = a.index; view = a.view; reply = a.reply }
 
 -- an accepted reply tells an execution of the list
@@ -76,7 +76,7 @@ told-stepped : {S : Type 0} (course : Course S) (m : Meaning S) (w : World S) (i
 unfolding stepped
 told-stepped course m w i h o told =
     let more : List Batch = chosen_with w.chosen (next_place o.node) o.node.waiting in
-    keeps-sends_all (AcceptedTold m) h.node.id (λ v held is. told-posts m v (from_node h.node.id held) is) _ (leaving o.node.firm o.node.held)
+    keeps-sends_all (AcceptedTold m) h.node.id (view_of o.node) (λ v held is. told-posts m v (from_node h.node.id (view_of o.node) held) is) _ (leaving o.node.firm o.node.held)
     (record { all = each-weaken (IsTold m w.view w.chosen) (IsTold m w.view more) (told-chosen m w.view w.chosen (next_place o.node) o.node.waiting) w.accepted told.all })
 
 -- a client hears
@@ -89,9 +89,9 @@ pub record Telling {S : Type 0} (m : Meaning S) (w : World S) : Type 0 where
   pub executed : (r : SignedBy Answer) → HasMessage w.sent (Reply r) → is_verified answers group_secret r ≡ true → is_among w.faulty r.signer ≡ false → IsExecuted m w.view w.chosen r.statement
 
 -- lines of the same numbers are one
-lines_one : (a b : TableLine) → a.client ≡ b.client → a.seq ≡ b.seq → a.place ≡ b.place → a.index ≡ b.index → a.view ≡ b.view → a.reply ≡ b.reply → a ≡ b
+lines_one : (a b : Execution) → a.client ≡ b.client → a.seq ≡ b.seq → a.place ≡ b.place → a.index ≡ b.index → a.view ≡ b.view → a.reply ≡ b.reply → a ≡ b
 lines_one a b client seq place index view reply =
-    let make : ℕ → ℕ → ℕ → ℕ → ℕ → List ℕ → TableLine = λ c s p i v r. record { client = c; seq = s; place = p; index = i; view = v; reply = r } in
+    let make : ℕ → ℕ → ℕ → ℕ → ℕ → List ℕ → Execution = λ c s p i v r. record { client = c; seq = s; place = p; index = i; view = v; reply = r } in
     ap (λ c. make c a.seq a.place a.index a.view a.reply) client
     ∙ (ap (λ s. make b.client s a.place a.index a.view a.reply) seq
     ∙ (ap (λ p. make b.client b.seq p a.index a.view a.reply) place
@@ -133,7 +133,7 @@ told_accepted {S = S} m w c a acc known has kept taken =
     let all : Each (IsKept (WasSent w.sent) (Some q)) replies =
     subst (λ (waiting : Option Request). Each (IsKept (WasSent w.sent) waiting) replies) taken.counts.waits (each_end (IsKept (WasSent w.sent) c.waiting) c.replies a kept last) in
     let gave : ℕ → Bool = has_answer replies a.statement in
-    let enough : quorum w.view ≤ length (filter gave w.view.members) = leb-true (quorum w.view) (have w.view replies a.statement) taken.enough in
+    let enough : quorum w.view ≤ weight_of w.view (filter gave w.view.members) = leb-true (quorum w.view) (have w.view replies a.statement) taken.enough in
     let met = quorums_share gave gave (is_among w.faulty) w.view known.few enough enough in
     subst (IsTold m w.view w.chosen) (sym taken.is) (told_given m w q a.statement met.member replies known met.is.correct all met.left)
 
@@ -166,9 +166,9 @@ keeps-told m P telling k =
         );
         ask = λ w i c op at free few brief p. (
           k.kept.ask w i c op at free few brief p.0,
-          told-posts m (asked_by w i c op) (from_client c (ask_of c op)) (record { all = p.1.all }),
+          told-posts m (asked_by w i c op) (from_client w.view c (ask_of c op)) (record { all = p.1.all }),
         );
-        again = λ w i c q at waits p. (k.kept.again w i c q at waits p.0, told-posts m w (from_client c (signed_by c q)) p.1);
+        again = λ w i c q at waits p. (k.kept.again w i c q at waits p.0, told-posts m w (from_client w.view c (signed_by c q)) p.1);
         learn = λ w i j c d at other p. (k.kept.learn w i j c d at other p.0, record { all = p.1.all });
         inject = λ w x read fine p. (k.kept.inject w x read fine p.0, told-posts m w (from_script x) p.1);
         declare = λ w faulty rogue ending how p. (k.kept.declare w faulty rogue ending how p.0, record { all = p.1.all });

@@ -20,11 +20,10 @@ use Rattle.vote_book.specs.declared.entry.LogEntry.{LogEntry}
 use Rattle.vote_book.specs.declared.entry.LogEntry.TheVariants.{Decided}
 use Rattle.replica_rules.specs.Replicas.{request_at, batch_at}
 use Rattle.replica_rules.specs.Seals.{signed, is_verified, digest_of, request_fits, is_managers, fits}
-use Rattle.node_rules.specs.Nodes.{Node, next_place}
+use Rattle.node_rules.specs.Nodes.{Node, next_place, view_of}
 use Rattle.node_rules.specs.Arrivals.{is_batch_for}
 use Rattle.node_rules.specs.Steps.{step_of, leaving}
 use Rattle.node_rules.specs.declared.node.Held.{Held}
-use Rattle.node_rules.specs.declared.node.Target.TheVariants as targets
 use Rattle.agreement_laws.specs.Statements.{Statement, Asked, statements}
 use Rattle.agreement_laws.proofs.Lists.{each_among, some_equal, either, each_end}
 use Rattle.node_laws.specs.Sound.{IsHeld, IsSound, IsBatchAt, AreAsked, HasBatch, HasDecided}
@@ -33,7 +32,7 @@ use Rattle.client_quorum.specs.Clients.{request_of}
 use Rattle.client_quorum.specs.declared.client.Client.{Client}
 use Rattle.world_rules.specs.Secrets.{group_secret}
 use Rattle.world_rules.specs.Premises.{is_among, is_from, is_forged}
-use Rattle.world_laws.specs.Promises.{HasAsked, IsRogue}
+use Rattle.world_laws.specs.Promises.{HasAsked, IsRogue, IsAskedIn}
 use Rattle.world_rules.specs.Worlds.{course_of, Host, World, posts, sends_all, chosen_with, stepped, hearing, begun}
 use Rattle.world_rules.specs.Plays.{world_after}
 use Rattle.world_rules.specs.declared.line.Line.{Line}
@@ -47,7 +46,7 @@ use Rattle.world_laws.specs.Stated.{StatedAsked}
 use Rattle.world_laws.proofs.Lists.{each_get}
 use Rattle.world_laws.proofs.Numbered.{EachAt, each_at_end, each_at_get, each_at_weaker}
 use Rattle.world_laws.proofs.Keeps.{IsRead, asked_by, by-posts, MayRead, may_read, KeepsAll, keeps-world_after, signed_by, from_node, from_client, from_script}
-use Rattle.world_laws.proofs.Asks.{sent_ask, asked_end, asked_now, asked_among}
+use Rattle.world_laws.proofs.Asks.{asked_end, asked_now, asked_among}
 use Rattle.replica_laws.proofs.FitNodes.{IsBrief}
 use Rattle.world_laws.proofs.Fitting.{fit-owns}
 use Rattle.world_laws.proofs.Grounded.{grounded-reads}
@@ -76,7 +75,7 @@ ChosenGood T chosen = EachAt (λ i batch. Each (Stands T (suc i)) batch) chosen
 -- a client asks a request
 pub record IsAsk (s : Sent) : Type 0 where
   pub request : Request
-  pub is : s ≡ sent_ask request
+  pub is : IsAskedIn s request
 
 -- a client sends nothing else
 abbrev pub IsAskFrom : Origin → Sent → Type 0
@@ -125,12 +124,12 @@ states-posts {S = S} w s c states =
     by-posts (λ (v : World S). StatesAsked v.rogue v.sent c) w s (λ ending. states) (λ free room. λ q there. asked-sent w.rogue w.sent s q.statement (states q there))
 
 -- messages of a node leave
-asked-sends_all : {S : Type 0} (id : ℕ) (w : World S) (held : List Held) → Each (λ h. StatesAsked w.rogue w.sent (contents.Message h.message)) held → RequestsAsked w → RequestsAsked (sends_all id w held)
-asked-sends_all id w [] each is = is
-asked-sends_all {S = S} id w (h ∷ hs) each is =
-    let s : Sent = from_node id h in
+asked-sends_all : {S : Type 0} (id : ℕ) (view : View) (w : World S) (held : List Held) → Each (λ h. StatesAsked w.rogue w.sent (contents.Message h.message)) held → RequestsAsked w → RequestsAsked (sends_all id view w held)
+asked-sends_all id view w [] each is = is
+asked-sends_all {S = S} id view w (h ∷ hs) each is =
+    let s : Sent = from_node id view h in
     let after : World S = posts w s in
-    asked-sends_all id after hs
+    asked-sends_all id view after hs
     (each-weaken (λ (x : Held). StatesAsked w.rogue w.sent (contents.Message x.message)) (λ (x : Held). StatesAsked after.rogue after.sent (contents.Message x.message))
     (λ x states. states-posts w s (contents.Message x.message) states) hs each.1)
     (asked-posts w s (λ q there. asked-sent w.rogue w.sent s q.statement (each.0 q there)) tt is)
@@ -204,7 +203,7 @@ asked-stepped {S = S} m w i h event at may shared r is =
     let n : Node S = (step_of m h.node event).node in
     let hr : HostRight w.sent m w.view w.chosen h = each_get (HostRight w.sent m w.view w.chosen) w.hosts i h r.1.right at in
     let s : IsSound (stated w.sent) w.view n = sound_step m (stated w.sent) w.view h.node event r.1.viewed hr.sound (stated_event w h h.node.secret event hr.shared may) in
-    asked-sends_all h.node.id _ (leaving n.firm n.held)
+    asked-sends_all h.node.id (view_of n) _ (leaving n.firm n.held)
     (leaving_asked w.rogue w.sent n.id n.firm (stated w.sent) n.entries n.held is.each (subst (λ (k : List ℕ). Each (IsHeld k n.id (stated w.sent) n.entries) n.held) shared s.held))
     (record {
       each = is.each;
@@ -224,9 +223,9 @@ from_client_is id origins.Script is = absurd (cc)
 ask_states : (sent : List Sent) (s : Sent) (q : SignedBy Request) → IsAsk s → Among s sent → Among (Asked q) (stated_in s.content) → HasAsked sent q.statement
 ask_states sent s q ask there states =
     let r : Request = ask.request in
-    let mine : Among (Asked q) (stated_in (sent_ask r).content) = subst (λ (t : Sent). Among (Asked q) (stated_in t.content)) ask.is states in
+    let mine : Among (Asked q) (stated_in (contents.Message (Ask (signed requests group_secret r.client r)))) = subst (λ (x : Content). Among (Asked q) (stated_in x)) ask.is.content states in
     let one : Asked q ≡ Asked (signed requests group_secret r.client r) = asks_alone (signed requests group_secret r.client r) (Asked q) mine in
-    subst (HasAsked sent) (sym (same q (signed requests group_secret r.client r) one)) (asked_among sent r (subst (λ (t : Sent). Among t sent) ask.is there))
+    subst (HasAsked sent) (sym (same q (signed requests group_secret r.client r) one)) (asked_among sent s r ask.is there)
   where
     same : (a b : SignedBy Request) → Asked a ≡ Asked b → a.statement ≡ b.statement
     same a b is = cc
@@ -248,14 +247,17 @@ request_asked faulty rogue sent content q fine reads clients read there =
 -- whatever happens
 
 -- a client asks a request of its own
-asked-ask : {S : Type 0} (w : World S) (c : Client) (q : Request) → q.client ≡ c.id → RequestsAsked w → RequestsAsked (posts w (from_client c (signed_by c q)))
+asked-ask : {S : Type 0} (w : World S) (c : Client) (q : Request) → q.client ≡ c.id → RequestsAsked w → RequestsAsked (posts w (from_client w.view c (signed_by c q)))
 asked-ask w c q own is =
-    let s : Sent = from_client c (signed_by c q) in
-    let same : s ≡ sent_ask q = sym (ap (λ (id : ℕ). record { origin = origins.Client id; to = Some targets.View; content = contents.Message (Ask (signed requests group_secret id q)) }) own) in
+    let s : Sent = from_client w.view c (signed_by c q) in
+    let asks : IsAskedIn s q = record {
+      origin = ap (λ (id : ℕ). origins.Client id) (sym own);
+      content = ap (λ (id : ℕ). contents.Message (Ask (signed requests group_secret id q))) (sym own);
+    } in
     asked-posts w s
     (λ r there. inr (subst (HasAsked (w.sent ++ s ∷ [])) (sym (statement r (signed requests group_secret c.id q) (asks_alone (signed requests group_secret c.id q) (Asked r) there)))
-    (subst (λ (t : Sent). HasAsked (w.sent ++ t ∷ []) q) (sym same) (asked_now w.sent q))))
-    (record { request = q; is = same }) is
+    (asked_now w.sent s q asks)))
+    (record { request = q; is = asks }) is
   where
     statement : (a b : SignedBy Request) → Asked a ≡ Asked b → a.statement ≡ b.statement
     statement a b is = cc

@@ -1,18 +1,19 @@
--- Clients number their requests, remember what they saw, and what they accept rises.
+-- Clients number their requests, and accept one reply to each number.
 use Rattle.std.proofs.Common.{◌≡◌, ℕ, zero, suc, ◌+◌, ◌++◌, ◌≤◌, List, [], ◌∷◌, refl, ap, ◌∙◌, sym, Option, Some, None, inl, inr, ◌⊎◌, subst, arith, max, append-nil}
+use Rattle.node_rules.specs.Nodes.{view_of}
 use Rattle.std.specs.Prelude.{slice_get, slice_set}
 use Rattle.smart_base.specs.Lists.{Each}
 use Rattle.smart_base.specs.Views.{View}
 use Rattle.smart_statements.specs.Forms.{SignedBy}
 use Rattle.smart_statements.specs.declared.statement.Request.{Request}
 use Rattle.smart_statements.specs.declared.statement.Answer.{Answer}
-use Rattle.smart_messages.specs.declared.message.Message.TheVariants.{Ask, Propose, Vote, Reply}
+use Rattle.smart_messages.specs.declared.message.Message.TheVariants.{Ask}
 use Rattle.smart_service.specs.Services.{Meaning}
 use Rattle.node_rules.specs.Steps.{Outcome, leaving}
 use Rattle.node_rules.specs.declared.node.Held.{Held}
 use Rattle.client_quorum.specs.Clients.{fresh, request_of, asking, learning, acceptance, after_heard}
 use Rattle.world_rules.specs.Clients.{heard}
-use Rattle.world_laws.specs.Promises.{HasAsked, Rises}
+use Rattle.world_laws.specs.Promises.{HasAsked, AreApart, IsAskedIn}
 use Rattle.world_rules.specs.Worlds.{Course, Host, World, posts, stepped, acceptance_in, hearing, clients_from, begun}
 use Rattle.world_rules.specs.Plays.{rested, world_after}
 use Rattle.client_quorum.specs.declared.client.Client.{Client}
@@ -25,34 +26,32 @@ use Rattle.world_rules.specs.declared.message.Origin.TheVariants as origins
 use Rattle.world_rules.specs.declared.message.Sent.{Sent}
 use Rattle.world_laws.proofs.Numbered.{EachAt, each_at_get, each_at_weaker, each_at_set}
 use Rattle.world_laws.proofs.Keeps.{ask_of, asked_by, by-posts-ended, KeepsLives, live-world_after, signed_by, from_node, from_client, from_script, keeps-sends_all}
-use Rattle.world_laws.proofs.Asks.{asked_end, asked_now, sent_ask}
+use Rattle.world_laws.proofs.Asks.{asked_end, asked_now}
 use Rattle.world_laws.proofs.Hearing.{Accepts, accepts_waiting}
 use Rattle.world_rules.specs.declared.message.Content.{Content}
 use Rattle.world_rules.specs.declared.message.Content.TheVariants as contents
 use Rattle.agreement_laws.proofs.Lists.{some_equal, each_end}
 use Rattle.smart_base.proofs.ViewFacts.{each-weaken}
 
--- a request that waits is its client's last, states no place below those of all that the client accepted, and was asked, unless its message
--- had no number any more
+-- a request that waits is its client's last, no reply to its number was accepted, and it was asked, unless its message had no number any more
 pub record Waits (sent : List Sent) (ending : Option Ending) (accepted : List Acceptance) (i last : ℕ) (q : Request) : Type 0 where
   pub client : q.client ≡ i
   pub seq : q.seq ≡ last
-  pub after : Each (λ a. a.request.client ≡ i → a.place ≤ q.after) accepted
+  pub new : Each (λ a. a.request.client ≡ i → a.request.seq ≡ q.seq → ⊥) accepted
   pub asked : ending ≡ None → HasAsked sent q
 
--- a client stands at its number, has counted its requests, and has seen the place of all that it accepted
+-- a client stands at its number, and has counted its requests
 pub record ClientRight (sent : List Sent) (ending : Option Ending) (accepted : List Acceptance) (i : ℕ) (c : Client) : Type 0 where
   pub id : c.id ≡ i
   pub waits : (q : Request) → c.waiting ≡ Some q → Waits sent ending accepted i c.last q
   pub last : (q : Request) → HasAsked sent q → q.client ≡ i → q.seq ≤ c.last
-  pub seen : Each (λ a. a.request.client ≡ i → a.place ≤ c.seen) accepted
 
--- all clients do, a client's request is known by its number, what was accepted was asked, and what a client accepts rises
+-- all clients do, a client's request is known by its number, what was accepted was asked, and a client accepts one reply to each number
 pub record Right (sent : List Sent) (ending : Option Ending) (clients : List Client) (accepted : List Acceptance) : Type 0 where
   pub each : EachAt (ClientRight sent ending accepted) clients
   pub one : (q r : Request) → HasAsked sent q → HasAsked sent r → q.client ≡ r.client → q.seq ≡ r.seq → q ≡ r
   pub asked : Each (λ a. HasAsked sent a.request) accepted
-  pub rising : Rises accepted
+  pub apart : AreApart accepted
 
 pub record ClientsRight {S : Type 0} (w : World S) : Type 0 where
   pub all : Right w.sent w.ending w.clients w.accepted
@@ -60,24 +59,24 @@ pub record ClientsRight {S : Type 0} (w : World S) : Type 0 where
 -- who asks
 
 -- what was asked with one more sent, was asked before, or it is sent now
-asks_one : (sent : List Sent) (s : Sent) (q : Request) → HasAsked (sent ++ s ∷ []) q → HasAsked sent q ⊎ (s ≡ sent_ask q)
+asks_one : (sent : List Sent) (s : Sent) (q : Request) → HasAsked (sent ++ s ∷ []) q → HasAsked sent q ⊎ IsAskedIn s q
 asks_one [] s q asked = elim asked [ inl here ↦ inr here | inr later ↦ absurd later ]
 asks_one (t ∷ sent) s q asked = elim asked [ inl here ↦ inl (inl here) | inr later ↦ elim (asks_one sent s q later) [ inl before ↦ inl (inr before) | inr now ↦ inr now ] ]
 
 -- what is sent asks nothing
 abbrev IsQuiet : Sent → Type 0
-IsQuiet s = (q : Request) → s ≡ sent_ask q → ⊥
+IsQuiet s = (q : Request) → IsAskedIn s q → ⊥
 
 -- what a node sends
-node_quiet : (id : ℕ) (h : Held) → IsQuiet (from_node id h)
-node_quiet id h q same = other (ap (λ (s : Sent). s.origin) same)
+node_quiet : (id : ℕ) (view : View) (h : Held) → IsQuiet (from_node id view h)
+node_quiet id view h q asks = other asks.origin
   where
     other : origins.Node id ≡ origins.Client q.client → ⊥
     other is = cc
 
 -- and what a script injects
 script_quiet : (x : Content) → IsQuiet (from_script x)
-script_quiet x q same = other (ap (λ (s : Sent). s.origin) same)
+script_quiet x q asks = other asks.origin
   where
     other : origins.Script ≡ origins.Client q.client → ⊥
     other is = cc
@@ -87,8 +86,9 @@ quiet_asks : (sent : List Sent) (s : Sent) → IsQuiet s → (q : Request) → H
 quiet_asks sent s quiet q asked = elim (asks_one sent s q asked) [ inl before ↦ before | inr now ↦ absurd (quiet q now) ]
 
 -- a client asks the request that it sends
-client_asks_one : (sent : List Sent) (c : Client) (new q : Request) → HasAsked (sent ++ from_client c (signed_by c new) ∷ []) q → HasAsked sent q ⊎ (q ≡ new)
-client_asks_one sent c new q asked = elim (asks_one sent (from_client c (signed_by c new)) q asked) [ inl before ↦ inl before | inr now ↦ inr (sym (ap (λ (s : Sent). statement s.content new) now)) ]
+client_asks_one : (sent : List Sent) (view : View) (c : Client) (new q : Request) → HasAsked (sent ++ from_client view c (signed_by c new) ∷ []) q → HasAsked sent q ⊎ (q ≡ new)
+client_asks_one sent view c new q asked =
+    elim (asks_one sent (from_client view c (signed_by c new)) q asked) [ inl before ↦ inl before | inr now ↦ inr (sym (ap (λ (x : Content). statement x new) now.content)) ]
   where
     statement : Content → Request → Request
     statement (contents.Message (Ask a)) r = a.statement
@@ -105,14 +105,13 @@ right-sent sent sent' ending ending' clients accepted forth back on is =
       each = each_at_weaker (ClientRight sent ending accepted) (ClientRight sent' ending' accepted)
           (λ i c right. record {
             id = right.id;
-            waits = λ q waits. let old = right.waits q waits in record { client = old.client; seq = old.seq; after = old.after; asked = λ goes_on. forth q (old.asked (on goes_on)) };
+            waits = λ q waits. let old = right.waits q waits in record { client = old.client; seq = old.seq; new = old.new; asked = λ goes_on. forth q (old.asked (on goes_on)) };
             last = λ q asked own. right.last q (back q asked) own;
-            seen = right.seen;
           })
           clients is.each;
       one = λ q r asked_q asked_r. is.one q r (back q asked_q) (back r asked_r);
       asked = each-weaken (λ (a : Acceptance). HasAsked sent a.request) (λ (a : Acceptance). HasAsked sent' a.request) (λ a asked. forth a.request asked) accepted is.asked;
-      rising = is.rising;
+      apart = is.apart;
     }
 
 -- what asks nothing leaves
@@ -126,7 +125,7 @@ right-posts {S = S} w s quiet is =
 right-stepped : {S : Type 0} (course : Course S) (w : World S) (i : ℕ) (h : Host S) (o : Outcome S) → ClientsRight w → ClientsRight (stepped course w i h o)
 unfolding stepped
 right-stepped course w i h o is =
-    keeps-sends_all ClientsRight h.node.id (λ v held right. right-posts v (from_node h.node.id held) (node_quiet h.node.id held) right) _ (leaving o.node.firm o.node.held) (record { all = is.all })
+    keeps-sends_all ClientsRight h.node.id (view_of o.node) (λ v held right. right-posts v (from_node h.node.id (view_of o.node) held) (node_quiet h.node.id (view_of o.node) held) right) _ (leaving o.node.firm o.node.held) (record { all = is.all })
 
 -- a client asks
 
@@ -142,16 +141,14 @@ right-ask sent sent' ending ending' clients accepted i c op at forth back now on
       each = each_at_set (ClientRight sent ending accepted) (ClientRight sent' ending' accepted) clients i (asking c new)
           (λ j y other right. record {
             id = right.id;
-            waits = λ q waits. let old = right.waits q waits in record { client = old.client; seq = old.seq; after = old.after; asked = λ goes_on. forth q (old.asked (on goes_on)) };
+            waits = λ q waits. let old = right.waits q waits in record { client = old.client; seq = old.seq; new = old.new; asked = λ goes_on. forth q (old.asked (on goes_on)) };
             last = λ q asked is_j. elim (back q asked) [ inl before ↦ right.last q before is_j | inr same ↦ absurd (other (sym is_j ∙ (ap (λ (r : Request). r.client) same ∙ own.id))) ];
-            seen = right.seen;
           })
           is.each
           (record {
             id = own.id;
-            waits = λ q waits. subst (Waits sent' ending' accepted i (c.last + 1)) (some_equal new q waits) (record { client = own.id; seq = refl; after = own.seen; asked = now });
+            waits = λ q waits. subst (Waits sent' ending' accepted i (c.last + 1)) (some_equal new q waits) (record { client = own.id; seq = refl; new = untouched; asked = now });
             last = λ q asked is_i. elim (back q asked) [ inl before ↦ more (own.last q before is_i) | inr same ↦ last_is (ap (λ (r : Request). r.seq) same) ];
-            seen = own.seen;
           });
       one = λ q r asked_q asked_r client seq.
           elim (back q asked_q) [
@@ -165,7 +162,7 @@ right-ask sent sent' ending ending' clients accepted i c op at forth back now on
             ]
           ];
       asked = each-weaken (λ (a : Acceptance). HasAsked sent a.request) (λ (a : Acceptance). HasAsked sent' a.request) (λ a asked. forth a.request asked) accepted is.asked;
-      rising = is.rising;
+      apart = is.apart;
     }
   where
     more : {s : ℕ} → s ≤ c.last → s ≤ c.last + 1
@@ -177,18 +174,23 @@ right-ask sent sent' ending ending' clients accepted i c op at forth back now on
     past : {s : ℕ} → s ≤ c.last → s ≡ c.last + 1 → ⊥
     past low same = omega arith
 
+    untouched : Each (λ (a : Acceptance). a.request.client ≡ i → a.request.seq ≡ c.last + 1 → ⊥) accepted
+    untouched =
+        each-weaken (λ (a : Acceptance). HasAsked sent a.request) (λ (a : Acceptance). a.request.client ≡ i → a.request.seq ≡ c.last + 1 → ⊥)
+        (λ a asked is_i same. past ((each_at_get (ClientRight sent ending accepted) clients i c is.each at).last a.request asked is_i) same) accepted is.asked
+
 -- a client asks
 right-asks : {S : Type 0} (w : World S) (i : ℕ) (c : Client) (op : List ℕ) → slice_get w.clients i ≡ Some c → ClientsRight w
-    → ClientsRight (posts (asked_by w i c op) (from_client c (ask_of c op)))
+    → ClientsRight (posts (asked_by w i c op) (from_client w.view c (ask_of c op)))
 right-asks {S = S} w i c op at is =
-    let s : Sent = from_client c (ask_of c op) in
+    let s : Sent = from_client w.view c (ask_of c op) in
     by-posts-ended (λ (v : World S). ClientsRight v) (asked_by w i c op) s
     (λ ending ended. record {
       all = right-ask w.sent w.sent w.ending ending w.clients w.accepted i c op at (λ q asked. asked) (λ q asked. inl asked) (λ on. absurd (ended on)) (λ on. absurd (ended on)) is.all;
     })
     (λ free room. record {
-      all = right-ask w.sent (w.sent ++ s ∷ []) w.ending w.ending w.clients w.accepted i c op at (asked_end w.sent s) (client_asks_one w.sent c (request_of c op))
-          (λ on. asked_now w.sent (request_of c op)) (λ on. on) is.all;
+      all = right-ask w.sent (w.sent ++ s ∷ []) w.ending w.ending w.clients w.accepted i c op at (asked_end w.sent s) (client_asks_one w.sent w.view c (request_of c op))
+          (λ on. asked_now w.sent s (request_of c op) (record { origin = refl; content = refl })) (λ on. on) is.all;
     })
 
 -- a client hears
@@ -202,14 +204,15 @@ right-same sent ending clients accepted i c' own is =
       each = each_at_set (ClientRight sent ending accepted) (ClientRight sent ending accepted) clients i c' (λ j y other right. right) is.each own;
       one = is.one;
       asked = is.asked;
-      rising = is.rising;
+      apart = is.apart;
     })
 
--- what is accepted last stands above all that its client accepted
-rises_end : (accepted : List Acceptance) (b : Acceptance) → Rises accepted → Each (λ a. b.request.client ≡ a.request.client → a.place ≤ b.request.after) accepted → Rises (accepted ++ b ∷ [])
-rises_end [] b rises below = (tt, tt)
-rises_end (a ∷ later) b rises below =
-    (each_end (λ (x : Acceptance). x.request.client ≡ a.request.client → a.place ≤ x.request.after) later b rises.0 below.0, rises_end later b rises.1 below.1)
+-- what is accepted last is of a number of which its client accepted no reply
+apart_end : (accepted : List Acceptance) (b : Acceptance) → AreApart accepted → Each (λ a. b.request.client ≡ a.request.client → b.request.seq ≡ a.request.seq → ⊥) accepted
+    → AreApart (accepted ++ b ∷ [])
+apart_end [] b apart new = (tt, tt)
+apart_end (a ∷ later) b apart new =
+    (each_end (λ (x : Acceptance). x.request.client ≡ a.request.client → x.request.seq ≡ a.request.seq → ⊥) later b apart.0 new.0, apart_end later b apart.1 new.1)
 
 -- the reply to the request that waits is accepted
 right-accept : (sent : List Sent) (ending : Option Ending) (clients : List Client) (accepted : List Acceptance) (i : ℕ) (c : Client) (a : SignedBy Answer) (q : Request)
@@ -225,36 +228,26 @@ right-accept sent ending clients accepted i c a q at waits on is =
             waits = λ r waits. let own_r = right.waits r waits in record {
               client = own_r.client;
               seq = own_r.seq;
-              after = each_end (λ (b : Acceptance). b.request.client ≡ j → b.place ≤ r.after) accepted (acceptance q a.statement) own_r.after (λ is_j. absurd (other (sym is_j ∙ old.client)));
+              new = each_end (λ (b : Acceptance). b.request.client ≡ j → b.request.seq ≡ r.seq → ⊥) accepted (acceptance q a.statement) own_r.new (λ is_j. absurd (other (sym is_j ∙ old.client)));
               asked = own_r.asked;
             };
             last = right.last;
-            seen = each_end (λ (b : Acceptance). b.request.client ≡ j → b.place ≤ y.seen) accepted (acceptance q a.statement) right.seen (λ is_j. absurd (other (sym is_j ∙ old.client)));
           })
           is.each
           (record {
             id = own.id;
             waits = λ r none. absurd (no_request r none);
             last = own.last;
-            seen = each_end (λ (b : Acceptance). b.request.client ≡ i → b.place ≤ max c.seen a.statement.place) accepted (acceptance q a.statement)
-                (each-weaken (λ (b : Acceptance). b.request.client ≡ i → b.place ≤ c.seen) (λ (b : Acceptance). b.request.client ≡ i → b.place ≤ max c.seen a.statement.place) (λ b low is_i. higher (low is_i)) accepted own.seen)
-                (λ is_i. highest);
           });
       one = is.one;
       asked = each_end (λ (b : Acceptance). HasAsked sent b.request) accepted (acceptance q a.statement) is.asked (old.asked on);
-      rising = rises_end accepted (acceptance q a.statement) is.rising
-          (each-weaken (λ (b : Acceptance). b.request.client ≡ i → b.place ≤ q.after) (λ (b : Acceptance). q.client ≡ b.request.client → b.place ≤ q.after)
-          (λ b low same. low (sym same ∙ old.client)) accepted old.after);
+      apart = apart_end accepted (acceptance q a.statement) is.apart
+          (each-weaken (λ (b : Acceptance). b.request.client ≡ i → b.request.seq ≡ q.seq → ⊥) (λ (b : Acceptance). q.client ≡ b.request.client → q.seq ≡ b.request.seq → ⊥)
+          (λ b new client seq. new (sym client ∙ old.client) (sym seq)) accepted old.new);
     }
   where
     no_request : (r : Request) → None ≡ Some r → ⊥
     no_request r same = cc
-
-    higher : {p : ℕ} → p ≤ c.seen → p ≤ max c.seen a.statement.place
-    higher low = omega arith
-
-    highest : a.statement.place ≤ max c.seen a.statement.place
-    highest = omega arith
 
 -- clients stay right where one hears a reply
 right-heard : (sent : List Sent) (ending : Option Ending) (clients : List Client) (accepted : List Acceptance) (v : View) (i : ℕ) (c : Client) (a : SignedBy Answer) (h : Heard)
@@ -262,7 +255,7 @@ right-heard : (sent : List Sent) (ending : Option Ending) (clients : List Client
     → Right sent ending (slice_set clients i (after_heard c a h)) (accepted ++ acceptance_in h)
 right-heard sent ending clients accepted v i c a (hears.Counted count need) at on is_h is =
     let own : ClientRight sent ending accepted i c = each_at_get (ClientRight sent ending accepted) clients i c is.each at in
-    right-same sent ending clients accepted i (record c { replies = c.replies ++ a ∷ [] }) (record { id = own.id; waits = own.waits; last = own.last; seen = own.seen }) is
+    right-same sent ending clients accepted i (record c { replies = c.replies ++ a ∷ [] }) (record { id = own.id; waits = own.waits; last = own.last }) is
 right-heard sent ending clients accepted v i c a (hears.Ignored why) at on is_h is =
     right-same sent ending clients accepted i c (each_at_get (ClientRight sent ending accepted) clients i c is.each at) is
 right-heard sent ending clients accepted v i c a (hears.Accepted acc) at on is_h is =
@@ -274,16 +267,16 @@ right-heard sent ending clients accepted v i c a (hears.Accepted acc) at on is_h
 
 -- clients stay right where one sends once more what it asked
 right-again : {S : Type 0} (w : World S) (i : ℕ) (c : Client) (q : Request) → w.ending ≡ None → slice_get w.clients i ≡ Some c → c.waiting ≡ Some q → ClientsRight w
-    → ClientsRight (posts w (from_client c (signed_by c q)))
+    → ClientsRight (posts w (from_client w.view c (signed_by c q)))
 right-again {S = S} w i c q on at waits is =
-    let s : Sent = from_client c (signed_by c q) in
+    let s : Sent = from_client w.view c (signed_by c q) in
     let own : ClientRight w.sent w.ending w.accepted i c = each_at_get (ClientRight w.sent w.ending w.accepted) w.clients i c is.all.each at in
     let before : HasAsked w.sent q = (own.waits q waits).asked on in
     by-posts-ended (λ (v : World S). ClientsRight v) w s
     (λ ending ended. record { all = right-sent w.sent w.sent w.ending ending w.clients w.accepted (λ r asked. asked) (λ r asked. asked) (λ on. absurd (ended on)) is.all })
     (λ free room. record {
       all = right-sent w.sent (w.sent ++ s ∷ []) w.ending w.ending w.clients w.accepted (asked_end w.sent s)
-          (λ r asked. elim (client_asks_one w.sent c q r asked) [ inl old ↦ old | inr new ↦ subst (HasAsked w.sent) (sym new) before ])
+          (λ r asked. elim (client_asks_one w.sent w.view c q r asked) [ inl old ↦ old | inr new ↦ subst (HasAsked w.sent) (sym new) before ])
           (λ on. on) is.all;
     })
 
@@ -296,20 +289,11 @@ right-learn sent ending clients accepted i c place at is =
     let own : ClientRight sent ending accepted i c = each_at_get (ClientRight sent ending accepted) clients i c is.each at in
     record {
       each = each_at_set (ClientRight sent ending accepted) (ClientRight sent ending accepted) clients i (learning c place) (λ j y other right. right) is.each
-          (record {
-            id = own.id;
-            waits = own.waits;
-            last = own.last;
-            seen = each-weaken (λ (a : Acceptance). a.request.client ≡ i → a.place ≤ c.seen) (λ (a : Acceptance). a.request.client ≡ i → a.place ≤ max c.seen place)
-                (λ a low is_i. higher (low is_i)) accepted own.seen;
-          });
+          (record { id = own.id; waits = own.waits; last = own.last });
       one = is.one;
       asked = is.asked;
-      rising = is.rising;
+      apart = is.apart;
     }
-  where
-    higher : {p : ℕ} → p ≤ c.seen → p ≤ max c.seen place
-    higher low = omega arith
 
 -- clients stay right, whatever the nodes do
 pub keeps-right : {S : Type 0} (course : Course S) → KeepsLives course ClientsRight
@@ -350,10 +334,10 @@ pub right-begun : {S : Type 0} (m : Meaning S) (view : View) → ClientsRight (b
 right-begun m view =
     record {
       all = record {
-        each = each_fresh (ClientRight [] None []) 1025 0 (λ k. record { id = omega arith; waits = λ q waits. absurd (no_request q waits); last = λ q asked own. absurd asked; seen = tt });
+        each = each_fresh (ClientRight [] None []) 1025 0 (λ k. record { id = omega arith; waits = λ q waits. absurd (no_request q waits); last = λ q asked own. absurd asked });
         one = λ q r asked_q. absurd asked_q;
         asked = tt;
-        rising = tt;
+        apart = tt;
       };
     }
   where

@@ -1,31 +1,39 @@
 -- What a member has sent rests on entries that became firm there.
 use Rattle.durable_store.specs.Restored.{Images, restores}
+use Rattle.smart_base.specs.declared.party.Party.TheVariants as parties
+use Rattle.smart_base.specs.declared.party.Party.{Party}
 use Rattle.agreement_laws.specs.Fronts.{IsFront}
 use Rattle.node_rules.specs.Reopening.{entries_in, reopened}
 use Rattle.replica_laws.proofs.FitNodes.{IsBrief}
 use Rattle.world_rules.specs.Stated.{stated}
 use Rattle.world_laws.specs.Sending.{AllGenuine}
 use Rattle.world_laws.proofs.Fitting.{all_genuine}
+use Rattle.world_laws.proofs.Views.{view-step}
 use Rattle.world_laws.proofs.Lives.{book_left, lasts-stepped}
 use Rattle.world_laws.proofs.Reopens.{rests_reopened}
 use Rattle.world_laws.proofs.Chosen.{HostRight, ChosenRight}
 use Rattle.world_laws.proofs.ChosenLives.{named}
 use Rattle.world_laws.proofs.ChosenKept.{host-right, resumed-right, resumes-diary, keeps-both, chosen-kept, chosen-begun}
-use Rattle.std.proofs.Common.{◌≡◌, ℕ, zero, suc, ◌+◌, ◌≤◌, ◌++◌, List, [], ◌∷◌, length, refl, ap, ◌∙◌, sym, arith, Option, Some, None, is_some, inl, inr, ⊎_elim, subst, take, length-append, append-nil, true, not, drop, false}
+use Rattle.std.proofs.Common.{◌≡◌, ℕ, zero, suc, ◌+◌, ◌≤◌, ◌++◌, List, [], ◌∷◌, length, refl, ap, ◌∙◌, sym, arith, Option, Some, None, inl, inr, ⊎_elim, subst, take, length-append, append-nil, true, not, drop, false}
 use Rattle.std.specs.Prelude.{slice_get, slice_set}
 use Rattle.smart_base.specs.Lists.{Each}
-use Rattle.smart_base.specs.Views.{View, is_view}
+use Rattle.smart_base.specs.Views.{View, is_view, present}
+use Rattle.smart_statements.specs.Forms.{SignedBy}
+use Rattle.smart_statements.specs.declared.statement.Answer.{Answer}
+use Rattle.smart_messages.specs.Messages.{decoded}
+use Rattle.client_quorum.specs.Clients.{reply_read}
+use Rattle.client_quorum.specs.declared.client.Client.{Client}
 use Rattle.smart_messages.specs.declared.message.Message.{Message}
 use Rattle.smart_statements.specs.declared.entry.NodeEvent.{NodeEvent}
 use Rattle.smart_statements.specs.declared.entry.NodeEvent.TheVariants.{Arrive, Tick, Deliver, Firm}
 use Rattle.smart_service.specs.Services.{Meaning}
 use Rattle.vote_book.specs.declared.entry.LogEntry.{LogEntry}
-use Rattle.node_rules.specs.Nodes.{Node}
+use Rattle.node_rules.specs.Nodes.{Node, view_of}
 use Rattle.node_rules.specs.Steps.{Outcome, made_firm, step_of, leaving}
 use Rattle.node_rules.specs.declared.node.Held.{Held}
 use Rattle.world_rules.specs.Repeats.{repeated}
-use Rattle.world_rules.specs.Secrets.{group_secret}
-use Rattle.world_rules.specs.Worlds.{course_of, Host, World, posts, sends_all, host_after, stepped, host_takes, node_takes, settle_once, settle_all, gives, hearing, flow_once, hosts_from, begun, at_listed, host_crashed, host_resumed, with_front, is_up}
+use Rattle.world_rules.specs.Secrets.{group_secret, period}
+use Rattle.world_rules.specs.Worlds.{course_of, Host, World, posts, sends_all, host_after, stepped, host_takes, node_takes, settle_once, settle_all, gives, heard_by, hearing, flow_once, hosts_from, begun, at_listed, host_crashed, host_resumed, from_to, is_up, is_halted, reaches, client_hears, hears_bytes, client_takes, outset_of}
 use Rattle.world_rules.specs.Plays.{world_after}
 use Rattle.world_rules.specs.declared.line.Line.{Line}
 use Rattle.world_rules.specs.declared.message.Origin.{Origin}
@@ -40,15 +48,16 @@ use Rattle.world_laws.specs.Sending.{IsRested, Bears, IsBorneAt, IsBorne, SentFi
 use Rattle.world_laws.specs.Settling.{flow_begins, flow_goes, message_goes, node_goes, settles_present}
 use Rattle.world_laws.proofs.Lists.{each_set, each_get, repeated_keeps, each_from_keeps}
 use Rattle.world_laws.proofs.Stores.{Fits, IsTold, may-told, firm-grows, fits-called, fits-stepped, fits-opened}
-use Rattle.world_laws.proofs.Keeps.{after_call, called, ask_of, asked_by, by-posts, Keeps, KeepsCalm, live, calm, keeps-world_after, live-settle_once, live-settle, live-settle_all, live-flow_once, at_listed-keeps, signed_by, from_node, from_client, from_script, live-settles_present, IsDown, KeepsAll, with_host, node_resumed, entries_left, is-up}
+use Rattle.world_laws.proofs.Keeps.{after_call, called, ask_of, asked_by, by-posts, Keeps, KeepsCalm, live, calm, keeps-world_after, live-settle_once, live-settle, live-settle_all, live-flow_once, at_listed-keeps, signed_by, from_node, from_client, from_script, live-settles_present, IsDown, KeepsAll, with_host, node_resumed, entries_left, is-up, give_one-keeps, goes-keeps}
 use Rattle.agreement_laws.proofs.Lists.{either, some_equal, each_end, either_by, not_false}
 use Rattle.smart_base.proofs.ViewFacts.{each-weaken}
 
 -- worlds
 
--- A node's held messages are right, and no more is firm than is written. Where it runs its store fits its book, and what is firm of that is its member's
+-- A node of a view, whose held messages are right; no more is firm than is written. Where it runs its store fits its book, and what is firm of that is its member's
 -- diary.
-pub record HostRests {S : Type 0} (h : Host S) : Type 0 where
+pub record HostRests {S : Type 0} (view : View) (h : Host S) : Type 0 where
+  pub view_is : view_of h.node ≡ view
   pub rests : NodeRests h.node
   pub stored : h.up ≡ true → Fits h.node h.store
   pub diary : h.up ≡ true → h.life.diary ≡ take h.node.firm h.node.entries
@@ -56,18 +65,18 @@ pub record HostRests {S : Type 0} (h : Host S) : Type 0 where
 
 -- so are all nodes, and what was sent rests on entries that became firm
 pub record Borne {S : Type 0} (w : World S) : Type 0 where
-  pub hosts : Each HostRests w.hosts
+  pub hosts : Each (HostRests w.view) w.hosts
   pub sent : SentFirm w
 
 -- a message leaves
-borne-posts : {S : Type 0} (w : World S) (s : Sent) → IsOwnSent s.origin s.to s.content → IsBorne w.hosts s.origin s.content → Borne w → Borne (posts w s)
+borne-posts : {S : Type 0} (w : World S) (s : Sent) → IsOwnSent w.view s.origin s.to s.content → IsBorne w.hosts s.origin s.content → Borne w → Borne (posts w s)
 borne-posts {S = S} w s own borne is =
     by-posts (λ (v : World S). Borne v) w s
     (λ ending. record { hosts = is.hosts; sent = record { own = is.sent.own; borne = is.sent.borne } })
     (λ free room. record {
       hosts = is.hosts;
       sent = record {
-        own = each_end (λ (t : Sent). IsOwnSent t.origin t.to t.content) w.sent s is.sent.own own;
+        own = each_end (λ (t : Sent). IsOwnSent w.view t.origin t.to t.content) w.sent s is.sent.own own;
         borne = each_end (λ (t : Sent). IsBorne w.hosts t.origin t.content) w.sent s is.sent.borne borne;
       };
     })
@@ -76,18 +85,22 @@ borne-posts {S = S} w s own borne is =
 borne-stays : {S : Type 0} (w : World S) (s : Sent) (o : Origin) (x : Content) → IsBorne w.hosts o x → IsBorne (posts w s).hosts o x
 borne-stays {S = S} w s o x borne = by-posts (λ (v : World S). IsBorne v.hosts o x) w s (λ ending. borne) (λ free room. borne)
 
+-- its view stays
+view-stays : {S : Type 0} (w : World S) (s : Sent) → (posts w s).view ≡ w.view
+view-stays {S = S} w s = by-posts (λ (v : World S). v.view ≡ w.view) w s (λ ending. refl) (λ free room. refl)
+
 -- what a node lets go is its own and borne
 abbrev LeavesRight : {S : Type 0} → ℕ → List (Host S) → Held → Type 0
 LeavesRight id hosts h = IsOwn id h.to h.message × IsBorne hosts (origins.Node id) (contents.Message h.message)
 
 -- messages of a node leave
-borne-sends_all : {S : Type 0} (id : ℕ) (w : World S) (held : List Held) → Each (LeavesRight id w.hosts) held → Borne w → Borne (sends_all id w held)
-borne-sends_all id w [] each is = is
-borne-sends_all {S = S} id w (h ∷ hs) each is =
-    let next : World S = posts w (from_node id h) in
-    borne-sends_all id next hs
-    (each-weaken (LeavesRight id w.hosts) (LeavesRight id next.hosts) (λ x right. (right.0, borne-stays w (from_node id h) (origins.Node id) (contents.Message x.message) right.1)) hs each.1)
-    (borne-posts w (from_node id h) each.0.0 each.0.1 is)
+borne-sends_all : {S : Type 0} (id : ℕ) (view : View) (w : World S) (held : List Held) → view ≡ w.view → Each (LeavesRight id w.hosts) held → Borne w → Borne (sends_all id view w held)
+borne-sends_all id view w [] same each is = is
+borne-sends_all {S = S} id view w (h ∷ hs) same each is =
+    let next : World S = posts w (from_node id view h) in
+    borne-sends_all id view next hs (same ∙ sym (view-stays w (from_node id view h)))
+    (each-weaken (LeavesRight id w.hosts) (LeavesRight id next.hosts) (λ x right. (right.0, borne-stays w (from_node id view h) (origins.Node id) (contents.Message x.message) right.1)) hs each.1)
+    (borne-posts w (from_node id view h) (record { target = h.to; addressed = ap (λ (v : View). heard_by v h.to) same; own = each.0.0 }) each.0.1 is)
 
 -- a host in another's place
 
@@ -127,9 +140,9 @@ borne-set hs i h h' at same more (origins.Node id) x borne =
     borne_set id x hs i h h' at (λ is. record { member = same ∙ is.member; rested = rested-more h.life.diary h'.life.diary (rests-more h.life.diary h'.life.diary more) x is.rested }) borne
 
 -- so it is in the world with that host
-borne-with : {S : Type 0} (w : World S) (i : ℕ) (h h' : Host S) → slice_get w.hosts i ≡ Some h → h'.node.id ≡ h.node.id → Longer h.life.diary h'.life.diary → HostRests h' → Borne w → Borne (with_host w i h')
+borne-with : {S : Type 0} (w : World S) (i : ℕ) (h h' : Host S) → slice_get w.hosts i ≡ Some h → h'.node.id ≡ h.node.id → Longer h.life.diary h'.life.diary → HostRests w.view h' → Borne w → Borne (with_host w i h')
 borne-with {S = S} w i h h' at same more rests is = record {
-  hosts = each_set HostRests w.hosts i h' is.hosts rests;
+  hosts = each_set (HostRests w.view) w.hosts i h' is.hosts rests;
   sent = record {
     own = is.sent.own;
     borne = each-weaken (λ (s : Sent). IsBorne w.hosts s.origin s.content) (λ (s : Sent). IsBorne (slice_set w.hosts i h') s.origin s.content)
@@ -145,22 +158,24 @@ later-onward {S = S} n a n' id entries firm low f =
     record { id = f.id ∙ id; front = record { rest = f.more; is = book }; more = omega (arith, firm, f.firm); low = omega (arith, low, f.firm, longer); rests = f.rests }
 
 -- a step makes a node later
-later-step : {S : Type 0} (m : Meaning S) (h : Host S) (event : NodeEvent) → h.up ≡ true → IsTold h event → HostRests h → Later h.node (step_of m h.node event).node
-later-step m h (Arrive bytes) up told is = later-onward h.node h.node _ refl refl (omega arith) is.low (onward-step m h.node (Arrive bytes) is.rests)
-later-step m h Tick up told is = later-onward h.node h.node _ refl refl (omega arith) is.low (onward-step m h.node Tick is.rests)
-later-step m h Deliver up told is = later-onward h.node h.node _ refl refl (omega arith) is.low (onward-step m h.node Deliver is.rests)
-later-step m h (Firm count) up told is =
+later-step : {S : Type 0} (m : Meaning S) (view : View) (h : Host S) (event : NodeEvent) → h.up ≡ true → IsTold h event → HostRests view h → Later h.node (step_of m h.node event).node
+later-step m view h (Arrive bytes) up told is = later-onward h.node h.node _ refl refl (omega arith) is.low (onward-step m h.node (Arrive bytes) is.rests)
+later-step m view h Tick up told is = later-onward h.node h.node _ refl refl (omega arith) is.low (onward-step m h.node Tick is.rests)
+later-step m view h Deliver up told is = later-onward h.node h.node _ refl refl (omega arith) is.low (onward-step m h.node Deliver is.rests)
+later-step m view h (Firm count) up told is =
     let grows = firm-grows h count told (is.stored up) in
     later-onward h.node (made_firm h.node count) _ refl refl grows.0 grows.1 (onward-step m h.node (Firm count) is.rests)
 
 -- a host whose node has stepped
-rests-after : {S : Type 0} (m : Meaning S) (h : Host S) (event : NodeEvent) → h.up ≡ true → Later h.node (step_of m h.node event).node → HostRests h → HostRests (host_after (course_of m) h (step_of m h.node event))
-rests-after {S = S} m h event up later is =
+rests-after : {S : Type 0} (m : Meaning S) (view : View) (h : Host S) (event : NodeEvent) → h.up ≡ true → Later h.node (step_of m h.node event).node → HostRests view h
+    → HostRests view (host_after (course_of m) h (step_of m h.node event))
+rests-after {S = S} m view h event up later is =
     let n' : Node S = (step_of m h.node event).node in
     record {
+      view_is = view-step m h.node event ∙ is.view_is;
       rests = rests-released n' later.rests;
       stored = λ up. fits-stepped m h event (is.stored up);
-      diary = λ up. ap (λ (es : List LogEntry). with_front h.life.diary n'.firm es) later.front.is
+      diary = λ up. ap (λ (es : List LogEntry). h.life.diary ++ from_to h.node.firm n'.firm es) later.front.is
           ∙ (lasts-stepped h.life.diary h.node.firm n'.firm h.node.entries later.front.rest (is.diary up) is.low later.more ∙ ap (λ (es : List LogEntry). take n'.firm es) (sym later.front.is));
       low = later.low;
     }
@@ -172,11 +187,11 @@ unfolding stepped
 borne-event {S = S} m w i h event up at told is =
     let o : Outcome S = step_of m h.node event in
     let h' : Host S = host_after (course_of m) h o in
-    let rests : HostRests h = each_get HostRests w.hosts i h is.hosts at in
-    let later : Later h.node o.node = later-step m h event up told rests in
-    let new : HostRests h' = rests-after m h event up later rests in
-    let b : Borne (with_host w i h') = borne-with w i h h' at later.id (longer-append h.life.diary (drop (length h.life.diary) (take o.node.firm o.node.entries))) new is in
-    borne-sends_all h.node.id _ (leaving o.node.firm o.node.held)
+    let rests : HostRests w.view h = each_get (HostRests w.view) w.hosts i h is.hosts at in
+    let later : Later h.node o.node = later-step m w.view h event up told rests in
+    let new : HostRests w.view h' = rests-after m w.view h event up later rests in
+    let b : Borne (with_host w i h') = borne-with w i h h' at later.id (longer-append h.life.diary (from_to h.node.firm o.node.firm o.node.entries)) new is in
+    borne-sends_all h.node.id (view_of o.node) _ (leaving o.node.firm o.node.held) new.view_is
     (each-weaken (λ (x : Held). IsOwn o.node.id x.to x.message × RestsOn (take o.node.firm o.node.entries) x.message)
     (LeavesRight h.node.id (slice_set w.hosts i h'))
     (λ x right. (
@@ -189,16 +204,16 @@ borne-event {S = S} m w i h event up at told is =
 -- the store of a host makes a call
 borne-called : {S : Type 0} (m : Meaning S) (w : World S) (i : ℕ) (h : Host S) → slice_get w.hosts i ≡ Some h → Borne w → Borne (called (course_of m) w i h)
 borne-called m w i h at is =
-    let rests = each_get HostRests w.hosts i h is.hosts at in
+    let rests = each_get (HostRests w.view) w.hosts i h is.hosts at in
     borne-with w i h (after_call (course_of m) h) at refl (record { more = []; split = sym (append-nil h.life.diary) })
-    (record { rests = rests.rests; stored = λ up. fits-called h.node h.store (rests.stored up); diary = rests.diary; low = rests.low }) is
+    (record { view_is = rests.view_is; rests = rests.rests; stored = λ up. fits-called h.node h.store (rests.stored up); diary = rests.diary; low = rests.low }) is
 
 -- a member crashes
 borne-crashed : {S : Type 0} (m : Meaning S) (w : World S) (i : ℕ) (h : Host S) (left : Images) → slice_get w.hosts i ≡ Some h → Borne w → Borne (with_host w i (host_crashed (course_of m) h left))
 borne-crashed m w i h left at is =
-    let rests = each_get HostRests w.hosts i h is.hosts at in
+    let rests = each_get (HostRests w.view) w.hosts i h is.hosts at in
     borne-with w i h (host_crashed (course_of m) h left) at refl (longer-append h.life.diary (drop (length h.life.diary) (take (length (restores left).entries) (book_left h))))
-    (record { rests = rests.rests; stored = λ up. absurd (apart up); diary = λ up. absurd (apart up); low = rests.low }) is
+    (record { view_is = rests.view_is; rests = rests.rests; stored = λ up. absurd (apart up); diary = λ up. absurd (apart up); low = rests.low }) is
   where
     apart : false ≡ true → ⊥
     apart same = cc
@@ -213,9 +228,9 @@ keeps-borne m =
       crash = λ w i h left up at may is. borne-crashed m w i h left at is;
       hear = λ w i c x a at has read is. record { hosts = is.hosts; sent = record { own = is.sent.own; borne = is.sent.borne } };
       ask = λ w i c op at free few brief is.
-          borne-posts (asked_by w i c op) (from_client c (ask_of c op)) (refl, refl) tt
+          borne-posts (asked_by w i c op) (from_client w.view c (ask_of c op)) (record { addressed = refl; own = refl }) tt
           (record { hosts = is.hosts; sent = record { own = is.sent.own; borne = is.sent.borne } });
-      again = λ w i c q at waits is. borne-posts w (from_client c (signed_by c q)) (refl, refl) tt is;
+      again = λ w i c q at waits is. borne-posts w (from_client w.view c (signed_by c q)) (record { addressed = refl; own = refl }) tt is;
       learn = λ w i j c d at other is. record { hosts = is.hosts; sent = record { own = is.sent.own; borne = is.sent.borne } };
       inject = λ w x read fine is. borne-posts w (from_script x) refl tt is;
       declare = λ w faulty rogue ending how is. record { hosts = is.hosts; sent = record { own = is.sent.own; borne = is.sent.borne } };
@@ -232,11 +247,12 @@ borne-resumed {S = S} m w i h down at r is =
     let right : HostRight w.sent m w.view w.chosen h = host-right m w i h at r in
     let n : Node S = node_resumed (course_of m) w h in
     let next : HostRight w.sent m w.view w.chosen (host_resumed h n) = resumed-right m w i h down.0 at r in
-    let by = named m group_secret h.node.id w.view 1024 (entries_in (entries_left h)) in
+    let by = named m group_secret h.node.id w.view period (entries_in (entries_left h)) in
     borne-with w i h (host_resumed h n) at by.name (record { more = []; split = sym (append-nil h.life.diary) })
     (record {
-      rests = subst (λ (es : List LogEntry). NodeRests (reopened m group_secret h.node.id w.view 1024 es)) (sym (resumes-diary m w i h at down.0 r))
-          (rests_reopened m group_secret h.node.id (stated w.sent) w.view 1024 h.life.diary right.diary.sound);
+      view_is = ap present next.sound.views;
+      rests = subst (λ (es : List LogEntry). NodeRests (reopened m (outset_of m w.view h.node.id) es)) (sym (resumes-diary m w i h at down.0 r))
+          (rests_reopened m group_secret h.node.id (stated w.sent) w.view period h.life.diary right.diary.sound);
       stored = next.stored;
       diary = next.lasts.up;
       low = next.lasts.low;
@@ -253,10 +269,10 @@ right-borne m brief =
 -- the worlds of a play
 
 -- hosts that have just opened rest
-hosts_rest : {S : Type 0} (m : Meaning S) (view : View) (ids : List ℕ) → Each HostRests (hosts_from m view ids)
+hosts_rest : {S : Type 0} (m : Meaning S) (view : View) (ids : List ℕ) → Each (HostRests view) (hosts_from m view ids)
 hosts_rest m view [] = tt
 hosts_rest m view (id ∷ ids) = (
-  record { rests = rests-opened m group_secret id view 1024; stored = λ up. fits-opened m group_secret id view 1024; diary = λ up. refl; low = omega arith },
+  record { view_is = refl; rests = rests-opened m group_secret id view period; stored = λ up. fits-opened m group_secret id view period; diary = λ up. refl; low = omega arith },
   hosts_rest m view ids,
 )
 
@@ -284,12 +300,31 @@ borne-host_takes {S = S} m i bytes w (Some h) at is =
 -- a node takes bytes
 borne-node_takes : {S : Type 0} (m : Meaning S) (i : ℕ) (bytes : List ℕ) (w : World S) → Borne w → Borne (node_takes (course_of m) i (Arrive bytes) w)
 unfolding node_takes
-borne-node_takes {S = S} m i bytes w is = either (λ (v : World S). Borne v) (is_some w.ending) w _ is (borne-host_takes m i bytes w (slice_get w.hosts i) refl is)
+borne-node_takes {S = S} m i bytes w is = either (λ (v : World S). Borne v) (is_halted w) w _ is (borne-host_takes m i bytes w (slice_get w.hosts i) refl is)
 
 -- and settles
 borne-gives : {S : Type 0} (m : Meaning S) (bytes : List ℕ) (i : ℕ) (w : World S) → Borne w → Borne (gives (course_of m) bytes i w)
 unfolding gives
 borne-gives m bytes i w is = live-settle (course_of m) Borne (borne-live m) i (node_takes (course_of m) i (Arrive bytes) w) (borne-node_takes m i bytes w is)
+
+-- a client hears what bytes are read as
+borne-client_hears : {S : Type 0} (w : World S) (i : ℕ) (c : Client) (read : Option (SignedBy Answer)) → Borne w → Borne (client_hears w i c read)
+unfolding hearing
+borne-client_hears w i c None is = record { hosts = is.hosts; sent = record { own = is.sent.own; borne = is.sent.borne } }
+borne-client_hears w i c (Some a) is = record { hosts = is.hosts; sent = record { own = is.sent.own; borne = is.sent.borne } }
+
+borne-hears_bytes : {S : Type 0} (w : World S) (i : ℕ) (bytes : List ℕ) (found : Option Client) → Borne w → Borne (hears_bytes w i bytes found)
+borne-hears_bytes w i bytes None is = is
+borne-hears_bytes w i bytes (Some c) is = borne-client_hears w i c (reply_read (decoded bytes)) is
+
+borne-client_takes : {S : Type 0} (i : ℕ) (bytes : List ℕ) (w : World S) → Borne w → Borne (client_takes i bytes w)
+unfolding client_takes
+borne-client_takes {S = S} i bytes w is = either (λ (v : World S). Borne v) (is_halted w) w _ is (borne-hears_bytes w i bytes (slice_get w.clients i) is)
+
+-- bytes reach an addressee
+borne-reaches : {S : Type 0} (m : Meaning S) (members bytes : List ℕ) (to : Party) (w : World S) → Borne w → Borne (reaches (course_of m) members bytes to w)
+borne-reaches m members bytes (parties.Member id) w is = give_one-keeps (course_of m) Borne members bytes (borne-gives m bytes) id w is
+borne-reaches m members bytes (parties.Client id) w is = borne-client_takes id bytes w is
 
 -- a node goes on for some turns
 borne-turns : {S : Type 0} (m : Meaning S) (i k : ℕ) (w : World S) → Borne w → Borne (repeated (settle_once (course_of m) i) k w)
@@ -308,13 +343,13 @@ borne-flow {S = S} m brief view is ls members turn =
     let w : World S = world_after (course_of m) (begun m view) ls in
     repeated_keeps Borne (flow_once (course_of m) members) (live-flow_once (course_of m) Borne (borne-live m) members) turn (settle_all (course_of m) members w) (live-settle_all (course_of m) Borne (borne-live m) members w (borne-after m brief view ls is))
 
--- as bytes are given in it, and a node takes it and goes on
-pub firm-given : {S : Type 0} (m : Meaning S) → IsBrief m → (view : View) → is_view view ≡ true → (ls : List Line) (members : List ℕ) (turn : ℕ) (bytes : List ℕ) (nodes i k : ℕ)
-    → SentFirm (node_goes m bytes i k (message_goes m members bytes nodes (flow_goes m view ls members turn)))
-firm-given {S = S} m brief view viewed ls members turn bytes nodes i k =
+-- as bytes go to some parties in it, and a node takes them and goes on
+pub firm-given : {S : Type 0} (m : Meaning S) → IsBrief m → (view : View) → is_view view ≡ true → (ls : List Line) (members : List ℕ) (turn : ℕ) (bytes : List ℕ) (tos : List Party) (i k : ℕ)
+    → SentFirm (node_goes m bytes i k (message_goes m members bytes tos (flow_goes m view ls members turn)))
+firm-given {S = S} m brief view viewed ls members turn bytes tos i k =
     let w : World S = flow_goes m view ls members turn in
     let is : Borne w = borne-flow m brief view viewed ls members turn in
-    let given : Borne (message_goes m members bytes nodes w) =
-    each_from_keeps Borne (at_listed members (gives (course_of m) bytes)) (at_listed-keeps Borne members (gives (course_of m) bytes) (borne-gives m bytes)) nodes 0 (record w { mark = w.mark + 1 })
+    let given : Borne (message_goes m members bytes tos w) =
+    goes-keeps (course_of m) Borne members bytes (borne-reaches m members bytes) (record w { mark = w.mark + 1 }) tos
     (record { hosts = is.hosts; sent = record { own = is.sent.own; borne = is.sent.borne } }) in
-    (borne-turns m i k (node_takes (course_of m) i (Arrive bytes) (message_goes m members bytes nodes w)) (borne-node_takes m i bytes (message_goes m members bytes nodes w) given)).sent
+    (borne-turns m i k (node_takes (course_of m) i (Arrive bytes) (message_goes m members bytes tos w)) (borne-node_takes m i bytes (message_goes m members bytes tos w) given)).sent

@@ -1,28 +1,32 @@
 -- The list of chosen batches: each is certified, and every host stands along it.
-use Rattle.std.proofs.Common.{◌≡◌, ◌⊎◌, inl, inr, ℕ, zero, suc, ◌+◌, ◌-◌, ◌^◌, ◌≤◌, ◌++◌, ◌==◌, true, false, List, [], ◌∷◌, length, refl, ◌∙◌, sym, arith, Option, Some, None, subst, take, length-append, eqb-true, eq-eqb, append-nil, ap}
-use Rattle.std.specs.Prelude.{map, slice_get, IfSome}
+use Rattle.std.proofs.Common.{◌≡◌, ℕ, zero, suc, ◌+◌, ◌-◌, ◌^◌, ◌≤◌, ◌++◌, ◌==◌, true, false, List, [], ◌∷◌, length, ◌∙◌, sym, arith, Option, Some, None, subst, take, length-append, eqb-true, eq-eqb, ap, inl, refl, nat_lt, ◌<◌, append_assoc}
+use Rattle.std.proofs.lemmas.List.{length-take-le}
+use Rattle.std.proofs.Math.Seq.{take-append_seam}
+use Rattle.std.specs.List.{cons_option}
+use Rattle.std.specs.Prelude.{map, slice_get}
 use Rattle.smart_base.specs.Lists.{Each}
 use Rattle.smart_base.specs.Views.{View, is_view}
 use Rattle.smart_statements.specs.Batches.{Batch}
 use Rattle.smart_service.specs.Services.{Meaning}
-use Rattle.vote_book.specs.declared.entry.Decision.{Decision}
 use Rattle.vote_book.specs.declared.entry.LogEntry.{LogEntry}
 use Rattle.vote_book.specs.declared.entry.LogEntry.TheVariants.{Opened, Wrote, Accepted, Promised, Synced, Decided, Installed, Marked}
-use Rattle.replica_rules.specs.Replicas.{state, executed_lines, batch_at}
+use Rattle.replica_rules.specs.Replicas.{empty, state, executed_lines, batch_at}
 use Rattle.smart_service.specs.declared.replica.Replica.{Replica}
 use Rattle.replica_rules.specs.Seals.{digest_of}
 use Rattle.node_rules.specs.declared.node.Delivery.{Delivery}
-use Rattle.node_rules.specs.Nodes.{Node, next_place, regency_of}
+use Rattle.node_rules.specs.Nodes.{Node, next_place}
 use Rattle.agreement_laws.specs.Fronts.{IsFront}
 use Rattle.agreement_laws.specs.Statements.{Statement}
-use Rattle.agreement_laws.specs.Certificates.{IsBacked, IsDecision}
 use Rattle.agreement_laws.specs.Law.{Witnessed}
-use Rattle.agreement_laws.proofs.Lists.{each_among, either, either_by, some_equal}
-use Rattle.agreement_laws.proofs.Regencies.{decided_once}
-use Rattle.node_laws.specs.Sound.{IsWithin, IsSound, HasDecided}
+use Rattle.agreement_laws.specs.Lists.{Certified}
+use Rattle.agreement_laws.proofs.Lists.{either, either_by}
+use Rattle.agreement_laws.proofs.OneList.{one_list, certified_more, certified_end, certified_get}
+use Rattle.node_laws.specs.Sound.{IsSound}
 use Rattle.node_laws.proofs.More.{sound_more}
 use Rattle.node_laws.specs.Restored.{IsSoundBook}
-use Rattle.node_laws.proofs.Restored.{book_sound, front_sound, front_decided, book_more, decided_append}
+use Rattle.node_laws.proofs.Restored.{book_sound, front_sound, front_decided, book_more, decided_here, decided_last, decided_none}
+use Rattle.node_laws.proofs.CertifiedBooks.{certified_book}
+use Rattle.node_laws.proofs.Reopened.{in_turn}
 use Rattle.world_rules.specs.Secrets.{group_secret}
 use Rattle.world_rules.specs.Premises.{is_among, too_many}
 use Rattle.world_rules.specs.Worlds.{Host, World, chosen_with}
@@ -31,35 +35,33 @@ use Rattle.node_rules.specs.Deliveries.{AtPlaces}
 use Rattle.world_rules.specs.declared.message.Sent.{Sent}
 use Rattle.node_rules.specs.Reopening.{decided_of}
 use Rattle.replica_laws.specs.Books.{DeliversInOrder}
+use Rattle.replica_laws.proofs.InOrder.{from_first}
 use Rattle.replica_laws.proofs.Follows.{DecidesNext, WasDue}
-use Rattle.world_rules.specs.Stated.{stated_in, stated, diary, Certified, AllCertified}
+use Rattle.world_rules.specs.Stated.{stated_in, stated, diary, AreDecided}
 use Rattle.world_laws.proofs.Stores.{Fits}
 use Rattle.world_laws.proofs.Lives.{Lasts}
 use Rattle.world_laws.proofs.Few.{FewHost, few-sent}
 use Rattle.world_laws.proofs.Fronts.{front-same, front-append, front-length, front-get, front-take, front-batch_at, batch_at-next}
-use Rattle.world_laws.proofs.Certified.{DecidesOnce, Exact, certified-front, all_certified_more, certified-end, certified-get}
-use Rattle.world_laws.proofs.Grounded.{EntryMet, NodeMet, Grounded}
+use Rattle.world_laws.proofs.NoClash.{IsMet}
+use Rattle.world_laws.proofs.Grounded.{EntryMet, Grounded, grounded-exact}
 use Rattle.world_laws.proofs.Witnessing.{HostStands, witnessing, AllShown, stated-end, stated-grows, among-all}
 use Rattle.world_laws.proofs.Unforged.{Unforged}
-use Rattle.vote_book.proofs.Reports.{get_last}
 use Rattle.smart_base.proofs.ViewFacts.{each-weaken}
 
--- a book from which a member may go on, which decides what is certified, and no more than the list has
+-- a book from which a member may go on, which decides no more than the list has
 pub record BookRight (sent : List Sent) (view : View) (chosen : List Batch) (es : List LogEntry) : Type 0 where
   pub sound : IsSoundBook group_secret (stated sent) view es
-  pub decided : AllCertified (stated sent) view 1 (decided_of es)
-  pub within : length (decided_of es) ≤ length chosen
+  pub within : length (decided_of 0 es) ≤ length chosen
 
--- A host of the group whose node is sound and delivers in order, which decided what is certified, and no more than the list has, and delivered a batch for
--- each place, the list's. Where it runs its store fits its book; its diary and the book that it put aside are such from which it may go on.
+-- A host of the group whose node is sound and delivers in order, which decided no more than the list has, and delivered a batch for each place, the list's.
+-- Where it runs its store fits its book; its diary and the book that it put aside are such from which it may go on.
 pub record HostRight {S : Type 0} (sent : List Sent) (m : Meaning S) (view : View) (chosen : List Batch) (h : Host S) : Type 0 where
   pub sound : IsSound (stated sent) view h.node
   pub shared : h.node.secret ≡ group_secret
   pub stored : h.up ≡ true → Fits h.node h.store
   pub lasts : Lasts h
-  pub decided : AllCertified (stated sent) view 1 (decided_of h.node.entries)
-  pub order : DeliversInOrder m view h.node
-  pub within : length (decided_of h.node.entries) ≤ length chosen
+  pub order : DeliversInOrder m (empty m view) h.node
+  pub within : length (decided_of 0 h.node.entries) ≤ length chosen
   pub count : h.resumed + length h.delivered ≡ h.node.replica.place
   pub places : AtPlaces (h.resumed + 1) h.delivered
   pub agrees : Each (IsChosenAt m view chosen) h.delivered
@@ -73,7 +75,7 @@ pub record WorldRight {S : Type 0} (m : Meaning S) (w : World S) : Type 0 where
   pub right : Each (HostRight w.sent m w.view w.chosen) w.hosts
   pub ids : map (λ h. h.node.id) w.hosts ≡ w.view.members
   pub viewed : is_view w.view ≡ true
-  pub certified : AllCertified (stated w.sent) w.view 1 w.chosen
+  pub certified : AreDecided (stated w.sent) w.view w.chosen
   pub few : too_many w.view w.faulty ≡ false
   pub shown : AllShown w.faulty (stated w.sent) w.hosts
   pub short : length w.sent ≤ 2 ^ 24
@@ -95,14 +97,14 @@ chosen-front chosen place (Some batch) =
     (front-append chosen chosen (batch ∷ []) (front-same chosen)) (front-same chosen)
 
 -- a node that steps has decided no more than the list that it extends has
-pub within-step : {S : Type 0} (m : Meaning S) (view : View) (chosen : List Batch) (n n' : Node S) (waiting : Option Batch) → n'.waiting ≡ waiting → DecidesNext n n' → DeliversInOrder m view n'
-    → length (decided_of n.entries) ≤ length chosen → length (decided_of n'.entries) ≤ length (chosen_with chosen (next_place n') waiting)
+pub within-step : {S : Type 0} (m : Meaning S) (view : View) (chosen : List Batch) (n n' : Node S) (waiting : Option Batch) → n'.waiting ≡ waiting → DecidesNext 0 n n' → DeliversInOrder m (empty m view) n'
+    → length (decided_of 0 n.entries) ≤ length chosen → length (decided_of 0 n'.entries) ≤ length (chosen_with chosen (next_place n') waiting)
 within-step m view chosen n n' None at next d le = omega (arith, next.rest at, le)
 within-step m view chosen n n' (Some batch) at next d le =
-    let full : length (decided_of n'.entries) ≡ n'.replica.place + 1 = rw at at d.count in
-    either_by (λ (c : List Batch). length (decided_of n'.entries) ≤ length c) (next_place n' == length chosen + 1) (chosen ++ batch ∷ []) chosen
+    let full : length (decided_of 0 n'.entries) ≡ n'.replica.place + 1 = rw at at (from_first m view n' d).count in
+    either_by (λ (c : List Batch). length (decided_of 0 n'.entries) ≤ length c) (next_place n' == length chosen + 1) (chosen ++ batch ∷ []) chosen
     (λ is. omega (arith, full, eqb-true (next_place n') (length chosen + 1) is, length-append chosen (batch ∷ [])))
-    (λ isnt. less (length (decided_of n'.entries)) (length chosen) (omega (arith, next.most, le)) (λ e. differ (next_place n') (length chosen + 1) isnt (sym full ∙ e)))
+    (λ isnt. less (length (decided_of 0 n'.entries)) (length chosen) (omega (arith, next.most, le)) (λ e. differ (next_place n') (length chosen + 1) isnt (sym full ∙ e)))
   where
     differ : (a b : ℕ) → (a == b) ≡ false → a ≡ b → ⊥
     differ a b isnt e = let is = eq-eqb a b e in absurd (cc)
@@ -110,76 +112,25 @@ within-step m view chosen n n' (Some batch) at next d le =
     less : (a b : ℕ) → a ≤ b + 1 → (a ≡ b + 1 → ⊥) → a ≤ b
     less a b most not_next = omega (arith, most, not_next)
 
--- the batch that waits is certified at the next place
-pub certified-step : {S : Type 0} (T : List Statement) (m : Meaning S) (view : View) (chosen : List Batch) (n : Node S) (waiting : Option Batch) → n.waiting ≡ waiting → DeliversInOrder m view n
-    → AllCertified T view 1 (decided_of n.entries) → AllCertified T view 1 chosen → AllCertified T view 1 (chosen_with chosen (next_place n) waiting)
+-- what stands at an index stands within the list
+get_low : (list : List Batch) (k : ℕ) (batch : Batch) → slice_get list k ≡ Some batch → k ≤ length list
+get_low [] k batch at = absurd (cc)
+get_low (b ∷ bs) zero batch at = omega arith
+get_low (b ∷ bs) (suc k) batch at = omega (arith, get_low bs k batch at)
+
+-- the list with the batch that waits is decided
+pub certified-step : {S : Type 0} (T : List Statement) (m : Meaning S) (view : View) (chosen : List Batch) (n : Node S) (waiting : Option Batch) → n.waiting ≡ waiting → DeliversInOrder m (empty m view) n
+    → AreDecided T view (decided_of 0 n.entries) → AreDecided T view chosen → AreDecided T view (chosen_with chosen (next_place n) waiting)
 certified-step T m view chosen n None at d own all = all
 certified-step T m view chosen n (Some batch) at d own all =
-    let c : Certified T view (next_place n) (digest_of batch) = certified-get T view 1 (decided_of n.entries) n.replica.place batch own (sym d.waiting ∙ at) in
-    either_by (λ (bs : List Batch). AllCertified T view 1 bs) (next_place n == length chosen + 1) (chosen ++ batch ∷ []) chosen
-    (λ is. certified-end T view 1 chosen batch all (subst (λ (k : ℕ). Certified T view k (digest_of batch)) (eqb-true (next_place n) (length chosen + 1) is) c))
+    let ds : List Batch = decided_of 0 n.entries in
+    let there : slice_get ds n.replica.place ≡ Some batch = sym (from_first m view n d).waiting ∙ at in
+    let long : length (take n.replica.place ds) ≡ n.replica.place = length-take-le n.replica.place ds (get_low ds n.replica.place batch there) in
+    let c : Certified group_secret T view (length (take n.replica.place ds) + 1) (digest_of batch) = certified_get group_secret digest_of (λ front. view) T [] ds n.replica.place batch own there in
+    either_by (λ (bs : List Batch). AreDecided T view bs) (next_place n == length chosen + 1) (chosen ++ batch ∷ []) chosen
+    (λ is. certified_end group_secret digest_of (λ front. view) T [] chosen batch all
+    (subst (λ (k : ℕ). Certified group_secret T view k (digest_of batch)) (ap (λ (k : ℕ). k + 1) long ∙ eqb-true (next_place n) (length chosen + 1) is) c))
     (λ isnt. all)
-
--- what a node decides is certified
-
--- a decision in a sound node's book
-entry-certified : {S : Type 0} (T : List Statement) (view : View) (n : Node S) (place : ℕ) (batch : Batch) → n.secret ≡ group_secret → IsSound T view n → HasDecided n.entries place batch
-    → Certified T view place (digest_of batch)
-entry-certified {S = S} T view n place batch shared is has =
-    let d : Decision = has.decision in
-    let of = (each_among (IsWithin view (next_place n) (regency_of n)) n.entries (Decided d) is.within has.there).of_view in
-    let drawn = each_among (IsBacked n.secret digest_of view T) n.entries (Decided d) is.backed has.there of in
-    record {
-      regency = d.slot.regency;
-      accepts = d.accepts;
-      decision = subst (λ (k : List ℕ). IsDecision k view T place d.slot.regency (digest_of batch) d.accepts) shared
-          (subst (λ (b : Batch). IsDecision n.secret view T place d.slot.regency (digest_of b) d.accepts) has.batch_is
-          (subst (λ (k : ℕ). IsDecision n.secret view T k d.slot.regency (digest_of d.batch) d.accepts) has.place_is drawn));
-    }
-
--- what waits at one
-waits-certified : {S : Type 0} (T : List Statement) (view : View) (n : Node S) (batch : Batch) → n.secret ≡ group_secret → IsSound T view n → n.waiting ≡ Some batch → Certified T view (next_place n) (digest_of batch)
-waits-certified {S = S} T view n batch shared is at = entry-certified T view n (next_place n) batch shared is (by n.waiting at is.waiting)
-  where
-    by : (waiting : Option Batch) → waiting ≡ Some batch → IfSome waiting (HasDecided n.entries (next_place n)) → HasDecided n.entries (next_place n) batch
-    by None at has = absurd (cc)
-    by (Some b) at has = subst (λ (x : Batch). HasDecided n.entries (next_place n) x) (some_equal b batch at) has
-
--- nothing, or one value
-one_or_none : (bs : List Batch) → length bs ≤ 1 → (bs ≡ []) ⊎ ((b : Batch) × (bs ≡ b ∷ []))
-one_or_none [] le = inl refl
-one_or_none (b ∷ []) le = inr (b, refl)
-one_or_none (b ∷ c ∷ bs) le = absurd (omega (arith, le))
-
--- the one more that a node has decided waits there
-pub decided-step : {S : Type 0} (T : List Statement) (m : Meaning S) (view : View) (n n' : Node S) → n'.secret ≡ group_secret → IsSound T view n' → IsFront n.entries n'.entries → DecidesNext n n' → DeliversInOrder m view n'
-    → AllCertified T view 1 (decided_of n.entries) → AllCertified T view 1 (decided_of n'.entries)
-decided-step {S = S} T m view n n' shared is book next order all =
-    let more : List Batch = decided_of book.rest in
-    let whole : decided_of n'.entries ≡ decided_of n.entries ++ more = ap decided_of book.is ∙ decided_append n.entries book.rest in
-    let long : length (decided_of n'.entries) ≡ length (decided_of n.entries) + length more = ap (λ (bs : List Batch). length bs) whole ∙ length-append (decided_of n.entries) more in
-    subst (λ (bs : List Batch). AllCertified T view 1 bs) (sym whole) (by more whole long n'.waiting refl (one_or_none more (omega (arith, next.most, long))))
-  where
-    nothing : (more : List Batch) → more ≡ [] → AllCertified T view 1 (decided_of n.entries ++ more)
-    nothing more none = subst (λ (bs : List Batch). AllCertified T view 1 (decided_of n.entries ++ bs)) (sym none) (subst (λ (bs : List Batch). AllCertified T view 1 bs) (sym (append-nil (decided_of n.entries))) all)
-
-    by : (more : List Batch) → decided_of n'.entries ≡ decided_of n.entries ++ more → length (decided_of n'.entries) ≡ length (decided_of n.entries) + length more → (waiting : Option Batch) → n'.waiting ≡ waiting
-        → (more ≡ []) ⊎ ((b : Batch) × (more ≡ b ∷ [])) → AllCertified T view 1 (decided_of n.entries ++ more)
-    by more whole long waiting at (inl none) = nothing more none
-    by more whole long None at (inr one) = let longer = ap (λ (bs : List Batch). length bs) one.1 in absurd (omega (arith, next.rest at, long, longer))
-    by more whole long (Some batch) at (inr one) =
-        let full : length (decided_of n'.entries) ≡ n'.replica.place + 1 = rw at at order.count in
-        let longer = ap (λ (bs : List Batch). length bs) one.1 in
-        let place : length (decided_of n.entries) ≡ n'.replica.place = omega (arith, full, long, longer) in
-        let last : slice_get (decided_of n'.entries) n'.replica.place ≡ Some one.0 =
-        ap (λ (bs : List Batch). slice_get bs n'.replica.place) (whole ∙ ap (λ (bs : List Batch). decided_of n.entries ++ bs) one.1)
-        ∙ (ap (λ (k : ℕ). slice_get (decided_of n.entries ++ one.0 ∷ []) k) (sym place) ∙ get_last (decided_of n.entries) one.0) in
-        let same : batch ≡ one.0 = some_equal batch one.0 (sym at ∙ (order.waiting ∙ last)) in
-        let c : Certified T view (next_place n') (digest_of batch) = waits-certified T view n' batch shared is at in
-        let here : Certified T view (length (decided_of n.entries) + 1) (digest_of one.0) =
-        subst (λ (b : Batch). Certified T view (length (decided_of n.entries) + 1) (digest_of b)) same
-        (subst (λ (k : ℕ). Certified T view (k + 1) (digest_of batch)) (sym place) c) in
-        subst (λ (bs : List Batch). AllCertified T view 1 (decided_of n.entries ++ bs)) (sym one.1) (certified-end T view 1 (decided_of n.entries) one.0 all here)
 
 -- what has been stated in a right world
 
@@ -190,56 +141,50 @@ right-witnessed {S = S} m w r =
     (each-weaken (HostRight w.sent m w.view w.chosen) (HostStands (stated w.sent) w.view) (λ h right. record { lawful = right.diary.sound.lawful; backed = right.diary.sound.backed }) w.hosts r.right)
     r.ids r.shown
 
--- so a place has one decision
-pub right-once : {S : Type 0} (m : Meaning S) (w : World S) → WorldRight m w → DecidesOnce (stated w.sent) w.view
-right-once m w r = record {
-  one = λ place regency later first second left right one other.
-      decided_once group_secret digest_of w.view (is_among w.faulty) (diary w) (stated w.sent) (right-witnessed m w r) place regency later first second left right one other;
-}
-
 -- the batches that a book has decided were met
-pub decided-met : (M : Batch → Type 0) (es : List LogEntry) → Each (EntryMet M) es → Each M (decided_of es)
+pub decided-met : (M : Batch → Type 0) (es : List LogEntry) → Each (EntryMet M) es → Each M (decided_of 0 es)
 decided-met M [] each = tt
 decided-met M (Opened o ∷ es) each = decided-met M es each.1
 decided-met M (Wrote w ∷ es) each = decided-met M es each.1
 decided-met M (Accepted a ∷ es) each = decided-met M es each.1
 decided-met M (Promised p ∷ es) each = decided-met M es each.1
 decided-met M (Synced s ∷ es) each = decided-met M es each.1
-decided-met M (Decided d ∷ es) each = (each.0, decided-met M es each.1)
+decided-met M (Decided d ∷ es) each =
+    let rest = decided-met M es each.1 in
+    either (λ (o : Option Batch). Each M (cons_option o (decided_of 0 es))) (nat_lt 0 d.slot.place) (Some d.batch) None (each.0, rest) rest
 decided-met M (Installed i ∷ es) each = decided-met M es each.1
 decided-met M (Marked m ∷ es) each = decided-met M es each.1
 
--- what a host has decided is a front of the list
-pub host-front : {S : Type 0} (m : Meaning S) (M : Batch → Type 0) (view : View) (sent : List Sent) (chosen : List Batch) (h : Host S) → Exact M → Each M chosen → NodeMet M h.node
-    → DecidesOnce (stated sent) view → AllCertified (stated sent) view 1 chosen → HostRight sent m view chosen h → take (length (decided_of h.node.entries)) chosen ≡ decided_of h.node.entries
-host-front m M view sent chosen h exact all met one certified right =
-    certified-front (stated sent) M view 1 (decided_of h.node.entries) chosen one exact (decided-met M h.node.entries met.entries) all right.decided certified right.within
+-- what a book decides is a front of the list
+pub book-front : {S : Type 0} (m : Meaning S) (w : World S) (es : List LogEntry) → ChosenRight m w → Each (EntryMet (IsMet w.sent)) es → BookRight w.sent w.view w.chosen es
+    → take (length (decided_of 0 es)) w.chosen ≡ decided_of 0 es
+book-front {S = S} m w es r met right =
+    let ds : List Batch = decided_of 0 es in
+    let front : IsFront ds w.chosen =
+    one_list group_secret digest_of (λ f. w.view) (is_among w.faulty) (diary w) (stated w.sent) ds w.chosen (λ f left right. right-witnessed m w r.1)
+    (grounded-exact w ds r.0.0 (decided-met (IsMet w.sent) es met)) (certified_book m group_secret (stated w.sent) w.view es right.sound) r.1.certified right.within in
+    ap (λ (bs : List Batch). take (length ds) bs) front.is ∙ take-append_seam ds front.rest
 
 -- the batch that waits at a host is the list's at the next place
-pub waiting-at : {S : Type 0} (m : Meaning S) (view : View) (chosen : List Batch) (n : Node S) (batch : Batch) → DeliversInOrder m view n → take (length (decided_of n.entries)) chosen ≡ decided_of n.entries
+pub waiting-at : {S : Type 0} (m : Meaning S) (view : View) (chosen : List Batch) (n : Node S) (batch : Batch) → DeliversInOrder m (empty m view) n → take (length (decided_of 0 n.entries)) chosen ≡ decided_of 0 n.entries
     → n.waiting ≡ Some batch → batch_at chosen (next_place n) ≡ Some batch
 waiting-at m view chosen n batch d front at =
-    batch_at-next chosen n.replica.place ∙ front-get (decided_of n.entries) chosen n.replica.place batch front (sym d.waiting ∙ at)
+    batch_at-next chosen n.replica.place ∙ front-get (decided_of 0 n.entries) chosen n.replica.place batch front (sym (from_first m view n d).waiting ∙ at)
 
--- what stands at an index or a place, stands within the list
-get_low : (list : List Batch) (k : ℕ) (batch : Batch) → slice_get list k ≡ Some batch → k ≤ length list
-get_low [] k batch at = absurd (cc)
-get_low (b ∷ bs) zero batch at = omega arith
-get_low (b ∷ bs) (suc k) batch at = omega (arith, get_low bs k batch at)
-
+-- what stands at a place stands within the list
 place_low : (list : List Batch) (place : ℕ) (batch : Batch) → batch_at list place ≡ Some batch → place - 1 ≤ length list
 place_low list zero batch at = absurd (cc)
 place_low list (suc k) batch at = omega (arith, get_low list k batch at)
 
 -- so is a batch that it delivers, with the number of its requests that are executed there
-pub due-agrees : {S : Type 0} (m : Meaning S) (view : View) (chosen : List Batch) (n : Node S) (d : Delivery) → DeliversInOrder m view n → take (length (decided_of n.entries)) chosen ≡ decided_of n.entries
+pub due-agrees : {S : Type 0} (m : Meaning S) (view : View) (chosen : List Batch) (n : Node S) (d : Delivery) → DeliversInOrder m (empty m view) n → take (length (decided_of 0 n.entries)) chosen ≡ decided_of 0 n.entries
     → WasDue m n d → IsChosenAt m view chosen d
 due-agrees {S = S} m view chosen n d order front was =
-    let ds : List Batch = decided_of n.entries in
+    let ds : List Batch = decided_of 0 n.entries in
     let before : n.replica.place ≡ d.place - 1 = omega (arith, was.place) in
-    let low : n.replica.place ≤ length ds = get_low ds n.replica.place d.batch (sym order.waiting ∙ was.batch) in
+    let low : n.replica.place ≤ length ds = get_low ds n.replica.place d.batch (sym (from_first m view n order).waiting ∙ was.batch) in
     let same : n.replica ≡ state m view (take (d.place - 1) chosen) =
-    order.replica ∙ (ap (λ (bs : List Batch). state m view bs) (front-take ds chosen n.replica.place front low) ∙ ap (λ (k : ℕ). state m view (take k chosen)) before) in
+    (from_first m view n order).replica ∙ (ap (λ (bs : List Batch). state m view bs) (front-take ds chosen n.replica.place front low) ∙ ap (λ (k : ℕ). state m view (take k chosen)) before) in
     record {
       batch = subst (λ (k : ℕ). batch_at chosen k ≡ Some d.batch) (sym was.place) (waiting-at m view chosen n d.batch order front was.batch);
       executed = was.executed ∙ ap (λ (r : Replica S). length (executed_lines m r d.batch)) same;
@@ -257,7 +202,7 @@ chosen_longer m view chosen more front d is =
     }
 
 pub book_longer : (sent : List Sent) (view : View) (chosen more : List Batch) → take (length chosen) more ≡ chosen → (es : List LogEntry) → BookRight sent view chosen es → BookRight sent view more es
-book_longer sent view chosen more front es b = record { sound = b.sound; decided = b.decided; within = omega (arith, b.within, front-length chosen more front) }
+book_longer sent view chosen more front es b = record { sound = b.sound; within = omega (arith, b.within, front-length chosen more front) }
 
 pub host_longer : {S : Type 0} (sent : List Sent) (m : Meaning S) (view : View) (chosen more : List Batch) → take (length chosen) more ≡ chosen → (h : Host S) → HostRight sent m view chosen h
     → HostRight sent m view more h
@@ -267,7 +212,6 @@ host_longer sent m view chosen more front h r =
       shared = r.shared;
       stored = r.stored;
       lasts = r.lasts;
-      decided = r.decided;
       order = r.order;
       within = omega (arith, r.within, front-length chosen more front);
       count = r.count;
@@ -282,14 +226,14 @@ host_longer sent m view chosen more front h r =
 -- more is sent
 
 -- what is certified stays so
-pub certified_sent : (sent : List Sent) (s : Sent) (view : View) (place : ℕ) (batches : List Batch) → AllCertified (stated sent) view place batches → AllCertified (stated (sent ++ s ∷ [])) view place batches
-certified_sent sent s view place batches all =
-    subst (λ (xs : List Statement). AllCertified xs view place batches) (sym (stated-end sent s)) (all_certified_more (stated sent) (stated_in s.content) view place batches all)
+pub certified_sent : (sent : List Sent) (s : Sent) (view : View) (batches : List Batch) → AreDecided (stated sent) view batches → AreDecided (stated (sent ++ s ∷ [])) view batches
+certified_sent sent s view batches all =
+    subst (λ (xs : List Statement). AreDecided xs view batches) (sym (stated-end sent s))
+    (certified_more group_secret digest_of (λ front. view) (stated sent) (stated_in s.content) [] batches all)
 
 book_sent : (sent : List Sent) (s : Sent) (view : View) (chosen : List Batch) (es : List LogEntry) → BookRight sent view chosen es → BookRight (sent ++ s ∷ []) view chosen es
 book_sent sent s view chosen es b = record {
   sound = book_more (stated sent) (stated (sent ++ s ∷ [])) (among-all (stated sent) (stated (sent ++ s ∷ [])) (stated-grows sent s)) group_secret view es b.sound;
-  decided = certified_sent sent s view 1 (decided_of es) b.decided;
   within = b.within;
 }
 
@@ -301,7 +245,6 @@ host_sent sent s m view chosen h r =
       shared = r.shared;
       stored = r.stored;
       lasts = r.lasts;
-      decided = certified_sent sent s view 1 (decided_of h.node.entries) r.decided;
       order = r.order;
       within = r.within;
       count = r.count;
@@ -317,17 +260,12 @@ host_sent sent s m view chosen h r =
 
 pub front_right : (sent : List Sent) (view : View) (chosen : List Batch) (count : ℕ) (es : List LogEntry) → BookRight sent view chosen es → BookRight sent view chosen (take count es)
 front_right sent view chosen count es b =
-    let f : IsFront (decided_of (take count es)) (decided_of es) = front_decided es count in
-    let long : length (decided_of es) ≡ length (decided_of (take count es)) + length f.rest = ap (λ (bs : List Batch). length bs) f.is ∙ length-append (decided_of (take count es)) f.rest in
+    let f : IsFront (decided_of 0 (take count es)) (decided_of 0 es) = front_decided 0 es count in
+    let long : length (decided_of 0 es) ≡ length (decided_of 0 (take count es)) + length f.rest = ap (λ (bs : List Batch). length bs) f.is ∙ length-append (decided_of 0 (take count es)) f.rest in
     record {
       sound = front_sound group_secret (stated sent) view es count b.sound;
-      decided = certified_front (stated sent) view 1 (decided_of (take count es)) f.rest (subst (λ (bs : List Batch). AllCertified (stated sent) view 1 bs) f.is b.decided);
       within = omega (arith, b.within, long);
     }
-  where
-    certified_front : (T : List Statement) (view : View) (place : ℕ) (front rest : List Batch) → AllCertified T view place (front ++ rest) → AllCertified T view place front
-    certified_front T view place [] rest all = tt
-    certified_front T view place (b ∷ bs) rest all = (all.0, certified_front T view (suc place) bs rest all.1)
 
 -- nothing is one
 pub none_right : (sent : List Sent) (view : View) (chosen : List Batch) (es : List LogEntry) → BookRight sent view chosen es → BookRight sent view chosen []
@@ -337,6 +275,5 @@ none_right sent view chosen es b = front_right sent view chosen 0 es b
 pub own_right : {S : Type 0} (sent : List Sent) (m : Meaning S) (view : View) (chosen : List Batch) (h : Host S) → HostRight sent m view chosen h → BookRight sent view chosen h.node.entries
 own_right sent m view chosen h r = record {
   sound = subst (λ (k : List ℕ). IsSoundBook k (stated sent) view h.node.entries) r.shared (book_sound (stated sent) view h.node r.sound);
-  decided = r.decided;
   within = r.within;
 }

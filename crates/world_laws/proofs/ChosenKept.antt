@@ -4,6 +4,7 @@ use Rattle.durable_store.specs.Restored.{Images, restores}
 use Rattle.durable_store.specs.Standing.{MayLeave}
 use Rattle.node_laws.specs.Restored.{IsSoundBook}
 use Rattle.node_laws.proofs.Restored.{book_sound}
+use Rattle.node_laws.proofs.CertifiedBooks.{certified_book}
 use Rattle.world_laws.proofs.Few.{sources, may-have, few-step, few-after, begun-step, few-opened, few-book, few-decided}
 use Rattle.world_laws.proofs.Fitting.{FitHost}
 use Rattle.world_laws.proofs.Lives.{left-restored, Lasts, book_left, lasts-after, lasts-opened}
@@ -28,7 +29,7 @@ use Rattle.smart_service.specs.Services.{Meaning}
 use Rattle.vote_book.specs.Books.{Among}
 use Rattle.replica_rules.specs.Replicas.{state, batch_at}
 use Rattle.replica_rules.specs.Seals.{signed}
-use Rattle.node_rules.specs.Nodes.{Node, next_place}
+use Rattle.node_rules.specs.Nodes.{Node, next_place, view_of}
 use Rattle.node_rules.specs.Steps.{Outcome, made_firm, step_of, leaving, opened}
 use Rattle.node_rules.specs.declared.node.Held.{Held}
 use Rattle.agreement_laws.specs.Fronts.{IsFront}
@@ -39,10 +40,10 @@ use Rattle.smart_base.proofs.ViewFacts.{view-distinct, each-weaken}
 use Rattle.client_quorum.specs.Clients.{request_of}
 use Rattle.node_laws.specs.Sound.{IsHeld, IsSound}
 use Rattle.node_laws.proofs.Passes.{sound_step, sound_released, sound_opened}
-use Rattle.world_rules.specs.Secrets.{group_secret}
+use Rattle.world_rules.specs.Secrets.{group_secret, period}
 use Rattle.world_rules.specs.Clients.{heard}
 use Rattle.node_rules.specs.Deliveries.{delivery_in}
-use Rattle.world_rules.specs.Worlds.{Course, course_of, Host, World, posts, sends_all, chosen_with, host_after, stepped, hearing, hosts_from, begun, host_of_node, host_resumed, host_crashed}
+use Rattle.world_rules.specs.Worlds.{Course, course_of, Host, World, from_to, posts, sends_all, chosen_with, host_after, stepped, hearing, hosts_from, begun, host_of_node, host_resumed, host_crashed, outset_of}
 use Rattle.world_rules.specs.Plays.{world_after}
 use Rattle.world_rules.specs.Premises.{is_among, is_excused, is_forged, too_many}
 use Rattle.node_rules.specs.Deliveries.{AtPlaces}
@@ -55,24 +56,23 @@ use Rattle.world_rules.specs.declared.message.Content.TheVariants as contents
 use Rattle.world_rules.specs.declared.message.Sent.{Sent}
 use Rattle.node_rules.specs.Reopening.{decided_of, entries_in}
 use Rattle.replica_laws.specs.Books.{DeliversInOrder}
-use Rattle.replica_laws.proofs.InOrder.{in_order-step, in_order-released, in_order-opened}
+use Rattle.replica_laws.proofs.InOrder.{from_first, in_order-step, in_order-released, in_order-opened}
 use Rattle.replica_laws.proofs.Follows.{next-step, WasDue, due-step}
 use Rattle.replica_laws.proofs.Counted.{places-append, advances-step}
-use Rattle.world_rules.specs.Stated.{HasDiary, stated_in, stated, AllCertified, IsWitnessed}
+use Rattle.world_rules.specs.Stated.{HasDiary, stated_in, stated, IsWitnessed}
 use Rattle.world_laws.proofs.Lists.{each_set, each_get}
 use Rattle.world_laws.proofs.Keeps.{after_call, IsRead, called, ask_of, asked_by, by-posts, Keeps, keeps-world_after, ReadsSent, MayRead, may_read, signed_by, from_node, from_client, from_script, IsDown, KeepsAll, with_host, entries_left, node_resumed}
 use Rattle.replica_laws.proofs.FitNodes.{IsBrief}
 use Rattle.world_laws.proofs.NoClash.{IsMet}
-use Rattle.world_laws.proofs.Grounded.{NodeMet, Grounded, grounded-exact, grounded-reads, keeps-grounded, grounded-begun, HostMet, grounded-resumes}
+use Rattle.world_laws.proofs.Grounded.{NodeMet, Grounded, grounded-reads, keeps-grounded, grounded-begun, HostMet, grounded-resumes}
 use Rattle.world_laws.proofs.Unforged.{Unforged, keeps-unforged, fine_own}
 use Rattle.world_laws.proofs.Aligned.{Aligned, AllAligned}
 use Rattle.world_laws.proofs.Fronts.{front-take}
-use Rattle.world_laws.proofs.Certified.{Exact, DecidesOnce}
 use Rattle.world_laws.proofs.Stating.{IsSaid, message_says}
 use Rattle.replica_laws.proofs.Longer.{front_same, Longer, longer-step}
 use Rattle.world_laws.proofs.Stores.{Fits, IsTold, may-told, firm-grows, fits-stepped, fits-opened, firm-heard}
 use Rattle.world_laws.proofs.Witnessing.{stated_event, stated-grows, StatesShown, ShowsOwn, Firmer, firm_of, shown-faulty, shown-sent, shown-set, leave_shown}
-use Rattle.world_laws.proofs.Chosen.{chosen_longer, HostRight, WorldRight, Based, ChosenRight, chosen-front, within-step, certified-step, decided-step, right-witnessed, right-once, host-front, waiting-at, due-agrees, host_longer, certified_sent, host_sent, BookRight, front_right, book_longer, none_right}
+use Rattle.world_laws.proofs.Chosen.{chosen_longer, HostRight, WorldRight, Based, ChosenRight, chosen-front, within-step, certified-step, right-witnessed, book-front, waiting-at, due-agrees, host_longer, certified_sent, host_sent, BookRight, front_right, book_longer, none_right, own_right}
 use Rattle.node_rules.proofs.Rulewise.{ForEvent}
 
 -- messages leave
@@ -86,7 +86,7 @@ right-posts {S = S} m w s states r =
       right = each-weaken (HostRight w.sent m w.view w.chosen) (HostRight (w.sent ++ s ∷ []) m w.view w.chosen) (host_sent w.sent s m w.view w.chosen) w.hosts r.right;
       ids = r.ids;
       viewed = r.viewed;
-      certified = certified_sent w.sent s w.view 1 w.chosen r.certified;
+      certified = certified_sent w.sent s w.view w.chosen r.certified;
       few = r.few;
       shown = shown-sent w.faulty w.sent s w.hosts states r.shown;
       short = let below = ltb-true (length w.sent) (2 ^ 24) room in let longer = length-append w.sent (s ∷ []) in omega (arith, below, longer);
@@ -99,15 +99,15 @@ states-posts {S = S} w s c states =
     (λ free room. λ x there. ⊎_elim {C = Among x (stated (w.sent ++ s ∷ [])) ⊎ Each (ShowsOwn w.faulty x) w.hosts} (λ old. inl (stated-grows w.sent s x old)) (λ shows. inr shows) (states x there))
 
 -- messages of a node leave
-right-sends_all : {S : Type 0} (m : Meaning S) (id : ℕ) (w : World S) (held : List Held) → Each (λ h. StatesShown w.faulty (stated w.sent) w.hosts (contents.Message h.message)) held → WorldRight m w
-    → WorldRight m (sends_all id w held)
-right-sends_all m id w [] each r = r
-right-sends_all {S = S} m id w (h ∷ hs) each r =
-    let next : World S = posts w (from_node id h) in
-    right-sends_all m id next hs
+right-sends_all : {S : Type 0} (m : Meaning S) (id : ℕ) (view : View) (w : World S) (held : List Held) → Each (λ h. StatesShown w.faulty (stated w.sent) w.hosts (contents.Message h.message)) held → WorldRight m w
+    → WorldRight m (sends_all id view w held)
+right-sends_all m id view w [] each r = r
+right-sends_all {S = S} m id view w (h ∷ hs) each r =
+    let next : World S = posts w (from_node id view h) in
+    right-sends_all m id view next hs
     (each-weaken (λ (x : Held). StatesShown w.faulty (stated w.sent) w.hosts (contents.Message x.message)) (λ (x : Held). StatesShown next.faulty (stated next.sent) next.hosts (contents.Message x.message))
-    (λ x states. states-posts w (from_node id h) (contents.Message x.message) states) hs each.1)
-    (right-posts m w (from_node id h) each.0 r)
+    (λ x states. states-posts w (from_node id view h) (contents.Message x.message) states) hs each.1)
+    (right-posts m w (from_node id view h) each.0 r)
 
 -- a client is no member
 pub no_member : (i j : ℕ) → parties.Client i ≡ parties.Member j → ⊥
@@ -216,24 +216,22 @@ host-stepped {S = S} m w i h event up at may came firm r =
     let more : List Batch = chosen_with w.chosen (next_place n') n'.waiting in
     let front : take (length w.chosen) more ≡ w.chosen = chosen-front w.chosen (next_place n') n'.waiting in
     let hr : HostRight w.sent m w.view w.chosen h = each_get (HostRight w.sent m w.view w.chosen) w.hosts i h r.1.right at in
-    let own : take (length (decided_of h.node.entries)) w.chosen ≡ decided_of h.node.entries =
-    host-front m (IsMet w.sent) w.view w.sent w.chosen h (grounded-exact w g) g.chosen (host-met w i h at g) (right-once m w r.1) r.1.certified hr in
+    let own : take (length (decided_of 0 h.node.entries)) w.chosen ≡ decided_of 0 h.node.entries =
+    book-front m w h.node.entries r (host-met w i h at g).entries (own_right w.sent m w.view w.chosen h hr) in
     let s : IsSound (stated w.sent) w.view n' = sound_step m (stated w.sent) w.view h.node event r.1.viewed hr.sound (stated_event w h h.node.secret event hr.shared may) in
-    let d : DeliversInOrder m w.view n' = in_order-step m w.view h.node event hr.order in
+    let d : DeliversInOrder m (empty m w.view) n' = in_order-step m (empty m w.view) h.node event hr.order in
     let l : Later h.node n' = later-step m h event firm (hr.stored up) hr.lasts.low in
     let shared : n'.secret ≡ group_secret = l.shared ∙ hr.shared in
-    let decided : AllCertified (stated w.sent) w.view 1 (decided_of n'.entries) = decided-step (stated w.sent) m w.view h.node n' shared s l.book (next-step m h.node event) d hr.decided in
-    let within : length (decided_of n'.entries) ≤ length more = within-step m w.view w.chosen h.node n' n'.waiting refl (next-step m h.node event) d hr.within in
+    let within : length (decided_of 0 n'.entries) ≤ length more = within-step m w.view w.chosen h.node n' n'.waiting refl (next-step m 0 h.node event) d hr.within in
     let book : BookRight w.sent w.view more n'.entries =
-    record { sound = subst (λ (k : List ℕ). IsSoundBook k (stated w.sent) w.view n'.entries) shared (book_sound (stated w.sent) w.view n' s); decided = decided; within = within } in
+    record { sound = subst (λ (k : List ℕ). IsSoundBook k (stated w.sent) w.view n'.entries) shared (book_sound (stated w.sent) w.view n' s); within = within } in
     let lasts : Lasts (host_after (course_of m) h o) = lasts-after m h o up l.book l.firm l.low (heard-step m h event firm (hr.stored up) (hr.lasts.heard up)) hr.lasts in
     record {
       sound = sound_released (stated w.sent) w.view n' s;
       shared = shared;
       stored = λ up. fits-stepped m h event (hr.stored up);
       lasts = lasts;
-      decided = decided;
-      order = in_order-released m w.view n' d;
+      order = in_order-released m (empty m w.view) n' d;
       within = within;
       count = omega (arith, hr.count, (advances-step m h.node event).count, length-append h.delivered (flat_map delivery_in o.fired));
       places = places-append (h.resumed + 1) h.delivered (flat_map delivery_in o.fired) hr.places
@@ -275,7 +273,7 @@ right-event {S = S} m w i h event up at may came firm r =
     let l : Later h.node n' = later-step m h event firm (hr.stored up) hr.lasts.low in
     let s : IsSound (stated w.sent) w.view n' = sound_step m (stated w.sent) w.view h.node event r.1.viewed hr.sound (stated_event w h h.node.secret event hr.shared may) in
     let ids : map (λ g. g.node.id) (slice_set w.hosts i h') ≡ w.view.members = ids-set w.hosts i h h' at l.named ∙ r.1.ids in
-    right-sends_all m h.node.id _ (leaving n'.firm n'.held)
+    right-sends_all m h.node.id (view_of n') _ (leaving n'.firm n'.held)
     (leave_shown w.faulty (stated w.sent) (slice_set w.hosts i h') i h' n'.held (subst Distinct (sym ids) (view-distinct w.view r.1.viewed)) (set_get w.hosts i h h' at) (here.lasts.up up)
     (held_as (stated w.sent) h' n' (l.shared ∙ hr.shared) refl refl s.held))
     (record {
@@ -283,9 +281,10 @@ right-event {S = S} m w i h event up at may came firm r =
           (each-weaken (HostRight w.sent m w.view w.chosen) (HostRight w.sent m w.view more) (host_longer w.sent m w.view w.chosen more front) w.hosts r.1.right) here;
       ids = ids;
       viewed = r.1.viewed;
-      certified = certified-step (stated w.sent) m w.view w.chosen n' n'.waiting refl (in_order-step m w.view h.node event hr.order) here.decided r.1.certified;
+      certified = certified-step (stated w.sent) m w.view w.chosen n' n'.waiting refl (in_order-step m (empty m w.view) h.node event hr.order)
+          (certified_book m group_secret (stated w.sent) w.view n'.entries (own_right w.sent m w.view more h' here).sound) r.1.certified;
       few = r.1.few;
-      shown = shown-set w.faulty (stated w.sent) w.hosts i h h' at (grows-firm h h' (drop (length h.life.diary) (take n'.firm n'.entries)) l.named refl) r.1.shown;
+      shown = shown-set w.faulty (stated w.sent) w.hosts i h h' at (grows-firm h h' (from_to h.node.firm n'.firm n'.entries) l.named refl) r.1.shown;
       short = r.1.short;
     })
 
@@ -330,7 +329,7 @@ resumes-diary m w i h at down r = diary_held h down (host-fit m w i h at r) (hos
 pub diary-few : {S : Type 0} (m : Meaning S) (w : World S) (i : ℕ) (h : Host S) → slice_get w.hosts i ≡ Some h → ChosenRight m w → length h.life.diary < 2 ^ 28
 diary-few m w i h at r = let hr = host-right m w i h at r in few-book group_secret (stated w.sent) w.view w.sent h.life.diary hr.diary.sound hr.few.diary r.1.short
 
-pub diary-decides : {S : Type 0} (m : Meaning S) (w : World S) (i : ℕ) (h : Host S) → slice_get w.hosts i ≡ Some h → ChosenRight m w → length (decided_of h.life.diary) < 2 ^ 63
+pub diary-decides : {S : Type 0} (m : Meaning S) (w : World S) (i : ℕ) (h : Host S) → slice_get w.hosts i ≡ Some h → ChosenRight m w → length (decided_of 0 h.life.diary) < 2 ^ 63
 diary-decides m w i h at r = let few = diary-few m w i h at r in let less = few-decided h.life.diary in omega (arith, few, less)
 
 pub resumed-right : {S : Type 0} (m : Meaning S) (w : World S) (i : ℕ) (h : Host S) → h.up ≡ false → slice_get w.hosts i ≡ Some h → ChosenRight m w
@@ -340,7 +339,7 @@ resumed-right m w i h down at r = host-resumes w.sent m w.view w.chosen h (entri
 right-resumed : {S : Type 0} (m : Meaning S) (w : World S) (i : ℕ) (h : Host S) → h.up ≡ false → slice_get w.hosts i ≡ Some h → ChosenRight m w
     → WorldRight m (with_host w i (host_resumed h (node_resumed (course_of m) w h)))
 right-resumed m w i h down at r =
-    let by = named m group_secret h.node.id w.view 1024 (entries_in (entries_left h)) in
+    let by = named m group_secret h.node.id w.view period (entries_in (entries_left h)) in
     right-set m w i h (host_resumed h (node_resumed (course_of m) w h)) at (record { named = by.name; book = front_same (firm_of h) })
     (resumed-right m w i h down at r) r.1
 
@@ -392,10 +391,10 @@ chosen-keeps m brief =
       hear = λ w i c x a at has read r. (k.hear w i c x a at has read r.0, right-hear m w i c a (heard w.view c a) r.1);
       ask = λ w i c op at free few short r. (
         k.ask w i c op at free few short r.0,
-        right-posts m (asked_by w i c op) (from_client c (ask_of c op)) (ask_shows w (signed requests group_secret c.id (request_of c op)))
+        right-posts m (asked_by w i c op) (from_client w.view c (ask_of c op)) (ask_shows w (signed requests group_secret c.id (request_of c op)))
             (record { right = r.1.right; ids = r.1.ids; viewed = r.1.viewed; certified = r.1.certified; few = r.1.few; shown = r.1.shown; short = r.1.short }),
       );
-      again = λ w i c q at waits r. (k.again w i c q at waits r.0, right-posts m w (from_client c (signed_by c q)) (ask_shows w (signed requests group_secret c.id q)) r.1);
+      again = λ w i c q at waits r. (k.again w i c q at waits r.0, right-posts m w (from_client w.view c (signed_by c q)) (ask_shows w (signed requests group_secret c.id q)) r.1);
       learn = λ w i j c d at other r. (
         k.learn w i j c d at other r.0,
         record { right = r.1.right; ids = r.1.ids; viewed = r.1.viewed; certified = r.1.certified; few = r.1.few; shown = r.1.shown; short = r.1.short },
@@ -440,18 +439,17 @@ hosts_right : {S : Type 0} (m : Meaning S) (view : View) (members : List ℕ) �
 hosts_right m view [] = tt
 hosts_right m view (id ∷ ids) = (opened_right m view id, hosts_right m view ids)
   where
-    opened_right : {S : Type 0} (m : Meaning S) (view : View) (id : ℕ) → HostRight [] m view [] (host_of_node (opened m group_secret id view 1024))
+    opened_right : {S : Type 0} (m : Meaning S) (view : View) (id : ℕ) → HostRight [] m view [] (host_of_node (opened (outset_of m view id)))
     opened_right m view id =
-        let sound = sound_opened m group_secret id view 1024 in
+        let sound = sound_opened m group_secret id view period in
         let none : BookRight [] view [] [] =
-        none_right [] view [] (opened m group_secret id view 1024).entries (record { sound = book_sound [] view (opened m group_secret id view 1024) sound; decided = tt; within = omega arith }) in
+        none_right [] view [] (opened (outset_of m view id)).entries (record { sound = book_sound [] view (opened (outset_of m view id)) sound; within = omega arith }) in
         record {
           sound = sound;
           shared = refl;
-          stored = λ up. fits-opened m group_secret id view 1024;
-          lasts = lasts-opened m group_secret id view 1024;
-          decided = tt;
-          order = in_order-opened m group_secret id view 1024;
+          stored = λ up. fits-opened m group_secret id view period;
+          lasts = lasts-opened m group_secret id view period;
+          order = in_order-opened m (outset_of m view id);
           within = omega arith;
           count = refl;
           places = tt;
@@ -493,20 +491,20 @@ chosen-begun m view is = (
 -- hosts stand along the list
 
 -- a host's replica is the state of a front of the list, and the batch that waits is the list's next
-host-aligned : {S : Type 0} (m : Meaning S) (M : Batch → Type 0) (view : View) (sent : List Sent) (chosen : List Batch) → Exact M → Each M chosen → DecidesOnce (stated sent) view
-    → AllCertified (stated sent) view 1 chosen → (h : Host S) → NodeMet M h.node → HostRight sent m view chosen h → Aligned m view chosen h
-host-aligned {S = S} m M view sent chosen exact all one certified h met right =
-    let ds : List Batch = decided_of h.node.entries in
-    let own : take (length ds) chosen ≡ ds = host-front m M view sent chosen h exact all met one certified right in
+host-aligned : {S : Type 0} (m : Meaning S) (w : World S) → ChosenRight m w → (h : Host S) → NodeMet (IsMet w.sent) h.node → HostRight w.sent m w.view w.chosen h
+    → Aligned m w.view w.chosen h
+host-aligned {S = S} m w r h met right =
+    let ds : List Batch = decided_of 0 h.node.entries in
+    let own : take (length ds) w.chosen ≡ ds = book-front m w h.node.entries r met.entries (own_right w.sent m w.view w.chosen h right) in
     let place : h.node.replica.place ≤ length ds = delivered-within h.node right.order in
     record {
       within = omega (arith, place, right.within);
-      replica = right.order.replica ∙ ap (λ bs. state m view bs) (front-take ds chosen h.node.replica.place own place);
-      waiting = λ batch at. waiting-at m view chosen h.node batch right.order own at;
+      replica = (from_first m w.view h.node right.order).replica ∙ ap (λ bs. state m w.view bs) (front-take ds w.chosen h.node.replica.place own place);
+      waiting = λ batch at. waiting-at m w.view w.chosen h.node batch right.order own at;
     }
   where
-    delivered-within : (n : Node S) → DeliversInOrder m view n → n.replica.place ≤ length (decided_of n.entries)
-    delivered-within n d = subst (λ (k : ℕ). n.replica.place ≤ k) (sym d.count) (at_most (is_some n.waiting) n.replica.place)
+    delivered-within : (n : Node S) → DeliversInOrder m (empty m w.view) n → n.replica.place ≤ length (decided_of 0 n.entries)
+    delivered-within n d = subst (λ (k : ℕ). n.replica.place ≤ k) (sym (from_first m w.view n d).count) (at_most (is_some n.waiting) n.replica.place)
       where
         at_most : (b : Bool) (k : ℕ) → k ≤ cond b (k + 1) k
         at_most true k = omega arith
@@ -517,7 +515,7 @@ pub chosen-aligned : {S : Type 0} (m : Meaning S) (w : World S) → ChosenRight 
 chosen-aligned {S = S} m w r =
     record {
       hosts = each_both (HostMet (IsMet w.sent)) (HostRight w.sent m w.view w.chosen) (Aligned m w.view w.chosen)
-          (λ h met right. host-aligned m (IsMet w.sent) w.view w.sent w.chosen (grounded-exact w r.0.0) r.0.0.chosen (right-once m w r.1) r.1.certified h met.node right) w.hosts r.0.0.hosts r.1.right;
+          (λ h met right. host-aligned m w r h met.node right) w.hosts r.0.0.hosts r.1.right;
     }
 
 -- a batch that waits is the list's at its place

@@ -19,15 +19,16 @@ use Rattle.world_rules.specs.Crashes.{is_unclosed, still_aside}
 use Rattle.member_store.proofs.Groups.{group_fits}
 use Rattle.node_rules.specs.Nodes.{Node}
 use Rattle.node_rules.specs.Reopening.{decided_of, entries_in, reopened}
+use Rattle.node_rules.specs.Steps.{outset}
 use Rattle.node_laws.proofs.Reopened.{reopened_is, sound_reopened}
 use Rattle.node_laws.proofs.Undamaged.{read_again}
-use Rattle.world_rules.specs.Secrets.{group_secret}
-use Rattle.world_rules.specs.Worlds.{course_of, Host, host_crashed, host_resumed}
+use Rattle.world_rules.specs.Secrets.{group_secret, period}
+use Rattle.world_rules.specs.Worlds.{course_of, Host, written, host_crashed, host_resumed, outset_of}
 use Rattle.world_rules.specs.declared.message.Sent.{Sent}
-use Rattle.world_rules.specs.Stated.{stated, AllCertified}
+use Rattle.world_rules.specs.Stated.{stated}
 use Rattle.world_laws.proofs.Keeps.{entries_left, after_call}
 use Rattle.world_laws.proofs.Stores.{fits-called}
-use Rattle.world_laws.proofs.Lives.{texts, book_left, Lasts, Crashed, crashed, left-restored, held_book, lasts-called, lasts-crashed, Resumed, resumed, lasts-resumed, fits-resumed}
+use Rattle.world_laws.proofs.Lives.{texts, book_left, written_is, each_drop, Lasts, Crashed, crashed, left-restored, held_book, lasts-called, lasts-crashed, Resumed, resumed, lasts-resumed, fits-resumed}
 use Rattle.replica_laws.proofs.Resumed.{order_reopened}
 use Rattle.replica_laws.proofs.Sources.{from-reopened}
 use Rattle.world_laws.proofs.Few.{sources, few-called, few-crashed, begun-reopened, few-book}
@@ -51,17 +52,12 @@ waits_behind s book aside is = (
     front : List (List ℕ)
     front = is.kept.entries ++ running
 
-drop_each : (P : LogEntry → Type 0) (k : ℕ) (es : List LogEntry) → Each P es → Each P (drop k es)
-drop_each P zero es each = each
-drop_each P (suc k) [] each = tt
-drop_each P (suc k) (e ∷ es) each = drop_each P k es each.1
-
 -- so a group that begins has a spelling
 waiting_fits : (s : StoreState) (es : List LogEntry) (aside : List (List ℕ)) → Each FitsEntry es → length es < 2 ^ 28 → Holds s (texts es) aside → IsGroup s.waiting
 waiting_fits s es aside fit few is =
     let behind = waits_behind s (texts es) aside is in
     let k = behind.0 in
-    subst IsGroup (sym (behind.1 ∙ drop-map entry_text k es)) (group_fits (drop k es) (drop_each FitsEntry k es fit) (omega (arith, few, shorter k es)))
+    subst IsGroup (sym (behind.1 ∙ drop-map entry_text k es)) (group_fits (drop k es) (each_drop FitsEntry k es fit) (omega (arith, few, shorter k es)))
   where
     shorter : (k : ℕ) (xs : List LogEntry) → length (drop k xs) ≤ length xs
     shorter zero xs = omega arith
@@ -82,7 +78,6 @@ host-called sent m view chosen h up short fit r = record {
   shared = r.shared;
   stored = λ up. fits-called h.node h.store (r.stored up);
   lasts = lasts-called m h up (λ begins. waiting_fits h.store h.node.entries (texts h.life.aside) fit.node.book (own_few sent m view chosen h short r) (held_book h up r.lasts)) r.lasts;
-  decided = r.decided;
   order = r.order;
   within = r.within;
   count = r.count;
@@ -97,9 +92,11 @@ host-called sent m view chosen h up short fit r = record {
 -- ---- a crash
 
 -- the book of which the first entries are left
-left_right : {S : Type 0} (sent : List Sent) (m : Meaning S) (view : View) (chosen : List Batch) (h : Host S) → HostRight sent m view chosen h → BookRight sent view chosen (book_left h)
-left_right sent m view chosen h r =
-    either (λ (xs : List LogEntry). BookRight sent view chosen xs) (is_unclosed h.store.log.job) h.life.aside h.node.entries r.aside (own_right sent m view chosen h r)
+left_right : {S : Type 0} (sent : List Sent) (m : Meaning S) (view : View) (chosen : List Batch) (h : Host S) → h.up ≡ true → HostRight sent m view chosen h
+    → BookRight sent view chosen (book_left h)
+left_right sent m view chosen h up r =
+    either (λ (xs : List LogEntry). BookRight sent view chosen xs) (is_unclosed h.store.log.job) h.life.aside (written h) r.aside
+    (subst (λ (xs : List LogEntry). BookRight sent view chosen xs) (sym (written_is h up r.lasts)) (own_right sent m view chosen h r))
 
 pub host-crash : {S : Type 0} (sent : List Sent) (m : Meaning S) (view : View) (chosen : List Batch) (h : Host S) (left : Images) → h.up ≡ true → MayLeave h.store left → FitHost m h → HostRight sent m view chosen h
     → Crashed h left
@@ -109,13 +106,12 @@ pub host-crashes : {S : Type 0} (sent : List Sent) (m : Meaning S) (view : View)
     → HostRight sent m view chosen h → HostRight sent m view chosen (host_crashed (course_of m) h left)
 host-crashes sent m view chosen h left up may fit r =
     let c : Crashed h left = host-crash sent m view chosen h left up may fit r in
-    let book : BookRight sent view chosen (book_left h) = left_right sent m view chosen h r in
+    let book : BookRight sent view chosen (book_left h) = left_right sent m view chosen h up r in
     record {
       sound = r.sound;
       shared = r.shared;
       stored = λ up. absurd (apart up);
       lasts = lasts-crashed m h left up r.lasts c;
-      decided = r.decided;
       order = r.order;
       within = r.within;
       count = r.count;
@@ -124,7 +120,7 @@ host-crashes sent m view chosen h left up may fit r =
       earlier = r.earlier;
       diary = subst (λ (es : List LogEntry). BookRight sent view chosen es) (sym c.front) (front_right sent view chosen (length (restores left).entries) (book_left h) book);
       aside = aside_right sent view chosen (store_opened left) (book_left h) book;
-      few = few-crashed m sent h left (length (restores left).entries) c.front r.few;
+      few = few-crashed m sent h left (length (restores left).entries) (written_is h up r.lasts) c.front r.few;
     }
   where
     apart : false ≡ true → ⊥
@@ -136,33 +132,32 @@ host-crashes sent m view chosen h left up may fit r =
 pub record Named {S : Type 0} (secret : List ℕ) (id : ℕ) (es : List LogEntry) (n : Node S) : Type 0 where
   pub name : n.id ≡ id
   pub shared : n.secret ≡ secret
-  pub decides : decided_of n.entries ≡ decided_of es
+  pub decides : decided_of 0 n.entries ≡ decided_of 0 es
 
-pub named : {S : Type 0} (m : Meaning S) (secret : List ℕ) (id : ℕ) (view : View) (period : ℕ) (es : List LogEntry) → Named secret id es (reopened m secret id view period es)
+pub named : {S : Type 0} (m : Meaning S) (secret : List ℕ) (id : ℕ) (view : View) (period : ℕ) (es : List LogEntry) → Named secret id es (reopened m (outset m secret id view period) es)
 unfolding reopened
 named m secret id view period [] = record { name = refl; shared = refl; decides = refl }
 named {S = S} m secret id view period (e ∷ es) =
-    subst (λ (n : Node S). Named secret id (e ∷ es) n) (sym (reopened_is m secret id view period e es)) (record { name = refl; shared = refl; decides = refl })
+    subst (λ (n : Node S). Named secret id (e ∷ es) n) (sym (reopened_is m (outset m secret id view period) e es)) (record { name = refl; shared = refl; decides = refl })
 
 -- what the devices of a member that has crashed hold is its diary
 pub diary_held : {S : Type 0} {m : Meaning S} (h : Host S) → h.up ≡ false → FitHost m h → Lasts h → entries_in (entries_left h) ≡ h.life.diary
 diary_held h down fit is = ap entries_in (left-restored h (is.down down)) ∙ read_again h.life.diary (spelled-life h.life fit.life).diary
 
 host_goes_on : {S : Type 0} (sent : List Sent) (m : Meaning S) (view : View) (chosen : List Batch) (h : Host S) → h.up ≡ false → length sent ≤ 2 ^ 24 → HostRight sent m view chosen h
-    → HostRight sent m view chosen (host_resumed h (reopened m group_secret h.node.id view 1024 h.life.diary))
+    → HostRight sent m view chosen (host_resumed h (reopened m (outset_of m view h.node.id) h.life.diary))
 host_goes_on {S = S} sent m view chosen h down short r =
-    let n : Node S = reopened m group_secret h.node.id view 1024 h.life.diary in
-    let with : Resumed h.life.diary n = resumed m group_secret h.node.id view 1024 h.life.diary in
-    let by : Named group_secret h.node.id h.life.diary n = named m group_secret h.node.id view 1024 h.life.diary in
+    let n : Node S = reopened m (outset_of m view h.node.id) h.life.diary in
+    let with : Resumed h.life.diary n = resumed m group_secret h.node.id view period h.life.diary in
+    let by : Named group_secret h.node.id h.life.diary n = named m group_secret h.node.id view period h.life.diary in
     let few = few-book group_secret (stated sent) view sent h.life.diary r.diary.sound r.few.diary short in
     let within = r.diary.within in
     record {
-      sound = sound_reopened m group_secret h.node.id (stated sent) view 1024 h.life.diary r.diary.sound;
+      sound = sound_reopened m group_secret h.node.id (stated sent) view period h.life.diary r.diary.sound;
       shared = by.shared;
       stored = λ up. fits-resumed h n down (omega (arith, few)) with r.lasts;
       lasts = lasts-resumed h n down (omega (arith, few)) with r.lasts;
-      decided = subst (λ (bs : List Batch). AllCertified (stated sent) view 1 bs) (sym by.decides) r.diary.decided;
-      order = order_reopened m group_secret h.node.id view 1024 h.life.diary;
+      order = order_reopened m (outset_of m view h.node.id) h.life.diary;
       within = subst (λ (bs : List Batch). length bs ≤ length chosen) (sym by.decides) within;
       count = omega arith;
       places = tt;
@@ -171,14 +166,14 @@ host_goes_on {S = S} sent m view chosen h down short r =
       diary = r.diary;
       aside = r.aside;
       few = record {
-        node = from-reopened (sources sent) m group_secret h.node.id view 1024 h.life.diary r.few.diary;
-        begun = begun-reopened m group_secret h.node.id view 1024 h.life.diary;
+        node = from-reopened (sources sent) m group_secret h.node.id view period h.life.diary r.few.diary;
+        begun = begun-reopened m group_secret h.node.id view period h.life.diary;
         diary = r.few.diary;
         aside = r.few.aside;
       };
     }
 
 pub host-resumes : {S : Type 0} (sent : List Sent) (m : Meaning S) (view : View) (chosen : List Batch) (h : Host S) (es : List LogEntry) → h.up ≡ false → length sent ≤ 2 ^ 24 → es ≡ h.life.diary
-    → HostRight sent m view chosen h → HostRight sent m view chosen (host_resumed h (reopened m group_secret h.node.id view 1024 es))
+    → HostRight sent m view chosen h → HostRight sent m view chosen (host_resumed h (reopened m (outset_of m view h.node.id) es))
 host-resumes {S = S} sent m view chosen h es down short same r =
-    subst (λ (xs : List LogEntry). HostRight sent m view chosen (host_resumed h (reopened m group_secret h.node.id view 1024 xs))) (sym same) (host_goes_on sent m view chosen h down short r)
+    subst (λ (xs : List LogEntry). HostRight sent m view chosen (host_resumed h (reopened m (outset_of m view h.node.id) xs))) (sym same) (host_goes_on sent m view chosen h down short r)

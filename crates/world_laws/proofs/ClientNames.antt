@@ -1,5 +1,6 @@
 -- Clients keep their numbers.
 use Rattle.std.proofs.Common.{◌≡◌, ℕ, zero, suc, ◌+◌, List, [], ◌∷◌, refl, ap, ◌∙◌, sym, Some}
+use Rattle.node_rules.specs.Nodes.{view_of}
 use Rattle.std.specs.Prelude.{map, slice_get, slice_set}
 use Rattle.smart_base.specs.Views.{View}
 use Rattle.smart_statements.specs.Forms.{SignedBy}
@@ -36,7 +37,7 @@ clients-posts {S = S} w s = by-posts (λ (v : World S). v.clients ≡ w.clients)
 clients-stepped : {S : Type 0} (course : Course S) (w : World S) (i : ℕ) (h : Host S) (o : Outcome S) → (stepped course w i h o).clients ≡ w.clients
 unfolding stepped
 clients-stepped {S = S} course w i h o =
-    keeps-sends_all (λ (v : World S). v.clients ≡ w.clients) h.node.id (λ v held is. clients-posts v (from_node h.node.id held) ∙ is) _ (leaving o.node.firm o.node.held) refl
+    keeps-sends_all (λ (v : World S). v.clients ≡ w.clients) h.node.id (view_of o.node) (λ v held is. clients-posts v (from_node h.node.id (view_of o.node) held) ∙ is) _ (leaving o.node.firm o.node.held) refl
 
 -- who hears keeps its number
 number-heard : (c : Client) (a : SignedBy Answer) (h : Heard) → (after_heard c a h).id ≡ c.id
@@ -58,8 +59,8 @@ keeps-numbers course all =
         crash = λ w i h left up at may is. is;
         hear = λ w i c x a at has read is. numbers-hearing w i c a (heard w.view c a) at ∙ is;
         ask = λ w i c op at free few brief is.
-            ap numbers (clients-posts (asked_by w i c op) (from_client c (ask_of c op))) ∙ (numbers-set w.clients i c (asking c (request_of c op)) at refl ∙ is);
-        again = λ w i c q at waits is. ap numbers (clients-posts w (from_client c (signed_by c q))) ∙ is;
+            ap numbers (clients-posts (asked_by w i c op) (from_client w.view c (ask_of c op))) ∙ (numbers-set w.clients i c (asking c (request_of c op)) at refl ∙ is);
+        again = λ w i c q at waits is. ap numbers (clients-posts w (from_client w.view c (signed_by c q))) ∙ is;
         learn = λ w i j c d at other is. numbers-set w.clients i c (learning c d.seen) at refl ∙ is;
         inject = λ w x read fine is. ap numbers (clients-posts w (from_script x)) ∙ is;
         declare = λ w faulty rogue ending how is. is;

@@ -1,20 +1,16 @@
 -- The play of cores, which keep no more than they need, is the play of the nodes that keep all.
-use Rattle.std.proofs.Common.{◌≡◌, ℕ, zero, suc, ◌+◌, ◌^◌, ◌++◌, Bool, true, false, List, [], ◌∷◌, length, map, refl, ap, sym, ◌∙◌, cond, Option, Some, None, is_some, nat_lt, nat_le, ◌&&◌, ◌||◌, Result, Ok, Err, ◌==◌, ◌-◌, not}
+use Rattle.std.proofs.Common.{◌≡◌, ℕ, zero, suc, ◌+◌, ◌^◌, ◌++◌, Bool, true, false, List, [], ◌∷◌, length, map, refl, ap, sym, ◌∙◌, cond, Option, Some, None, is_some, nat_lt, nat_le, ◌&&◌, ◌||◌, ◌==◌, ◌-◌, not}
 use Rattle.std.specs.Prelude.{slice_get, slice_set, option_map}
 use Rattle.std.specs.List.{flat_map, list_all, position_or_len}
 use Rattle.smart_base.specs.Views.{View}
 use Rattle.smart_messages.specs.Messages.{decoded}
 use Rattle.smart_statements.specs.declared.statement.Request.{Request}
-use Rattle.smart_messages.specs.declared.message.Message.{Message}
-use Rattle.smart_messages.specs.declared.message.Message.TheVariants.{Ask, Propose, Vote, Reply}
 use Rattle.smart_statements.specs.declared.entry.NodeEvent.{NodeEvent}
 use Rattle.smart_statements.specs.declared.entry.NodeEvent.TheVariants.{Arrive, Tick, Deliver, Firm}
 use Rattle.smart_service.specs.Services.{Meaning}
-use Rattle.node_rules.specs.Nodes.{Node, next_place}
-use Rattle.node_rules.specs.Steps.{Outcome, step_of, leaving, opened}
+use Rattle.node_rules.specs.Nodes.{Node, next_place, view_of}
+use Rattle.node_rules.specs.Steps.{Outcome, step_of, leaving, opened, outset}
 use Rattle.node_rules.specs.declared.node.Held.{Held}
-use Rattle.node_rules.specs.declared.node.Target.{Target}
-use Rattle.node_rules.specs.declared.node.Target.TheVariants as targets
 use Rattle.node_rules.specs.Kept.{trimmed, core_step}
 use Rattle.node_rules.specs.Nodes as nodes
 use Rattle.kept_arrivals.proofs.Steps.{core_step_trimmed, opened_stands}
@@ -30,9 +26,9 @@ use Rattle.replica_rules.specs.Replicas.{state}
 use Rattle.node_rules.specs.Reopening.{stopped, reopened, damaged, entries_in, decided_of}
 use Rattle.node_laws.proofs.Reopened.{reopened_is}
 use Rattle.world_rules.specs.Repeats.{repeated, turns, until_rest, each_from}
-use Rattle.world_rules.specs.Secrets.{group_secret}
-use Rattle.world_rules.specs.Premises.{collides, too_many, is_forged, bytes_of}
-use Rattle.world_rules.specs.Worlds.{Host, World, course_of, core_course, is_up, at_host, telling, host_crashed, crashes_with, host_crashes, crashes, crash_all, host_resumed, resumes_from, host_resumes, resumes, restart_all, restart_at, restart_member, sends_all, told_drop, told_fired, chosen_with, host_after, stepped, host_takes, node_takes, disk_called, hears_firm, host_calls, calls_disk, takes_due, host_of_node, settle_once, settle, settle_all, gives, give_all, hearing, client_hears, hears_bytes, client_takes, client_asks, ask_found, asks, client_repeats, repeat_found, repeats, learns, learns_from, tells, goes, flow_sent, flow_once, flows, hosts_from, begun, is_listed, where_listed, at_listed, each_listed, host_index, at_index, at_member, arrives, arrives_at, sent_arrives, give_number, told_idle, telling_all, host_tries, tries_at, tries_each, give_one, shown_host, shown_client, shows, posts, is_gone, is_rogue, settle_present, declares_faulty, declares_rogue, injects_content, injects}
+use Rattle.world_rules.specs.Secrets.{group_secret, period}
+use Rattle.world_rules.specs.Premises.{met, texts_in, collides, too_many, is_forged, bytes_of}
+use Rattle.world_rules.specs.Worlds.{Host, World, course_of, core_course, is_up, at_host, telling, host_crashed, crashes_with, host_crashes, crashes, crash_all, host_resumed, resumes_from, host_resumes, resumes, restart_all, restart_at, restart_member, sends_all, told_drop, told_fired, chosen_with, host_after, stepped, host_takes, node_takes, disk_called, hears_firm, host_calls, calls_disk, takes_due, host_of_node, settle_once, settle, settle_all, gives, hearing, client_hears, hears_bytes, client_takes, client_asks, ask_found, asks, client_repeats, repeat_found, repeats, learns, learns_from, tells, goes, flow_sent, flow_once, flows, hosts_from, begun, is_listed, where_listed, at_listed, each_listed, host_index, at_index, at_member, arrives, arrives_at, sent_arrives, give_number, told_idle, telling_all, host_tries, tries_at, tries_each, give_one, shown_host, shown_client, shows, posts, is_gone, is_rogue, settle_present, declares_faulty, declares_rogue, injects_content, injects, is_halted, reaches, outset_of}
 use Rattle.world_rules.specs.Plays.{has_member, has_party, is_there, line_played, rested, world_after, lines_told}
 use Rattle.client_quorum.specs.declared.client.Client.{Client}
 use Rattle.world_rules.specs.declared.message.Sent.{Sent}
@@ -94,13 +90,13 @@ each_from_same t f g same (suc k) i x = ap (λ y. each_from f k (i + 1) y) (same
 posts_same : {S : Type 0} (w : World S) (s : Sent) → posts (trimmed_world w) s ≡ trimmed_world (posts w s)
 unfolding posts trimmed_world
 posts_same w s =
-    choice_same trimmed_world (collides w.sent s.content) _ _ _ _ refl (choice_same trimmed_world (nat_lt (length w.sent) (2 ^ 24)) _ _ _ _ refl refl)
+    choice_same trimmed_world (collides (met w.sent) (texts_in s.content)) _ _ _ _ refl (choice_same trimmed_world (nat_lt (length w.sent) (2 ^ 24)) _ _ _ _ refl refl)
 
 -- many messages leave
-sends_all_same : {S : Type 0} (id : ℕ) (w : World S) (held : List Held) → sends_all id (trimmed_world w) held ≡ trimmed_world (sends_all id w held)
-sends_all_same id w [] = refl
-sends_all_same id w (h ∷ hs) =
-    ap (λ v. sends_all id v hs) (posts_same w (from_node id h)) ∙ sends_all_same id (posts w (from_node id h)) hs
+sends_all_same : {S : Type 0} (id : ℕ) (view : View) (w : World S) (held : List Held) → sends_all id view (trimmed_world w) held ≡ trimmed_world (sends_all id view w held)
+sends_all_same id view w [] = refl
+sends_all_same id view w (h ∷ hs) =
+    ap (λ v. sends_all id view v hs) (posts_same w (from_node id view h)) ∙ sends_all_same id view (posts w (from_node id view h)) hs
 
 -- events of a node
 
@@ -126,8 +122,8 @@ stepped_same {S} m w i h o =
       chosen = chosen_with w.chosen (next_place o.node) o.node.waiting;
       told = w.told ++ (told_drop h.node.id o.dropped ++ flat_map (told_fired h.node.id) o.fired);
     } in
-    ap (λ hosts. sends_all h.node.id (behind hosts) (leaving o.node.firm o.node.held)) (map_set trimmed_host w.hosts i (host_after (course_of m) h o))
-    ∙ sends_all_same h.node.id (behind (slice_set w.hosts i (host_after (course_of m) h o))) (leaving o.node.firm o.node.held)
+    ap (λ hosts. sends_all h.node.id (view_of o.node) (behind hosts) (leaving o.node.firm o.node.held)) (map_set trimmed_host w.hosts i (host_after (course_of m) h o))
+    ∙ sends_all_same h.node.id (view_of o.node) (behind (slice_set w.hosts i (host_after (course_of m) h o))) (leaving o.node.firm o.node.held)
 
 -- a host that is found takes an event
 host_takes_same : {S : Type 0} (m : Meaning S) (i : ℕ) (event : NodeEvent) (w : World S) (found : Option (Host S))
@@ -143,7 +139,7 @@ node_takes_same : {S : Type 0} (m : Meaning S) (i : ℕ) (event : NodeEvent) (w 
     → node_takes (core_course m) i event (trimmed_world w) ≡ trimmed_world (node_takes (course_of m) i event w)
 unfolding node_takes trimmed_world
 node_takes_same m i event w =
-    choice_same trimmed_world (is_some w.ending) _ _ _ _ refl
+    choice_same trimmed_world (is_halted w) _ _ _ _ refl
     (ap (λ found. host_takes (core_course m) i event (trimmed_world w) found) (map_get trimmed_host w.hosts i) ∙ host_takes_same m i event w (slice_get w.hosts i))
 
 -- a node hears what is firm behind a call of its store
@@ -169,7 +165,7 @@ host_calls_same m i w (Some h) =
 calls_disk_same : {S : Type 0} (m : Meaning S) (i : ℕ) (w : World S) → calls_disk (core_course m) i (trimmed_world w) ≡ trimmed_world (calls_disk (course_of m) i w)
 unfolding calls_disk trimmed_world
 calls_disk_same m i w =
-    choice_same trimmed_world (is_some w.ending) _ _ _ _ refl
+    choice_same trimmed_world (is_halted w) _ _ _ _ refl
     (ap (λ found. host_calls (core_course m) i (trimmed_world w) found) (map_get trimmed_host w.hosts i) ∙ host_calls_same m i w (slice_get w.hosts i))
 
 -- a host that is found takes what is due
@@ -281,11 +277,6 @@ unfolding gives
 gives_same m bytes i w =
     ap (λ v. settle (core_course m) i v) (node_takes_same m i (Arrive bytes) w) ∙ settle_same m i (node_takes (course_of m) i (Arrive bytes) w)
 
--- all listed nodes take bytes
-give_all_same : {S : Type 0} (m : Meaning S) (members : List ℕ) (bytes : List ℕ) (w : World S)
-    → give_all (core_course m) members bytes (trimmed_world w) ≡ trimmed_world (give_all (course_of m) members bytes w)
-give_all_same m members bytes w = each_listed_same members (gives (core_course m) bytes) (gives (course_of m) bytes) (gives_same m bytes) w
-
 -- the node of a member does, if it is listed
 give_one_same : {S : Type 0} (m : Meaning S) (members : List ℕ) (bytes : List ℕ) (member : ℕ) (w : World S)
     → give_one (core_course m) members bytes member (trimmed_world w) ≡ trimmed_world (give_one (course_of m) members bytes member w)
@@ -308,7 +299,7 @@ hears_bytes_same w i bytes (Some c) = client_hears_same w i c (reply_read (decod
 -- the client at an index hears bytes
 client_takes_same : {S : Type 0} (i : ℕ) (bytes : List ℕ) (w : World S) → client_takes i bytes (trimmed_world w) ≡ trimmed_world (client_takes i bytes w)
 unfolding client_takes trimmed_world
-client_takes_same i bytes w = choice_same trimmed_world (is_some w.ending) _ _ _ _ refl (hears_bytes_same w i bytes (slice_get w.clients i))
+client_takes_same i bytes w = choice_same trimmed_world (is_halted w) _ _ _ _ refl (hears_bytes_same w i bytes (slice_get w.clients i))
 
 -- a client asks, or tells that it is busy
 client_asks_same : {S : Type 0} (w : World S) (i : ℕ) (c : Client) (op : List ℕ) (waiting : Option Request)
@@ -317,7 +308,7 @@ unfolding trimmed_world
 client_asks_same w i c op (Some q) = refl
 client_asks_same w i c op None =
     choice_same trimmed_world (nat_lt (c.last + 1) (2 ^ 63) && nat_le (length op) 4096) _ _ _ _
-    (posts_same (asked_by w i c op) (from_client c (ask_of c op))) refl
+    (posts_same (asked_by w i c op) (from_client w.view c (ask_of c op))) refl
 
 -- a client that is found asks
 ask_found_same : {S : Type 0} (w : World S) (i : ℕ) (op : List ℕ) (found : Option Client) → ask_found (trimmed_world w) i op found ≡ trimmed_world (ask_found w i op found)
@@ -328,13 +319,13 @@ ask_found_same w i op (Some c) = choice_same trimmed_world (is_rogue w c.id) _ _
 -- the client at an index asks
 asks_same : {S : Type 0} (i : ℕ) (op : List ℕ) (w : World S) → asks i op (trimmed_world w) ≡ trimmed_world (asks i op w)
 unfolding asks trimmed_world
-asks_same i op w = choice_same trimmed_world (is_some w.ending) _ _ _ _ refl (ask_found_same w i op (slice_get w.clients i))
+asks_same i op w = choice_same trimmed_world (is_halted w) _ _ _ _ refl (ask_found_same w i op (slice_get w.clients i))
 
 -- a client sends its request once more, or tells that it is idle
 client_repeats_same : {S : Type 0} (w : World S) (c : Client) (waiting : Option Request) → client_repeats (trimmed_world w) c waiting ≡ trimmed_world (client_repeats w c waiting)
 unfolding trimmed_world
 client_repeats_same w c None = refl
-client_repeats_same w c (Some q) = posts_same w (from_client c (signed_by c q))
+client_repeats_same w c (Some q) = posts_same w (from_client w.view c (signed_by c q))
 
 -- a client that is found does
 repeat_found_same : {S : Type 0} (w : World S) (found : Option Client) → repeat_found (trimmed_world w) found ≡ trimmed_world (repeat_found w found)
@@ -345,7 +336,7 @@ repeat_found_same w (Some c) = choice_same trimmed_world (is_rogue w c.id) _ _ _
 -- the client at an index does
 repeats_same : {S : Type 0} (i : ℕ) (w : World S) → repeats i (trimmed_world w) ≡ trimmed_world (repeats i w)
 unfolding repeats trimmed_world
-repeats_same i w = choice_same trimmed_world (is_some w.ending) _ _ _ _ refl (repeat_found_same w (slice_get w.clients i))
+repeats_same i w = choice_same trimmed_world (is_halted w) _ _ _ _ refl (repeat_found_same w (slice_get w.clients i))
 
 -- a client that is found learns of a place
 learns_same : {S : Type 0} (w : World S) (place i : ℕ) (found : Option Client) → learns (trimmed_world w) place i found ≡ trimmed_world (learns w place i found)
@@ -362,17 +353,22 @@ learns_from_same w (Some c) i = choice_same trimmed_world (is_rogue w c.id) _ _ 
 -- a client is told of the greatest place that another knows
 tells_same : {S : Type 0} (from to : ℕ) (w : World S) → tells from to (trimmed_world w) ≡ trimmed_world (tells from to w)
 unfolding tells trimmed_world
-tells_same from to w = choice_same trimmed_world (is_some w.ending) _ _ _ _ refl (learns_from_same w (slice_get w.clients from) to)
+tells_same from to w = choice_same trimmed_world (is_halted w) _ _ _ _ refl (learns_from_same w (slice_get w.clients from) to)
 
 -- flow
 
--- bytes go to whom they are for
-goes_same : {S : Type 0} (m : Meaning S) (members : List ℕ) (w : World S) (bytes : List ℕ) (to : Option Target)
-    → goes (core_course m) members (trimmed_world w) bytes to ≡ trimmed_world (goes (course_of m) members w bytes to)
-goes_same m members w bytes None = refl
-goes_same m members w bytes (Some targets.View) = give_all_same m members bytes w
-goes_same m members w bytes (Some (targets.Node id)) = give_one_same m members bytes id w
-goes_same m members w bytes (Some (targets.Client id)) = client_takes_same id bytes w
+-- bytes reach an addressee
+reaches_same : {S : Type 0} (m : Meaning S) (members : List ℕ) (bytes : List ℕ) (to : Party) (w : World S)
+    → reaches (core_course m) members bytes to (trimmed_world w) ≡ trimmed_world (reaches (course_of m) members bytes to w)
+reaches_same m members bytes (parties.Member id) w = give_one_same m members bytes id w
+reaches_same m members bytes (parties.Client id) w = client_takes_same id bytes w
+
+-- bytes go to their addressees
+goes_same : {S : Type 0} (m : Meaning S) (members : List ℕ) (w : World S) (bytes : List ℕ) (tos : List Party)
+    → goes (core_course m) members (trimmed_world w) bytes tos ≡ trimmed_world (goes (course_of m) members w bytes tos)
+goes_same m members w bytes [] = refl
+goes_same m members w bytes (to ∷ tos) =
+    ap (λ v. goes (core_course m) members v bytes tos) (reaches_same m members bytes to w) ∙ goes_same m members (reaches (course_of m) members bytes to w) bytes tos
 
 -- the message behind the mark goes, if there is one
 flow_sent_same : {S : Type 0} (m : Meaning S) (members : List ℕ) (w : World S) (found : Option Sent)
@@ -384,7 +380,7 @@ flow_sent_same m members w (Some s) = goes_same m members (record w { mark = w.m
 -- one turn of a flow
 flow_once_same : {S : Type 0} (m : Meaning S) (members : List ℕ) (w : World S) → flow_once (core_course m) members (trimmed_world w) ≡ trimmed_world (flow_once (course_of m) members w)
 unfolding flow_once trimmed_world
-flow_once_same m members w = choice_same trimmed_world (is_some w.ending) _ _ _ _ refl (flow_sent_same m members w (slice_get w.sent w.mark))
+flow_once_same m members w = choice_same trimmed_world (is_halted w) _ _ _ _ refl (flow_sent_same m members w (slice_get w.sent w.mark))
 
 -- a flow
 flows_same : {S : Type 0} (m : Meaning S) (members : List ℕ) (w : World S) → flows (core_course m) members (trimmed_world w) ≡ trimmed_world (flows (course_of m) members w)
@@ -436,7 +432,7 @@ host_tries_same {S} m event i w (Some h) =
 tries_at_same : {S : Type 0} (m : Meaning S) (event : NodeEvent) (i : ℕ) (w : World S) → tries_at (core_course m) event i (trimmed_world w) ≡ trimmed_world (tries_at (course_of m) event i w)
 unfolding tries_at trimmed_world
 tries_at_same m event i w =
-    choice_same trimmed_world (is_some w.ending) _ _ _ _ refl
+    choice_same trimmed_world (is_halted w) _ _ _ _ refl
     (ap (λ found. host_tries (core_course m) event i (trimmed_world w) found) (map_get trimmed_host w.hosts i) ∙ host_tries_same m event i w (slice_get w.hosts i))
 
 -- so it is at each of some members
@@ -471,7 +467,7 @@ crashes_same : {S : Type 0} (m : Meaning S) (image : Image) (patches : List Patc
     → crashes (core_course m) image patches i (trimmed_world w) ≡ trimmed_world (crashes (course_of m) image patches i w)
 unfolding crashes trimmed_world
 crashes_same m image patches i w =
-    choice_same trimmed_world (is_some w.ending) _ _ _ _ refl
+    choice_same trimmed_world (is_halted w) _ _ _ _ refl
     (ap (λ found. host_crashes (core_course m) image patches i (trimmed_world w) found) (map_get trimmed_host w.hosts i) ∙ host_crashes_same m image patches i w (slice_get w.hosts i))
 
 -- what happens at each host
@@ -485,23 +481,23 @@ crash_all_same m image w = each_host_same (crashes (core_course m) image []) (cr
 
 -- a node that goes on has nothing that it does not need: nothing but the book is left of the life before
 trimmed-begins : {S : Type 0} (m : Meaning S) (secret : List ℕ) (id : ℕ) (view : View) (period : ℕ)
-    → trimmed (record (opened m secret id view period) { behind = true }) ≡ record (opened m secret id view period) { behind = true }
+    → trimmed (record (opened (outset m secret id view period)) { behind = true }) ≡ record (opened (outset m secret id view period)) { behind = true }
 unfolding trimmed
 trimmed-begins m secret id view period = refl
 
-trimmed-goes_on : {S : Type 0} (m : Meaning S) (secret : List ℕ) (id : ℕ) (view : View) (es : List LogEntry) (r : Replica S) (count : ℕ)
-    → trimmed (record (stopped m secret id view) { entries = es; replica = r; restored = count; firm = count })
-    ≡ record (stopped m secret id view) { entries = es; replica = r; restored = count; firm = count }
+trimmed-goes_on : {S : Type 0} (m : Meaning S) (secret : List ℕ) (id : ℕ) (view : View) (period : ℕ) (es : List LogEntry) (r : Replica S) (count : ℕ)
+    → trimmed (record (stopped (outset m secret id view period)) { entries = es; replica = r; restored = count; firm = count })
+    ≡ record (stopped (outset m secret id view period)) { entries = es; replica = r; restored = count; firm = count }
 unfolding trimmed
-trimmed-goes_on m secret id view es r count = refl
+trimmed-goes_on m secret id view period es r count = refl
 
 trimmed-reopened : {S : Type 0} (m : Meaning S) (secret : List ℕ) (id : ℕ) (view : View) (period : ℕ) (es : List LogEntry)
-    → trimmed (reopened m secret id view period es) ≡ reopened m secret id view period es
+    → trimmed (reopened m (outset m secret id view period) es) ≡ reopened m (outset m secret id view period) es
 unfolding reopened
 trimmed-reopened m secret id view period [] = trimmed-begins m secret id view period
 trimmed-reopened m secret id view period (e ∷ es) =
-    let is = reopened_is m secret id view period e es in
-    ap (λ n. trimmed n) is ∙ (trimmed-goes_on m secret id view (e ∷ es) (state m view (decided_of (e ∷ es))) (length (e ∷ es)) ∙ sym is)
+    let is = reopened_is m (outset m secret id view period) e es in
+    ap (λ n. trimmed n) is ∙ (trimmed-goes_on m secret id view period (e ∷ es) (state m view (decided_of 0 (e ∷ es))) (length (e ∷ es)) ∙ sym is)
 
 -- the world in which a node goes on
 abbrev going_on : {S : Type 0} → World S → ℕ → Host S → ℕ → Node S → World S
@@ -520,8 +516,8 @@ resumes_from_same : {S : Type 0} (m : Meaning S) (i : ℕ) (w : World S) (h : Ho
     → resumes_from (core_course m) i (trimmed_world w) (trimmed_host h) restored wrong ≡ trimmed_world (resumes_from (course_of m) i w h restored wrong)
 unfolding trimmed_host trimmed_world trimmed nodes.regency_of
 resumes_from_same m i w h restored None =
-    let n : Node _ = reopened m group_secret h.node.id w.view 1024 (entries_in restored) in
-    going_on_same w i h (length restored) n (trimmed-reopened m group_secret h.node.id w.view 1024 (entries_in restored))
+    let n : Node _ = reopened m (outset_of m w.view h.node.id) (entries_in restored) in
+    going_on_same w i h (length restored) n (trimmed-reopened m group_secret h.node.id w.view period (entries_in restored))
 resumes_from_same m i w h restored (Some entry) = refl
 
 -- a host that is found goes on, if its member has crashed
@@ -531,12 +527,12 @@ unfolding trimmed_host trimmed_world trimmed nodes.regency_of
 host_resumes_same m i w None = refl
 host_resumes_same m i w (Some h) =
     let restored : List (List ℕ) = (restores (bytes_held h.store)).entries in
-    choice_same trimmed_world (h.up || is_gone w h.node.id) _ _ _ _ refl (resumes_from_same m i w h restored (damaged group_secret w.view restored))
+    choice_same trimmed_world (h.up || is_gone w h.node.id) _ _ _ _ refl (resumes_from_same m i w h restored (damaged group_secret 0 w.view restored))
 
 resumes_same : {S : Type 0} (m : Meaning S) (i : ℕ) (w : World S) → resumes (core_course m) i (trimmed_world w) ≡ trimmed_world (resumes (course_of m) i w)
 unfolding resumes trimmed_world
 resumes_same m i w =
-    choice_same trimmed_world (is_some w.ending) _ _ _ _ refl
+    choice_same trimmed_world (is_halted w) _ _ _ _ refl
     (ap (λ found. host_resumes (core_course m) i (trimmed_world w) found) (map_get trimmed_host w.hosts i) ∙ host_resumes_same m i w (slice_get w.hosts i))
 
 restart_all_same : {S : Type 0} (m : Meaning S) (w : World S) → restart_all (core_course m) (trimmed_world w) ≡ trimmed_world (restart_all (course_of m) w)
@@ -576,12 +572,12 @@ shows_same w =
 declares_faulty_same : {S : Type 0} (member : ℕ) (w : World S) → declares_faulty member (trimmed_world w) ≡ trimmed_world (declares_faulty member w)
 unfolding declares_faulty trimmed_world
 declares_faulty_same member w =
-    choice_same trimmed_world (is_some w.ending) _ _ _ _ refl
+    choice_same trimmed_world (is_halted w) _ _ _ _ refl
     (choice_same trimmed_world (is_gone w member) _ _ _ _ refl (choice_same trimmed_world (too_many w.view (w.faulty ++ member ∷ [])) _ _ _ _ refl refl))
 
 declares_rogue_same : {S : Type 0} (client : ℕ) (w : World S) → declares_rogue client (trimmed_world w) ≡ trimmed_world (declares_rogue client w)
 unfolding declares_rogue trimmed_world
-declares_rogue_same client w = choice_same trimmed_world (is_some w.ending) _ _ _ _ refl (choice_same trimmed_world (is_rogue w client) _ _ _ _ refl refl)
+declares_rogue_same client w = choice_same trimmed_world (is_halted w) _ _ _ _ refl (choice_same trimmed_world (is_rogue w client) _ _ _ _ refl refl)
 
 -- a content that is made is injected, unless it is forged
 injects_content_same : {S : Type 0} (w : World S) (found : Option Content) → injects_content (trimmed_world w) found ≡ trimmed_world (injects_content w found)
@@ -591,7 +587,7 @@ injects_content_same w (Some x) = choice_same trimmed_world (is_forged w.faulty 
 
 injects_same : {S : Type 0} (form : Injection) (w : World S) → injects form (trimmed_world w) ≡ trimmed_world (injects form w)
 unfolding injects trimmed_world
-injects_same form w = choice_same trimmed_world (is_some w.ending) _ _ _ _ refl (injects_content_same w (injected w.sent form))
+injects_same form w = choice_same trimmed_world (is_halted w) _ _ _ _ refl (injects_content_same w (injected w.sent form))
 
 -- lines
 
@@ -706,8 +702,8 @@ hosts_from_same : {S : Type 0} (m : Meaning S) (view : View) (ids : List ℕ) �
 unfolding trimmed_host
 hosts_from_same m view [] = refl
 hosts_from_same m view (id ∷ ids) =
-    ap (λ n. record (host_of_node (opened m group_secret id view 1024)) { node = n } ∷ map trimmed_host (hosts_from m view ids)) (sym (opened_stands m group_secret id view 1024).same)
-    ∙ ap (λ hosts. host_of_node (opened m group_secret id view 1024) ∷ hosts) (hosts_from_same m view ids)
+    ap (λ n. record (host_of_node (opened (outset_of m view id))) { node = n } ∷ map trimmed_host (hosts_from m view ids)) (sym (opened_stands (outset_of m view id)).same)
+    ∙ ap (λ hosts. host_of_node (opened (outset_of m view id)) ∷ hosts) (hosts_from_same m view ids)
 
 -- the first world is its own world of cores
 pub begun_same : {S : Type 0} (m : Meaning S) (view : View) → trimmed_world (begun m view) ≡ begun m view

@@ -1,5 +1,6 @@
 -- Faulty and rogue are those that lines declare.
 use Rattle.std.proofs.Common.{◌≡◌, ℕ, ◌++◌, true, false, List, [], ◌∷◌, refl, sym, Option, Some, None, is_some, inl, inr, ◌⊎◌, subst, append-nil, append_assoc, take}
+use Rattle.node_rules.specs.Nodes.{view_of}
 use Rattle.smart_base.specs.Views.{View}
 use Rattle.smart_statements.specs.Forms.{SignedBy}
 use Rattle.smart_statements.specs.declared.statement.Answer.{Answer}
@@ -10,7 +11,7 @@ use Rattle.client_quorum.specs.declared.client.Client.{Client}
 use Rattle.client_quorum.specs.declared.client.Heard.{Heard}
 use Rattle.world_rules.specs.Clients.{heard}
 use Rattle.world_rules.specs.Premises.{is_among, too_many}
-use Rattle.world_rules.specs.Worlds.{Course, course_of, Host, World, posts, stepped, hearing, is_gone, is_rogue, declares_faulty, declares_rogue, begun}
+use Rattle.world_rules.specs.Worlds.{Course, course_of, Host, World, posts, stepped, hearing, is_gone, is_rogue, declares_faulty, declares_rogue, begun, is_halted}
 use Rattle.world_rules.specs.Plays.{line_played, rested, world_after}
 use Rattle.world_rules.specs.declared.line.Line.{Line}
 use Rattle.world_rules.specs.declared.line.Line.TheVariants as lines
@@ -116,7 +117,7 @@ stays-stepped : {S : Type 0} (course : Course S) (faulty rogue : List ℕ) (endi
     → Stays faulty rogue ending (stepped course w i h o)
 unfolding stepped
 stays-stepped {S = S} course faulty rogue ending w i h o is =
-    keeps-sends_all (λ (v : World S). Stays faulty rogue ending v) h.node.id (λ v held stays. stays-posts faulty rogue ending v (from_node h.node.id held) stays) _ (leaving o.node.firm o.node.held)
+    keeps-sends_all (λ (v : World S). Stays faulty rogue ending v) h.node.id (view_of o.node) (λ v held stays. stays-posts faulty rogue ending v (from_node h.node.id (view_of o.node) held) stays) _ (leaving o.node.firm o.node.held)
     (record { faulty_is = is.faulty_is; rogue_is = is.rogue_is; on = is.on })
 
 stays-hearing : {S : Type 0} (faulty rogue : List ℕ) (ending : Option Ending) (w : World S) (i : ℕ) (c : Client) (a : SignedBy Answer) (h : Heard) → Stays faulty rogue ending w
@@ -132,8 +133,8 @@ keeps-stays course faulty rogue ending =
         disk = λ w i h on up at is. record { faulty_is = is.faulty_is; rogue_is = is.rogue_is; on = is.on };
         hear = λ w i c x a on at has read is. stays-hearing faulty rogue ending w i c a (heard w.view c a) is;
         ask = λ w i c op on at free few brief is.
-            stays-posts faulty rogue ending (asked_by w i c op) (from_client c (ask_of c op)) (record { faulty_is = is.faulty_is; rogue_is = is.rogue_is; on = is.on });
-        again = λ w i c q on at waits is. stays-posts faulty rogue ending w (from_client c (signed_by c q)) is;
+            stays-posts faulty rogue ending (asked_by w i c op) (from_client w.view c (ask_of c op)) (record { faulty_is = is.faulty_is; rogue_is = is.rogue_is; on = is.on });
+        again = λ w i c q on at waits is. stays-posts faulty rogue ending w (from_client w.view c (signed_by c q)) is;
         learn = λ w i j c d on at other is. record { faulty_is = is.faulty_is; rogue_is = is.rogue_is; on = is.on };
         inject = λ w x on read fine is. stays-posts faulty rogue ending w (from_script x) is;
         end = λ w other on is. record { faulty_is = is.faulty_is; rogue_is = is.rogue_is; on = λ none. absurd (ended other none) };
@@ -181,7 +182,7 @@ declared-faulty {S = S} played w member is =
     let more : List Line = played ++ line ∷ [] in
     let faulty : List ℕ = w.faulty ++ member ∷ [] in
     let other : RogueIs more w = declared-same (λ client. lines.Rogue client) played line w.ending w.ending w.rogue (λ id same. apart member id (sym same)) (λ on. on) is.1 in
-    either_by (λ (v : World S). Declared more v) (is_some w.ending) w _
+    either_by (λ (v : World S). Declared more v) (is_halted w) w _
     (λ over. (declared-over (λ id. lines.Faulty id) played line w.ending w.ending w.faulty (is_over w.ending over) is.0, other))
     (λ on. either_by (λ (v : World S). Declared more v) (is_gone w member) w _ (λ gone. (declared-again (λ id. lines.Faulty id) one_faulty played member w.ending w.faulty gone is.0, other))
     (λ fresh. either (λ (v : World S). Declared more v) (too_many w.view faulty) _ _ (
@@ -199,7 +200,7 @@ declared-rogue {S = S} played w client is =
     let line : Line = lines.Rogue client in
     let more : List Line = played ++ line ∷ [] in
     let other : FaultyIs more w = declared-same (λ member. lines.Faulty member) played line w.ending w.ending w.faulty (λ id same. apart id client same) (λ on. on) is.0 in
-    either_by (λ (v : World S). Declared more v) (is_some w.ending) w _
+    either_by (λ (v : World S). Declared more v) (is_halted w) w _
     (λ over. (other, declared-over (λ id. lines.Rogue id) played line w.ending w.ending w.rogue (is_over w.ending over) is.1))
     (λ on. either_by (λ (v : World S). Declared more v) (is_rogue w client) w _ (λ known. (other, declared-again (λ id. lines.Rogue id) one_rogue played client w.ending w.rogue known is.1))
     (λ fresh. (other, declared-new (λ id. lines.Rogue id) one_rogue played client w.ending w.rogue is.1)))

@@ -13,7 +13,7 @@ use Rattle.smart_statements.specs.declared.statement.Answer.{Answer}
 use Rattle.smart_statements.specs.declared.entry.NodeEvent.{NodeEvent}
 use Rattle.smart_statements.specs.declared.entry.NodeEvent.TheVariants.{Arrive, Tick, Deliver, Firm}
 use Rattle.smart_service.specs.Services.{Meaning}
-use Rattle.node_rules.specs.Nodes.{Node}
+use Rattle.node_rules.specs.Nodes.{Node, view_of}
 use Rattle.node_rules.specs.Deliveries.{delivery_in}
 use Rattle.node_rules.specs.Steps.{Outcome, step_of, leaving}
 use Rattle.node_rules.specs.Reopening.{entries_in}
@@ -21,7 +21,7 @@ use Rattle.node_rules.specs.declared.node.Why.{Why}
 use Rattle.node_rules.specs.declared.node.Delivery.{Delivery}
 use Rattle.node_rules.specs.declared.node.Fired.{Fired}
 use Rattle.node_rules.specs.declared.node.Fired.TheVariants as fires
-use Rattle.world_rules.specs.Secrets.{group_secret}
+use Rattle.world_rules.specs.Secrets.{group_secret, period}
 use Rattle.world_rules.specs.Clients.{heard}
 use Rattle.world_rules.specs.Worlds.{course_of, Host, World, posts, told_drop, told_fired, told_heard, host_after, host_crashed, host_resumed, stepped, hearing, begun, hosts_from}
 use Rattle.world_rules.specs.Plays.{line_played, rested, world_after, lines_told}
@@ -209,7 +209,7 @@ told-stepped {S = S} m before ids w i h event once at is =
     let h' : Host S = host_after (course_of m) h o in
     let lines : List OutLine = told_drop h.node.id o.dropped ++ flat_map (told_fired h.node.id) o.fired in
     let name : h'.node.id ≡ h.node.id = named-step m h.node event in
-    keeps-sends_all (λ (v : World S). AllTold before ids v) h.node.id (λ v held all. told-posts before ids v (from_node h.node.id held) all) _ (leaving o.node.firm o.node.held)
+    keeps-sends_all (λ (v : World S). AllTold before ids v) h.node.id (view_of o.node) (λ v held all. told-posts before ids v (from_node h.node.id (view_of o.node) held) all) _ (leaving o.node.firm o.node.held)
     (record {
       hosts = set_others (λ (g : Host S). HostTold before w.told g) (λ (g : Host S). HostTold before (w.told ++ lines) g) w.hosts i h h' (subst Distinct (sym is.names) once) at
           (λ g differ all. none_more before w.told lines g.node.id (g.earlier ++ g.delivered) (other_told h.node.id g.node.id o.dropped o.fired differ) all)
@@ -241,8 +241,8 @@ keeps-deliveries {S = S} m before ids once =
         event = λ w i h event on up at may is. told-stepped m before ids w i h event once at is;
         disk = λ w i h on up at is. told-set before ids w i h (after_call (course_of m) h) once at refl refl is;
         hear = λ w i c x a on at has read is. told-hearing before ids w i c a (heard w.view c a) is;
-        ask = λ w i c op on at free few brief is. told-posts before ids (asked_by w i c op) (from_client c (ask_of c op)) (record { hosts = is.hosts; names = is.names });
-        again = λ w i c q on at waits is. told-posts before ids w (from_client c (signed_by c q)) is;
+        ask = λ w i c op on at free few brief is. told-posts before ids (asked_by w i c op) (from_client w.view c (ask_of c op)) (record { hosts = is.hosts; names = is.names });
+        again = λ w i c q on at waits is. told-posts before ids w (from_client w.view c (signed_by c q)) is;
         learn = λ w i j c d on at other is. record { hosts = all_more before w.told (learned_line c d.seen ∷ []) w.hosts (λ id. refl) is.hosts; names = is.names };
         inject = λ w x on read fine is. told-posts before ids w (from_script x) is;
         declare = λ w faulty rogue ending on how is. record { hosts = is.hosts; names = is.names };
@@ -253,7 +253,7 @@ keeps-deliveries {S = S} m before ids once =
       resume = λ w i h on down at is.
           let hosts : List (Host S) = slice_set w.hosts i (host_resumed h (node_resumed (course_of m) w h)) in
           let set : AllTold before ids (record w { hosts = hosts }) =
-          told-set before ids w i h (host_resumed h (node_resumed (course_of m) w h)) once at (named m group_secret h.node.id w.view 1024 (entries_in (entries_left h))).name (append-nil (h.earlier ++ h.delivered)) is in
+          told-set before ids w i h (host_resumed h (node_resumed (course_of m) w h)) once at (named m group_secret h.node.id w.view period (entries_in (entries_left h))).name (append-nil (h.earlier ++ h.delivered)) is in
           record { hosts = all_more before w.told (resumed_line (course_of m) w h ∷ []) hosts (λ id. refl) set.hosts; names = set.names };
     }
 

@@ -1,6 +1,8 @@
 -- Books have few entries: each has a source among the bytes of what was sent, and no more than 2 ^ 24 messages are sent.
-use Rattle.std.proofs.Common.{◌≡◌, inl, inr, ℕ, ◌+◌, ◌^◌, ◌<◌, ◌≤◌, ◌++◌, List, [], ◌∷◌, length, map, take, refl, ap, ◌∙◌, sym, arith, subst, length-append, Result, Ok, Err}
+use Rattle.std.proofs.Common.{◌≡◌, inl, inr, ℕ, ◌+◌, ◌^◌, ◌<◌, ◌≤◌, ◌++◌, List, [], ◌∷◌, Option, Some, None, length, nat_lt, map, take, refl, ap, ◌∙◌, sym, arith, subst, length-append, Result, Ok, Err}
+use Rattle.std.specs.List.{cons_option}
 use Rattle.smart_base.specs.Views.{View}
+use Rattle.smart_statements.specs.Batches.{Batch}
 use Rattle.smart_messages.specs.Messages.{decoded}
 use Rattle.smart_messages.specs.declared.message.Message.{Message}
 use Rattle.smart_statements.specs.declared.entry.NodeEvent.{NodeEvent}
@@ -15,13 +17,13 @@ use Rattle.durable_store.specs.States.{StoreState}
 use Rattle.world_rules.specs.Crashes.{is_unclosed, still_aside}
 use Rattle.node_rules.specs.Nodes.{Node}
 use Rattle.node_rules.specs.Reopening.{decided_of, reopened}
-use Rattle.node_rules.specs.Steps.{Outcome, step_of, opened}
+use Rattle.node_rules.specs.Steps.{Outcome, step_of, opened, outset}
 use Rattle.node_laws.specs.Restored.{IsSoundBook}
 use Rattle.node_laws.proofs.Reopened.{reopened_is}
 use Rattle.replica_laws.proofs.Sources.{HasSource, FromBook, FromSources, from-take, book-more, from-more, from-step, from-released, from-opened, few_entries}
 use Rattle.world_rules.specs.Premises.{bytes_of}
-use Rattle.world_rules.specs.Secrets.{group_secret}
-use Rattle.world_rules.specs.Worlds.{course_of, Host, World, life_firm, life_crashed, host_of_node, host_after, host_crashed}
+use Rattle.world_rules.specs.Secrets.{group_secret, period}
+use Rattle.world_rules.specs.Worlds.{course_of, Host, World, life_firm, written, life_crashed, host_of_node, host_after, host_crashed, outset_of}
 use Rattle.world_rules.specs.declared.message.Content.{Content}
 use Rattle.world_rules.specs.declared.message.Sent.{Sent}
 use Rattle.world_laws.proofs.Keeps.{HasContent, MayCome, after_call}
@@ -105,7 +107,7 @@ few-step m sent h event came is = from-step (sources sent) m h.node event came i
 
 -- a host's node takes an event
 pub few-after : {S : Type 0} (m : Meaning S) (sent : List Sent) (h : Host S) (o : Outcome S) → FromSources (sources sent) o.node → 0 < length o.node.entries
-    → (life_firm h.life o.node).diary ≡ take o.node.firm o.node.entries → FewHost sent h → FewHost sent (host_after (course_of m) h o)
+    → (life_firm h.life h.node o.node).diary ≡ take o.node.firm o.node.entries → FewHost sent h → FewHost sent (host_after (course_of m) h o)
 few-after m sent h o node some same is = record {
   node = from-released (sources sent) o.node node;
   begun = some;
@@ -122,14 +124,16 @@ pub few-called : {S : Type 0} (m : Meaning S) (sent : List Sent) (h : Host S) �
 few-called m sent h is = record { node = is.node; begun = is.begun; diary = is.diary; aside = aside-from (sources sent) (after_call (course_of m) h).store h.life.aside is.aside }
 
 -- the book of which a crash leaves the first entries
-pub few-left : {S : Type 0} (sent : List Sent) (h : Host S) → FewHost sent h → FromBook (sources sent) (book_left h)
-few-left sent h is = either (λ (es : List LogEntry). FromBook (sources sent) es) (is_unclosed h.store.log.job) h.life.aside h.node.entries is.aside is.node.book
+pub few-left : {S : Type 0} (sent : List Sent) (h : Host S) → written h ≡ h.node.entries → FewHost sent h → FromBook (sources sent) (book_left h)
+few-left sent h own is =
+    either (λ (es : List LogEntry). FromBook (sources sent) es) (is_unclosed h.store.log.job) h.life.aside (written h) is.aside
+    (subst (λ (es : List LogEntry). FromBook (sources sent) es) (sym own) is.node.book)
 
 -- a host's member crashes
-pub few-crashed : {S : Type 0} (m : Meaning S) (sent : List Sent) (h : Host S) (left : Images) (k : ℕ) → (life_crashed h left).diary ≡ take k (book_left h) → FewHost sent h
+pub few-crashed : {S : Type 0} (m : Meaning S) (sent : List Sent) (h : Host S) (left : Images) (k : ℕ) → written h ≡ h.node.entries → (life_crashed h left).diary ≡ take k (book_left h) → FewHost sent h
     → FewHost sent (host_crashed (course_of m) h left)
-few-crashed m sent h left k same is =
-    let book : FromBook (sources sent) (book_left h) = few-left sent h is in
+few-crashed m sent h left k own same is =
+    let book : FromBook (sources sent) (book_left h) = few-left sent h own is in
     record {
       node = is.node;
       begun = is.begun;
@@ -138,16 +142,16 @@ few-crashed m sent h left k same is =
     }
 
 -- a node that goes on has an opened book
-pub begun-reopened : {S : Type 0} (m : Meaning S) (secret : List ℕ) (id : ℕ) (view : View) (period : ℕ) (entries : List LogEntry) → 0 < length (reopened m secret id view period entries).entries
+pub begun-reopened : {S : Type 0} (m : Meaning S) (secret : List ℕ) (id : ℕ) (view : View) (period : ℕ) (entries : List LogEntry) → 0 < length (reopened m (outset m secret id view period) entries).entries
 unfolding reopened
 begun-reopened m secret id view period [] = omega arith
-begun-reopened {S = S} m secret id view period (e ∷ es) = subst (λ (n : Node S). 0 < length n.entries) (sym (reopened_is m secret id view period e es)) (omega arith)
+begun-reopened {S = S} m secret id view period (e ∷ es) = subst (λ (n : Node S). 0 < length n.entries) (sym (reopened_is m (outset m secret id view period) e es)) (omega arith)
 
 -- a host that has just opened
-pub few-opened : {S : Type 0} (m : Meaning S) (sent : List Sent) (id : ℕ) (view : View) → FewHost sent (host_of_node (opened m group_secret id view 1024))
+pub few-opened : {S : Type 0} (m : Meaning S) (sent : List Sent) (id : ℕ) (view : View) → FewHost sent (host_of_node (opened (outset_of m view id)))
 few-opened m sent id view =
-    let from = from-opened (sources sent) m group_secret id view 1024 in
-    let none : FromBook (sources sent) [] = from-take (sources sent) (opened m group_secret id view 1024).entries 0 from.book in
+    let from = from-opened (sources sent) m group_secret id view period in
+    let none : FromBook (sources sent) [] = from-take (sources sent) (opened (outset_of m view id)).entries 0 from.book in
     record { node = from; begun = omega arith; diary = none; aside = none }
 
 -- ---- bounds
@@ -161,13 +165,15 @@ few-book secret stated view sent es book from few =
     omega (arith, most, long, few)
 
 -- no more of them are decisions
-pub few-decided : (es : List LogEntry) → length (decided_of es) ≤ length es
+pub few-decided : (es : List LogEntry) → length (decided_of 0 es) ≤ length es
 few-decided [] = omega arith
 few-decided (Opened o ∷ es) = let rest = few-decided es in omega (arith, rest)
 few-decided (Wrote w ∷ es) = let rest = few-decided es in omega (arith, rest)
 few-decided (Accepted a ∷ es) = let rest = few-decided es in omega (arith, rest)
 few-decided (Promised p ∷ es) = let rest = few-decided es in omega (arith, rest)
 few-decided (Synced s ∷ es) = let rest = few-decided es in omega (arith, rest)
-few-decided (Decided d ∷ es) = let rest = few-decided es in omega (arith, rest)
+few-decided (Decided d ∷ es) =
+    let rest = few-decided es in
+    either (λ (o : Option Batch). length (cons_option o (decided_of 0 es)) ≤ length (Decided d ∷ es)) (nat_lt 0 d.slot.place) (Some d.batch) None (omega (arith, rest)) (omega (arith, rest))
 few-decided (Installed i ∷ es) = let rest = few-decided es in omega (arith, rest)
 few-decided (Marked k ∷ es) = let rest = few-decided es in omega (arith, rest)

@@ -1,5 +1,5 @@
 -- Each message that is sent in a play over a view is read as itself, and its statements bear the tags of their signers.
-use Rattle.std.proofs.Common.{◌≡◌, ap, sym, ◌∙◌, ℕ, zero, suc, ◌+◌, ◌*◌, ◌^◌, ◌<◌, ◌≤◌, ◌&&◌, true, List, [], ◌∷◌, length, refl, subst, Some, None, nat_lt, nat_le, inl, inr, arith, Result, Ok, Err, length-append, Bool, Option}
+use Rattle.std.proofs.Common.{◌≡◌, ap, sym, ◌∙◌, ℕ, zero, suc, ◌+◌, ◌*◌, ◌^◌, ◌<◌, ◌≤◌, ◌&&◌, true, List, [], ◌∷◌, length, refl, subst, Some, None, nat_lt, nat_le, inl, inr, arith, Result, Ok, Err, length-append}
 use Rattle.std.proofs.lemmas.Bool.{ltb-true, leb-true}
 use Rattle.std.specs.Prelude.{slice_get}
 use Rattle.smart_base.specs.Lists.{Each}
@@ -20,7 +20,7 @@ use Rattle.node_rules.specs.Steps.{Outcome, step_of, leaving}
 use Rattle.node_rules.specs.declared.node.Held.{Held}
 use Rattle.client_quorum.specs.Clients.{request_of, asking, learning, after_heard, reply_read}
 use Rattle.world_rules.specs.Clients.{heard}
-use Rattle.world_rules.specs.Worlds.{course_of, Host, Life, World, host_crashed, host_resumed, posts, sends_all, host_after, stepped, hearing, hosts_from, clients_from, begun}
+use Rattle.world_rules.specs.Worlds.{course_of, Host, Life, World, host_crashed, host_resumed, posts, sends_all, host_after, stepped, hearing, hosts_from, clients_from, begun, outset_of}
 use Rattle.client_quorum.specs.declared.client.Client.{Client}
 use Rattle.client_quorum.specs.declared.client.Heard.{Heard}
 use Rattle.client_quorum.specs.declared.client.Heard.TheVariants as hears
@@ -32,16 +32,15 @@ use Rattle.world_laws.proofs.Lists.{each_set, each_get}
 use Rattle.world_laws.proofs.Keeps.{with_host, entries_left, node_resumed, after_call, MayCome, read_whole, read_fits, long_unread, ask_of, asked_by, Keeps, by-posts, ReadsSent, signed_by, OwnWaits, from_node, from_client, HasContent, IsRead, read_has, from_script}
 use Rattle.smart_statements.specs.Kinds.{requests, proposals, ballots, answers}
 use Rattle.smart_statements.specs.Statements.{request_small}
-use Rattle.smart_messages.specs.declared.message.Message.TheVariants as changes
 use Rattle.replica_rules.specs.Seals.{signed}
-use Rattle.world_rules.specs.Secrets.{group_secret}
+use Rattle.world_rules.specs.Secrets.{group_secret, period}
 use Rattle.replica_laws.proofs.Genuine.{IsGood, signed-length, good-genuine, signed-verified, signed-fits, ask-good}
 use Rattle.replica_laws.proofs.FitNodes.{IsBrief, FitsEvent, fit-released}
 use Rattle.replica_laws.proofs.FitNodes as nodes
 use Rattle.replica_laws.proofs.FitBooks.{FitBook, spelled-step, spelled-opened}
 use Rattle.vote_book.specs.Entries.{FitsEntry}
 use Rattle.vote_book.specs.declared.entry.LogEntry.{LogEntry}
-use Rattle.node_rules.specs.Nodes.{Node}
+use Rattle.node_rules.specs.Nodes.{Node, view_of}
 use Rattle.node_rules.specs.Reopening.{decided_of, entries_in, reopened}
 use Rattle.durable_store.specs.Exact.{store_called}
 use Rattle.world_laws.proofs.Lives.{EachLife, life-weaker, life-firm, life-called, life-crashed}
@@ -140,18 +139,18 @@ fit-posts {S = S} {m = m} w s read tagged is =
     })
 
 -- messages of a node leave
-fit-sends_all : {S : Type 0} {m : Meaning S} (id : ℕ) (w : World S) (held : List Held) → Each (λ h. IsGood group_secret h.message) held → AllFit m w → AllFit m (sends_all id w held)
-fit-sends_all id w [] each is = is
-fit-sends_all id w (h ∷ hs) each is = fit-sends_all id (posts w (from_node id h)) hs each.1 (fit-posts w (from_node id h) each.0.fits each.0 is)
+fit-sends_all : {S : Type 0} {m : Meaning S} (id : ℕ) (view : View) (w : World S) (held : List Held) → Each (λ h. IsGood group_secret h.message) held → AllFit m w → AllFit m (sends_all id view w held)
+fit-sends_all id view w [] each is = is
+fit-sends_all id view w (h ∷ hs) each is = fit-sends_all id view (posts w (from_node id view h)) hs each.1 (fit-posts w (from_node id view h) each.0.fits each.0 is)
 
 -- a host's node takes an event
 fit-after : {S : Type 0} (m : Meaning S) (h : Host S) (o : Outcome S) → FitBook m group_secret o.node → FitHost m h → FitHost m (host_after (course_of m) h o)
-fit-after m h o fit is = record { node = record { node = fit-released group_secret o.node fit.node; book = fit.book }; life = life-firm EntryFits h.life o.node (book_fits o.node fit) is.life }
+fit-after m h o fit is = record { node = record { node = fit-released group_secret o.node fit.node; book = fit.book }; life = life-firm EntryFits h.life h.node o.node (book_fits o.node fit) is.life }
 
 fit-stepped : {S : Type 0} (m : Meaning S) (w : World S) (i : ℕ) (h : Host S) (o : Outcome S) → slice_get w.hosts i ≡ Some h → FitBook m group_secret o.node → AllFit m w → AllFit m (stepped (course_of m) w i h o)
 unfolding stepped
 fit-stepped {S = S} m w i h o at fit is =
-    fit-sends_all h.node.id _ (leaving o.node.firm o.node.held) (each-leaving (λ (x : Held). IsGood group_secret x.message) o.node.firm o.node.held fit.node.held)
+    fit-sends_all h.node.id (view_of o.node) _ (leaving o.node.firm o.node.held) (each-leaving (λ (x : Held). IsGood group_secret x.message) o.node.firm o.node.held fit.node.held)
     (record {
       hosts = each_set (FitHost m) w.hosts i (host_after (course_of m) h o) is.hosts (fit-after m h o fit (each_get (FitHost m) w.hosts i h is.hosts at));
       clients = is.clients;
@@ -165,13 +164,13 @@ fit-set {m = m} w i h fit is = record { hosts = each_set (FitHost m) w.hosts i h
 
 -- a node goes on from entries that have spellings
 pub fit-resumes : {S : Type 0} (m : Meaning S) → IsBrief m → (w : World S) (i : ℕ) (h : Host S) → slice_get w.hosts i ≡ Some h → is_view w.view ≡ true → entries_in (entries_left h) ≡ h.life.diary
-    → length (decided_of h.life.diary) < 2 ^ 63 → AllFit m w → AllFit m (with_host w i (host_resumed h (node_resumed (course_of m) w h)))
+    → length (decided_of 0 h.life.diary) < 2 ^ 63 → AllFit m w → AllFit m (with_host w i (host_resumed h (node_resumed (course_of m) w h)))
 fit-resumes {S = S} m brief w i h at viewed same few is =
     let fit : FitHost m h = each_get (FitHost m) w.hosts i h is.hosts at in
     let kept : Each (nodes.FitsEntry group_secret) h.life.diary = each-weaken EntryFits (nodes.FitsEntry group_secret) (λ e fits. fits.0) h.life.diary fit.life.diary in
     let node : FitBook m group_secret (node_resumed (course_of m) w h) =
-    subst (λ (es : List LogEntry). FitBook m group_secret (reopened m group_secret h.node.id w.view 1024 es)) (sym same)
-    (fit_reopened group_secret m brief h.node.id w.view 1024 h.life.diary fit.node.node.named viewed (omega arith) kept (spelled-life h.life fit.life).diary few) in
+    subst (λ (es : List LogEntry). FitBook m group_secret (reopened m (outset_of m w.view h.node.id) es)) (sym same)
+    (fit_reopened group_secret m brief h.node.id w.view period h.life.diary fit.node.node.named viewed (omega arith) kept (spelled-life h.life fit.life).diary few) in
     fit-set w i (host_resumed h (node_resumed (course_of m) w h)) (record { node = node; life = fit.life }) is
 
 -- where no request waits
@@ -218,7 +217,7 @@ keeps-fit {S = S} m brief =
           let fit = each_get FitClient w.clients i c is.clients at in
           let new : FitsRequest c.id (request_of c op) = record { client_is = refl; client_fits = fit.named; seq_fits = (omega arith, few); after_fits = fit.seen; op_fits = brief } in
           let good : IsGood group_secret (ask_of c op) = client-good c.id (request_of c op) new in
-          fit-posts (asked_by w i c op) (from_client c (ask_of c op)) good.fits good
+          fit-posts (asked_by w i c op) (from_client w.view c (ask_of c op)) good.fits good
           (record {
             hosts = is.hosts;
             clients = each_set FitClient w.clients i (asking c (request_of c op)) is.clients (record { named = fit.named; seen = fit.seen; waits = one_waits c.id (request_of c op) new });
@@ -227,7 +226,7 @@ keeps-fit {S = S} m brief =
           });
       again = λ w i c q at waits is.
           let good : IsGood group_secret (signed_by c q) = client-good c.id q ((each_get FitClient w.clients i c is.clients at).waits q waits) in
-          fit-posts w (from_client c (signed_by c q)) good.fits good is;
+          fit-posts w (from_client w.view c (signed_by c q)) good.fits good is;
       learn = λ w i j c d at other is.
           let fit = each_get FitClient w.clients i c is.clients at in
           record {
@@ -268,7 +267,7 @@ view_parts v is =
 hosts_fit : {S : Type 0} (m : Meaning S) (view : View) (ids : List ℕ) → is_view view ≡ true → Each (IsSigner 1) ids → Each (FitHost m) (hosts_from m view ids)
 hosts_fit m view [] low each = tt
 hosts_fit m view (id ∷ ids) low each =
-    (record { node = spelled-opened group_secret m id view 1024 each.0 low (omega arith); life = record { diary = tt; aside = tt } }, hosts_fit m view ids low each.1)
+    (record { node = spelled-opened group_secret m id view period each.0 low (omega arith); life = record { diary = tt; aside = tt } }, hosts_fit m view ids low each.1)
 
 -- clients that have not asked
 clients_fit : (count i : ℕ) → i + count ≤ 2 ^ 16 → Each FitClient (clients_from count i)

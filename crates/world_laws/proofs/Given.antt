@@ -3,12 +3,11 @@ use Rattle.std.proofs.Common.{◌≡◌, ℕ, ◌≤◌, ◌++◌, ◌==◌, Boo
 use Rattle.std.proofs.lemmas.Bool.{leb-true, or_left, or_right, and_from}
 use Rattle.std.specs.List.{list_any}
 use Rattle.smart_base.specs.Lists.{Each, same_bytes}
-use Rattle.smart_base.specs.Views.{View, quorum}
+use Rattle.smart_base.specs.Views.{View, weight_of, quorum}
 use Rattle.smart_statements.specs.Forms.{SignedBy}
 use Rattle.smart_statements.specs.Kinds as kinds
 use Rattle.smart_statements.specs.declared.statement.Request.{Request}
 use Rattle.smart_statements.specs.declared.statement.Answer.{Answer}
-use Rattle.smart_messages.specs.declared.message.Message.TheVariants.{Reply}
 use Rattle.replica_rules.specs.Seals.{is_verified}
 use Rattle.world_rules.specs.Secrets.{group_secret}
 use Rattle.client_quorum.specs.Clients as clients
@@ -104,14 +103,14 @@ keeps_heard Given v c a given kept = by (why_ignored v c a) c.waiting refl refl
 
 -- what a client accepts, a quorum gave
 pub quorum_gave : (Given : SignedBy Answer → Type 0) (test : Acceptance → ℕ → Bool) → ((q : Request) (a : Answer) (r : SignedBy Answer) → Given r → is_verified kinds.answers group_secret r ≡ true → r.statement.client ≡ q.client → is_reply (acceptance q a) r ≡ true → test (acceptance q a) r.signer ≡ true)
-    → (v : View) (c : Client) (a : SignedBy Answer) (acc : Acceptance) → Given a → ClientKeeps Given c → Accepts v c a acc → quorum v ≤ length (filter (test acc) v.members)
+    → (v : View) (c : Client) (a : SignedBy Answer) (acc : Acceptance) → Given a → ClientKeeps Given c → Accepts v c a acc → quorum v ≤ weight_of v (filter (test acc) v.members)
 quorum_gave Given test gives v c a acc given kept taken =
     let q : Request = taken.request in
     let last : IsKept Given c.waiting a = kept_last Given v c a q given taken.counts in
     let all : Each (IsKept Given (Some q)) (c.replies ++ a ∷ []) =
     subst (λ (waiting : Option Request). Each (IsKept Given waiting) (c.replies ++ a ∷ [])) taken.counts.waits (each_end (IsKept Given c.waiting) c.replies a kept last) in
-    let enough : quorum v ≤ length (filter (has_answer (c.replies ++ a ∷ []) a.statement) v.members) = leb-true (quorum v) (have v (c.replies ++ a ∷ []) a.statement) taken.enough in
-    subst (λ (b : Acceptance). quorum v ≤ length (filter (test b) v.members)) (sym taken.is)
+    let enough : quorum v ≤ weight_of v (filter (has_answer (c.replies ++ a ∷ []) a.statement) v.members) = leb-true (quorum v) (have v (c.replies ++ a ∷ []) a.statement) taken.enough in
+    subst (λ (b : Acceptance). quorum v ≤ weight_of v (filter (test b) v.members)) (sym taken.is)
     (omega (
       arith,
       enough,

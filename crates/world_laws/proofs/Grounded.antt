@@ -13,11 +13,10 @@ use Rattle.smart_messages.specs.declared.regency.Sync.{Sync}
 use Rattle.smart_messages.specs.declared.message.Proposed.{Proposed}
 use Rattle.smart_messages.specs.declared.message.Message.{Message}
 use Rattle.smart_messages.specs.declared.message.Message.TheVariants.{Ask, Propose, Vote, Reply}
-use Rattle.smart_messages.specs.declared.message.Message.TheVariants as changes
 use Rattle.smart_statements.specs.declared.entry.NodeEvent.{NodeEvent}
 use Rattle.smart_statements.specs.declared.entry.NodeEvent.TheVariants.{Arrive, Tick, Deliver, Firm}
 use Rattle.smart_service.specs.Services.{Meaning}
-use Rattle.smart_service.specs.declared.table.TableLine.{TableLine}
+use Rattle.smart_service.specs.declared.table.Execution.{Execution}
 use Rattle.vote_book.specs.BookReports.{accept_for}
 use Rattle.vote_book.specs.Admission.{accepts_in}
 use Rattle.vote_book.specs.declared.entry.Accept as accept
@@ -31,9 +30,9 @@ use Rattle.node_rules.specs.Rules.{reply_of, replying, lines_to_answer, deliver_
 use Rattle.node_rules.specs.Nodes.{Node, view_of, regency_of, next_place, open_slot, is_open, holding}
 use Rattle.node_rules.specs.Arrivals.{noted, kept}
 use Rattle.node_rules.specs.Changes.{adopts_by, adopts, adoption, asks_next, joining, joins, promising, promise_next, promises, leading, lead_with, leads, timing, passes_on, presses, times}
-use Rattle.node_rules.specs.Steps.{Outcome, step_of, leaving}
+use Rattle.node_rules.specs.Steps.{Outcome, step_of, leaving, outset}
 use Rattle.node_rules.specs.declared.node.Target.TheVariants as targets
-use Rattle.world_rules.specs.Premises.{met, batches}
+use Rattle.world_rules.specs.Premises.{batches_met, batches}
 use Rattle.world_rules.specs.Worlds.{course_of, Host, World, host_crashed, host_resumed, posts, chosen_with, host_after, stepped, hearing, hosts_from, begun}
 use Rattle.world_rules.specs.declared.message.Sent.{Sent}
 use Rattle.world_rules.specs.declared.message.Content.{Content}
@@ -43,7 +42,8 @@ use Rattle.node_laws.proofs.Deciding.{due_is, accept_for_is}
 use Rattle.replica_laws.proofs.Once.{entries_adopted}
 use Rattle.node_rules.proofs.Rulewise.{KeptByRules, keeps_step, ForRead, ForEvent}
 use Rattle.world_laws.proofs.Lists.{each_set, each_get}
-use Rattle.world_laws.proofs.Certified.{Exact}
+use Rattle.agreement_laws.specs.Lists.{Exact}
+use Rattle.replica_rules.specs.Seals.{digest_of}
 use Rattle.world_laws.proofs.Keeps.{with_host, entries_left, node_resumed, after_call, HasMessage, ask_of, asked_by, Keeps, by-posts, ReadsSent, MayRead, may_read, signed_by, from_node, from_client, comes-as, keeps-sends_all, from_script}
 use Rattle.replica_laws.proofs.FitNodes.{IsBrief}
 use Rattle.world_laws.proofs.Fitting.{AllFit, keeps-fit, fit-reads, fit-resumes, fit-begun}
@@ -51,7 +51,7 @@ use Rattle.world_laws.proofs.Lives.{EachLife, life-weaker, life-firm, life-calle
 use Rattle.node_rules.specs.Reopening.{decided_of, entries_in, reopened}
 use Rattle.node_laws.proofs.Reopened.{reopened_is}
 use Rattle.durable_store.specs.Exact.{store_called}
-use Rattle.world_rules.specs.Secrets.{group_secret}
+use Rattle.world_rules.specs.Secrets.{group_secret, period}
 use Rattle.world_laws.proofs.NoClash.{HasBatch, IsMet, has-left, has-right, met-grows, TextsExact, texts-end, met-exact}
 use Rattle.agreement_laws.proofs.Lists.{some_equal, each_among, each_append, either, each_end}
 use Rattle.smart_base.proofs.ViewFacts.{each-weaken}
@@ -91,7 +91,7 @@ pub record NodeMet {S : Type 0} (M : Batch → Type 0) (n : Node S) : Type 0 whe
   pub waiting : ForBatch n.waiting M
 
 -- replies wait to leave
-met-replying : {S : Type 0} (M : Batch → Type 0) (n : Node S) (lines : List TableLine) → NodeMet M n → NodeMet M (replying n lines)
+met-replying : {S : Type 0} (M : Batch → Type 0) (n : Node S) (lines : List Execution) → NodeMet M n → NodeMet M (replying n lines)
 met-replying M n [] is = is
 met-replying M n (l ∷ ls) is =
     met-replying M (holding n (targets.Client l.client) (reply_of n.secret n.id l)) ls (record { arrivals = is.arrivals; entries = is.entries; waiting = is.waiting })
@@ -113,7 +113,7 @@ unfolding noted
 met-noted M n message is = record { arrivals = is.arrivals; entries = is.entries; waiting = is.waiting }
 
 -- a node answers again
-met-answer_line : {S : Type 0} (M : Batch → Type 0) (n : Node S) (line : Option TableLine) → NodeMet M n → NodeMet M (answer_line n line)
+met-answer_line : {S : Type 0} (M : Batch → Type 0) (n : Node S) (line : Option Execution) → NodeMet M n → NodeMet M (answer_line n line)
 unfolding answer_line
 met-answer_line M n None is = is
 met-answer_line M n (Some line) is = record { arrivals = is.arrivals; entries = is.entries; waiting = is.waiting }
@@ -272,6 +272,8 @@ met-rules M = record {
   by_writes = met-writes M;
   by_accepts = met-accepts M;
   by_decides = met-decides M;
+  by_times = met-times M;
+  by_answers = met-answers_again M;
 }
 
 met-step : {S : Type 0} (M : Batch → Type 0) (m : Meaning S) (n : Node S) (event : NodeEvent) → ForEvent (ProposalMet M) event → NodeMet M n → NodeMet M (step_of m n event).node
@@ -279,12 +281,11 @@ met-step {S = S} M m n event may is =
     keeps_step m (λ (x : Node S). NodeMet M x) (ProposalMet M) n event
     (record {
       by_rules = met-rules M;
-      by_times = met-times M;
-      by_answers = met-answers_again M;
       by_noted = met-noted M;
       by_kept = λ n message fine may is. met-kept M n message may is;
       by_delivers = met-delivers M m;
-    }) (λ x count is. record { arrivals = is.arrivals; entries = is.entries; waiting = is.waiting }) may is
+      by_firm = λ x count is. record { arrivals = is.arrivals; entries = is.entries; waiting = is.waiting };
+    }) may is
 
 -- more counts as met
 
@@ -312,11 +313,11 @@ met-weaker M N weaker n is =
 
 -- a node that goes on after a crash; an opening has no batch
 pub met_reopened : {S : Type 0} (M : Batch → Type 0) (m : Meaning S) (secret : List ℕ) (id : ℕ) (view : View) (period : ℕ) (entries : List LogEntry) → Each (EntryMet M) entries
-    → NodeMet M (reopened m secret id view period entries)
+    → NodeMet M (reopened m (outset m secret id view period) entries)
 unfolding reopened
 met_reopened M m secret id view period [] met = record { arrivals = tt; entries = (tt, tt); waiting = tt }
 met_reopened {S = S} M m secret id view period (e ∷ es) met =
-    subst (λ (n : Node S). NodeMet M n) (sym (reopened_is m secret id view period e es)) (record { arrivals = tt; entries = met; waiting = tt })
+    subst (λ (n : Node S). NodeMet M n) (sym (reopened_is m (outset m secret id view period) e es)) (record { arrivals = tt; entries = met; waiting = tt })
 
 -- each batch at a host was met, of all lives of its member
 pub record HostMet {S : Type 0} (M : Batch → Type 0) (h : Host S) : Type 0 where
@@ -335,9 +336,9 @@ pub record Grounded {S : Type 0} (m : Meaning S) (w : World S) : Type 0 where
   pub hosts : Each (HostMet (IsMet w.sent)) w.hosts
   pub chosen : Each (IsMet w.sent) w.chosen
 
--- so batches that were met are one where their digests are
-pub grounded-exact : {S : Type 0} {m : Meaning S} (w : World S) → Grounded m w → Exact (IsMet w.sent)
-grounded-exact w is = met-exact w.sent is.fit.sent is.texts
+-- so batches that were met are those of the list where their digests are
+pub grounded-exact : {S : Type 0} {m : Meaning S} (w : World S) (xs : List Batch) → Grounded m w → Each (IsMet w.sent) xs → Exact digest_of xs w.chosen
+grounded-exact w xs is met = met-exact w.sent xs w.chosen is.fit.sent is.texts met is.chosen
 
 -- and what was sent is read
 pub grounded-reads : {S : Type 0} {m : Meaning S} (w : World S) → Grounded m w → ReadsSent w
@@ -368,13 +369,13 @@ chosen_with-met M chosen place (Some batch) each met =
 
 -- a host's node takes an event
 met-after : {S : Type 0} (M : Batch → Type 0) (m : Meaning S) (h : Host S) (o : Outcome S) → NodeMet M o.node → HostMet M h → HostMet M (host_after (course_of m) h o)
-met-after M m h o met is = record { node = record { arrivals = met.arrivals; entries = met.entries; waiting = met.waiting }; life = life-firm (EntryMet M) h.life o.node met.entries is.life }
+met-after M m h o met is = record { node = record { arrivals = met.arrivals; entries = met.entries; waiting = met.waiting }; life = life-firm (EntryMet M) h.life h.node o.node met.entries is.life }
 
 met-stepped : {S : Type 0} (m : Meaning S) (w : World S) (i : ℕ) (h : Host S) (o : Outcome S) → slice_get w.hosts i ≡ Some h → NodeMet (IsMet w.sent) o.node → Met w → Met (stepped (course_of m) w i h o)
 unfolding stepped
 met-stepped {S = S} m w i h o at met is =
     let M : Batch → Type 0 = IsMet w.sent in
-    keeps-sends_all Met h.node.id (λ v held met. met-posts v (from_node h.node.id held) met) _ (leaving o.node.firm o.node.held)
+    keeps-sends_all Met h.node.id (view_of o.node) (λ v held met. met-posts v (from_node h.node.id (view_of o.node) held) met) _ (leaving o.node.firm o.node.held)
     (record {
       texts = is.texts;
       hosts = each_set (HostMet M) w.hosts i (host_after (course_of m) h o) is.hosts (met-after M m h o met (each_get (HostMet M) w.hosts i h is.hosts at));
@@ -386,8 +387,8 @@ has-met : (sent : List Sent) (p : Proposed) → HasMessage sent (Propose p) → 
 has-met [] p has = absurd has
 has-met (s ∷ sent) p has =
     elim has [
-      | inl here ↦ has-left (batches s.content) (met sent) p.batch (subst (λ (y : Content). HasBatch (batches y) p.batch) (sym here) (inl refl))
-      | inr later ↦ has-right (batches s.content) (met sent) p.batch (has-met sent p later)
+      | inl here ↦ has-left (batches s.content) (batches_met sent) p.batch (subst (λ (y : Content). HasBatch (batches y) p.batch) (sym here) (inl refl))
+      | inr later ↦ has-right (batches s.content) (batches_met sent) p.batch (has-met sent p later)
     ]
 
 message-met : (sent : List Sent) (message : Message) → HasMessage sent message → ProposalMet (IsMet sent) message
@@ -413,11 +414,11 @@ met-set w i h fit met is = record { fit = fit; texts = is.texts; hosts = each_se
 
 -- a node goes on from entries whose batches were met
 pub grounded-resumes : {S : Type 0} (m : Meaning S) → IsBrief m → (w : World S) (i : ℕ) (h : Host S) → slice_get w.hosts i ≡ Some h → is_view w.view ≡ true → entries_in (entries_left h) ≡ h.life.diary
-    → length (decided_of h.life.diary) < 2 ^ 63 → Grounded m w → Grounded m (with_host w i (host_resumed h (node_resumed (course_of m) w h)))
+    → length (decided_of 0 h.life.diary) < 2 ^ 63 → Grounded m w → Grounded m (with_host w i (host_resumed h (node_resumed (course_of m) w h)))
 grounded-resumes {S = S} m brief w i h at viewed same few is =
     let met : HostMet (IsMet w.sent) h = each_get (HostMet (IsMet w.sent)) w.hosts i h is.hosts at in
     let node : NodeMet (IsMet w.sent) (node_resumed (course_of m) w h) =
-    met_reopened (IsMet w.sent) m group_secret h.node.id w.view 1024 (entries_in (entries_left h)) (subst (λ (es : List LogEntry). Each (EntryMet (IsMet w.sent)) es) (sym same) met.life.diary) in
+    met_reopened (IsMet w.sent) m group_secret h.node.id w.view period (entries_in (entries_left h)) (subst (λ (es : List LogEntry). Each (EntryMet (IsMet w.sent)) es) (sym same) met.life.diary) in
     met-set w i (host_resumed h (node_resumed (course_of m) w h)) (fit-resumes m brief w i h at viewed same few is.fit) (record { node = node; life = met.life }) is
 
 -- each event keeps that
@@ -441,10 +442,10 @@ keeps-grounded {S = S} m brief =
           (record { node = met.node; life = life-crashed (EntryMet (IsMet w.sent)) h left met.node.entries met.life }) is;
       hear = λ w i c x a at has read is. record { fit = k.hear w i c x a at has read is.fit; texts = is.texts; hosts = is.hosts; chosen = is.chosen };
       ask = λ w i c op at free few short is.
-          whole (posts (asked_by w i c op) (from_client c (ask_of c op))) (k.ask w i c op at free few short is.fit)
-          (met-posts (asked_by w i c op) (from_client c (ask_of c op)) (record { texts = is.texts; hosts = is.hosts; chosen = is.chosen }));
+          whole (posts (asked_by w i c op) (from_client w.view c (ask_of c op))) (k.ask w i c op at free few short is.fit)
+          (met-posts (asked_by w i c op) (from_client w.view c (ask_of c op)) (record { texts = is.texts; hosts = is.hosts; chosen = is.chosen }));
       again = λ w i c q at waits is.
-          whole (posts w (from_client c (signed_by c q))) (k.again w i c q at waits is.fit) (met-posts w (from_client c (signed_by c q)) (part w is));
+          whole (posts w (from_client w.view c (signed_by c q))) (k.again w i c q at waits is.fit) (met-posts w (from_client w.view c (signed_by c q)) (part w is));
       learn = λ w i j c d at other is. record { fit = k.learn w i j c d at other is.fit; texts = is.texts; hosts = is.hosts; chosen = is.chosen };
       inject = λ w x read fine is. whole (posts w (from_script x)) (k.inject w x read fine is.fit) (met-posts w (from_script x) (part w is));
       declare = λ w faulty rogue ending how is. record { fit = k.declare w faulty rogue ending how is.fit; texts = is.texts; hosts = is.hosts; chosen = is.chosen };

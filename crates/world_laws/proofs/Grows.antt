@@ -5,7 +5,7 @@ use Rattle.smart_statements.specs.Forms.{SignedBy}
 use Rattle.smart_statements.specs.Batches.{Batch}
 use Rattle.smart_statements.specs.declared.statement.Answer.{Answer}
 use Rattle.smart_service.specs.Services.{Meaning}
-use Rattle.node_rules.specs.Nodes.{next_place}
+use Rattle.node_rules.specs.Nodes.{next_place, view_of}
 use Rattle.node_rules.specs.Steps.{Outcome, leaving}
 use Rattle.world_rules.specs.Clients.{heard}
 use Rattle.world_rules.specs.Worlds.{Course, course_of, Host, World, posts, chosen_with, stepped, hearing, begun}
@@ -41,13 +41,13 @@ front-chosen_with front chosen place (Some batch) is =
 chosen-stepped : {S : Type 0} (course : Course S) (w : World S) (i : ℕ) (h : Host S) (o : Outcome S) → (stepped course w i h o).chosen ≡ chosen_with w.chosen (next_place o.node) o.node.waiting
 unfolding stepped
 chosen-stepped {S = S} course w i h o =
-    keeps-sends_all (λ (v : World S). v.chosen ≡ chosen_with w.chosen (next_place o.node) o.node.waiting) h.node.id (λ v held is. chosen-posts v (from_node h.node.id held) ∙ is) _
+    keeps-sends_all (λ (v : World S). v.chosen ≡ chosen_with w.chosen (next_place o.node) o.node.waiting) h.node.id (view_of o.node) (λ v held is. chosen-posts v (from_node h.node.id (view_of o.node) held) ∙ is) _
     (leaving o.node.firm o.node.held) refl
 
 -- a step keeps the view
 view-stepped : {S : Type 0} (course : Course S) (w : World S) (i : ℕ) (h : Host S) (o : Outcome S) → (stepped course w i h o).view ≡ w.view
 unfolding stepped
-view-stepped {S = S} course w i h o = keeps-sends_all (λ (v : World S). v.view ≡ w.view) h.node.id (λ v held is. view-posts v (from_node h.node.id held) ∙ is) _ (leaving o.node.firm o.node.held) refl
+view-stepped {S = S} course w i h o = keeps-sends_all (λ (v : World S). v.view ≡ w.view) h.node.id (view_of o.node) (λ v held is. view-posts v (from_node h.node.id (view_of o.node) held) ∙ is) _ (leaving o.node.firm o.node.held) refl
 
 -- a client that hears keeps the list
 chosen-hearing : {S : Type 0} (w : World S) (i : ℕ) (c : Client) (a : SignedBy Answer) (h : Heard) → (hearing w i c a h).chosen ≡ w.chosen
@@ -87,8 +87,8 @@ view-kept course view =
         disk = λ w i h up at is. is;
         crash = λ w i h left up at may is. is;
         hear = λ w i c x a at has read is. view-hearing w i c a (heard w.view c a) ∙ is;
-        ask = λ w i c op at free few brief is. view-posts (asked_by w i c op) (from_client c (ask_of c op)) ∙ is;
-        again = λ w i c q at waits is. view-posts w (from_client c (signed_by c q)) ∙ is;
+        ask = λ w i c op at free few brief is. view-posts (asked_by w i c op) (from_client w.view c (ask_of c op)) ∙ is;
+        again = λ w i c q at waits is. view-posts w (from_client w.view c (signed_by c q)) ∙ is;
         learn = λ w i j c d at other is. is;
         inject = λ w x read fine is. view-posts w (from_script x) ∙ is;
         declare = λ w faulty rogue ending how is. is;

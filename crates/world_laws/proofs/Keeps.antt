@@ -3,26 +3,22 @@ use Rattle.std.proofs.Common.{◌≡◌, not, ℕ, zero, suc, ◌+◌, ◌^◌, 
 use Rattle.std.proofs.lemmas.Bool.{ltb-true, leb-true, leb-false, or_parts}
 use Rattle.std.specs.Prelude.{slice_get, slice_set, get_or}
 use Rattle.std.specs.Option.{option_and_then}
-use Rattle.std.specs.Int.{w8}
 use Rattle.std.proofs.lemmas.List.{length-drop}
-use Rattle.smart_base.specs.Cuts.{IsBytes, Cut, ◌>>=◌, whole, limited, ranged, number_at}
-use Rattle.smart_base.specs.Spelling.{u8}
-use Rattle.smart_base.specs.FieldLaws.{u8_law}
-use Rattle.smart_base.specs.Laws.{bind_is}
+use Rattle.smart_base.specs.Cuts.{IsBytes, Cut, whole, limited}
 use Rattle.smart_base.specs.Lists.{or_else, Each}
+use Rattle.smart_base.specs.Views.{View}
 use Rattle.smart_statements.specs.Forms.{SignedBy}
 use Rattle.smart_statements.specs.Kinds.{requests}
-use Rattle.smart_messages.specs.Messages.{Fits, spelling, decoded, message_at, is_kind, body_at, FitsContent, kind, content}
+use Rattle.smart_messages.specs.Messages.{Fits, spelling, decoded, message_at, FitsContent, content}
 use Rattle.smart_messages.proofs.Messages.{decoded_is, spelling_is}
 use Rattle.smart_messages.specs.declared.message.Message.{Message}
-use Rattle.smart_messages.specs.declared.message.Message.TheVariants as changes
 use Rattle.smart_statements.specs.declared.statement.Request.{Request}
 use Rattle.smart_statements.specs.declared.statement.Answer.{Answer}
-use Rattle.smart_messages.specs.declared.message.Message.TheVariants.{Ask, Propose, Vote, Reply}
+use Rattle.smart_messages.specs.declared.message.Message.TheVariants.{Ask, Reply}
 use Rattle.smart_statements.specs.declared.entry.NodeEvent.{NodeEvent}
 use Rattle.smart_statements.specs.declared.entry.NodeEvent.TheVariants.{Arrive, Tick, Deliver, Firm}
 use Rattle.replica_rules.specs.Seals.{signed}
-use Rattle.node_rules.specs.Nodes.{Node, next_place}
+use Rattle.node_rules.specs.Nodes.{Node, next_place, view_of}
 use Rattle.node_rules.specs.Steps.{Outcome, leaving}
 use Rattle.node_rules.specs.Reopening.{reopened, damaged, entries_in}
 use Rattle.durable_store.specs.Restored.{Images, restores}
@@ -33,14 +29,13 @@ use Rattle.world_rules.specs.declared.crash.Patch.{Patch}
 use Rattle.world_rules.specs.declared.crash.NotAnImage as stores
 use Rattle.member_store.proofs.Told.{may_leave}
 use Rattle.node_rules.specs.declared.node.Held.{Held}
-use Rattle.node_rules.specs.declared.node.Target.{Target}
 use Rattle.node_rules.specs.declared.node.Target.TheVariants as targets
 use Rattle.world_rules.specs.Secrets.{group_secret}
-use Rattle.world_rules.specs.Premises.{is_among, too_many, is_forged, collides, bytes_of}
+use Rattle.world_rules.specs.Premises.{is_among, too_many, is_forged, met, texts_in, collides, bytes_of}
 use Rattle.world_rules.specs.Injections.{content_by, content_of, are_bytes, content_from, injected_bytes, injected}
 use Rattle.client_quorum.specs.Clients.{request_of, asking, learning, reply_read}
 use Rattle.world_rules.specs.Clients.{heard}
-use Rattle.world_rules.specs.Worlds.{Course, Host, World, is_up, remembered, life_called, host_crashed, crashes_with, host_crashes, crashes, host_resumed, resumes_from, host_resumes, resumes, restart_at, at_host, summary, telling, posts, sends_all, told_drop, told_fired, host_after, chosen_with, stepped, is_gone, is_rogue, host_takes, node_takes, disk_called, hears_firm, host_calls, calls_disk, takes_due, settle_once, settle, told_absent, settle_present, settle_all, gives, give_all, hearing, client_hears, hears_bytes, client_takes, client_asks, ask_found, asks, client_repeats, repeat_found, repeats, learns, learns_from, tells, goes, flow_sent, flow_once, is_listed, where_listed, at_listed, each_listed, host_index, at_index, at_member, arrives, arrives_at, sent_arrives, give_number, told_idle, telling_all, host_tries, tries_at, tries_each, give_one, shown_host, shown_client, shows, declares_faulty, declares_rogue, injects_content, injects}
+use Rattle.world_rules.specs.Worlds.{Course, Host, World, is_up, remembered, life_called, host_crashed, crashes_with, host_crashes, crashes, host_resumed, resumes_from, host_resumes, resumes, restart_at, at_host, summary, telling, posts, sends_all, told_drop, told_fired, host_after, chosen_with, stepped, is_gone, is_rogue, host_takes, node_takes, disk_called, hears_firm, host_calls, calls_disk, takes_due, settle_once, settle, told_absent, settle_present, settle_all, gives, hearing, client_hears, hears_bytes, client_takes, client_asks, ask_found, asks, client_repeats, repeat_found, repeats, learns, learns_from, tells, goes, flow_sent, flow_once, is_listed, where_listed, at_listed, each_listed, host_index, at_index, at_member, arrives, arrives_at, sent_arrives, give_number, told_idle, telling_all, host_tries, tries_at, tries_each, give_one, shown_host, shown_client, shows, declares_faulty, declares_rogue, injects_content, injects, is_halted, heard_by, reaches, outset_of}
 use Rattle.world_rules.specs.Repeats.{repeated}
 use Rattle.durable_store.specs.Exact.{call_due, store_called}
 use Rattle.world_rules.specs.Plays.{line_played, rested, world_after}
@@ -72,16 +67,16 @@ use Rattle.smart_base.proofs.SameLists.{and_true}
 -- what is sent
 
 -- what a node lets go
-abbrev pub from_node : ℕ → Held → Sent
-from_node id h = record { origin = origins.Node id; to = Some h.to; content = contents.Message h.message }
+abbrev pub from_node : ℕ → View → Held → Sent
+from_node id view h = record { origin = origins.Node id; to = heard_by view h.to; content = contents.Message h.message }
 
 -- what a client sends
-abbrev pub from_client : Client → Message → Sent
-from_client c message = record { origin = origins.Client c.id; to = Some targets.View; content = contents.Message message }
+abbrev pub from_client : View → Client → Message → Sent
+from_client view c message = record { origin = origins.Client c.id; to = heard_by view targets.View; content = contents.Message message }
 
 -- what a script injects
 abbrev pub from_script : Content → Sent
-from_script content = record { origin = origins.Script; to = None; content = content }
+from_script content = record { origin = origins.Script; to = []; content = content }
 
 -- a content was sent
 abbrev pub HasContent : List Sent → Content → Type 0
@@ -148,7 +143,7 @@ abbrev pub entries_left : {S : Type 0} → Host S → List (List ℕ)
 entries_left h = (restores (bytes_held h.store)).entries
 
 abbrev pub node_resumed : {S : Type 0} → Course S → World S → Host S → Node S
-node_resumed course w h = reopened course.meaning group_secret h.node.id w.view 1024 (entries_in (entries_left h))
+node_resumed course w h = reopened course.meaning (outset_of course.meaning w.view h.node.id) (entries_in (entries_left h))
 
 -- what it tells
 abbrev pub resumed_line : {S : Type 0} → Course S → World S → Host S → OutLine
@@ -257,9 +252,9 @@ pub record Keeps {S : Type 0} (course : Course S) (P : World S → Type 0) : Typ
       → P w → P (hearing w i c a (heard w.view c a))
   -- a client asks
   pub ask : (w : World S) (i : ℕ) (c : Client) (op : List ℕ) → slice_get w.clients i ≡ Some c → c.waiting ≡ None → c.last + 1 < 2 ^ 63 → length op ≤ 4096 → P w
-      → P (posts (asked_by w i c op) (from_client c (ask_of c op)))
+      → P (posts (asked_by w i c op) (from_client w.view c (ask_of c op)))
   -- a client sends the request that waits once more
-  pub again : (w : World S) (i : ℕ) (c : Client) (q : Request) → slice_get w.clients i ≡ Some c → c.waiting ≡ Some q → P w → P (posts w (from_client c (signed_by c q)))
+  pub again : (w : World S) (i : ℕ) (c : Client) (q : Request) → slice_get w.clients i ≡ Some c → c.waiting ≡ Some q → P w → P (posts w (from_client w.view c (signed_by c q)))
   -- a client learns of the greatest place that another knows
   pub learn : (w : World S) (i j : ℕ) (c d : Client) → slice_get w.clients i ≡ Some c → slice_get w.clients j ≡ Some d → P w → P (learned_by w i c d.seen)
   -- a script injects what is not forged
@@ -287,9 +282,9 @@ pub record KeepsLive {S : Type 0} (course : Course S) (P : World S → Type 0) :
       → P w → P (hearing w i c a (heard w.view c a))
   -- a client asks
   pub ask : (w : World S) (i : ℕ) (c : Client) (op : List ℕ) → w.ending ≡ None → slice_get w.clients i ≡ Some c → c.waiting ≡ None → c.last + 1 < 2 ^ 63 → length op ≤ 4096 → P w
-      → P (posts (asked_by w i c op) (from_client c (ask_of c op)))
+      → P (posts (asked_by w i c op) (from_client w.view c (ask_of c op)))
   -- a client sends the request that waits once more
-  pub again : (w : World S) (i : ℕ) (c : Client) (q : Request) → w.ending ≡ None → slice_get w.clients i ≡ Some c → c.waiting ≡ Some q → P w → P (posts w (from_client c (signed_by c q)))
+  pub again : (w : World S) (i : ℕ) (c : Client) (q : Request) → w.ending ≡ None → slice_get w.clients i ≡ Some c → c.waiting ≡ Some q → P w → P (posts w (from_client w.view c (signed_by c q)))
   -- a client learns of the greatest place that another knows, and tells what it knows then
   pub learn : (w : World S) (i j : ℕ) (c d : Client) → w.ending ≡ None → slice_get w.clients i ≡ Some c → slice_get w.clients j ≡ Some d → P w
       → P (telling (learned_by w i c d.seen) (learned_line c d.seen))
@@ -325,9 +320,9 @@ pub record KeepsCalm {S : Type 0} (course : Course S) (P : World S → Type 0) :
       → P w → P (hearing w i c a (heard w.view c a))
   -- a client asks
   pub ask : (w : World S) (i : ℕ) (c : Client) (op : List ℕ) → w.ending ≡ None → slice_get w.clients i ≡ Some c → c.waiting ≡ None → c.last + 1 < 2 ^ 63 → length op ≤ 4096 → P w
-      → P (posts (asked_by w i c op) (from_client c (ask_of c op)))
+      → P (posts (asked_by w i c op) (from_client w.view c (ask_of c op)))
   -- a client sends the request that waits once more
-  pub again : (w : World S) (i : ℕ) (c : Client) (q : Request) → w.ending ≡ None → slice_get w.clients i ≡ Some c → c.waiting ≡ Some q → P w → P (posts w (from_client c (signed_by c q)))
+  pub again : (w : World S) (i : ℕ) (c : Client) (q : Request) → w.ending ≡ None → slice_get w.clients i ≡ Some c → c.waiting ≡ Some q → P w → P (posts w (from_client w.view c (signed_by c q)))
   -- a client learns of the greatest place that another knows, and tells what it knows then
   pub learn : (w : World S) (i j : ℕ) (c d : Client) → w.ending ≡ None → slice_get w.clients i ≡ Some c → slice_get w.clients j ≡ Some d → P w
       → P (telling (learned_by w i c d.seen) (learned_line c d.seen))
@@ -417,21 +412,22 @@ ended_or (Some f) e none = cc
 
 -- what is sent has left, and clashes with none before; or the play has ended, and nothing else has changed
 pub by-posts-ended : {S : Type 0} (P : World S → Type 0) (w : World S) (s : Sent) → ((ending : Option Ending) → (ending ≡ None → ⊥) → P (record w { ending = ending }))
-    → (collides w.sent s.content ≡ false → nat_lt (length w.sent) (2 ^ 24) ≡ true → P (numbered w s)) → P (posts w s)
+    → (collides (met w.sent) (texts_in s.content) ≡ false → nat_lt (length w.sent) (2 ^ 24) ≡ true → P (numbered w s)) → P (posts w s)
 unfolding posts
 by-posts-ended P w s over on =
-    either_by P (collides w.sent s.content) _ _ (λ clashes. over (Some (Premise Collision)) (λ none. ended_or None (Premise Collision) none))
+    either_by P (collides (met w.sent) (texts_in s.content)) _ _ (λ clashes. over (Some (Premise Collision)) (λ none. ended_or None (Premise Collision) none))
     (λ free. either_by P (nat_lt (length w.sent) (2 ^ 24)) _ _ (λ room. on free room) (λ full. over (or_else w.ending (Some Limit)) (λ none. ended_or w.ending Limit none)))
 
 -- the same where it does not matter that the play has ended
 pub by-posts : {S : Type 0} (P : World S → Type 0) (w : World S) (s : Sent) → ((ending : Option Ending) → P (record w { ending = ending }))
-    → (collides w.sent s.content ≡ false → nat_lt (length w.sent) (2 ^ 24) ≡ true → P (numbered w s)) → P (posts w s)
+    → (collides (met w.sent) (texts_in s.content) ≡ false → nat_lt (length w.sent) (2 ^ 24) ≡ true → P (numbered w s)) → P (posts w s)
 by-posts P w s over on = by-posts-ended P w s (λ ending ended. over ending) on
 
 -- what is kept where a node lets a message go, is kept where it lets many go
-pub keeps-sends_all : {S : Type 0} (P : World S → Type 0) (id : ℕ) → ((w : World S) (h : Held) → P w → P (posts w (from_node id h))) → (w : World S) (held : List Held) → P w → P (sends_all id w held)
-keeps-sends_all P id keeps w [] p = p
-keeps-sends_all P id keeps w (h ∷ hs) p = keeps-sends_all P id keeps (posts w (from_node id h)) hs (keeps w h p)
+pub keeps-sends_all : {S : Type 0} (P : World S → Type 0) (id : ℕ) (view : View) → ((w : World S) (h : Held) → P w → P (posts w (from_node id view h))) → (w : World S) (held : List Held)
+    → P w → P (sends_all id view w held)
+keeps-sends_all P id view keeps w [] p = p
+keeps-sends_all P id view keeps w (h ∷ hs) p = keeps-sends_all P id view keeps (posts w (from_node id view h)) hs (keeps w h p)
 
 -- messages stay
 
@@ -446,7 +442,7 @@ has-posts {S = S} x w s has = by-posts (λ (v : World S). HasContent v.sent x) w
 -- and where a node has taken an event
 pub has-stepped : {S : Type 0} (course : Course S) (w : World S) (i : ℕ) (h : Host S) (o : Outcome S) (x : Content) → HasContent w.sent x → HasContent (stepped course w i h o).sent x
 unfolding stepped
-has-stepped {S = S} course w i h o x has = keeps-sends_all (λ (v : World S). HasContent v.sent x) h.node.id (λ v held. has-posts x v (from_node h.node.id held)) _ (leaving o.node.firm o.node.held) has
+has-stepped {S = S} course w i h o x has = keeps-sends_all (λ (v : World S). HasContent v.sent x) h.node.id (view_of o.node) (λ v held. has-posts x v (from_node h.node.id (view_of o.node) held)) _ (leaving o.node.firm o.node.held) has
 
 -- and where a client has heard a reply
 pub has-hearing : {S : Type 0} (w : World S) (i : ℕ) (c : Client) (a : SignedBy Answer) (h : Heard) (x : Content) → HasContent w.sent x → HasContent (hearing w i c a h).sent x
@@ -460,8 +456,8 @@ live-carries course P x k =
       event = λ w i h event on up at may p. (k.event w i h event on up at may p.0, has-stepped course w i h (course.step h.node event) x p.1);
       disk = λ w i h on up at p. (k.disk w i h on up at p.0, p.1);
       hear = λ w i c y a on at has read p. (k.hear w i c y a on at has read p.0, has-hearing w i c a (heard w.view c a) x p.1);
-      ask = λ w i c op on at free low brief p. (k.ask w i c op on at free low brief p.0, has-posts x (asked_by w i c op) (from_client c (ask_of c op)) p.1);
-      again = λ w i c q on at waits p. (k.again w i c q on at waits p.0, has-posts x w (from_client c (signed_by c q)) p.1);
+      ask = λ w i c op on at free low brief p. (k.ask w i c op on at free low brief p.0, has-posts x (asked_by w i c op) (from_client w.view c (ask_of c op)) p.1);
+      again = λ w i c q on at waits p. (k.again w i c q on at waits p.0, has-posts x w (from_client w.view c (signed_by c q)) p.1);
       learn = λ w i j c d on at other p. (k.learn w i j c d on at other p.0, p.1);
       inject = λ w y on read fine p. (k.inject w y on read fine p.0, has-posts x w (from_script y) p.1);
       end = λ w ending on p. (k.end w ending on p.0, p.1);
@@ -473,6 +469,10 @@ live-carries course P x k =
 pub none_is : {A : Type 0} (found : Option A) → is_some found ≡ false → found ≡ None
 none_is None none = refl
 none_is (Some x) none = absurd (cc)
+
+-- a world in which something may happen has not ended
+halted_none : {S : Type 0} (w : World S) → is_halted w ≡ false → w.ending ≡ None
+halted_none w on = none_is w.ending on
 
 -- hosts
 
@@ -490,7 +490,7 @@ live-host_takes course P k i event w (Some h) on at may p = either_by P (not (is
 live-node_takes : {S : Type 0} (course : Course S) (P : World S → Type 0) → KeepsCalm course P → (i : ℕ) (event : NodeEvent) (w : World S)
     → ((h : Host S) → slice_get w.hosts i ≡ Some h → MayCome w h event) → P w → P (node_takes course i event w)
 unfolding node_takes
-live-node_takes course P k i event w may p = either_by P (is_some w.ending) w _ (λ over. p) (λ on. live-host_takes course P k i event w (slice_get w.hosts i) (none_is w.ending on) refl may p)
+live-node_takes course P k i event w may p = either_by P (is_halted w) w _ (λ over. p) (λ on. live-host_takes course P k i event w (slice_get w.hosts i) (halted_none w on) refl may p)
 
 -- device calls
 
@@ -510,7 +510,7 @@ set_again {A = A} (z ∷ xs) (suc i) x y = ap (λ (ys : List A). z ∷ ys) (set_
 pub stepped-set : {S : Type 0} (course : Course S) (w : World S) (i : ℕ) (g h : Host S) (o : Outcome S) → stepped course (record w { hosts = slice_set w.hosts i g }) i h o ≡ stepped course w i h o
 unfolding stepped
 stepped-set {S = S} course w i g h o =
-    ap (λ (hosts : List (Host S)). sends_all h.node.id
+    ap (λ (hosts : List (Host S)). sends_all h.node.id (view_of o.node)
     (record w {
       hosts = hosts;
       chosen = chosen_with w.chosen (next_place o.node) o.node.waiting;
@@ -541,7 +541,7 @@ live-host_calls course P k i w (Some h) on at p =
 -- the store at an index does
 pub live-calls_disk : {S : Type 0} (course : Course S) (P : World S → Type 0) → KeepsCalm course P → (i : ℕ) (w : World S) → P w → P (calls_disk course i w)
 unfolding calls_disk
-live-calls_disk course P k i w p = either_by P (is_some w.ending) w _ (λ over. p) (λ on. live-host_calls course P k i w (slice_get w.hosts i) (none_is w.ending on) refl p)
+live-calls_disk course P k i w p = either_by P (is_halted w) w _ (λ over. p) (λ on. live-host_calls course P k i w (slice_get w.hosts i) (halted_none w on) refl p)
 
 -- what is due
 
@@ -630,17 +630,11 @@ live-gives {S = S} course P k x i w p =
     live-settle course Q kq i (node_takes course i (Arrive (bytes_of x)) w)
     (live-node_takes course Q kq i (Arrive (bytes_of x)) w (λ h at. record { content = x; spelled = refl; has = p.1 }) p)
 
--- all listed nodes take the bytes of a content that was sent
-live-give_all : {S : Type 0} (course : Course S) (P : World S → Type 0) → KeepsCalm course P → (members : List ℕ) (x : Content) (w : World S) → HasContent w.sent x → P w → P (give_all course members (bytes_of x) w)
-live-give_all {S = S} course P k members x w has p =
-    (each_listed-keeps (λ (v : World S). P v × HasContent v.sent x) members (gives course (bytes_of x)) (live-gives course P k x) w (p, has)).0
-
--- the node of a member does, if it is listed
-live-give_one : {S : Type 0} (course : Course S) (P : World S → Type 0) → KeepsCalm course P → (members : List ℕ) (x : Content) (member : ℕ) (w : World S) → HasContent w.sent x → P w
-    → P (give_one course members (bytes_of x) member w)
-live-give_one {S = S} course P k members x member w has p =
-    let Q : World S → Type 0 = λ v. P v × HasContent v.sent x in
-    (at_index-keeps Q (at_listed members (gives course (bytes_of x))) (at_listed-keeps Q members (gives course (bytes_of x)) (live-gives course P k x)) w (host_index w.hosts member) (p, has)).0
+-- what each node keeps that takes bytes, the node of a listed member keeps
+pub give_one-keeps : {S : Type 0} (course : Course S) (P : World S → Type 0) (members bytes : List ℕ) → ((i : ℕ) (w : World S) → P w → P (gives course bytes i w)) → (member : ℕ) (w : World S) → P w
+    → P (give_one course members bytes member w)
+give_one-keeps course P members bytes keeps member w p =
+    at_index-keeps P (at_listed members (gives course bytes)) (at_listed-keeps P members (gives course bytes) keeps) w (host_index w.hosts member) p
 
 -- clients
 
@@ -660,7 +654,7 @@ live-hears_bytes course P k i x w (Some c) on at has p = live-client_hears cours
 -- the client at an index hears bytes
 live-client_takes : {S : Type 0} (course : Course S) (P : World S → Type 0) → KeepsCalm course P → (i : ℕ) (x : Content) (w : World S) → HasContent w.sent x → P w → P (client_takes i (bytes_of x) w)
 unfolding client_takes
-live-client_takes course P k i x w has p = either_by P (is_some w.ending) w _ (λ over. p) (λ on. live-hears_bytes course P k i x w (slice_get w.clients i) (none_is w.ending on) refl has p)
+live-client_takes course P k i x w has p = either_by P (is_halted w) w _ (λ over. p) (λ on. live-hears_bytes course P k i x w (slice_get w.clients i) (halted_none w on) refl has p)
 
 -- a client asks, or tells that it is busy
 live-client_asks : {S : Type 0} (course : Course S) (P : World S → Type 0) → KeepsCalm course P → (w : World S) (i : ℕ) (c : Client) (op : List ℕ) (waiting : Option Request)
@@ -681,7 +675,7 @@ live-ask_found course P k w i op (Some c) on at p = either P (is_rogue w c.id) _
 -- the client at an index asks
 live-asks : {S : Type 0} (course : Course S) (P : World S → Type 0) → KeepsCalm course P → (i : ℕ) (op : List ℕ) (w : World S) → P w → P (asks i op w)
 unfolding asks
-live-asks course P k i op w p = either_by P (is_some w.ending) w _ (λ over. p) (λ on. live-ask_found course P k w i op (slice_get w.clients i) (none_is w.ending on) refl p)
+live-asks course P k i op w p = either_by P (is_halted w) w _ (λ over. p) (λ on. live-ask_found course P k w i op (slice_get w.clients i) (halted_none w on) refl p)
 
 -- a client sends its request once more, or tells that it is idle
 live-client_repeats : {S : Type 0} (course : Course S) (P : World S → Type 0) → KeepsCalm course P → (w : World S) (i : ℕ) (c : Client) (waiting : Option Request)
@@ -698,7 +692,7 @@ live-repeat_found course P k w i (Some c) on at p = either P (is_rogue w c.id) _
 -- the client at an index does
 live-repeats : {S : Type 0} (course : Course S) (P : World S → Type 0) → KeepsCalm course P → (i : ℕ) (w : World S) → P w → P (repeats i w)
 unfolding repeats
-live-repeats course P k i w p = either_by P (is_some w.ending) w _ (λ over. p) (λ on. live-repeat_found course P k w i (slice_get w.clients i) (none_is w.ending on) refl p)
+live-repeats course P k i w p = either_by P (is_halted w) w _ (λ over. p) (λ on. live-repeat_found course P k w i (slice_get w.clients i) (halted_none w on) refl p)
 
 -- a client that is found learns of the greatest place that another knows
 live-learns : {S : Type 0} (course : Course S) (P : World S → Type 0) → KeepsCalm course P → (w : World S) (j : ℕ) (d : Client) (i : ℕ) (found : Option Client)
@@ -715,7 +709,7 @@ live-learns_from course P k w j (Some d) i on other p = either P (is_rogue w d.i
 -- a client is told of the greatest place that another knows
 live-tells : {S : Type 0} (course : Course S) (P : World S → Type 0) → KeepsCalm course P → (from to : ℕ) (w : World S) → P w → P (tells from to w)
 unfolding tells
-live-tells course P k from to w p = either_by P (is_some w.ending) w _ (λ over. p) (λ on. live-learns_from course P k w from (slice_get w.clients from) to (none_is w.ending on) refl p)
+live-tells course P k from to w p = either_by P (is_halted w) w _ (λ over. p) (λ on. live-learns_from course P k w from (slice_get w.clients from) to (halted_none w on) refl p)
 
 -- flow
 
@@ -725,13 +719,22 @@ has_at [] i s at = absurd (cc)
 has_at (t ∷ sent) zero s at = inl (ap (λ (x : Sent). x.content) (some_equal t s at))
 has_at (t ∷ sent) (suc i) s at = inr (has_at sent i s at)
 
--- a content goes to whom it is for
-pub live-goes : {S : Type 0} (course : Course S) (P : World S → Type 0) → KeepsCalm course P → (members : List ℕ) (w : World S) (x : Content) (to : Option Target) → HasContent w.sent x → P w
-    → P (goes course members w (bytes_of x) to)
-live-goes course P k members w x None has p = p
-live-goes course P k members w x (Some targets.View) has p = live-give_all course P k members x w has p
-live-goes course P k members w x (Some (targets.Node id)) has p = live-give_one course P k members x id w has p
-live-goes course P k members w x (Some (targets.Client id)) has p = live-client_takes course P k id x w has p
+-- what each addressee keeps that bytes reach, they all keep
+pub goes-keeps : {S : Type 0} (course : Course S) (P : World S → Type 0) (members bytes : List ℕ) → ((to : Party) (w : World S) → P w → P (reaches course members bytes to w)) → (w : World S) (tos : List Party)
+    → P w → P (goes course members w bytes tos)
+goes-keeps course P members bytes keeps w [] p = p
+goes-keeps course P members bytes keeps w (to ∷ tos) p = goes-keeps course P members bytes keeps (reaches course members bytes to w) tos (keeps to w p)
+
+-- a content that was sent reaches an addressee
+live-reaches : {S : Type 0} (course : Course S) (P : World S → Type 0) → KeepsCalm course P → (members : List ℕ) (x : Content) (to : Party) (w : World S) → P w × HasContent w.sent x
+    → P (reaches course members (bytes_of x) to w) × HasContent (reaches course members (bytes_of x) to w).sent x
+live-reaches {S = S} course P k members x (parties.Member id) w p = give_one-keeps course (λ (v : World S). P v × HasContent v.sent x) members (bytes_of x) (live-gives course P k x) id w p
+live-reaches {S = S} course P k members x (parties.Client id) w p = live-client_takes course (λ (v : World S). P v × HasContent v.sent x) (live-carries course P x k) id x w p.1 p
+
+-- it goes to its addressees
+pub live-goes : {S : Type 0} (course : Course S) (P : World S → Type 0) → KeepsCalm course P → (members : List ℕ) (w : World S) (x : Content) (tos : List Party) → HasContent w.sent x → P w
+    → P (goes course members w (bytes_of x) tos)
+live-goes {S = S} course P k members w x tos has p = (goes-keeps course (λ (v : World S). P v × HasContent v.sent x) members (bytes_of x) (live-reaches course P k members x) w tos (p, has)).0
 
 -- the message behind the mark goes, if there is one
 live-flow_sent : {S : Type 0} (course : Course S) (P : World S → Type 0) → KeepsCalm course P → (members : List ℕ) (w : World S) (found : Option Sent) → w.ending ≡ None → slice_get w.sent w.mark ≡ found → P w
@@ -743,7 +746,7 @@ live-flow_sent course P k members w (Some s) on at p =
 -- one turn of a flow
 pub live-flow_once : {S : Type 0} (course : Course S) (P : World S → Type 0) → KeepsCalm course P → (members : List ℕ) (w : World S) → P w → P (flow_once course members w)
 unfolding flow_once
-live-flow_once course P k members w p = either_by P (is_some w.ending) w _ (λ over. p) (λ on. live-flow_sent course P k members w (slice_get w.sent w.mark) (none_is w.ending on) refl p)
+live-flow_once course P k members w p = either_by P (is_halted w) w _ (λ over. p) (λ on. live-flow_sent course P k members w (slice_get w.sent w.mark) (halted_none w on) refl p)
 
 -- deliveries one by one
 
@@ -801,7 +804,7 @@ live-host_tries course P k event may i w (Some h) on at p =
 
 live-tries_at : {S : Type 0} (course : Course S) (P : World S → Type 0) → KeepsCalm course P → (event : NodeEvent) → MayTry event → (i : ℕ) (w : World S) → P w → P (tries_at course event i w)
 unfolding tries_at
-live-tries_at course P k event may i w p = either_by P (is_some w.ending) w _ (λ over. p) (λ on. live-host_tries course P k event may i w (slice_get w.hosts i) (none_is w.ending on) refl p)
+live-tries_at course P k event may i w p = either_by P (is_halted w) w _ (λ over. p) (λ on. live-host_tries course P k event may i w (slice_get w.hosts i) (halted_none w on) refl p)
 
 live-tries_each : {S : Type 0} (course : Course S) (P : World S → Type 0) → KeepsCalm course P → (event : NodeEvent) → MayTry event → (members : List ℕ) (w : World S) → P w
     → P (tries_each course event members w)
@@ -870,20 +873,20 @@ live-declares_faulty : {S : Type 0} (course : Course S) (P : World S → Type 0)
 unfolding declares_faulty
 live-declares_faulty course P k member w p =
     let faulty : List ℕ = w.faulty ++ member ∷ [] in
-    either_by P (is_some w.ending) w _ (λ over. p)
+    either_by P (is_halted w) w _ (λ over. p)
     (λ on. either P (is_gone w member) w _ p
     (either_by P (too_many w.view faulty) _ _
-    (λ many. k.declare w w.faulty w.rogue (Some (Premise TooManyFaulty)) (none_is w.ending on) (ends w (Premise TooManyFaulty)) p)
-    (λ few. k.declare w faulty w.rogue w.ending (none_is w.ending on)
+    (λ many. k.declare w w.faulty w.rogue (Some (Premise TooManyFaulty)) (halted_none w on) (ends w (Premise TooManyFaulty)) p)
+    (λ few. k.declare w faulty w.rogue w.ending (halted_none w on)
     (record { more_faulty = among-end w.faulty member; more_rogue = λ client is. is; few = λ before. few; over = λ is. is }) p)))
 
 -- a client is declared rogue
 live-declares_rogue : {S : Type 0} (course : Course S) (P : World S → Type 0) → KeepsLive course P → (client : ℕ) (w : World S) → P w → P (declares_rogue client w)
 unfolding declares_rogue
 live-declares_rogue course P k client w p =
-    either_by P (is_some w.ending) w _ (λ over. p)
+    either_by P (is_halted w) w _ (λ over. p)
     (λ on. either P (is_rogue w client) w _ p
-    (k.declare w w.faulty (w.rogue ++ client ∷ []) w.ending (none_is w.ending on)
+    (k.declare w w.faulty (w.rogue ++ client ∷ []) w.ending (halted_none w on)
     (record { more_faulty = λ member is. is; more_rogue = among-end w.rogue client; few = λ is. is; over = λ is. is }) p))
 
 -- what is injected is read
@@ -919,7 +922,7 @@ live-injects_content course P k w (Some x) on read p =
 live-injects : {S : Type 0} (course : Course S) (P : World S → Type 0) → KeepsCalm course P → (form : Injection) (w : World S) → P w → P (injects form w)
 unfolding injects
 live-injects course P k form w p =
-    either_by P (is_some w.ending) w _ (λ over. p) (λ on. live-injects_content course P k w (injected w.sent form) (none_is w.ending on) (injected-read w.sent form) p)
+    either_by P (is_halted w) w _ (λ over. p) (λ on. live-injects_content course P k w (injected w.sent form) (halted_none w on) (injected-read w.sent form) p)
 
 -- crashes
 
@@ -939,7 +942,7 @@ live-host_crashes course P k image patches i w (Some h) on at p =
 live-crashes : {S : Type 0} (course : Course S) (P : World S → Type 0) → KeepsCalmLives course P → (image : Image) (patches : List Patch) (i : ℕ) (w : World S) → P w → P (crashes course image patches i w)
 unfolding crashes
 live-crashes course P k image patches i w p =
-    either_by P (is_some w.ending) w _ (λ over. p) (λ on. live-host_crashes course P k image patches i w (slice_get w.hosts i) (none_is w.ending on) refl p)
+    either_by P (is_halted w) w _ (λ over. p) (λ on. live-host_crashes course P k image patches i w (slice_get w.hosts i) (halted_none w on) refl p)
 
 -- a node goes on, unless what its devices hold is damaged
 live-resumes_from : {S : Type 0} (course : Course S) (P : World S → Type 0) → KeepsCalmLives course P → (i : ℕ) (w : World S) (h : Host S) (damage : Option ℕ) → w.ending ≡ None → IsDown w h
@@ -952,11 +955,11 @@ live-host_resumes : {S : Type 0} (course : Course S) (P : World S → Type 0) �
 live-host_resumes course P k i w None on at p = p
 live-host_resumes course P k i w (Some h) on at p =
     either_by P (h.up || is_gone w h.node.id) w _ (λ up. p)
-    (λ down. live-resumes_from course P k i w h (damaged group_secret w.view (entries_left h)) on (or_parts h.up (is_gone w h.node.id) down) at p)
+    (λ down. live-resumes_from course P k i w h (damaged group_secret 0 w.view (entries_left h)) on (or_parts h.up (is_gone w h.node.id) down) at p)
 
 live-resumes : {S : Type 0} (course : Course S) (P : World S → Type 0) → KeepsCalmLives course P → (i : ℕ) (w : World S) → P w → P (resumes course i w)
 unfolding resumes
-live-resumes course P k i w p = either_by P (is_some w.ending) w _ (λ over. p) (λ on. live-host_resumes course P k i w (slice_get w.hosts i) (none_is w.ending on) refl p)
+live-resumes course P k i w p = either_by P (is_halted w) w _ (λ over. p) (λ on. live-host_resumes course P k i w (slice_get w.hosts i) (halted_none w on) refl p)
 
 live-restart_at : {S : Type 0} (course : Course S) (P : World S → Type 0) → KeepsCalmLives course P → (i : ℕ) (w : World S) (found : Option (Host S)) → P w → P (restart_at course i w found)
 live-restart_at course P k i w None p = p

@@ -11,7 +11,7 @@ use Rattle.smart_statements.specs.Forms.{SignedBy}
 use Rattle.smart_statements.specs.Kinds.{answers}
 use Rattle.smart_statements.specs.Batches.{Batch}
 use Rattle.smart_statements.specs.declared.statement.Answer.{Answer}
-use Rattle.smart_messages.specs.declared.message.Message.TheVariants.{Ask, Propose, Vote, Reply}
+use Rattle.smart_messages.specs.declared.message.Message.TheVariants.{Reply}
 use Rattle.smart_service.specs.Services.{Meaning}
 use Rattle.smart_service.specs.declared.replica.Replica.{Replica}
 use Rattle.vote_book.specs.Books.{last_made}
@@ -32,12 +32,13 @@ use Rattle.agreement_laws.specs.Statements.{Replied}
 use Rattle.agreement_laws.specs.Diaries.{HasReached}
 use Rattle.node_rules.specs.Nodes.{Node}
 use Rattle.node_rules.specs.Reopening.{decided_of, damaged, entries_in, reopened}
+use Rattle.node_rules.specs.Steps.{outset}
 use Rattle.node_laws.proofs.Restored.{front_decided}
 use Rattle.node_laws.proofs.Reopened.{reopened_is, count_is}
 use Rattle.node_laws.proofs.Undamaged.{undamaged, read_again}
-use Rattle.world_rules.specs.Secrets.{group_secret}
+use Rattle.world_rules.specs.Secrets.{group_secret, period}
 use Rattle.world_rules.specs.Premises.{is_among}
-use Rattle.world_rules.specs.Worlds.{Host, World, is_gone, life_crashed}
+use Rattle.world_rules.specs.Worlds.{Host, World, is_gone, life_crashed, outset_of}
 use Rattle.world_laws.specs.Promises.{restored_replica, has_place, MayBeLeft, IsKept, Recovers}
 use Rattle.world_rules.specs.declared.message.Content.{Content}
 use Rattle.world_rules.specs.declared.message.Content.TheVariants as contents
@@ -49,10 +50,9 @@ use Rattle.world_laws.proofs.Lists.{each_get}
 use Rattle.world_laws.proofs.Keeps.{HasMessage}
 use Rattle.world_laws.proofs.NoClash.{IsMet}
 use Rattle.world_laws.proofs.Lives.{left-restored, left_diary, texts, texts-take, book_now, Lasts, stopped_firm, written_texts}
-use Rattle.world_laws.proofs.Certified.{certified-front}
 use Rattle.world_laws.proofs.Fitting.{FitHost, spelled-life}
-use Rattle.world_laws.proofs.Grounded.{EntryMet, HostMet, grounded-exact}
-use Rattle.world_laws.proofs.Chosen.{BookRight, HostRight, ChosenRight, decided-met, front_right, own_right, right-once}
+use Rattle.world_laws.proofs.Grounded.{EntryMet, HostMet}
+use Rattle.world_laws.proofs.Chosen.{BookRight, HostRight, ChosenRight, book-front, front_right, own_right}
 use Rattle.world_laws.proofs.ChosenKept.{host-right, host-fit, diary-few}
 use Rattle.world_laws.proofs.Witnessing.{ShowsOwn, few_faulty}
 use Rattle.world_laws.proofs.Replied.{reply_there}
@@ -116,30 +116,29 @@ left_book {S = S} m w i h left at may r =
       fits = each_take FitsEntry (length restored) all
           (of_written (λ (es : List LogEntry). Each FitsEntry es) h fit.node.book (spelled-life h.life fit.life).diary (spelled-life h.life fit.life).aside);
       diary = begins ∙ ap (λ (es : List (List ℕ)). take n es) front;
-      made = sym (left_diary h left leaves.begins begins);
+      made = sym (left_diary h left right.lasts leaves.begins begins);
     }
 
 -- ---- the replica that goes on
 
-replica_is : {S : Type 0} (m : Meaning S) (secret : List ℕ) (id : ℕ) (view : View) (period : ℕ) (es : List LogEntry) → (reopened m secret id view period es).replica ≡ state m view (decided_of es)
+replica_is : {S : Type 0} (m : Meaning S) (secret : List ℕ) (id : ℕ) (view : View) (period : ℕ) (es : List LogEntry) → (reopened m (outset m secret id view period) es).replica ≡ state m view (decided_of 0 es)
 unfolding reopened
 replica_is m secret id view period [] = refl
-replica_is {S = S} m secret id view period (e ∷ es) = ap (λ (n : Node S). n.replica) (reopened_is m secret id view period e es)
+replica_is {S = S} m secret id view period (e ∷ es) = ap (λ (n : Node S). n.replica) (reopened_is m (outset m secret id view period) e es)
 
-left_replica : {S : Type 0} (m : Meaning S) (w : World S) (h : Host S) (left : Images) → (b : LeftBook w h left) → restored_replica m w.view h left ≡ state m w.view (decided_of b.book)
+left_replica : {S : Type 0} (m : Meaning S) (w : World S) (h : Host S) (left : Images) → (b : LeftBook w h left) → restored_replica m w.view h left ≡ state m w.view (decided_of 0 b.book)
 left_replica m w h left b =
-    ap (λ (es : List LogEntry). (reopened m group_secret h.node.id w.view 1024 es).replica) (ap entries_in b.restored ∙ read_again b.book b.fits) ∙ replica_is m group_secret h.node.id w.view 1024 b.book
+    ap (λ (es : List LogEntry). (reopened m (outset_of m w.view h.node.id) es).replica) (ap entries_in b.restored ∙ read_again b.book b.fits) ∙ replica_is m group_secret h.node.id w.view period b.book
 
-left_place : {S : Type 0} (m : Meaning S) (w : World S) (h : Host S) (left : Images) → (b : LeftBook w h left) → (restored_replica m w.view h left).place ≡ length (decided_of b.book)
-left_place {S = S} m w h left b = ap (λ (r : Replica S). r.place) (left_replica m w h left b) ∙ state_place m w.view (decided_of b.book)
+left_place : {S : Type 0} (m : Meaning S) (w : World S) (h : Host S) (left : Images) → (b : LeftBook w h left) → (restored_replica m w.view h left).place ≡ length (decided_of 0 b.book)
+left_place {S = S} m w h left b = ap (λ (r : Replica S). r.place) (left_replica m w h left b) ∙ state_place m w.view (decided_of 0 b.book)
 
 -- it is the state of a front of the list
 left_front : {S : Type 0} (m : Meaning S) (w : World S) (h : Host S) (left : Images) → ChosenRight m w → (b : LeftBook w h left)
     → restored_replica m w.view h left ≡ state m w.view (take (restored_replica m w.view h left).place w.chosen)
 left_front {S = S} m w h left r b =
-    let ds : List Batch = decided_of b.book in
-    let own : take (length ds) w.chosen ≡ ds =
-    certified-front (stated w.sent) (IsMet w.sent) w.view 1 ds w.chosen (right-once m w r.1) (grounded-exact w r.0.0) (decided-met (IsMet w.sent) b.book b.met) r.0.0.chosen b.right.decided r.1.certified b.right.within in
+    let ds : List Batch = decided_of 0 b.book in
+    let own : take (length ds) w.chosen ≡ ds = book-front m w b.book r b.met b.right in
     left_replica m w h left b
     ∙ (ap (λ (bs : List Batch). state m w.view bs) (sym own) ∙ ap (λ (k : ℕ). state m w.view (take k w.chosen)) (sym (left_place m w h left b)))
 
@@ -152,9 +151,9 @@ recovers {S = S} m w i h at r =
       possible = none_wrong;
       leaves = λ image. may_leave h.store (images_left image [] h.store) (none_wrong image);
       diary = λ left may. (b left may).made;
-      undamaged = λ left may. ap (λ (es : List (List ℕ)). damaged group_secret w.view es) (b left may).restored
+      undamaged = λ left may. ap (λ (es : List (List ℕ)). damaged group_secret 0 w.view es) (b left may).restored
           ∙ undamaged group_secret (stated w.sent) w.view (b left may).book (b left may).right.sound (b left may).fits;
-      restarts = λ down. ap (λ (es : List (List ℕ)). damaged group_secret w.view es) (left-restored h ((host-right m w i h at r).lasts.down down))
+      restarts = λ down. ap (λ (es : List (List ℕ)). damaged group_secret 0 w.view es) (left-restored h ((host-right m w i h at r).lasts.down down))
           ∙ undamaged group_secret (stated w.sent) w.view h.life.diary (host-right m w i h at r).diary.sound (spelled-life h.life (host-fit m w i h at r).life).diary;
       within = λ left may. let place = left_place m w h left (b left may) in let most = (b left may).right.within in omega (arith, place, most);
       right = λ left may. left_front m w h left r (b left may);
@@ -180,13 +179,13 @@ reached_kept {S = S} m w i h left place at may r reached =
     let b : LeftBook w h left = left_book m w i h left at may r in
     let right : HostRight w.sent m w.view w.chosen h = host-right m w i h at r in
     let d : List LogEntry = h.life.diary in
-    let made : last_made d ≡ length (decided_of d) = count_is m group_secret (stated w.sent) w.view d right.diary.sound in
+    let made : last_made d ≡ length (decided_of 0 d) = count_is m group_secret (stated w.sent) w.view d right.diary.sound in
     let fits = (spelled-life h.life (host-fit m w i h at r).life).diary in
     let front : d ≡ take (length d) b.book =
     sym (read_again d fits) ∙ (ap entries_in (b.diary ∙ sym (texts-take (length d) b.book)) ∙ read_again (take (length d) b.book) (each_take FitsEntry (length d) b.book b.fits)) in
-    let f : IsFront (decided_of (take (length d) b.book)) (decided_of b.book) = front_decided b.book (length d) in
-    let long : length (decided_of b.book) ≡ length (decided_of (take (length d) b.book)) + length f.rest = ap (λ (bs : List Batch). length bs) f.is ∙ length-append (decided_of (take (length d) b.book)) f.rest in
-    let own : length (decided_of d) ≡ length (decided_of (take (length d) b.book)) = ap (λ (es : List LogEntry). length (decided_of es)) front in
+    let f : IsFront (decided_of 0 (take (length d) b.book)) (decided_of 0 b.book) = front_decided 0 b.book (length d) in
+    let long : length (decided_of 0 b.book) ≡ length (decided_of 0 (take (length d) b.book)) + length f.rest = ap (λ (bs : List Batch). length bs) f.is ∙ length-append (decided_of 0 (take (length d) b.book)) f.rest in
+    let own : length (decided_of 0 d) ≡ length (decided_of 0 (take (length d) b.book)) = ap (λ (es : List LogEntry). length (decided_of 0 es)) front in
     let at_place = left_place m w h left b in
     omega (arith, reached, made, own, long, at_place)
 

@@ -11,7 +11,6 @@ pub mod Asking
 pub mod Seen
 pub mod Grows
 pub mod Past
-pub mod Certified
 pub mod NoClash
 pub mod Stating
 pub mod Unforged
@@ -27,6 +26,7 @@ pub mod Chosen
 pub mod ChosenLives
 pub mod ChosenKept
 pub mod Asked
+pub mod Views
 pub mod Borne
 pub mod Replied
 pub mod Replies

@@ -1,7 +1,7 @@
 -- What lasts of a member through its lives: its diary, the book that it put aside, and what its store has of them.
 use Rattle.std.proofs.Common.{◌≡◌, ℕ, zero, suc, ◌+◌, ◌-◌, ◌^◌, ◌≤◌, ◌++◌, ◌∙◌, sym, ap, refl, arith, subst, Bool, true, false, cond, List, [], ◌∷◌, length, take, drop, append-nil, min, length-append}
 use Rattle.std.proofs.lemmas.List.{take-append-drop, take-append-le, length-take-le, take-map, map-append, drop-map}
-use Rattle.std.proofs.Math.Seq.{take-append_seam}
+use Rattle.std.proofs.Math.Seq.{take-append_seam, take-add}
 use Rattle.std.specs.Prelude.{map}
 use Rattle.smart_base.specs.Lists.{Each}
 use Rattle.smart_base.specs.Views.{View}
@@ -20,12 +20,12 @@ use Rattle.member_store.proofs.Opened.{empty_holds, held_opened}
 use Rattle.member_store.proofs.Goes.{given_holds, called_holds, called_firm}
 use Rattle.member_store.proofs.Crashed.{crash_leaves}
 use Rattle.node_rules.specs.Nodes.{Node}
-use Rattle.node_rules.specs.Steps.{Outcome, opened}
+use Rattle.node_rules.specs.Steps.{Outcome, opened, outset}
 use Rattle.node_rules.specs.Reopening.{entries_in, reopened}
 use Rattle.node_laws.proofs.Undamaged.{read_again}
 use Rattle.node_laws.proofs.Reopened.{reopened_is}
 use Rattle.agreement_laws.specs.Fronts.{IsFront}
-use Rattle.world_rules.specs.Worlds.{course_of, Host, Life, with_front, life_firm, life_called, life_crashed, spelled_behind, host_of_node, host_after, host_crashed, host_resumed}
+use Rattle.world_rules.specs.Worlds.{course_of, Host, Life, from_to, with_front, life_firm, life_called, written, life_crashed, spelled_behind, host_of_node, host_after, host_crashed, host_resumed}
 use Rattle.world_laws.proofs.Keeps.{entries_left, after_call}
 use Rattle.world_laws.proofs.Stores.{Fits, coming, coming_none, behind-length}
 use Rattle.agreement_laws.proofs.Lists.{each_take, either, each_append}
@@ -47,7 +47,7 @@ pub record Stopped {S : Type 0} (h : Host S) : Type 0 where
 
 -- the book of which a crash leaves the first entries
 abbrev pub book_left : {S : Type 0} → Host S → List LogEntry
-book_left h = written_book h.store h.node.entries h.life.aside
+book_left h = written_book h.store (written h) h.life.aside
 
 -- A member's diary is what is firm of its book, or else what its devices hold. Its store has its book, and of a life that wrote behind a torn gate the book
 -- that was put aside.
@@ -60,17 +60,15 @@ pub record Lasts {S : Type 0} (h : Host S) : Type 0 where
 
 -- ---- fronts
 
--- a list with what another has up to a number
-pub with_front-is : (diary book : List LogEntry) (count : ℕ) → diary ≡ take (length diary) book → length diary ≤ count → with_front diary count book ≡ take count book
-with_front-is diary book count is le =
-    let front : take (length diary) (take count book) ≡ diary = take_less (length diary) count book le ∙ sym is in
-    ap (λ (es : List LogEntry). es ++ drop (length diary) (take count book)) (sym front) ∙ take-append-drop (length diary) (take count book)
-  where
-    take_less : (n k : ℕ) (es : List LogEntry) → n ≤ k → take n (take k es) ≡ take n es
-    take_less zero k es le = refl
-    take_less (suc n) zero es le = absurd (omega (arith, le))
-    take_less (suc n) (suc k) [] le = refl
-    take_less (suc n) (suc k) (e ∷ es) le = ap (λ (xs : List LogEntry). e ∷ xs) (take_less n k es (omega (arith, le)))
+-- the first entries of a book, with those from them on up to a count
+take-from : (low high : ℕ) (es : List LogEntry) → low ≤ high → take low es ++ from_to low high es ≡ take high es
+take-from low high es le =
+    let all : low + (high - low) ≡ high = omega (arith, le) in
+    sym (take-add low (high - low) es) ∙ ap (λ (k : ℕ). take k es) all
+
+-- while a node runs, all that was written is its book
+pub written_is : {S : Type 0} (h : Host S) → h.up ≡ true → Lasts h → written h ≡ h.node.entries
+written_is h up is = ap (λ (es : List LogEntry). es ++ drop h.node.firm h.node.entries) (is.up up) ∙ take-append-drop h.node.firm h.node.entries
 
 pub texts-take : (count : ℕ) (es : List LogEntry) → texts (take count es) ≡ take count (texts es)
 texts-take count es = sym (take-map entry_text count es)
@@ -79,15 +77,16 @@ pub texts-length : (es : List LogEntry) → length (texts es) ≡ length es
 texts-length [] = refl
 texts-length (e ∷ es) = ap (λ (k : ℕ). suc k) (texts-length es)
 
+-- what holds of each entry, holds of each behind the first ones
+pub each_drop : (P : LogEntry → Type 0) (k : ℕ) (es : List LogEntry) → Each P es → Each P (drop k es)
+each_drop P zero es each = each
+each_drop P (suc k) [] each = tt
+each_drop P (suc k) (e ∷ es) each = each_drop P k es each.1
+
 -- what holds of each entry of both, holds of each of that
-pub each-with_front : (P : LogEntry → Type 0) (diary book : List LogEntry) (count : ℕ) → Each P diary → Each P book → Each P (with_front diary count book)
+each-with_front : (P : LogEntry → Type 0) (diary book : List LogEntry) (count : ℕ) → Each P diary → Each P book → Each P (with_front diary count book)
 each-with_front P diary book count own other =
-    each_append P diary (drop (length diary) (take count book)) own (each_drop (length diary) (take count book) (each_take P count book other))
-  where
-    each_drop : (k : ℕ) (es : List LogEntry) → Each P es → Each P (drop k es)
-    each_drop zero es each = each
-    each_drop (suc k) [] each = tt
-    each_drop (suc k) (e ∷ es) each = each_drop k es each.1
+    each_append P diary (drop (length diary) (take count book)) own (each_drop P (length diary) (take count book) (each_take P count book other))
 
 -- what holds of each entry in a member's diary and in what it has put aside
 pub record EachLife (P : LogEntry → Type 0) (l : Life) : Type 0 where
@@ -101,20 +100,26 @@ each-aside : (P : LogEntry → Type 0) (s : StoreState) (es : List LogEntry) →
 each-aside P s es is = either (λ (xs : List LogEntry). Each P xs) (is_unclosed s.log.job) es [] is tt
 
 -- it holds so where more is firm of a book of which it holds
-pub life-firm : {S : Type 0} (P : LogEntry → Type 0) (l : Life) (n : Node S) → Each P n.entries → EachLife P l → EachLife P (life_firm l n)
-life-firm P l n book is = record { diary = each-with_front P l.diary n.entries n.firm is.diary book; aside = is.aside }
+pub life-firm : {S : Type 0} (P : LogEntry → Type 0) (l : Life) (n later : Node S) → Each P later.entries → EachLife P l → EachLife P (life_firm l n later)
+life-firm P l n later book is = record {
+  diary = each_append P l.diary (from_to n.firm later.firm later.entries) is.diary
+      (each_take P (later.firm - n.firm) (drop n.firm later.entries) (each_drop P n.firm later.entries book));
+  aside = is.aside;
+}
 
 pub life-called : (P : LogEntry → Type 0) (l : Life) (s : StoreState) → EachLife P l → EachLife P (life_called l s)
 life-called P l s is = record { diary = is.diary; aside = each-aside P s l.aside is.aside }
 
-each_left : {S : Type 0} (P : LogEntry → Type 0) (h : Host S) → Each P h.node.entries → Each P h.life.aside → Each P (book_left h)
-each_left P h own aside = either (λ (es : List LogEntry). Each P es) (is_unclosed h.store.log.job) h.life.aside h.node.entries aside own
+each_left : {S : Type 0} (P : LogEntry → Type 0) (h : Host S) → Each P h.node.entries → EachLife P h.life → Each P (book_left h)
+each_left P h own life =
+    either (λ (es : List LogEntry). Each P es) (is_unclosed h.store.log.job) h.life.aside (written h) life.aside
+    (each_append P h.life.diary (drop h.node.firm h.node.entries) life.diary (each_drop P h.node.firm h.node.entries own))
 
 -- and where its member crashes
 pub life-crashed : {S : Type 0} (P : LogEntry → Type 0) (h : Host S) (left : Images) → Each P h.node.entries → EachLife P h.life → EachLife P (life_crashed h left)
 life-crashed P h left book is = record {
-  diary = each-with_front P h.life.diary (book_left h) (length (restores left).entries) is.diary (each_left P h book is.aside);
-  aside = each-aside P (store_opened left) (book_left h) (each_left P h book is.aside);
+  diary = each-with_front P h.life.diary (book_left h) (length (restores left).entries) is.diary (each_left P h book is);
+  aside = each-aside P (store_opened left) (book_left h) (each_left P h book is);
 }
 
 -- what was restored of a book is what a diary is then
@@ -138,9 +143,9 @@ restored_front diary book restored own other begins front =
 
 -- Whatever a crash leaves of a host restores the diary that this crash makes, where it restores the first entries of the book that was written and begins
 -- with the diary.
-pub left_diary : {S : Type 0} (h : Host S) (left : Images) → Begins (restores left).entries (written_book h.store (texts (book_now h)) (texts h.life.aside))
+pub left_diary : {S : Type 0} (h : Host S) (left : Images) → Lasts h → Begins (restores left).entries (written_book h.store (texts (book_now h)) (texts h.life.aside))
     → texts h.life.diary ≡ take (length h.life.diary) (restores left).entries → texts (life_crashed h left).diary ≡ (restores left).entries
-left_diary {S = S} h left begins front = by h.up (is_unclosed h.store.log.job) begins
+left_diary {S = S} h left is begins front = by h.up (is_unclosed h.store.log.job) refl begins
   where
     r : List (List ℕ)
     r = (restores left).entries
@@ -148,15 +153,16 @@ left_diary {S = S} h left begins front = by h.up (is_unclosed h.store.log.job) b
     d : List LogEntry
     d = h.life.diary
 
-    by : (up unclosed : Bool) → r ≡ take (length r) (cond unclosed (texts h.life.aside) (texts (cond up h.node.entries d)))
-        → texts (with_front d (length r) (cond unclosed h.life.aside h.node.entries)) ≡ r
-    by up true begins = restored_texts d h.life.aside r begins front
-    by true false begins = restored_texts d h.node.entries r begins front
-    by false false begins =
+    by : (up unclosed : Bool) → h.up ≡ up → r ≡ take (length r) (cond unclosed (texts h.life.aside) (texts (cond up h.node.entries d)))
+        → texts (with_front d (length r) (cond unclosed h.life.aside (written h))) ≡ r
+    by up true runs begins = restored_texts d h.life.aside r begins front
+    by true false runs begins =
+        restored_texts d (written h) r (begins ∙ ap (λ (es : List LogEntry). take (length r) (texts es)) (sym (written_is h runs is))) front
+    by false false runs begins =
         let few : length r ≤ length d = shorter (length r) (texts d) begins (texts-length d) in
         let same : r ≡ texts d = sym (front ∙ whole (length d) r few) in
         let long : length r ≡ length d = ap (λ (es : List (List ℕ)). length es) same ∙ texts-length d in
-        ap (λ (k : ℕ). texts (with_front d k h.node.entries)) long ∙ (ap texts (nothing_more (length d) h.node.entries) ∙ sym same)
+        ap (λ (k : ℕ). texts (with_front d k (written h))) long ∙ (ap texts (nothing_more (length d) (written h)) ∙ sym same)
       where
         shorter : (k : ℕ) (es : List (List ℕ)) → r ≡ take k es → length es ≡ length d → length r ≤ length d
         shorter k es is long = omega (arith, ap (λ (xs : List (List ℕ)). length xs) is, most k es, long)
@@ -191,10 +197,10 @@ stopped_firm h s few =
 -- ---- a step
 
 -- a life in which more of a longer book is firm
-pub lasts-stepped : (diary : List LogEntry) (firm more : ℕ) (es rest : List LogEntry) → diary ≡ take firm es → firm ≤ length es → firm ≤ more → with_front diary more (es ++ rest) ≡ take more (es ++ rest)
+pub lasts-stepped : (diary : List LogEntry) (firm more : ℕ) (es rest : List LogEntry) → diary ≡ take firm es → firm ≤ length es → firm ≤ more
+    → diary ++ from_to firm more (es ++ rest) ≡ take more (es ++ rest)
 lasts-stepped diary firm more es rest is low le =
-    let long : length diary ≡ firm = ap (λ (xs : List LogEntry). length xs) is ∙ length-take-le firm es low in
-    with_front-is diary (es ++ rest) more (is ∙ (sym (take-append-le firm es rest low) ∙ ap (λ (k : ℕ). take k (es ++ rest)) (sym long))) (omega (arith, long, le))
+    ap (λ (xs : List LogEntry). xs ++ from_to firm more (es ++ rest)) (is ∙ sym (take-append-le firm es rest low)) ∙ take-from firm more (es ++ rest) le
 
 -- what is behind a book waits in its store
 pub given-behind : (s : StoreState) (es rest : List LogEntry) (aside : List (List ℕ)) → Holds s (texts es) aside → Holds (started s (spelled_behind (length es) (es ++ rest))) (texts (es ++ rest)) aside
@@ -249,12 +255,13 @@ pub crashed : {S : Type 0} (h : Host S) (left : Images) → h.up ≡ true → Ma
 crashed {S = S} h left up may life book is =
     let leaves : Leaves h.store (texts h.node.entries) (texts h.life.aside) left = crash_leaves h.store (texts h.node.entries) (texts h.life.aside) (held_book h up is) left may in
     let r : List (List ℕ) = (restores left).entries in
-    let same : texts (book_left h) ≡ written_book h.store (texts h.node.entries) (texts h.life.aside) = written_texts h.store h.node.entries h.life.aside in
+    let same : texts (book_left h) ≡ written_book h.store (texts h.node.entries) (texts h.life.aside) =
+    ap (λ (es : List LogEntry). texts (written_book h.store es h.life.aside)) (written_is h up is) ∙ written_texts h.store h.node.entries h.life.aside in
     let begins : r ≡ take (length r) (texts (book_left h)) = leaves.begins ∙ ap (λ (es : List (List ℕ)). take (length r) es) (sym same) in
     let front : texts h.life.diary ≡ take (length h.life.diary) r = left_front h left up is leaves in
     record {
       restored = restored_texts h.life.diary (book_left h) r begins front;
-      front = restored_front h.life.diary (book_left h) r life.diary (each_left FitsEntry h book life.aside) begins front;
+      front = restored_front h.life.diary (book_left h) r life.diary (each_left FitsEntry h book life) begins front;
       holds = subst (λ (es : List (List ℕ)). Holds (store_opened left) r es)
           (ap (λ (es : List (List ℕ)). still_aside (store_opened left) es) (sym same) ∙ sym (aside_texts (store_opened left) (book_left h))) leaves.holds;
     }
@@ -297,12 +304,12 @@ lasts-called m h up fits is =
 pub lasts-after : {S : Type 0} (m : Meaning S) (h : Host S) (o : Outcome S) → h.up ≡ true → IsFront h.node.entries o.node.entries → h.node.firm ≤ o.node.firm → o.node.firm ≤ length o.node.entries
     → o.node.firm ≤ h.store.firm → Lasts h → Lasts (host_after (course_of m) h o)
 lasts-after m h o up front more low heard is = record {
-  up = λ up. ap (λ (es : List LogEntry). with_front h.life.diary o.node.firm es) front.is
+  up = λ up. ap (λ (es : List LogEntry). h.life.diary ++ from_to h.node.firm o.node.firm es) front.is
       ∙ (lasts-stepped h.life.diary h.node.firm o.node.firm h.node.entries front.rest (is.up up) is.low more ∙ ap (λ (es : List LogEntry). take o.node.firm es) (sym front.is));
   heard = λ up. heard;
   low = low;
   down = λ down. absurd (apart down);
-  holds = subst (λ (b : Bool). Holds new (texts (cond b o.node.entries (life_firm h.life o.node).diary)) (texts h.life.aside)) (sym up)
+  holds = subst (λ (b : Bool). Holds new (texts (cond b o.node.entries (life_firm h.life h.node o.node).diary)) (texts h.life.aside)) (sym up)
       (subst (λ (es : List LogEntry). Holds (started h.store (spelled_behind (length h.node.entries) es)) (texts es) (texts h.life.aside)) (sym front.is)
       (given-behind h.store h.node.entries front.rest (texts h.life.aside) (held_book h up is)));
 }
@@ -322,11 +329,11 @@ pub record Resumed {S : Type 0} (es : List LogEntry) (n : Node S) : Type 0 where
   pub restored_is : n.restored ≡ length es
   pub firm_is : n.firm ≡ length es
 
-pub resumed : {S : Type 0} (m : Meaning S) (secret : List ℕ) (id : ℕ) (view : View) (period : ℕ) (es : List LogEntry) → Resumed es (reopened m secret id view period es)
+pub resumed : {S : Type 0} (m : Meaning S) (secret : List ℕ) (id : ℕ) (view : View) (period : ℕ) (es : List LogEntry) → Resumed es (reopened m (outset m secret id view period) es)
 unfolding reopened
-resumed m secret id view period [] = record { more = (opened m secret id view period).entries; book = refl; restored_is = refl; firm_is = refl }
+resumed m secret id view period [] = record { more = (opened (outset m secret id view period)).entries; book = refl; restored_is = refl; firm_is = refl }
 resumed {S = S} m secret id view period (e ∷ es) =
-    subst (λ (n : Node S). Resumed (e ∷ es) n) (sym (reopened_is m secret id view period e es)) (record { more = []; book = sym (append-nil (e ∷ es)); restored_is = refl; firm_is = refl })
+    subst (λ (n : Node S). Resumed (e ∷ es) n) (sym (reopened_is m (outset m secret id view period) e es)) (record { more = []; book = sym (append-nil (e ∷ es)); restored_is = refl; firm_is = refl })
 
 -- it goes on from its diary
 pub lasts-resumed : {S : Type 0} (h : Host S) (n : Node S) → h.up ≡ false → length h.life.diary ≤ 2 ^ 64 - 1 → Resumed h.life.diary n → Lasts h → Lasts (host_resumed h n)
@@ -365,13 +372,13 @@ fits-resumed {S = S} h n down few r is =
 
 -- ---- the beginning
 
-pub lasts-opened : {S : Type 0} (m : Meaning S) (secret : List ℕ) (id : ℕ) (view : View) (period : ℕ) → Lasts (host_of_node (opened m secret id view period))
+pub lasts-opened : {S : Type 0} (m : Meaning S) (secret : List ℕ) (id : ℕ) (view : View) (period : ℕ) → Lasts (host_of_node (opened (outset m secret id view period)))
 lasts-opened m secret id view period = record {
   up = λ up. refl;
   heard = λ up. omega arith;
   low = omega arith;
   down = λ down. absurd (apart down);
-  holds = given-behind (store_opened no_bytes) [] (opened m secret id view period).entries [] empty_holds;
+  holds = given-behind (store_opened no_bytes) [] (opened (outset m secret id view period)).entries [] empty_holds;
 }
   where
     apart : true ≡ false → ⊥

@@ -139,7 +139,7 @@ one_list-of m w requests clients numbers is =
       accepted = accepted-right m w requests clients is.1;
       quorums = record { each = is.0.1.accepted };
       kept = each-weaken (QuorumReplied w.view w.faulty w.sent) (λ (a : Acceptance). IsKept m w a.place) (λ a replied. replied_kept m w a is.0.0.0.0 replied) w.accepted is.0.1.accepted;
-      rising = clients.all.rising;
+      apart = clients.all.apart;
       firm = is.0.0.0.1.sent;
     }
 

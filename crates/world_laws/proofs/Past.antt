@@ -1,5 +1,6 @@
 -- A client's requests state all that it knew before it asked.
 use Rattle.std.proofs.Common.{◌≡◌, ℕ, zero, suc, ◌≤◌, ◌++◌, List, [], ◌∷◌, refl, ap, sym, Option, Some, None, inl, inr, ◌⊎◌, subst, arith, append-nil, take, ◌∙◌}
+use Rattle.node_rules.specs.Nodes.{view_of}
 use Rattle.std.specs.Prelude.{slice_get, slice_set}
 use Rattle.smart_base.specs.Lists.{Each}
 use Rattle.smart_base.specs.Views.{View}
@@ -38,7 +39,7 @@ use Rattle.smart_base.proofs.ViewFacts.{each-weaken}
 asked-stepped : {S : Type 0} (course : Course S) (w : World S) (i : ℕ) (h : Host S) (o : Outcome S) (q : Request) → HasAsked w.sent q → HasAsked (stepped course w i h o).sent q
 unfolding stepped
 asked-stepped {S = S} course w i h o q asked =
-    keeps-sends_all (λ (v : World S). HasAsked v.sent q) h.node.id (λ v held asked. asked_grows v (from_node h.node.id held) q asked) _ (leaving o.node.firm o.node.held) asked
+    keeps-sends_all (λ (v : World S). HasAsked v.sent q) h.node.id (view_of o.node) (λ v held asked. asked_grows v (from_node h.node.id (view_of o.node) held) q asked) _ (leaving o.node.firm o.node.held) asked
 
 -- a client hears
 asked-hearing : {S : Type 0} (w : World S) (i : ℕ) (c : Client) (a : SignedBy Answer) (h : Heard) (q : Request) → HasAsked w.sent q → HasAsked (hearing w i c a h).sent q
@@ -54,8 +55,8 @@ keeps-sent course q =
         disk = λ w i h up at asked. asked;
         crash = λ w i h left up at may asked. asked;
         hear = λ w i c x a at has read asked. asked-hearing w i c a (heard w.view c a) q asked;
-        ask = λ w i c op at free few brief asked. asked_grows (asked_by w i c op) (from_client c (ask_of c op)) q asked;
-        again = λ w i c r at waits asked. asked_grows w (from_client c (signed_by c r)) q asked;
+        ask = λ w i c op at free few brief asked. asked_grows (asked_by w i c op) (from_client w.view c (ask_of c op)) q asked;
+        again = λ w i c r at waits asked. asked_grows w (from_client w.view c (signed_by c r)) q asked;
         learn = λ w i j c d at other asked. asked;
         inject = λ w x read fine asked. asked_grows w (from_script x) q asked;
         declare = λ w faulty rogue ending how asked. asked;
@@ -96,7 +97,7 @@ past-posts {S = S} before known w s is =
 past-stepped : {S : Type 0} (course : Course S) (before : List Sent) (known : ℕ → ℕ) (w : World S) (i : ℕ) (h : Host S) (o : Outcome S) → AllPast before known w → AllPast before known (stepped course w i h o)
 unfolding stepped
 past-stepped {S = S} course before known w i h o is =
-    keeps-sends_all (λ (v : World S). AllPast before known v) h.node.id (λ v held past. past-posts before known v (from_node h.node.id held) past) _ (leaving o.node.firm o.node.held) (record { each = is.each; accepted = is.accepted })
+    keeps-sends_all (λ (v : World S). AllPast before known v) h.node.id (view_of o.node) (λ v held past. past-posts before known v (from_node h.node.id (view_of o.node) held) past) _ (leaving o.node.firm o.node.held) (record { each = is.each; accepted = is.accepted })
 
 -- one client changes
 
@@ -169,9 +170,9 @@ keeps-stating course before known =
         hear = λ w i c x a on at has read is. (k.live.hear w i c x a on at has read is.0, past-hearing before known w i c a on at is.1);
         ask = λ w i c op on at free few brief is. (
           k.live.ask w i c op on at free few brief is.0,
-          past-posts before known (asked_by w i c op) (from_client c (ask_of c op)) (past-asked before known w i c op at (id_at w i c at is.0) is.1),
+          past-posts before known (asked_by w i c op) (from_client w.view c (ask_of c op)) (past-asked before known w i c op at (id_at w i c at is.0) is.1),
         );
-        again = λ w i c q on at waits is. (k.live.again w i c q on at waits is.0, past-posts before known w (from_client c (signed_by c q)) is.1);
+        again = λ w i c q on at waits is. (k.live.again w i c q on at waits is.0, past-posts before known w (from_client w.view c (signed_by c q)) is.1);
         learn = λ w i j c d on at other is. (k.live.learn w i j c d on at other is.0, record { each = past-learned before known w i c d.seen at is.1; accepted = is.1.accepted });
         inject = λ w x on read fine is. (k.live.inject w x on read fine is.0, past-posts before known w (from_script x) is.1);
         declare = λ w faulty rogue ending on how is. (

@@ -1,5 +1,7 @@
 -- A client accepts a reply where a quorum of members has sent it, but for those that are faulty.
-use Rattle.std.proofs.Common.{◌≡◌, ⊎_elim, ℕ, zero, suc, ◌+◌, ◌++◌, ◌==◌, Bool, true, false, ◌&&◌, ◌||◌, List, [], ◌∷◌, refl, sym, arith, Option, Some, None, inl, inr, subst, eq-eqb, append-nil}
+use Rattle.std.proofs.Common.{◌≡◌, ⊎_elim, ℕ, zero, suc, ◌+◌, ◌++◌, ◌==◌, Bool, true, false, ◌&&◌, ◌||◌, List, [], ◌∷◌, refl, sym, arith, Some, inl, inr, subst, eq-eqb, append-nil}
+use Rattle.smart_base.specs.declared.party.Party.{Party}
+use Rattle.node_rules.specs.Nodes.{view_of}
 use Rattle.std.specs.Prelude.{slice_get}
 use Rattle.std.specs.List.{list_any}
 use Rattle.smart_base.specs.Lists.{Each}
@@ -17,7 +19,7 @@ use Rattle.world_rules.specs.Secrets.{group_secret}
 use Rattle.world_rules.specs.Premises.{is_among}
 use Rattle.client_quorum.specs.Clients.{learning, acceptance}
 use Rattle.world_rules.specs.Clients.{heard}
-use Rattle.world_rules.specs.Worlds.{Course, course_of, Host, World, posts, stepped, acceptance_in, hearing, clients_from, begun}
+use Rattle.world_rules.specs.Worlds.{Course, course_of, Host, World, posts, stepped, acceptance_in, hearing, clients_from, begun, heard_by}
 use Rattle.world_rules.specs.Plays.{world_after}
 use Rattle.client_quorum.specs.declared.client.Client.{Client}
 use Rattle.client_quorum.specs.declared.client.Acceptance.{Acceptance}
@@ -117,7 +119,7 @@ replied-posts {S = S} w s is =
 replied-stepped : {S : Type 0} (course : Course S) (w : World S) (i : ℕ) (h : Host S) (o : Outcome S) → Replied w → Replied (stepped course w i h o)
 unfolding stepped
 replied-stepped course w i h o is =
-    keeps-sends_all Replied h.node.id (λ v held right. replied-posts v (from_node h.node.id held) right) _ (leaving o.node.firm o.node.held) (record { clients = is.clients; accepted = is.accepted })
+    keeps-sends_all Replied h.node.id (view_of o.node) (λ v held right. replied-posts v (from_node h.node.id (view_of o.node) held) right) _ (leaving o.node.firm o.node.held) (record { clients = is.clients; accepted = is.accepted })
 
 -- a client hears
 
@@ -136,9 +138,10 @@ holds (s ∷ sent) x has =
     ]
 
 -- a reply of a member's own is for the client that it names
-own_for : (id : ℕ) (to : Option Target) (r : SignedBy Answer) (client : ℕ) → IsOwnSent (origins.Node id) to (contents.Message (Reply r)) → r.statement.client ≡ client → is_for client to ≡ true
-own_for id None r client own same = absurd own
-own_for id (Some to) r client own same = subst (λ (t : Target). is_for client (Some t) ≡ true) (sym own.1) (eq-eqb r.statement.client client same)
+own_for : (view : View) (id : ℕ) (to : List Party) (r : SignedBy Answer) (client : ℕ) → IsOwnSent view (origins.Node id) to (contents.Message (Reply r)) → r.statement.client ≡ client → is_for client to ≡ true
+own_for view id to r client own same =
+    subst (λ (ps : List Party). is_for client ps ≡ true) (sym own.addressed)
+    (subst (λ (t : Target). is_for client (heard_by view t) ≡ true) (sym own.own.1) (or_left (client == r.statement.client) false (eq-eqb client r.statement.client (sym same))))
 
 -- where what was sent is read, each one's own and not forged, a member whose reply was sent has sent it, or it is faulty
 sent_reply : {S : Type 0} (m : Meaning S) (w : World S) (r : SignedBy Answer) (a : Acceptance) → RightBorne m w → HasMessage w.sent (Reply r) → is_verified answers group_secret r ≡ true
@@ -160,15 +163,15 @@ sent_reply {S = S} m w r a right has tagged client is = by (is_among w.faulty r.
     mine source =
         let s : Sent = source.message in
         let same : s.content ≡ contents.Message (Reply r) = reply_content s.content r source.states in
-        let own : IsOwnSent s.origin s.to s.content = each_among (λ (t : Sent). IsOwnSent t.origin t.to t.content) w.sent s right.1.sent.own source.there in
-        let own_node : IsOwnSent (origins.Node r.signer) s.to (contents.Message (Reply r)) =
-        subst (λ (x : Content). IsOwnSent (origins.Node r.signer) s.to x) same (subst (λ (o : Origin). IsOwnSent o s.to s.content) source.from own) in
+        let own : IsOwnSent w.view s.origin s.to s.content = each_among (λ (t : Sent). IsOwnSent w.view t.origin t.to t.content) w.sent s right.1.sent.own source.there in
+        let own_node : IsOwnSent w.view (origins.Node r.signer) s.to (contents.Message (Reply r)) =
+        subst (λ (x : Content). IsOwnSent w.view (origins.Node r.signer) s.to x) same (subst (λ (o : Origin). IsOwnSent w.view o s.to s.content) source.from own) in
         among_any test s w.sent source.there
         (passes s same
         (or_right (is_among w.faulty r.signer) (is_of r.signer s.origin && is_for a.request.client s.to)
         (and_from (is_of r.signer s.origin) (is_for a.request.client s.to)
         (subst (λ (o : Origin). is_of r.signer o ≡ true) (sym source.from) (eq-eqb r.signer r.signer refl))
-        (own_for r.signer s.to r a.request.client own_node client))))
+        (own_for w.view r.signer s.to r a.request.client own_node client))))
 
     by : (t : Bool) → is_among w.faulty r.signer ≡ t → has_replied w.faulty w.sent a r.signer ≡ true
     by true breaks =
@@ -217,10 +220,10 @@ keeps-replied m P right k =
         );
         ask = λ w i c op at free low brief p. (
           k.kept.ask w i c op at free low brief p.0,
-          replied-posts (asked_by w i c op) (from_client c (ask_of c op))
+          replied-posts (asked_by w i c op) (from_client w.view c (ask_of c op))
               (record { clients = each_set (ClientKeeps (WasSent w.sent)) w.clients i _ p.1.clients tt; accepted = p.1.accepted }),
         );
-        again = λ w i c q at waits p. (k.kept.again w i c q at waits p.0, replied-posts w (from_client c (signed_by c q)) p.1);
+        again = λ w i c q at waits p. (k.kept.again w i c q at waits p.0, replied-posts w (from_client w.view c (signed_by c q)) p.1);
         learn = λ w i j c d at other p. (
           k.kept.learn w i j c d at other p.0,
           record {

@@ -9,12 +9,12 @@ use Rattle.smart_statements.specs.declared.statement.Answer.{Answer}
 use Rattle.smart_messages.specs.declared.message.Message.{Message}
 use Rattle.smart_service.specs.Services.{Meaning}
 use Rattle.vote_book.specs.declared.entry.LogEntry.{LogEntry}
-use Rattle.node_rules.specs.Nodes.{Node, next_place}
-use Rattle.node_rules.specs.Steps.{Outcome, step_of, leaving}
+use Rattle.node_rules.specs.Nodes.{Node, next_place, view_of}
+use Rattle.node_rules.specs.Steps.{Outcome, step_of, leaving, outset}
 use Rattle.node_rules.specs.Reopening.{reopened, entries_in}
 use Rattle.node_rules.specs.declared.node.Held.{Held}
 use Rattle.node_laws.proofs.Reopened.{reopened_is}
-use Rattle.world_rules.specs.Secrets.{group_secret}
+use Rattle.world_rules.specs.Secrets.{group_secret, period}
 use Rattle.world_rules.specs.Clients.{heard}
 use Rattle.world_rules.specs.Worlds.{Course, course_of, Host, World, posts, sends_all, chosen_with, host_after, host_crashed, host_resumed, stepped, hearing, hosts_from, begun}
 use Rattle.client_quorum.specs.declared.client.Client.{Client}
@@ -35,7 +35,6 @@ use Rattle.replica_laws.specs.Lines.{ReplyRight, HeldRight, IsExecuted}
 use Rattle.replica_laws.proofs.Telling.{Along, right-more, held-step}
 use Rattle.node_laws.proofs.Passes.{each_staying}
 use Rattle.smart_base.proofs.ViewFacts.{each-weaken}
-use Rattle.node_rules.specs.declared.node.Asked.{Asked}
 
 -- so does what a node sends. Of what clients send and scripts inject nothing is said
 abbrev pub ContentRight : {S : Type 0} → Meaning S → View → List Batch → Content → Type 0
@@ -86,14 +85,14 @@ same_list-posts : {S : Type 0} (m : Meaning S) (w : World S) (s : Sent) (x : Mes
 same_list-posts {S = S} m w s x right = by-posts (λ (v : World S). ReplyRight m v.view v.chosen x) w s (λ ending. right) (λ free room. right)
 
 -- right messages leave
-right-sends_all : {S : Type 0} (m : Meaning S) (id : ℕ) (w : World S) (held : List Held) → Each (λ h. ReplyRight m w.view w.chosen h.message) held → RepliesRight m w → RepliesRight m (sends_all id w held)
-right-sends_all m id w [] each r = r
-right-sends_all {S = S} m id w (h ∷ hs) each r =
-    let next : World S = posts w (from_node id h) in
-    right-sends_all m id next hs
+right-sends_all : {S : Type 0} (m : Meaning S) (id : ℕ) (view : View) (w : World S) (held : List Held) → Each (λ h. ReplyRight m w.view w.chosen h.message) held → RepliesRight m w → RepliesRight m (sends_all id view w held)
+right-sends_all m id view w [] each r = r
+right-sends_all {S = S} m id view w (h ∷ hs) each r =
+    let next : World S = posts w (from_node id view h) in
+    right-sends_all m id view next hs
     (each-weaken (λ (x : Held). ReplyRight m w.view w.chosen x.message) (λ (x : Held). ReplyRight m next.view next.chosen x.message)
-    (λ x. same_list-posts m w (from_node id h) x.message) hs each.1)
-    (right-posts m w (from_node id h) each.0 r)
+    (λ x. same_list-posts m w (from_node id view h) x.message) hs each.1)
+    (right-posts m w (from_node id view h) each.0 r)
 
 -- events of a world
 
@@ -105,7 +104,7 @@ right-stepped {S = S} course m w i h o held r =
     let more : (x : Message) → ReplyRight m w.view w.chosen x → ReplyRight m w.view chosen x = right-chosen m w.view w.chosen (next_place o.node) o.node.waiting in
     let all : Each (λ (x : Held). ReplyRight m w.view chosen x.message) o.node.held =
     each-weaken (λ (x : Held). ReplyRight m w.view w.chosen x.message) (λ (x : Held). ReplyRight m w.view chosen x.message) (λ x. more x.message) o.node.held held in
-    right-sends_all m h.node.id _ (leaving o.node.firm o.node.held) (each-leaving (λ x. ReplyRight m w.view chosen x.message) o.node.firm o.node.held all)
+    right-sends_all m h.node.id (view_of o.node) _ (leaving o.node.firm o.node.held) (each-leaving (λ x. ReplyRight m w.view chosen x.message) o.node.firm o.node.held all)
     (record {
       sent = each-weaken (λ (s : Sent). RightFrom m w.view w.chosen s.origin s.content) (λ (s : Sent). RightFrom m w.view chosen s.origin s.content)
           (λ s. from-chosen m w.view w.chosen (next_place o.node) o.node.waiting s.origin s.content) w.sent r.sent;
@@ -130,10 +129,10 @@ right-host {S = S} m w i h held r = record { sent = r.sent; held = each_set (λ 
 
 -- a node that goes on after a crash holds nothing
 held-reopened : {S : Type 0} (m : Meaning S) (v : View) (chosen : List Batch) (secret : List ℕ) (id : ℕ) (view : View) (period : ℕ) (entries : List LogEntry)
-    → HeldRight m v chosen (reopened m secret id view period entries)
+    → HeldRight m v chosen (reopened m (outset m secret id view period) entries)
 unfolding reopened
 held-reopened m v chosen secret id view period [] = tt
-held-reopened {S = S} m v chosen secret id view period (e ∷ es) = subst (λ (n : Node S). HeldRight m v chosen n) (sym (reopened_is m secret id view period e es)) tt
+held-reopened {S = S} m v chosen secret id view period (e ∷ es) = subst (λ (n : Node S). HeldRight m v chosen n) (sym (reopened_is m (outset m secret id view period) e es)) tt
 
 -- where hosts stand along the chosen list, each event keeps all replies right
 pub keeps-replies : {S : Type 0} (m : Meaning S) (P : World S → Type 0) → KeepsAll (course_of m) P → ((w : World S) → P w → AllAligned m w) → KeepsAll (course_of m) (λ w. P w × RepliesRight m w)
@@ -151,10 +150,10 @@ keeps-replies {S = S} m P k aligned =
         hear = λ w i c x a at has read p. (k.kept.hear w i c x a at has read p.0, right-hearing m w i c a (heard w.view c a) p.1);
         ask = λ w i c op at free few brief p. (
           k.kept.ask w i c op at free few brief p.0,
-          right-posts m (asked_by w i c op) (from_client c (ask_of c op)) tt
+          right-posts m (asked_by w i c op) (from_client w.view c (ask_of c op)) tt
               (record { sent = p.1.sent; held = p.1.held }),
         );
-        again = λ w i c q at waits p. (k.kept.again w i c q at waits p.0, right-posts m w (from_client c (signed_by c q)) tt p.1);
+        again = λ w i c q at waits p. (k.kept.again w i c q at waits p.0, right-posts m w (from_client w.view c (signed_by c q)) tt p.1);
         learn = λ w i j c d at other p. (k.kept.learn w i j c d at other p.0, record { sent = p.1.sent; held = p.1.held });
         inject = λ w x read fine p. (k.kept.inject w x read fine p.0, right-posts m w (from_script x) tt p.1);
         declare = λ w faulty rogue ending how p. (k.kept.declare w faulty rogue ending how p.0, record { sent = p.1.sent; held = p.1.held });
@@ -163,7 +162,7 @@ keeps-replies {S = S} m P k aligned =
       resume = λ w i h down at p. (
         k.resume w i h down at p.0,
         right-host m w i (host_resumed h (node_resumed (course_of m) w h))
-            (held-reopened m w.view w.chosen group_secret h.node.id w.view 1024 (entries_in (entries_left h))) p.1,
+            (held-reopened m w.view w.chosen group_secret h.node.id w.view period (entries_in (entries_left h))) p.1,
       );
     }
 

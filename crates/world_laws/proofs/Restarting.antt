@@ -12,13 +12,13 @@ use Rattle.smart_statements.specs.declared.entry.NodeEvent.TheVariants.{Arrive, 
 use Rattle.smart_service.specs.Services.{Meaning}
 use Rattle.vote_book.specs.Entries.{entry_text}
 use Rattle.vote_book.specs.declared.entry.LogEntry.{LogEntry}
-use Rattle.node_rules.specs.Nodes.{Node}
-use Rattle.node_rules.specs.Steps.{Outcome, step_of, leaving}
+use Rattle.node_rules.specs.Nodes.{Node, view_of}
+use Rattle.node_rules.specs.Steps.{Outcome, step_of, leaving, outset}
 use Rattle.node_rules.specs.Reopening.{reopened, entries_in}
 use Rattle.node_rules.specs.declared.node.Why.{Why}
 use Rattle.node_rules.specs.declared.node.Fired.{Fired}
 use Rattle.node_rules.specs.declared.node.Fired.TheVariants as fires
-use Rattle.world_rules.specs.Secrets.{group_secret}
+use Rattle.world_rules.specs.Secrets.{group_secret, period}
 use Rattle.world_rules.specs.Clients.{heard}
 use Rattle.world_rules.specs.Worlds.{course_of, Host, World, posts, told_drop, told_fired, told_heard, host_after, host_crashed, host_resumed, stepped, hearing, begun, hosts_from}
 use Rattle.world_rules.specs.Plays.{line_played, rested, world_after, lines_told}
@@ -164,7 +164,7 @@ from-stepped {S = S} m before w i h event at is =
     let h' : Host S = host_after (course_of m) h o in
     let lines : List OutLine = told_drop h.node.id o.dropped ++ flat_map (told_fired h.node.id) o.fired in
     let set : AllFrom before (with_host w i h') = from-set before w i h h' at (named-step m h.node event) refl (restored-step m h.node event) is in
-    keeps-sends_all (λ (v : World S). AllFrom before v) h.node.id (λ v held all. from-posts before v (from_node h.node.id held) all) _ (leaving o.node.firm o.node.held)
+    keeps-sends_all (λ (v : World S). AllFrom before v) h.node.id (view_of o.node) (λ v held all. from-posts before v (from_node h.node.id (view_of o.node) held) all) _ (leaving o.node.firm o.node.held)
     (record { hosts = all_still before w.told lines (slice_set w.hosts i h') (outcome_still h.node.id o.dropped o.fired) set.hosts })
 
 -- a client hears
@@ -176,7 +176,7 @@ from-hearing before w i c a h is = record { hosts = all_still before w.told (tol
 -- a node goes on
 
 -- all that it takes back is restored
-restored-reopened : {S : Type 0} (m : Meaning S) (secret : List ℕ) (id : ℕ) (view : View) (period : ℕ) (es : List LogEntry) → (reopened m secret id view period es).restored ≡ length es
+restored-reopened : {S : Type 0} (m : Meaning S) (secret : List ℕ) (id : ℕ) (view : View) (period : ℕ) (es : List LogEntry) → (reopened m (outset m secret id view period) es).restored ≡ length es
 unfolding reopened
 restored-reopened m secret id view period [] = refl
 restored-reopened m secret id view period (e ∷ es) = refl
@@ -184,7 +184,7 @@ restored-reopened m secret id view period (e ∷ es) = refl
 -- as many as its devices hold
 restored-resumed : {S : Type 0} (m : Meaning S) (w : World S) (i : ℕ) (h : Host S) → slice_get w.hosts i ≡ Some h → h.up ≡ false → ChosenRight m w → (node_resumed (course_of m) w h).restored ≡ length (entries_left h)
 restored-resumed m w i h at down r =
-    restored-reopened m group_secret h.node.id w.view 1024 (entries_in (entries_left h))
+    restored-reopened m group_secret h.node.id w.view period (entries_in (entries_left h))
     ∙ (ap (λ (es : List LogEntry). length es) (resumes-diary m w i h at down r)
     ∙ (sym (length-map h.life.diary entry_text) ∙ sym (ap (λ (bs : List (List ℕ)). length bs) (left-restored h ((host-right m w i h at r).lasts.down down)))))
 
@@ -206,7 +206,7 @@ from-resumed {S = S} m before w i h down at r is =
     let h' : Host S = host_resumed h n in
     let line : OutLine = resumed_line (course_of m) w h in
     let told : List OutLine = w.told ++ line ∷ [] in
-    let name : n.id ≡ h.node.id = (named m group_secret h.node.id w.view 1024 (entries_in (entries_left h))).name in
+    let name : n.id ≡ h.node.id = (named m group_secret h.node.id w.view period (entries_in (entries_left h))).name in
     let from : Restart = restart_of n.replica.place (length (entries_left h)) in
     let last : last_restart h.node.id (before h.node.id) told ≡ from =
     last-append h.node.id (before h.node.id) w.told (line ∷ []) ∙ restart_own h.node.id n.replica.place (length (entries_left h)) (last_restart h.node.id (before h.node.id) w.told) in
@@ -231,9 +231,9 @@ keeps-restarts {S = S} m brief before =
         hear = λ w i c x a on at has read is. (k.live.hear w i c x a on at has read is.0, from-hearing before w i c a (heard w.view c a) is.1);
         ask = λ w i c op on at free few brief is. (
           k.live.ask w i c op on at free few brief is.0,
-          from-posts before (asked_by w i c op) (from_client c (ask_of c op)) (record { hosts = is.1.hosts }),
+          from-posts before (asked_by w i c op) (from_client w.view c (ask_of c op)) (record { hosts = is.1.hosts }),
         );
-        again = λ w i c q on at waits is. (k.live.again w i c q on at waits is.0, from-posts before w (from_client c (signed_by c q)) is.1);
+        again = λ w i c q on at waits is. (k.live.again w i c q on at waits is.0, from-posts before w (from_client w.view c (signed_by c q)) is.1);
         learn = λ w i j c d on at other is. (k.live.learn w i j c d on at other is.0, record { hosts = all_still before w.told (learned_line c d.seen ∷ []) w.hosts ((λ id r. refl), tt) is.1.hosts });
         inject = λ w x on read fine is. (k.live.inject w x on read fine is.0, from-posts before w (from_script x) is.1);
         declare = λ w faulty rogue ending on how is. (k.live.declare w faulty rogue ending on how is.0, record { hosts = is.1.hosts });

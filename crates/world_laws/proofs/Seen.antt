@@ -1,5 +1,6 @@
 -- What a client has seen is what the transcript tells that it knows.
 use Rattle.std.proofs.Common.{◌≡◌, ℕ, zero, suc, ◌+◌, ◌<◌, ◌≤◌, ◌++◌, ◌==◌, Bool, true, false, List, [], ◌∷◌, length, refl, ap, ◌∙◌, sym, arith, cond, Some, max, subst, eqb-true, eq-eqb}
+use Rattle.node_rules.specs.Nodes.{view_of}
 use Rattle.std.specs.Prelude.{slice_get, slice_set, option_map}
 use Rattle.std.specs.List.{flat_map}
 use Rattle.smart_base.specs.Lists.{Each}
@@ -118,7 +119,7 @@ know-posts {S = S} before count w s is =
 know-stepped : {S : Type 0} (course : Course S) (before : ℕ → ℕ) (count : ℕ) (w : World S) (i : ℕ) (h : Host S) (o : Outcome S) → AllKnow before count w → AllKnow before count (stepped course w i h o)
 unfolding stepped
 know-stepped {S = S} course before count w i h o is =
-    keeps-sends_all (λ (v : World S). AllKnow before count v) h.node.id (λ v held knows. know-posts before count v (from_node h.node.id held) knows) _ (leaving o.node.firm o.node.held)
+    keeps-sends_all (λ (v : World S). AllKnow before count v) h.node.id (view_of o.node) (λ v held knows. know-posts before count v (from_node h.node.id (view_of o.node) held) knows) _ (leaving o.node.firm o.node.held)
     (record {
       each = know-beside before w.clients w.told (told_drop h.node.id o.dropped ++ flat_map (told_fired h.node.id) o.fired)
           (outcome-beside h.node.id o) is.each;
@@ -172,9 +173,9 @@ keeps-knowing course before count =
         hear = λ w i c x a on at has read is. (k.live.hear w i c x a on at has read is.0, know-hearing before count w i c a at (id_at w i c at is.0) is.1);
         ask = λ w i c op on at free few brief is. (
           k.live.ask w i c op on at free few brief is.0,
-          know-posts before count (asked_by w i c op) (from_client c (ask_of c op)) (know-asked before count w i c op at is.1),
+          know-posts before count (asked_by w i c op) (from_client w.view c (ask_of c op)) (know-asked before count w i c op at is.1),
         );
-        again = λ w i c q on at waits is. (k.live.again w i c q on at waits is.0, know-posts before count w (from_client c (signed_by c q)) is.1);
+        again = λ w i c q on at waits is. (k.live.again w i c q on at waits is.0, know-posts before count w (from_client w.view c (signed_by c q)) is.1);
         learn = λ w i j c d on at other is. (
           k.live.learn w i j c d on at other is.0,
           record {

@@ -16,7 +16,7 @@ use Rattle.durable_store.specs.Exact.{log_begins, job_begins, own_log_called, st
 use Rattle.durable_store.specs.Standing.{some}
 use Rattle.durable_store.specs.Turns.{closing, adds, rests, ends_group}
 use Rattle.node_rules.specs.Nodes.{Node}
-use Rattle.node_rules.specs.Steps.{made_firm, step_of, opened}
+use Rattle.node_rules.specs.Steps.{made_firm, step_of, opened, outset}
 use Rattle.world_rules.specs.Worlds.{course_of, Host, World, spelled_behind, host_after, host_of_node}
 use Rattle.world_laws.proofs.Keeps.{Hears, MayCome}
 use Rattle.replica_laws.proofs.Longer.{told_firm, longer-step}
@@ -154,5 +154,5 @@ coming_none job = either (λ k. k ≡ 0) (adds job) 0 0 refl refl
 
 -- a host that has just opened
 pub fits-opened : {S : Type 0} (m : Meaning S) (secret : List ℕ) (id : ℕ) (view : View) (period : ℕ)
-    → Fits (opened m secret id view period) (host_of_node (opened m secret id view period)).store
+    → Fits (opened (outset m secret id view period)) (host_of_node (opened (outset m secret id view period))).store
 fits-opened m secret id view period = record { restored = omega arith; low = omega arith; written = let none = coming_none (job_opened []) in omega (arith, none) }

@@ -1,5 +1,5 @@
 -- A client that is told what another knows, knows it.
-use Rattle.std.proofs.Common.{◌≡◌, ℕ, zero, suc, ◌+◌, ◌≤◌, ◌++◌, Bool, true, false, List, [], ◌∷◌, refl, ap, ◌∙◌, sym, Option, Some, None, is_some, subst, take, max, add-one}
+use Rattle.std.proofs.Common.{◌≡◌, ℕ, zero, suc, ◌+◌, ◌≤◌, ◌++◌, Bool, true, false, List, [], ◌∷◌, refl, ap, ◌∙◌, sym, Option, Some, None, subst, take, max, add-one}
 use Rattle.std.specs.Prelude.{slice_get, option_map}
 use Rattle.smart_base.specs.Views.{View}
 use Rattle.smart_service.specs.Services.{Meaning}
@@ -7,7 +7,7 @@ use Rattle.client_quorum.specs.Clients.{learning}
 use Rattle.client_quorum.specs.declared.client.Client.{Client}
 use Rattle.world_rules.specs.Premises.{is_among}
 use Rattle.world_rules.specs.Knowing.{known_by, seen_by}
-use Rattle.world_rules.specs.Worlds.{course_of, World, is_rogue, learns, learns_from, tells, begun}
+use Rattle.world_rules.specs.Worlds.{course_of, World, is_rogue, learns, learns_from, tells, begun, is_halted}
 use Rattle.world_rules.specs.Plays.{line_played, rested, world_after, lines_told}
 use Rattle.world_rules.specs.declared.line.Line.{Line}
 use Rattle.world_rules.specs.declared.line.Line.TheVariants as lines
@@ -43,7 +43,7 @@ taught_from {S = S} w from to a b (Some c) right honest at known other =
 taught-tells : {S : Type 0} (w : World S) (from to a b : ℕ) → w.ending ≡ None → ClientsRight w → is_among w.rogue from ≡ false → seen_by w from ≡ Some a → seen_by w to ≡ Some b → seen_by (tells from to w) to ≡ Some (max b a)
 unfolding tells
 taught-tells {S = S} w from to a b on right honest known other =
-    either_by (λ (v : World S). seen_by v to ≡ Some (max b a)) (is_some w.ending) w _ (λ over. absurd (is_over w.ending over on))
+    either_by (λ (v : World S). seen_by v to ≡ Some (max b a)) (is_halted w) w _ (λ over. absurd (is_over w.ending over on))
     (λ goes. taught_from w from to a b (slice_get w.clients from) right honest refl known other)
 
 -- one line more

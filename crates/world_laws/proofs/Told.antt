@@ -1,5 +1,6 @@
 -- Each line of a transcript that tells of an accepted reply tells the service's answer.
 use Rattle.std.proofs.Common.{◌≡◌, ℕ, ◌++◌, Bool, false, cond, List, [], ◌∷◌, refl, ap, ◌∙◌, sym, Some, inl, inr, ◌⊎◌, subst, filter, append-nil, append_assoc}
+use Rattle.node_rules.specs.Nodes.{view_of}
 use Rattle.std.specs.Prelude.{map, slice_get}
 use Rattle.std.proofs.lemmas.List.{map-append}
 use Rattle.std.proofs.lemmas.List.Elements.{filter-append}
@@ -83,7 +84,7 @@ stems-posts {S = S} w s is =
 stems-stepped : {S : Type 0} (course : Course S) (w : World S) (i : ℕ) (h : Host S) (o : Outcome S) → ToldStems w → ToldStems (stepped course w i h o)
 unfolding stepped
 stems-stepped course w i h o is =
-    keeps-sends_all ToldStems h.node.id (λ v held stems. stems-posts v (from_node h.node.id held) stems) _ (leaving o.node.firm o.node.held)
+    keeps-sends_all ToldStems h.node.id (view_of o.node) (λ v held stems. stems-posts v (from_node h.node.id (view_of o.node) held) stems) _ (leaving o.node.firm o.node.held)
     (record {
       all = each_append (Stems w.accepted) w.told _ is.all
           (each-weaken IsBeside (Stems w.accepted) (λ line beside. inl beside) (told_drop h.node.id o.dropped ++ flat_map (told_fired h.node.id) o.fired) (outcome-beside h.node.id o));
@@ -133,9 +134,9 @@ keeps-stemming course =
         hear = λ w i c x a on at has read is. (k.live.hear w i c x a on at has read is.0, stems-hearing w i c a (waits_own w i c at is.0) is.1);
         ask = λ w i c op on at free few brief is. (
           k.live.ask w i c op on at free few brief is.0,
-          stems-posts (asked_by w i c op) (from_client c (ask_of c op)) (record { all = is.1.all }),
+          stems-posts (asked_by w i c op) (from_client w.view c (ask_of c op)) (record { all = is.1.all }),
         );
-        again = λ w i c q on at waits is. (k.live.again w i c q on at waits is.0, stems-posts w (from_client c (signed_by c q)) is.1);
+        again = λ w i c q on at waits is. (k.live.again w i c q on at waits is.0, stems-posts w (from_client w.view c (signed_by c q)) is.1);
         learn = λ w i j c d on at other is. (
           k.live.learn w i j c d on at other is.0,
           record { all = each_end (Stems w.accepted) w.told (learned_line c d.seen) is.1.all (inr (inl (record { client = c.id; place = (learning c d.seen).seen; is = refl }))) },
@@ -163,7 +164,7 @@ accepted-posts {S = S} w s = by-posts (λ (v : World S). v.accepted ≡ w.accept
 accepted-stepped : {S : Type 0} (course : Course S) (w : World S) (i : ℕ) (h : Host S) (o : Outcome S) → (stepped course w i h o).accepted ≡ w.accepted
 unfolding stepped
 accepted-stepped {S = S} course w i h o =
-    keeps-sends_all (λ (v : World S). v.accepted ≡ w.accepted) h.node.id (λ v held is. accepted-posts v (from_node h.node.id held) ∙ is) _ (leaving o.node.firm o.node.held) refl
+    keeps-sends_all (λ (v : World S). v.accepted ≡ w.accepted) h.node.id (view_of o.node) (λ v held is. accepted-posts v (from_node h.node.id (view_of o.node) held) ∙ is) _ (leaving o.node.firm o.node.held) refl
 
 -- where a client hears, more is accepted
 accepted-hearing : {S : Type 0} (w : World S) (i : ℕ) (c : Client) (a : SignedBy Answer) (h : Heard) → (hearing w i c a h).accepted ≡ w.accepted ++ acceptance_in h
@@ -308,7 +309,7 @@ all-posts {S = S} before w s is =
 all-stepped : {S : Type 0} (course : Course S) (before : List OutLine) (w : World S) (i : ℕ) (h : Host S) (o : Outcome S) → TellsAll before w → TellsAll before (stepped course w i h o)
 unfolding stepped
 all-stepped {S = S} course before w i h o is =
-    keeps-sends_all (λ (v : World S). TellsAll before v) h.node.id (λ v held all. all-posts before v (from_node h.node.id held) all) _ (leaving o.node.firm o.node.held)
+    keeps-sends_all (λ (v : World S). TellsAll before v) h.node.id (view_of o.node) (λ v held all. all-posts before v (from_node h.node.id (view_of o.node) held) all) _ (leaving o.node.firm o.node.held)
     (record { all = is.all ∙ sym (all-beside before w.told (told_drop h.node.id o.dropped ++ flat_map (told_fired h.node.id) o.fired) (outcome-beside h.node.id o)) })
 
 -- a client tells of what it accepts
@@ -348,9 +349,9 @@ keeps-all course before =
         hear = λ w i c x a on at has read is. (k.live.hear w i c x a on at has read is.0, all-hearing before w i c a (waits_own w i c at is.0) is.1);
         ask = λ w i c op on at free few brief is. (
           k.live.ask w i c op on at free few brief is.0,
-          all-posts before (asked_by w i c op) (from_client c (ask_of c op)) (record { all = is.1.all }),
+          all-posts before (asked_by w i c op) (from_client w.view c (ask_of c op)) (record { all = is.1.all }),
         );
-        again = λ w i c q on at waits is. (k.live.again w i c q on at waits is.0, all-posts before w (from_client c (signed_by c q)) is.1);
+        again = λ w i c q on at waits is. (k.live.again w i c q on at waits is.0, all-posts before w (from_client w.view c (signed_by c q)) is.1);
         learn = λ w i j c d on at other is. (
           k.live.learn w i j c d on at other is.0,
           record { all = is.1.all ∙ sym (ap (λ (xs : List OutLine). before ++ xs) (told-parts w.told (learned_line c d.seen ∷ []) ∙ append-nil (filter is_acceptance w.told))) },

@@ -1,8 +1,10 @@
 -- What a script injects is forged by nobody: each statement in it is of one who is excused, or stands in a message of its signer's own.
 use Rattle.std.proofs.Common.{◌≡◌, ⊎_elim, ℕ, ◌++◌, ◌&&◌, ◌||◌, Bool, true, false, not, List, [], ◌∷◌, refl, sym, ap, ◌∙◌, subst, eqb-true, inl, inr, ◌⊎◌, Option, Some, None}
+use Rattle.node_rules.specs.Nodes.{view_of}
 use Rattle.std.specs.Prelude.{map}
 use Rattle.std.specs.List.{list_any}
 use Rattle.smart_base.specs.Lists.{Each}
+use Rattle.smart_base.specs.Views.{View}
 use Rattle.smart_base.specs.declared.party.Party.{Party}
 use Rattle.smart_base.specs.declared.party.Party.TheVariants as parties
 use Rattle.smart_statements.specs.Forms.{SignedBy}
@@ -21,7 +23,6 @@ use Rattle.smart_messages.specs.declared.message.Message.{Message}
 use Rattle.vote_book.specs.Books.{Among}
 use Rattle.vote_book.proofs.Tested.{passing}
 use Rattle.node_rules.specs.Steps.{Outcome, leaving}
-use Rattle.node_rules.specs.declared.node.Target.{Target}
 use Rattle.agreement_laws.specs.Statements.{Statement, Asked, Proposed, Voted, Stopped, Reported, Synced, Marked, Replied, Informed, signer_of, within, in_report, parts_of_evidence, parts_of_lock, requests_of, said}
 use Rattle.agreement_laws.proofs.Lists.{among_either, each_among, given, within_one, each_end}
 use Rattle.world_rules.specs.Premises.{Claim, claim_of, claims, same_claim, is_among, is_from, is_stated, is_excused, is_forgery, is_forged}
@@ -31,7 +32,7 @@ use Rattle.world_rules.specs.declared.message.Content.TheVariants as contents
 use Rattle.world_rules.specs.declared.message.Origin.{Origin}
 use Rattle.world_rules.specs.declared.message.Origin.TheVariants as origins
 use Rattle.world_rules.specs.declared.message.Sent.{Sent}
-use Rattle.world_laws.specs.Sending.{IsNodes, IsClients, IsOwnSent}
+use Rattle.world_laws.specs.Sending.{IsNodes, IsClients, IsOwnSent, IsForTarget, IsAskOf}
 use Rattle.world_rules.specs.Stated.{stated_in, stated}
 use Rattle.world_laws.proofs.Keeps.{IsRead, ask_of, asked_by, by-posts, KeepsAll, keeps-sends_all, signed_by, from_node, from_client, from_script}
 use Rattle.world_laws.proofs.Stating.{Proper, claims_stated, same_claim-one, message_proper, IsSaid, message_says}
@@ -130,7 +131,7 @@ unforged-posts {S = S} w s fine is =
 unforged-stepped : {S : Type 0} (course : Course S) (w : World S) (i : ℕ) (h : Host S) (o : Outcome S) → Unforged w → Unforged (stepped course w i h o)
 unfolding stepped
 unforged-stepped {S = S} course w i h o is =
-    keeps-sends_all (λ (v : World S). Unforged v) h.node.id (λ v held. unforged-posts v (from_node h.node.id held) tt) _ (leaving o.node.firm o.node.held) (record { each = is.each })
+    keeps-sends_all (λ (v : World S). Unforged v) h.node.id (view_of o.node) (λ v held. unforged-posts v (from_node h.node.id (view_of o.node) held) tt) _ (leaving o.node.firm o.node.held) (record { each = is.each })
 
 -- whatever happens, nothing is forged
 pub keeps-unforged : {S : Type 0} (course : Course S) → KeepsAll course Unforged
@@ -142,8 +143,8 @@ keeps-unforged course =
         disk = λ w i h up at is. record { each = is.each };
         crash = λ w i h left up at may is. record { each = is.each };
         hear = λ w i c x a at has read is. record { each = is.each };
-        ask = λ w i c op at free few brief is. unforged-posts (asked_by w i c op) (from_client c (ask_of c op)) tt (record { each = is.each });
-        again = λ w i c q at waits is. unforged-posts w (from_client c (signed_by c q)) tt is;
+        ask = λ w i c op at free few brief is. unforged-posts (asked_by w i c op) (from_client w.view c (ask_of c op)) tt (record { each = is.each });
+        again = λ w i c q at waits is. unforged-posts w (from_client w.view c (signed_by c q)) tt is;
         learn = λ w i j c d at other is. record { each = is.each };
         inject = λ w x read fine is. unforged-posts w (from_script x) fine is;
         declare = λ w faulty rogue ending how is.
@@ -318,20 +319,19 @@ reply_content (contents.Message m) a there =
 reply_content (contents.Raw bytes) a there = absurd there
 
 -- a reply that a node has sent as its own names it as its signer, and no client sends one
-node_reply : (id : ℕ) (to : Option Target) (c : Content) (a : SignedBy Answer) → IsNodes id to c → c ≡ contents.Message (Reply a) → a.signer ≡ id
-node_reply id None c a own is = absurd own
-node_reply id (Some to) c a own is = (subst (λ (x : Content). IsNodes id (Some to) x) is own).0
+node_reply : (view : View) (id : ℕ) (to : List Party) (c : Content) (a : SignedBy Answer) → IsNodes view id to c → c ≡ contents.Message (Reply a) → a.signer ≡ id
+node_reply view id to c a own is = (subst (λ (x : Content). IsForTarget id own.target x) is own.own).0
 
-client_reply : (id : ℕ) (to : Option Target) (c : Content) (a : SignedBy Answer) → IsClients id to c → c ≡ contents.Message (Reply a) → ⊥
-client_reply id to c a own is = (subst (λ (x : Content). IsClients id to x) is own).1
+client_reply : (view : View) (id : ℕ) (to : List Party) (c : Content) (a : SignedBy Answer) → IsClients view id to c → c ≡ contents.Message (Reply a) → ⊥
+client_reply view id to c a own is = subst (λ (x : Content). IsAskOf id x) is own.own
 
 -- a reply of a member that is not faulty stands in a message that its own node has sent, in whosever message it stands
-pub member_states : {S : Type 0} (w : World S) (id : ℕ) (a : SignedBy Answer) → Each (λ s. IsRead s.content) w.sent → Each (λ s. IsOwnSent s.origin s.to s.content) w.sent → Unforged w
+pub member_states : {S : Type 0} (w : World S) (id : ℕ) (a : SignedBy Answer) → Each (λ s. IsRead s.content) w.sent → Each (λ s. IsOwnSent w.view s.origin s.to s.content) w.sent → Unforged w
     → is_among w.faulty id ≡ false → a.signer ≡ id → Among (Replied a) (stated w.sent) → NodeStates w.sent id (Replied a)
 member_states {S = S} w id a read own fine correct who there =
     let x : Statement = Replied a in
     let found = stated_stands w.sent x there in
-    by found.message.origin found (each_among (λ (t : Sent). IsOwnSent t.origin t.to t.content) w.sent found.message own found.there)
+    by found.message.origin found (each_among (λ (t : Sent). IsOwnSent w.view t.origin t.to t.content) w.sent found.message own found.there)
     (each_among (λ (t : Sent). IsFine w.faulty w.rogue w.sent t.origin t.content) w.sent found.message fine.each found.there) refl
   where
     no_other : true ≡ false → ⊥
@@ -340,10 +340,10 @@ member_states {S = S} w id a read own fine correct who there =
     here : (found : Stands w.sent (Replied a)) → found.message.origin ≡ origins.Node id → NodeStates w.sent id (Replied a)
     here found from = record { message = found.message; there = found.there; from = from; states = found.states }
 
-    by : (o : Origin) (found : Stands w.sent (Replied a)) → IsOwnSent o found.message.to found.message.content → IsFine w.faulty w.rogue w.sent o found.message.content → found.message.origin ≡ o → NodeStates w.sent id (Replied a)
+    by : (o : Origin) (found : Stands w.sent (Replied a)) → IsOwnSent w.view o found.message.to found.message.content → IsFine w.faulty w.rogue w.sent o found.message.content → found.message.origin ≡ o → NodeStates w.sent id (Replied a)
     by (origins.Node j) found own fine is =
-        here found (is ∙ ap (λ (k : ℕ). origins.Node k) (sym (node_reply j found.message.to found.message.content a own (reply_content found.message.content a found.states)) ∙ who))
-    by (origins.Client j) found own fine is = absurd (client_reply j found.message.to found.message.content a own (reply_content found.message.content a found.states))
+        here found (is ∙ ap (λ (k : ℕ). origins.Node k) (sym (node_reply w.view j found.message.to found.message.content a own (reply_content found.message.content a found.states)) ∙ who))
+    by (origins.Client j) found own fine is = absurd (client_reply w.view j found.message.to found.message.content a own (reply_content found.message.content a found.states))
     by origins.Script found own fine is =
         ⊎_elim (λ excused. absurd (no_other (sym (subst (λ (k : ℕ). is_among w.faulty k ≡ true) who excused) ∙ correct)))
         (λ mine. here mine.stands (from_member id mine.stands.message.origin (subst (λ (k : ℕ). is_from (parties.Member k) mine.stands.message.origin ≡ true) who mine.from)))

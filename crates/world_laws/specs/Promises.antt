@@ -7,6 +7,7 @@ use Rattle.smart_statements.specs.Batches.{Batch}
 use Rattle.smart_statements.specs.declared.statement.Request.{Request}
 use Rattle.smart_statements.specs.declared.statement.Answer.{Answer}
 use Rattle.smart_base.specs.declared.party.Party.TheVariants.{Member}
+use Rattle.smart_base.specs.declared.limits.TheConstants.{CLIENTS, LAST_CLIENT, PERIOD}
 use Rattle.smart_messages.specs.declared.message.Message.TheVariants.{Ask}
 use Rattle.smart_service.specs.Services.{Meaning}
 use Rattle.replica_rules.specs.Replicas.{state, executed_lines, answer, place_of, batch_at, request_at, view_at}
@@ -22,12 +23,11 @@ use Rattle.durable_store.specs.Restored.{Images, restores}
 use Rattle.world_rules.specs.Crashes.{bytes_held, images_left, wrong_images}
 use Rattle.world_rules.specs.declared.crash.Image.{Image}
 use Rattle.durable_store.specs.Standing.{MayLeave}
-use Rattle.node_rules.specs.declared.node.Target.TheVariants as targets
 use Rattle.node_rules.specs.declared.node.Delivery.{Delivery}
-use Rattle.world_rules.specs.Secrets.{group_secret}
+use Rattle.world_rules.specs.Secrets.{group_secret, outset_place}
 use Rattle.world_rules.specs.Premises.{is_among}
 use Rattle.world_rules.specs.declared.message.Content.TheVariants as contents
-use Rattle.world_rules.specs.Worlds.{Host, World, course_of, is_gone, life_crashed, begun}
+use Rattle.world_rules.specs.Worlds.{Host, World, course_of, is_gone, life_crashed, begun, outset_of}
 use Rattle.world_rules.specs.Plays.{world_after, lines_told}
 use Rattle.world_rules.specs.Knowing.{known_by}
 use Rattle.world_rules.specs.Stated.{IsWitnessed, stated, diary}
@@ -68,7 +68,7 @@ pub record IsPrefix {S : Type 0} (m : Meaning S) (view : View) (chosen : List Ba
 
 -- the replica after a restart, if a crash leaves given bytes of the devices
 abbrev pub restored_replica : {S : Type 0} → Meaning S → View → Host S → Images → Replica S
-restored_replica m view h left = (reopened m group_secret h.node.id view 1024 (entries_in (restores left).entries)).replica
+restored_replica m view h left = (reopened m (outset_of m view h.node.id) (entries_in (restores left).entries)).replica
 
 -- a correct member whose devices restore a place or a later one
 abbrev pub has_place : {S : Type 0} → Meaning S → World S → (ℕ → Images) → ℕ → Host S → Bool
@@ -92,18 +92,22 @@ pub record Recovers {S : Type 0} (m : Meaning S) (w : World S) (h : Host S) : Ty
   pub possible : (image : Image) → wrong_images h.store (images_left image [] h.store) ≡ None
   pub leaves : (image : Image) → MayLeave h.store (images_left image [] h.store)
   pub diary : (left : Images) → MayLeave h.store left → (restores left).entries ≡ map entry_text (life_crashed h left).diary
-  pub undamaged : (left : Images) → MayLeave h.store left → damaged group_secret w.view (restores left).entries ≡ None
-  pub restarts : h.up ≡ false → damaged group_secret w.view (restores (bytes_held h.store)).entries ≡ None
+  pub undamaged : (left : Images) → MayLeave h.store left → damaged group_secret outset_place w.view (restores left).entries ≡ None
+  pub restarts : h.up ≡ false → damaged group_secret outset_place w.view (restores (bytes_held h.store)).entries ≡ None
   pub within : (left : Images) → MayLeave h.store left → (restored_replica m w.view h left).place ≤ length w.chosen
   pub right : (left : Images) → MayLeave h.store left → restored_replica m w.view h left ≡ state m w.view (take (restored_replica m w.view h left).place w.chosen)
 
 -- ---- replies
 
--- a request that its client has signed and sent to the view
+-- a message in which its client asks a request: the client has signed the request and sent it itself
+pub record IsAskedIn (s : Sent) (q : Request) : Type 0 where
+  pub origin : s.origin ≡ origins.Client q.client
+  pub content : s.content ≡ contents.Message (Ask (signed requests group_secret q.client q))
+
+-- a request that its client has asked
 abbrev pub HasAsked : List Sent → Request → Type 0
 HasAsked [] q = ⊥
-HasAsked (s ∷ sent) q =
-    (s ≡ record { origin = origins.Client q.client; to = Some targets.View; content = contents.Message (Ask (signed requests group_secret q.client q)) }) ⊎ HasAsked sent q
+HasAsked (s ∷ sent) q = IsAskedIn s q ⊎ HasAsked sent q
 
 -- a client that was declared rogue
 abbrev pub IsRogue : List ℕ → ℕ → Type 0
@@ -121,7 +125,7 @@ pub record IsRightReply {S : Type 0} (m : Meaning S) (w : World S) (a : Answer) 
   pub above : request.after < a.place
   pub place_is : place_of m w.view w.chosen a.client a.seq ≡ Some (a.place, a.index)
   pub reply_is : answer m w.view w.chosen a.place a.index ≡ Some a.reply
-  pub view_is : a.view ≡ (view_at m w.view w.chosen a.place).number
+  pub view_is : a.view ≡ (view_at w.view w.chosen a.place).number
 
 -- a right statement: a reply is a right one; for other kinds nothing is claimed
 abbrev pub IsRightStatement : {S : Type 0} → Meaning S → World S → Statement → Type 0
@@ -154,10 +158,10 @@ pub record IsRight {S : Type 0} (m : Meaning S) (w : World S) (a : Acceptance) :
   pub right : IsRightReply m w (answer_accepted a)
   pub own : IsRogue w.rogue a.request.client ⊎ (right.request ≡ a.request)
 
--- acceptances of which each later request states no earlier place than that of each reply which its client accepted before
-abbrev pub Rises : List Acceptance → Type 0
-Rises [] = Unit {0}
-Rises (a ∷ later) = Each (λ b. b.request.client ≡ a.request.client → a.place ≤ b.request.after) later × Rises later
+-- acceptances of which no two are of one client's requests of one number
+abbrev pub AreApart : List Acceptance → Type 0
+AreApart [] = Unit {0}
+AreApart (a ∷ later) = Each (λ b. b.request.client ≡ a.request.client → b.request.seq ≡ a.request.seq → ⊥) later × AreApart later
 
 -- `count` numbers from i on
 unfoldable pub numbers_from : ℕ → ℕ → List ℕ
@@ -167,17 +171,17 @@ numbers_from (suc count) i = i ∷ numbers_from count (i + 1)
 -- One list at a moment of a play. Each node has delivered a front of it, also a node that is gone or has stopped. Whatever crashes leave of a
 -- node's devices, it restarts from a front of the list. Each member of the view has one node, and each number from 0 to 1,024 one client. Each
 -- reply that a node holds or a correct member has stated is right. Each accepted reply is right, a quorum has given it, and its place is kept.
--- What a node or a client has sent is its own. A node's votes, replies and reports rest on what became firm there.
+-- A client accepts one reply to each number. What a node or a client has sent is its own. A node's votes, replies and reports rest on what became firm there.
 pub record OneList {S : Type 0} (m : Meaning S) (w : World S) : Type 0 where
   pub members : map (λ h. h.node.id) w.hosts ≡ w.view.members
-  pub clients : map (λ c. c.id) w.clients ≡ numbers_from 1025 0
+  pub clients : map (λ c. c.id) w.clients ≡ numbers_from CLIENTS 0
   pub hosts : Each (IsPrefix m w.view w.chosen) w.hosts
   pub recovers : Each (Recovers m w) w.hosts
   pub replied : AreRepliesRight m w
   pub accepted : Each (IsRight m w) w.accepted
   pub quorums : QuorumsReplied w
   pub kept : Each (λ a. IsKept m w a.place) w.accepted
-  pub rising : Rises w.accepted
+  pub apart : AreApart w.accepted
   pub firm : SentFirm w
 
 -- A transcript line that is true of the list. If it tells an accepted reply, it names where the list executes that client's request of that
@@ -336,7 +340,7 @@ world_at m view ls k = world_after (course_of m) (begun m view) (take k ls)
 -- while nothing has ended the play, and if the other client is not rogue.
 abbrev pub HasTaught : {S : Type 0} → World S → List OutLine → List OutLine → Line → Type 0
 HasTaught w before after (lines.Tell from to) =
-    w.ending ≡ None → is_among w.rogue from ≡ false → from ≤ 1024 → to ≤ 1024 → known_by to after ≡ max (known_by to before) (known_by from before)
+    w.ending ≡ None → is_among w.rogue from ≡ false → from ≤ LAST_CLIENT → to ≤ LAST_CLIENT → known_by to after ≡ max (known_by to before) (known_by from before)
 HasTaught w before after lines.Nothing = Unit {0}
 HasTaught w before after (lines.Ask client op) = Unit {0}
 HasTaught w before after (lines.Again client) = Unit {0}

@@ -1,8 +1,11 @@
 -- The senders of messages, and the entries that messages rest on.
-use Rattle.std.specs.Prelude.{ℕ, ◌≡◌, ◌<◌, ◌≤◌, ◌⊎◌, ◌==◌, Bool, false, ◌&&◌, ◌||◌, List, [], ◌∷◌, length, filter, Option, Some, None, Ok, Err, option_and_then, true}
+use Rattle.std.specs.Prelude.{ℕ, ◌≡◌, ◌<◌, ◌≤◌, ◌⊎◌, ◌==◌, Bool, false, ◌&&◌, ◌||◌, List, [], ◌∷◌, length, filter, Option, Ok, Err, option_and_then, true}
+use Rattle.smart_base.specs.declared.party.Party.TheVariants as parties
+use Rattle.smart_base.specs.declared.party.Party.{Party}
 use Rattle.std.specs.List.{list_any}
 use Rattle.smart_base.specs.Lists.{Each, same_bytes}
 use Rattle.smart_base.specs.Views.{View, weight_of, quorum}
+use Rattle.smart_base.specs.declared.limits.TheConstants.{MESSAGE_BYTES}
 use Rattle.smart_statements.specs.Forms.{SignedBy}
 use Rattle.smart_statements.specs.Kinds.{answers}
 use Rattle.smart_messages.specs.Messages.{spelling, decoded, reply_in, some_of}
@@ -17,10 +20,10 @@ use Rattle.node_rules.specs.declared.node.Target.{Target}
 use Rattle.node_rules.specs.declared.node.Target.TheVariants as targets
 use Rattle.replica_laws.specs.Sending.{IsOwn, RestsOn, IsGenuine}
 use Rattle.world_rules.specs.Secrets.{group_secret}
-use Rattle.world_rules.specs.Premises.{is_among, bytes_of}
+use Rattle.world_rules.specs.Premises.{is_among, bytes_of, same_party}
 use Rattle.client_quorum.specs.Clients.{after_heard, reply_read}
 use Rattle.world_rules.specs.Clients.{heard}
-use Rattle.world_rules.specs.Worlds.{Host, World}
+use Rattle.world_rules.specs.Worlds.{Host, World, heard_by}
 use Rattle.client_quorum.specs.declared.client.Client.{Client}
 use Rattle.client_quorum.specs.declared.client.Acceptance.{Acceptance}
 use Rattle.world_rules.specs.declared.message.Content.{Content}
@@ -30,28 +33,38 @@ use Rattle.world_rules.specs.declared.message.Origin.TheVariants as origins
 use Rattle.world_rules.specs.declared.message.Sent.{Sent}
 use Rattle.world_rules.specs.Injections.{message_in}
 
--- a content that a node may send to a target: a message of its own, or a client's request that it passes on to one member
-abbrev pub IsNodes : ℕ → Option Target → Content → Type 0
-IsNodes id None content = ⊥
-IsNodes id (Some to) (contents.Message message) = IsOwn id to message
-IsNodes id (Some to) (contents.Raw bytes) = ⊥
+-- a content that a node may send for a target: a message of its own, or a client's request that it passes on to one member
+abbrev pub IsForTarget : ℕ → Target → Content → Type 0
+IsForTarget id target (contents.Message message) = IsOwn id target message
+IsForTarget id target (contents.Raw bytes) = ⊥
+
+-- A content that a node may send to some parties: they are those that hear its target in a view. INTERIM(views): that is the group's view.
+pub record IsNodes (view : View) (id : ℕ) (to : List Party) (content : Content) : Type 0 where
+  pub target : Target
+  pub addressed : to ≡ heard_by view target
+  pub own : IsForTarget id target content
 
 -- a message that is a request with a client's signature
 abbrev pub IsRequestOf : ℕ → Message → Type 0
 IsRequestOf id (Ask q) = q.signer ≡ id
 IsRequestOf id _ = ⊥
 
--- a content that a client may send to a target: a request of its own, to the view
-abbrev pub IsClients : ℕ → Option Target → Content → Type 0
-IsClients id to (contents.Message message) = (to ≡ Some targets.View) × IsRequestOf id message
-IsClients id to (contents.Raw bytes) = ⊥
+-- a content that is a request with a client's signature
+abbrev pub IsAskOf : ℕ → Content → Type 0
+IsAskOf id (contents.Message message) = IsRequestOf id message
+IsAskOf id (contents.Raw bytes) = ⊥
 
--- a content that its origin may send: nodes and clients send their own messages, nodes pass on clients' requests, and what a script injects
+-- A content that a client may send to some parties: a request of its own, to the members of a view. INTERIM(views): that is the group's view.
+pub record IsClients (view : View) (id : ℕ) (to : List Party) (content : Content) : Type 0 where
+  pub addressed : to ≡ heard_by view targets.View
+  pub own : IsAskOf id content
+
+-- a content that its origin may send in a view: nodes and clients send their own messages, nodes pass on clients' requests, and what a script injects
 -- is for nobody
-abbrev pub IsOwnSent : Origin → Option Target → Content → Type 0
-IsOwnSent (origins.Node id) to content = IsNodes id to content
-IsOwnSent (origins.Client id) to content = IsClients id to content
-IsOwnSent origins.Script to content = to ≡ None
+abbrev pub IsOwnSent : View → Origin → List Party → Content → Type 0
+IsOwnSent view (origins.Node id) to content = IsNodes view id to content
+IsOwnSent view (origins.Client id) to content = IsClients view id to content
+IsOwnSent view origins.Script to content = to ≡ []
 
 -- bytes that are read as no message
 pub record IsUnread (bytes : List ℕ) : Type 0 where
@@ -72,8 +85,8 @@ orders (Reply a) = true
 -- always read as itself.
 pub record IsReadIfShort (message : Message) : Type 0 where
   pub ordering : orders message ≡ true → decoded (spelling message) ≡ Ok message
-  pub short : length (spelling message) ≤ 1048576 → decoded (spelling message) ≡ Ok message
-  pub long : 1048576 < length (spelling message) → IsUnread (spelling message)
+  pub short : length (spelling message) ≤ MESSAGE_BYTES → decoded (spelling message) ≡ Ok message
+  pub long : MESSAGE_BYTES < length (spelling message) → IsUnread (spelling message)
 
 -- a content that is read for what it is: a message as itself within the limit, and bytes that are no message as none
 abbrev pub IsReadAs : Content → Type 0
@@ -134,12 +147,9 @@ is_of member (origins.Node id) = id == member
 is_of member (origins.Client id) = false
 is_of member origins.Script = false
 
--- a target that is a client
-abbrev pub is_for : ℕ → Option Target → Bool
-is_for client None = false
-is_for client (Some targets.View) = false
-is_for client (Some (targets.Node id)) = false
-is_for client (Some (targets.Client id)) = id == client
+-- addressees among which a client is
+abbrev pub is_for : ℕ → List Party → Bool
+is_for client to = list_any (same_party (parties.Client client)) to
 
 -- a content that is a member's reply with its tag, and the accepted one
 abbrev pub is_reply_of : ℕ → Acceptance → Content → Bool
@@ -184,5 +194,5 @@ IsBorne hosts origins.Script content = Unit {0}
 
 -- A world in which each message is one that its origin may send. A node's vote, reply or report rests on entries that became firm there.
 pub record SentFirm {S : Type 0} (w : World S) : Type 0 where
-  pub own : Each (λ s. IsOwnSent s.origin s.to s.content) w.sent
+  pub own : Each (λ s. IsOwnSent w.view s.origin s.to s.content) w.sent
   pub borne : Each (λ s. IsBorne w.hosts s.origin s.content) w.sent

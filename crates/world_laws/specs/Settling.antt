@@ -1,10 +1,11 @@
 -- The worlds of a play while a node settles.
 use Rattle.std.specs.Prelude.{ℕ, ◌+◌, List, slice_get}
+use Rattle.smart_base.specs.declared.party.Party.{Party}
 use Rattle.smart_base.specs.Views.{View}
 use Rattle.smart_statements.specs.declared.entry.NodeEvent.TheVariants.{Arrive}
 use Rattle.smart_service.specs.Services.{Meaning}
 use Rattle.world_rules.specs.Repeats.{repeated, each_from}
-use Rattle.world_rules.specs.Worlds.{course_of, World, node_takes, settle_once, at_listed, settle_present, settle_all, gives, flow_once, begun}
+use Rattle.world_rules.specs.Worlds.{course_of, World, node_takes, settle_once, at_listed, settle_present, settle_all, flow_once, begun, goes}
 use Rattle.world_rules.specs.Plays.{world_after}
 use Rattle.world_rules.specs.declared.line.Line.{Line}
 
@@ -20,9 +21,9 @@ flow_begins m view ls members nodes = each_from (at_listed members (settles_pres
 abbrev pub flow_goes : {S : Type 0} → Meaning S → View → List Line → List ℕ → ℕ → World S
 flow_goes m view ls members k = repeated (flow_once (course_of m) members) k (settle_all (course_of m) members (world_after (course_of m) (begun m view) ls))
 
--- the world after bytes were given to listed members, of which the first have settled
-abbrev pub message_goes : {S : Type 0} → Meaning S → List ℕ → List ℕ → ℕ → World S → World S
-message_goes m members bytes nodes w = each_from (at_listed members (gives (course_of m) bytes)) nodes 0 (record w { mark = w.mark + 1 })
+-- the world of a flow after bytes went to some parties: to listed members, of which each has settled, and to clients
+abbrev pub message_goes : {S : Type 0} → Meaning S → List ℕ → List ℕ → List Party → World S → World S
+message_goes m members bytes tos w = goes (course_of m) members (record w { mark = w.mark + 1 }) bytes tos
 
 -- the world after a node took bytes, and then `k` turns of what was due
 abbrev pub node_goes : {S : Type 0} → Meaning S → List ℕ → ℕ → ℕ → World S → World S

@@ -1,11 +1,12 @@
 //! Laws of what is sent, and of what it rests on.
 ghost use Rattle.std.specs.Prelude.{◌≡◌, ◌++◌, ◌∷◌, [], ℕ, List, true};
 ghost use Rattle.smart_base.specs.Views.{View, is_view};
+ghost use Rattle.smart_base.specs.declared.party.Party.{Party};
 ghost use Rattle.smart_statements.specs.Forms.{SignedBy};
 ghost use Rattle.smart_statements.specs.declared.statement.Request.{Request};
 ghost use Rattle.smart_statements.specs.declared.statement.Answer.{Answer};
 ghost use Rattle.smart_statements.specs.declared.entry.NodeEvent.{NodeEvent};
-ghost use Rattle.node_rules.specs.Steps.{opened};
+ghost use Rattle.node_rules.specs.Steps.{opened, outset};
 ghost use Rattle.node_rules.specs.Kept.{node_after};
 ghost use Rattle.world_rules.specs.Repeats.{repeated};
 ghost use Rattle.client_quorum.specs.Clients.{asking};
@@ -46,10 +47,10 @@ pub fn a_quorum_replied<S: Service>()
 /// bytes. What a node or a client has sent names it as its signer, except a client's request that a
 /// node passed on to one member. What a script injects is for nobody.
 pub fn votes_leave_when_firm<S: Service>()
-    ensures node { (secret : List ℕ) (id : ℕ) (view : View) (period : ℕ) (events : List NodeEvent) → LeavesFirm (node_after S.meaning (opened S.meaning secret id view period) events) }
+    ensures node { (secret : List ℕ) (id : ℕ) (view : View) (period : ℕ) (events : List NodeEvent) → LeavesFirm (node_after S.meaning (opened (outset S.meaning secret id view period)) events) }
     ensures first { (view : View) (ls : List Line) (members : List ℕ) (nodes i k : ℕ) → is_view view ≡ true → SentFirm (repeated (settle_once (course_of S.meaning) i) k (flow_begins S.meaning view ls members nodes)) }
-    ensures given { (view : View) (ls : List Line) (members : List ℕ) (turn : ℕ) (bytes : List ℕ) (nodes i k : ℕ) → is_view view ≡ true →
-        SentFirm (node_goes S.meaning bytes i k (message_goes S.meaning members bytes nodes (flow_goes S.meaning view ls members turn))) }
+    ensures given { (view : View) (ls : List Line) (members : List ℕ) (turn : ℕ) (bytes : List ℕ) (tos : List Party) (i k : ℕ) → is_view view ≡ true →
+        SentFirm (node_goes S.meaning bytes i k (message_goes S.meaning members bytes tos (flow_goes S.meaning view ls members turn))) }
 {}
 
 /// Each message of a play is read from its bytes as itself, by whichever member is given them, if it

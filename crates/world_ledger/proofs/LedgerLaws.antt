@@ -1,19 +1,17 @@
--- An index of batches says of a further batch whether it clashes, and stays one where it does not.
+-- An index of texts says of a further text whether it clashes, and stays one where it does not.
 use Rattle.std.proofs.Common.{◌≡◌, ℕ, inl, inr, Bool, true, false, List, [], ◌∷◌, ◌++◌, map, Option, Some, None, refl, ap, sym, ◌∙◌, ⊎_elim}
 use Rattle.std.specs.Prelude.{◌&&◌, ◌||◌, not, cond, nat_eq, option_to_list}
 use Rattle.std.specs.Cmp.Lexicographic.{pointwise, bytes_decides}
 use Rattle.std.specs.List.{list_any}
 use Rattle.std.proofs.lemmas.Bool.{eqb-true, eq-eqb}
-use Rattle.std.proofs.lemmas.List.{append-nil}
+use Rattle.std.proofs.lemmas.List.{append-nil, map-append}
 use Rattle.std.proofs.lemmas.List.Concat.{flat_map-append}
 use Rattle.smart_base.specs.Lists.{Each, same_bytes}
 use Rattle.smart_base.proofs.SameLists.{same_list-equal}
 use Rattle.smart_statements.specs.Batches.{Batch, batch_text}
 use Rattle.smart_messages.specs.Messages.{batch_in}
-use Rattle.smart_messages.specs.declared.message.Message.{Message}
 use Rattle.smart_keys.specs.Keys.{digest}
-use Rattle.replica_rules.specs.Seals.{digest_of}
-use Rattle.world_rules.specs.Premises.{Claim, batches_in, batches, met, clash, collides}
+use Rattle.world_rules.specs.Premises.{Claim, batches, batches_met, texts_in, met, clash, collides}
 use Rattle.world_rules.specs.declared.message.Content.{Content}
 use Rattle.world_rules.specs.declared.message.Content.TheVariants as contents
 use Rattle.world_rules.specs.declared.message.Sent.{Sent}
@@ -64,53 +62,53 @@ not_false : (b : Bool) → not b ≡ false → b ≡ true
 not_false true is = refl
 not_false false is = absurd (cc)
 
--- two batches
+-- two texts
 
-no_clash : (a b : Batch) (t : Bool) → same_bytes (digest_of a) (digest_of b) ≡ t → (digest_of a ≡ digest_of b → batch_text a ≡ batch_text b) → clash a b ≡ false
+no_clash : (a b : List ℕ) (t : Bool) → same_bytes (digest a) (digest b) ≡ t → (digest a ≡ digest b → a ≡ b) → clash a b ≡ false
 no_clash a b true same equal =
-    let e = equal (same_bytes-true (digest_of a) (digest_of b) same) in
-    let s : same_bytes (batch_text a) (batch_text b) ≡ true = rw e (same_bytes-refl (batch_text b)) in
+    let e = equal (same_bytes-true (digest a) (digest b) same) in
+    let s : same_bytes a b ≡ true = rw e (same_bytes-refl b) in
     rw (same, s) refl
-no_clash a b false differ equal = first_false (same_bytes (digest_of a) (digest_of b)) (not (same_bytes (batch_text a) (batch_text b))) differ
+no_clash a b false differ equal = first_false (same_bytes (digest a) (digest b)) (not (same_bytes a b)) differ
 
-clashing : (b a : Batch) → digest_of a ≡ digest_of b → same_bytes (batch_text b) (batch_text a) ≡ false → clash b a ≡ true
+clashing : (b a : List ℕ) → digest a ≡ digest b → same_bytes b a ≡ false → clash b a ≡ true
 clashing b a same differ =
-    let s : same_bytes (digest_of b) (digest_of a) ≡ true = rw same (same_bytes-refl (digest_of b)) in
-    let d : not (same_bytes (batch_text b) (batch_text a)) ≡ true = rw differ refl in
-    both (same_bytes (digest_of b) (digest_of a)) (not (same_bytes (batch_text b) (batch_text a))) s d
+    let s : same_bytes (digest b) (digest a) ≡ true = rw same (same_bytes-refl (digest b)) in
+    let d : not (same_bytes b a) ≡ true = rw differ refl in
+    both (same_bytes (digest b) (digest a)) (not (same_bytes b a)) s d
 
--- a further batch
+-- a further text
 
 -- where nothing else stands under its digest, it does not clash
-none_clashes : (texts : List ℕ → Option (List ℕ)) (b : Batch) (bs : List Batch) → ((text : List ℕ) → texts (digest_of b) ≡ Some text → text ≡ batch_text b)
-    → Each (λ a. texts (digest_of a) ≡ Some (batch_text a)) bs → list_any (clash b) bs ≡ false
+none_clashes : (texts : List ℕ → Option (List ℕ)) (b : List ℕ) (bs : List (List ℕ)) → ((text : List ℕ) → texts (digest b) ≡ Some text → text ≡ b)
+    → Each (λ a. texts (digest a) ≡ Some a) bs → list_any (clash b) bs ≡ false
 none_clashes texts b [] alone stands = refl
 none_clashes texts b (a ∷ rest) alone stands =
-    let one = no_clash b a (same_bytes (digest_of b) (digest_of a)) refl (λ same. sym (alone (batch_text a) (ap texts same ∙ stands.0))) in
+    let one = no_clash b a (same_bytes (digest b) (digest a)) refl (λ same. sym (alone a (ap texts same ∙ stands.0))) in
     either (clash b a) (list_any (clash b) rest) one (none_clashes texts b rest alone stands.1)
 
-some_clashes : (b : Batch) (text : List ℕ) (bs : List Batch) → IsTextOf (digest_of b) text bs → same_bytes (batch_text b) text ≡ false → list_any (clash b) bs ≡ true
+some_clashes : (b : List ℕ) (text : List ℕ) (bs : List (List ℕ)) → IsTextOf (digest b) text bs → same_bytes b text ≡ false → list_any (clash b) bs ≡ true
 some_clashes b text [] stands differ = absurd stands
 some_clashes b text (a ∷ rest) stands differ =
     ⊎_elim
     (λ here. first_holds (clash b a) (list_any (clash b) rest) (clashing b a here.0 (rw here.1 differ)))
     (λ there. second_holds (clash b a) (list_any (clash b) rest) (some_clashes b text rest there differ)) stands
 
--- nothing stands under the digest of a batch: it does not clash
-pub missing : (texts : List ℕ → Option (List ℕ)) (b : Batch) (bs : List Batch) → IsIndex texts bs → texts (digest_of b) ≡ None → false ≡ list_any (clash b) bs
+-- nothing stands under the digest of a text: it does not clash
+pub missing : (texts : List ℕ → Option (List ℕ)) (b : List ℕ) (bs : List (List ℕ)) → IsIndex texts bs → texts (digest b) ≡ None → false ≡ list_any (clash b) bs
 missing texts b bs index none = sym (none_clashes texts b bs (λ text some. absurd (cc)) index.stands)
 
-found_by : (texts : List ℕ → Option (List ℕ)) (b : Batch) (bs : List Batch) (text : List ℕ) (t : Bool) → same_bytes (batch_text b) text ≡ t → IsIndex texts bs
-    → texts (digest_of b) ≡ Some text → not (same_bytes (batch_text b) text) ≡ list_any (clash b) bs
+found_by : (texts : List ℕ → Option (List ℕ)) (b : List ℕ) (bs : List (List ℕ)) (text : List ℕ) (t : Bool) → same_bytes b text ≡ t → IsIndex texts bs
+    → texts (digest b) ≡ Some text → not (same_bytes b text) ≡ list_any (clash b) bs
 found_by texts b bs text true same index some =
-    let e = same_bytes-true (batch_text b) text same in
+    let e = same_bytes-true b text same in
     rw (same, none_clashes texts b bs (λ other is. cc) index.stands) refl
-found_by texts b bs text false differ index some = rw (differ, some_clashes b text bs (index.comes (digest_of b) text some) differ) refl
+found_by texts b bs text false differ index some = rw (differ, some_clashes b text bs (index.comes (digest b) text some) differ) refl
 
--- bytes stand under the digest of a batch: it clashes where they are not its own
-pub found : (texts : List ℕ → Option (List ℕ)) (b : Batch) (bs : List Batch) (text : List ℕ) → IsIndex texts bs → texts (digest_of b) ≡ Some text
-    → not (same_bytes (batch_text b) text) ≡ list_any (clash b) bs
-found texts b bs text index some = found_by texts b bs text (same_bytes (batch_text b) text) refl index some
+-- bytes stand under the digest of a text: it clashes where they are others
+pub found : (texts : List ℕ → Option (List ℕ)) (b : List ℕ) (bs : List (List ℕ)) (text : List ℕ) → IsIndex texts bs → texts (digest b) ≡ Some text
+    → not (same_bytes b text) ≡ list_any (clash b) bs
+found texts b bs text index some = found_by texts b bs text (same_bytes b text) refl index some
 
 -- an index that grows
 
@@ -118,94 +116,93 @@ each-end : {A : Type 0} (P : A → Type 0) (xs : List A) (x : A) → Each P xs �
 each-end P [] x all one = (one, tt)
 each-end P (y ∷ ys) x all one = (all.0, each-end P ys x all.1 one)
 
-text-front : (digest text : List ℕ) (bs : List Batch) (b : Batch) → IsTextOf digest text bs → IsTextOf digest text (bs ++ b ∷ [])
-text-front digest text [] b stands = absurd stands
-text-front digest text (a ∷ rest) b stands = ⊎_elim (λ here. inl here) (λ there. inr (text-front digest text rest b there)) stands
+text-front : (key text : List ℕ) (bs : List (List ℕ)) (b : List ℕ) → IsTextOf key text bs → IsTextOf key text (bs ++ b ∷ [])
+text-front key text [] b stands = absurd stands
+text-front key text (a ∷ rest) b stands = ⊎_elim (λ here. inl here) (λ there. inr (text-front key text rest b there)) stands
 
-text-end : (digest text : List ℕ) (bs : List Batch) (b : Batch) → digest_of b ≡ digest → batch_text b ≡ text → IsTextOf digest text (bs ++ b ∷ [])
-text-end digest text [] b is same = inl (is, same)
-text-end digest text (a ∷ rest) b is same = inr (text-end digest text rest b is same)
+text-end : (key text : List ℕ) (bs : List (List ℕ)) (b : List ℕ) → digest b ≡ key → b ≡ text → IsTextOf key text (bs ++ b ∷ [])
+text-end key text [] b is same = inl (is, same)
+text-end key text (a ∷ rest) b is same = inr (text-end key text rest b is same)
 
-stands_still : (f : List ℕ → Option (List ℕ)) (b a : Batch) (t : Bool) → pointwise nat_eq (digest_of b) (digest_of a) ≡ t → clash b a ≡ false
-    → f (digest_of a) ≡ Some (batch_text a) → cond (pointwise nat_eq (digest_of b) (digest_of a)) (Some (batch_text b)) (f (digest_of a)) ≡ Some (batch_text a)
+stands_still : (f : List ℕ → Option (List ℕ)) (b a : List ℕ) (t : Bool) → pointwise nat_eq (digest b) (digest a) ≡ t → clash b a ≡ false
+    → f (digest a) ≡ Some a → cond (pointwise nat_eq (digest b) (digest a)) (Some b) (f (digest a)) ≡ Some a
 stands_still f b a true same free stands =
-    let e = (bytes_decides (digest_of b) (digest_of a)).0 same in
-    let s : same_bytes (digest_of b) (digest_of a) ≡ true = rw e (same_bytes-refl (digest_of a)) in
-    let d = first_is (same_bytes (digest_of b) (digest_of a)) (not (same_bytes (batch_text b) (batch_text a))) free s in
-    rw same (ap (λ x. Some x) (same_bytes-true (batch_text b) (batch_text a) (not_false (same_bytes (batch_text b) (batch_text a)) d)))
+    let e = (bytes_decides (digest b) (digest a)).0 same in
+    let s : same_bytes (digest b) (digest a) ≡ true = rw e (same_bytes-refl (digest a)) in
+    let d = first_is (same_bytes (digest b) (digest a)) (not (same_bytes b a)) free s in
+    rw same (ap (λ x. Some x) (same_bytes-true b a (not_false (same_bytes b a) d)))
 stands_still f b a false differ free stands = rw differ stands
 
-all_still : (f g : List ℕ → Option (List ℕ)) (b : Batch) (bs : List Batch) → ((d : List ℕ) → g d ≡ cond (pointwise nat_eq (digest_of b) d) (Some (batch_text b)) (f d))
-    → list_any (clash b) bs ≡ false → Each (λ a. f (digest_of a) ≡ Some (batch_text a)) bs → Each (λ a. g (digest_of a) ≡ Some (batch_text a)) bs
+all_still : (f g : List ℕ → Option (List ℕ)) (b : List ℕ) (bs : List (List ℕ)) → ((d : List ℕ) → g d ≡ cond (pointwise nat_eq (digest b) d) (Some b) (f d))
+    → list_any (clash b) bs ≡ false → Each (λ a. f (digest a) ≡ Some a) bs → Each (λ a. g (digest a) ≡ Some a) bs
 all_still f g b [] more free stands = tt
 all_still f g b (a ∷ rest) more free stands =
     let here = either_first (clash b a) (list_any (clash b) rest) free in
     let there = either_second (clash b a) (list_any (clash b) rest) free in
-    (more (digest_of a) ∙ stands_still f b a (pointwise nat_eq (digest_of b) (digest_of a)) refl here stands.0, all_still f g b rest more there stands.1)
+    (more (digest a) ∙ stands_still f b a (pointwise nat_eq (digest b) (digest a)) refl here stands.0, all_still f g b rest more there stands.1)
 
-comes_still : (f : List ℕ → Option (List ℕ)) (b : Batch) (bs : List Batch) (d text : List ℕ) (t : Bool) → pointwise nat_eq (digest_of b) d ≡ t → IsIndex f bs
-    → cond (pointwise nat_eq (digest_of b) d) (Some (batch_text b)) (f d) ≡ Some text → IsTextOf d text (bs ++ b ∷ [])
+comes_still : (f : List ℕ → Option (List ℕ)) (b : List ℕ) (bs : List (List ℕ)) (d text : List ℕ) (t : Bool) → pointwise nat_eq (digest b) d ≡ t → IsIndex f bs
+    → cond (pointwise nat_eq (digest b) d) (Some b) (f d) ≡ Some text → IsTextOf d text (bs ++ b ∷ [])
 comes_still f b bs d text true same index some =
-    let e = (bytes_decides (digest_of b) d).0 same in
-    let own : Some (batch_text b) ≡ Some text = rw same at some in
+    let e = (bytes_decides (digest b) d).0 same in
+    let own : Some b ≡ Some text = rw same at some in
     text-end d text bs b e (cc)
 comes_still f b bs d text false differ index some =
     let old : f d ≡ Some text = rw differ at some in
     text-front d text bs b (index.comes d text old)
 
-index-end : (f g : List ℕ → Option (List ℕ)) (bs : List Batch) (b : Batch) → IsIndex f bs → list_any (clash b) bs ≡ false
-    → ((d : List ℕ) → g d ≡ cond (pointwise nat_eq (digest_of b) d) (Some (batch_text b)) (f d)) → IsIndex g (bs ++ b ∷ [])
+index-end : (f g : List ℕ → Option (List ℕ)) (bs : List (List ℕ)) (b : List ℕ) → IsIndex f bs → list_any (clash b) bs ≡ false
+    → ((d : List ℕ) → g d ≡ cond (pointwise nat_eq (digest b) d) (Some b) (f d)) → IsIndex g (bs ++ b ∷ [])
 index-end f g bs b index free more =
-    let own : pointwise nat_eq (digest_of b) (digest_of b) ≡ true = (bytes_decides (digest_of b) (digest_of b)).1 refl in
+    let own : pointwise nat_eq (digest b) (digest b) ≡ true = (bytes_decides (digest b) (digest b)).1 refl in
     record {
-      stands = each-end (λ a. g (digest_of a) ≡ Some (batch_text a)) bs b (all_still f g b bs more free index.stands) (more (digest_of b) ∙ rw own refl);
-      comes = λ d text some. comes_still f b bs d text (pointwise nat_eq (digest_of b) d) refl index (sym (more d) ∙ some);
+      stands = each-end (λ a. g (digest a) ≡ Some a) bs b (all_still f g b bs more free index.stands) (more (digest b) ∙ rw own refl);
+      comes = λ d text some. comes_still f b bs d text (pointwise nat_eq (digest b) d) refl index (sym (more d) ∙ some);
     }
 
-stands-same : (f g : List ℕ → Option (List ℕ)) (bs : List Batch) → ((d : List ℕ) → g d ≡ f d) → Each (λ a. f (digest_of a) ≡ Some (batch_text a)) bs
-    → Each (λ a. g (digest_of a) ≡ Some (batch_text a)) bs
+stands-same : (f g : List ℕ → Option (List ℕ)) (bs : List (List ℕ)) → ((d : List ℕ) → g d ≡ f d) → Each (λ a. f (digest a) ≡ Some a) bs
+    → Each (λ a. g (digest a) ≡ Some a) bs
 stands-same f g [] same stands = tt
-stands-same f g (a ∷ rest) same stands = (same (digest_of a) ∙ stands.0, stands-same f g rest same stands.1)
+stands-same f g (a ∷ rest) same stands = (same (digest a) ∙ stands.0, stands-same f g rest same stands.1)
 
 -- an index that gives the same texts
-pub index-same : (f g : List ℕ → Option (List ℕ)) (bs : List Batch) → IsIndex f bs → ((d : List ℕ) → g d ≡ f d) → IsIndex g bs
+pub index-same : (f g : List ℕ → Option (List ℕ)) (bs : List (List ℕ)) → IsIndex f bs → ((d : List ℕ) → g d ≡ f d) → IsIndex g bs
 index-same f g bs index same =
     record { stands = stands-same f g bs same index.stands; comes = λ d text some. index.comes d text (sym (same d) ∙ some) }
 
-index-none : (f g : List ℕ → Option (List ℕ)) (bs : List Batch) → IsIndex f bs → ((d : List ℕ) → g d ≡ f d) → IsIndex g (bs ++ [])
+index-none : (f g : List ℕ → Option (List ℕ)) (bs : List (List ℕ)) → IsIndex f bs → ((d : List ℕ) → g d ≡ f d) → IsIndex g (bs ++ [])
 index-none f g bs index same = rw (append-nil bs) (index-same f g bs index same)
 
-index-optional : (f g : List ℕ → Option (List ℕ)) (bs : List Batch) (found : Option Batch) → IsIndex f bs → list_any (λ b. list_any (clash b) bs) (option_to_list found) ≡ false
-    → ((d : List ℕ) → g d ≡ indexed f (option_to_list found) d) → IsIndex g (bs ++ option_to_list found)
-index-optional f g bs None index free more = index-none f g bs index more
-index-optional f g bs (Some b) index free more = index-end f g bs b index (either_first (list_any (clash b) bs) false free) more
+index-optional : (f g : List ℕ → Option (List ℕ)) (ts : List (List ℕ)) (found : Option Batch) → IsIndex f ts
+    → list_any (λ t. list_any (clash t) ts) (map batch_text (option_to_list found)) ≡ false
+    → ((d : List ℕ) → g d ≡ indexed f (map batch_text (option_to_list found)) d) → IsIndex g (ts ++ map batch_text (option_to_list found))
+index-optional f g ts None index free more = index-none f g ts index more
+index-optional f g ts (Some b) index free more = index-end f g ts (batch_text b) index (either_first (list_any (clash (batch_text b)) ts) false free) more
 
-index-message : (f g : List ℕ → Option (List ℕ)) (bs : List Batch) (m : Message) → IsIndex f bs → list_any (λ b. list_any (clash b) bs) (batches_in m) ≡ false
-    → ((d : List ℕ) → g d ≡ indexed f (batches_in m) d) → IsIndex g (bs ++ batches_in m)
-index-message f g bs m index free more = index-optional f g bs (batch_in m) index free more
+index-content : (f g : List ℕ → Option (List ℕ)) (ts : List (List ℕ)) (c : Content) → IsIndex f ts → list_any (λ t. list_any (clash t) ts) (texts_in c) ≡ false
+    → ((d : List ℕ) → g d ≡ indexed f (texts_in c) d) → IsIndex g (ts ++ texts_in c)
+index-content f g ts (contents.Message m) index free more = index-optional f g ts (batch_in m) index free more
+index-content f g ts (contents.Raw bytes) index free more = index-none f g ts index more
 
-index-content : (f g : List ℕ → Option (List ℕ)) (bs : List Batch) (c : Content) → IsIndex f bs → list_any (λ b. list_any (clash b) bs) (batches c) ≡ false
-    → ((d : List ℕ) → g d ≡ indexed f (batches c) d) → IsIndex g (bs ++ batches c)
-index-content f g bs (contents.Message m) index free more = index-message f g bs m index free more
-index-content f g bs (contents.Raw bytes) index free more = index-none f g bs index more
+batches-end : (sent : List Sent) (s : Sent) → batches_met (sent ++ s ∷ []) ≡ batches_met sent ++ batches s.content
+batches-end sent s = flat_map-append (λ x. batches x.content) sent (s ∷ []) ∙ ap (λ bs. batches_met sent ++ bs) (append-nil (batches s.content))
 
-met-end : (sent : List Sent) (s : Sent) → met (sent ++ s ∷ []) ≡ met sent ++ batches s.content
-met-end sent s = flat_map-append (λ x. batches x.content) sent (s ∷ []) ∙ ap (λ bs. met sent ++ bs) (append-nil (batches s.content))
+met-end : (sent : List Sent) (s : Sent) → met (sent ++ s ∷ []) ≡ met sent ++ texts_in s.content
+met-end sent s = ap (λ (bs : List Batch). map batch_text bs) (batches-end sent s) ∙ map-append batch_text (batches_met sent) (batches s.content)
 
--- an index with the batches of one more message that does not collide
-pub index-more : (f g : List ℕ → Option (List ℕ)) (sent : List Sent) (s : Sent) → IsIndex f (met sent) → collides sent s.content ≡ false
-    → ((d : List ℕ) → g d ≡ indexed f (batches s.content) d) → IsIndex g (met (sent ++ s ∷ []))
+-- an index with the texts of one more message that does not collide
+pub index-more : (f g : List ℕ → Option (List ℕ)) (sent : List Sent) (s : Sent) → IsIndex f (met sent) → collides (met sent) (texts_in s.content) ≡ false
+    → ((d : List ℕ) → g d ≡ indexed f (texts_in s.content) d) → IsIndex g (met (sent ++ s ∷ []))
 unfolding collides
 index-more f g sent s index free more = rw (met-end sent s) (index-content f g (met sent) s.content index free more)
 
--- an index of no batch
+-- an index of no text
 pub index_none : IsIndex (λ d. None) []
 index_none = record { stands = tt; comes = λ d text some. absurd (cc) }
 
--- the digest of a batch is the one of its bytes
-pub digest_of_is : (b : Batch) (text key : List ℕ) → text ≡ batch_text b → key ≡ digest text → digest_of b ≡ key
-unfolding digest_of
-digest_of_is b text key same is = sym (is ∙ ap (λ x. digest x) same)
+-- the digest of a text is the one of the bytes that are equal to it
+pub digest_is : (own text key : List ℕ) → text ≡ own → key ≡ digest text → digest own ≡ key
+digest_is own text key same is = sym (is ∙ ap (λ x. digest x) same)
 
 -- ---- one of several is forged
 

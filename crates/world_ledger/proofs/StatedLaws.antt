@@ -123,18 +123,6 @@ stated-more f g sent s own index is more =
 
 -- ---- statements are kept
 
--- those that are their sender's own, of one more and of the rest
-pub own-more : (o : Origin) (x : Stated) (rest all : List Stated) (old new : List Claim) (total : List Claim) (own : Bool) → is_own o (claim_of x) ≡ own
-    → new ≡ cond own (old ++ claim_of x ∷ []) old → all ≡ x ∷ rest → old ++ filter (is_own o) (map claim_of all) ≡ total → new ++ filter (is_own o) (map claim_of rest) ≡ total
-own-more o x rest all old new total true is more front so_far =
-    let e : old ++ filter (is_own o) (claim_of x ∷ map claim_of rest) ≡ total = rw front at so_far in
-    let f : old ++ claim_of x ∷ filter (is_own o) (map claim_of rest) ≡ total = rw is at e in
-    rw more (append_assoc old (claim_of x ∷ []) (filter (is_own o) (map claim_of rest)) ∙ f)
-own-more o x rest all old new total false is more front so_far =
-    let e : old ++ filter (is_own o) (claim_of x ∷ map claim_of rest) ≡ total = rw front at so_far in
-    let f : old ++ filter (is_own o) (map claim_of rest) ≡ total = rw is at e in
-    rw more f
-
 -- ---- statements are put
 
 swap : (a b c : Bool) → (b || cond a true c) ≡ ((a || b) || c)

@@ -1,32 +1,31 @@
--- The indexes of a ledger: of batches by their digests, and of the statements that their signers have sent.
+-- The indexes of a ledger: of texts by their digests, and of the statements that their signers have sent.
 use Rattle.std.specs.Prelude.{◌≡◌, ℕ, ◌⊎◌, Bool, List, [], ◌∷◌, Option, Some, cond, nat_eq}
 use Rattle.std.specs.Cmp.Lexicographic.{pointwise}
 use Rattle.smart_base.specs.Lists.{Each}
-use Rattle.smart_statements.specs.Batches.{Batch, batch_text}
-use Rattle.replica_rules.specs.Seals.{digest_of}
+use Rattle.smart_keys.specs.Keys.{digest}
 use Rattle.world_rules.specs.Premises.{met}
 use Rattle.world_rules.specs.declared.message.Sent.{Sent}
 use Rattle.world_ledger.specs.declared.stated.Stated.{Stated}
 use Rattle.world_ledger.specs.Statements.{IsStatedIndex}
 
--- a text that one of the batches with a digest has
-abbrev pub IsTextOf : List ℕ → List ℕ → List Batch → Type 0
-IsTextOf digest text [] = ⊥
-IsTextOf digest text (b ∷ bs) = ((digest_of b ≡ digest) × (batch_text b ≡ text)) ⊎ IsTextOf digest text bs
+-- a text that is one of several, under its digest
+abbrev pub IsTextOf : List ℕ → List ℕ → List (List ℕ) → Type 0
+IsTextOf key text [] = ⊥
+IsTextOf key text (t ∷ ts) = ((digest t ≡ key) × (t ≡ text)) ⊎ IsTextOf key text ts
 
--- An index of batches: their bytes by their digests. So no two different ones have one digest.
-pub record IsIndex (texts : List ℕ → Option (List ℕ)) (batches : List Batch) : Type 0 where
-  -- each batch stands under its digest
-  pub stands : Each (λ b. texts (digest_of b) ≡ Some (batch_text b)) batches
-  -- what stands under a digest are the bytes of a batch
-  pub comes : (digest text : List ℕ) → texts digest ≡ Some text → IsTextOf digest text batches
+-- An index of texts by their digests. So no two different ones have one digest.
+pub record IsIndex (index : List ℕ → Option (List ℕ)) (texts : List (List ℕ)) : Type 0 where
+  -- each text stands under its digest
+  pub stands : Each (λ t. index (digest t) ≡ Some t) texts
+  -- what stands under a digest is one of the texts
+  pub comes : (key text : List ℕ) → index key ≡ Some text → IsTextOf key text texts
 
--- an index with more batches
-abbrev pub indexed : (List ℕ → Option (List ℕ)) → List Batch → List ℕ → Option (List ℕ)
-indexed texts [] digest = texts digest
-indexed texts (b ∷ bs) digest = indexed (λ d. cond (pointwise nat_eq (digest_of b) d) (Some (batch_text b)) (texts d)) bs digest
+-- an index with more texts
+abbrev pub indexed : (List ℕ → Option (List ℕ)) → List (List ℕ) → List ℕ → Option (List ℕ)
+indexed index [] key = index key
+indexed index (t ∷ ts) key = indexed (λ d. cond (pointwise nat_eq (digest t) d) (Some t) (index d)) ts key
 
 -- The indexes of messages.
-pub record IsIndexed (texts : List ℕ → Option (List ℕ)) (has : Stated → Bool) (sent : List Sent) : Type 0 where
-  pub batches : IsIndex texts (met sent)
+pub record IsIndexed (index : List ℕ → Option (List ℕ)) (has : Stated → Bool) (sent : List Sent) : Type 0 where
+  pub texts : IsIndex index (met sent)
   pub statements : IsStatedIndex has sent

@@ -5,7 +5,7 @@ ghost use Rattle.std.specs.HashMap.{get};
 ghost use Rattle.std.specs.HashSet.{contains};
 ghost use Rattle.std.specs.List.{list_any};
 ghost use Rattle.world_rules.specs.Secrets.{group_secret};
-ghost use Rattle.world_rules.specs.Premises.{batches, met, clash, is_forgery, is_forged, collides};
+ghost use Rattle.world_rules.specs.Premises.{texts_in, met, clash, is_forgery, is_forged, collides};
 ghost use Rattle.world_rules.specs.declared.message.Sent.{Sent};
 ghost use Rattle.world_ledger.specs.Statements.{claim_of, same_stated};
 ghost use Rattle.world_ledger.specs.Ledgers.{indexed, IsIndexed};
@@ -20,18 +20,17 @@ use smart_base::name::{ClientId, MemberId};
 use smart_base::sequence::Bytes;
 use smart_keys::hash::Sha;
 use smart_keys::ring::Ring;
-use smart_statements::batch::Batch;
 use std::alloc::{AllocError, Global};
 use std::collections::{HashMap, HashSet};
 use std::marker::Model;
 use world_rules::message::{Content, Sent};
 
-/// The bytes of batches, by their digests.
+/// Texts by their digests.
 type TextIndex = HashMap<[u8; 32], Bytes>;
 
-/// All messages that were sent, in order. No two different batches in them have one digest. Two
-/// indexes say of a further batch whether it has another's digest, and of a statement whether its
-/// signer has sent it, without a walk over the messages.
+/// All messages that were sent, in order. No two different texts in them (of batches) have one
+/// digest. Two indexes say of a further text whether it has another's digest, and of a statement
+/// whether its signer has sent it, without a walk over the messages.
 pub struct Ledger {
     ring: GroupRing,
     sent: Vec<Sent>,
@@ -68,7 +67,7 @@ impl Model for Ledger {
 
 /// Puts the batch of a content, if it has one, under its digest.
 fn put_batch(alloc: Global, index: &mut TextIndex, content: &Content) -> Result<(), AllocError>
-    ensures ok { OnOk result ((d : List ℕ) → get (pointwise nat_eq) index.new d ≡ indexed (λ d. get (pointwise nat_eq) index.old d) (batches content.now) d) }
+    ensures ok { OnOk result ((d : List ℕ) → get (pointwise nat_eq) index.new d ≡ indexed (λ d. get (pointwise nat_eq) index.old d) (texts_in content.now) d) }
     ensures err { OnErr result ((d : List ℕ) → get (pointwise nat_eq) index.new d ≡ get (pointwise nat_eq) index.old d) }
 {
     if let Some(batch) = batch_met(content) {
@@ -89,7 +88,7 @@ fn put_message(
     sent: &Sent,
 ) -> Result<(), AllocError>
     requires { ring.now ≡ group_secret }
-    ensures ok { OnOk result ((before : List Sent) → collides before sent.now.content ≡ false → IsIndexed (get (pointwise nat_eq) texts.old) (contains same_stated stated.old) before →
+    ensures ok { OnOk result ((before : List Sent) → collides (met before) (texts_in sent.now.content) ≡ false → IsIndexed (get (pointwise nat_eq) texts.old) (contains same_stated stated.old) before →
         IsIndexed (get (pointwise nat_eq) texts.new) (contains same_stated stated.new) (before ++ sent.now ∷ [])) }
     ensures err { OnErr result ((before : List Sent) → IsIndexed (get (pointwise nat_eq) texts.old) (contains same_stated stated.old) before →
         IsIndexed (get (pointwise nat_eq) texts.new) (contains same_stated stated.new) before) }
@@ -120,25 +119,28 @@ impl Ledger {
         self.sent.as_slice()
     }
 
-    fn clashes(&self, alloc: Global, batch: &Batch) -> Result<bool, AllocError>
-        ensures { IfOk result (λ c. c ≡ list_any (clash batch.now) (met self.now)) }
+    /// Whether a text clashes with one that was met in these messages.
+    fn clashes(&self, text: &[u8]) -> bool
+        ensures { result ≡ list_any (clash text.now) (met self.now) }
     {
-        let text = batch.text(alloc)?;
-        let digest = Sha::digest(text.as_slice()).get();
+        let digest = Sha::digest(text).get();
         match self.texts.get(&digest) {
-            None => Ok(false),
-            Some(known) => Ok(!same_bytes(text.as_slice(), known.as_slice())),
+            None => false,
+            Some(known) => !same_bytes(text, known.as_slice()),
         }
     }
 
-    /// Whether a content holds a batch that clashes with one in these messages.
+    /// Whether a content brings a text that clashes with one that was met in these messages.
     #[tactic(auto, unfolding(world_rules::specs::Premises::collides))]
     pub fn collides(&self, alloc: Global, content: &Content) -> Result<bool, AllocError>
-        ensures { IfOk result (λ c. c ≡ collides self.now content.now) }
+        ensures { IfOk result (λ c. c ≡ collides (met self.now) (texts_in content.now)) }
     {
         match batch_met(content) {
             None => Ok(false),
-            Some(batch) => Ok(self.clashes(alloc, batch)?),
+            Some(batch) => {
+                let text = batch.text(alloc)?;
+                Ok(self.clashes(text.as_slice()))
+            }
         }
     }
 
@@ -175,7 +177,7 @@ impl Ledger {
 
     /// Adds a message that does not collide. Without memory the ledger is unchanged.
     pub fn push(&mut self, alloc: Global, sent: Sent) -> Result<(), AllocError>
-        requires { collides self.old sent.content ≡ false }
+        requires { collides (met self.old) (texts_in sent.content) ≡ false }
         ensures ok { OnOk result (self.new ≡ self.old ++ sent ∷ []) }
         ensures err { OnErr result (self.new ≡ self.old) }
     {

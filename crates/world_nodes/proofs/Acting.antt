@@ -5,7 +5,7 @@ use Rattle.std.proofs.lemmas.Option.{slice_get_within}
 use Rattle.smart_statements.specs.declared.entry.NodeEvent.{NodeEvent}
 use Rattle.smart_statements.specs.declared.entry.NodeEvent.TheVariants.{Deliver}
 use Rattle.durable_store.specs.Exact.{call_due}
-use Rattle.world_rules.specs.Worlds.{Course, Host, World, is_up, is_gone, takes_due, calls_disk, node_takes, settle_once, stepped, host_calls, host_takes, hears_firm, disk_called}
+use Rattle.world_rules.specs.Worlds.{Course, Host, World, is_up, is_gone, takes_due, calls_disk, node_takes, settle_once, stepped, host_calls, host_takes, hears_firm, disk_called, is_halted}
 use Rattle.world_nodes.specs.Acting.{acts}
 use Rattle.world_nodes.specs.Crashes.{runs}
 
@@ -28,7 +28,7 @@ acts_within i w holds = acts_inside i w (slice_get w.hosts i) refl holds
 -- and its node runs
 pub acts_runs : {S : Type 0} (w : World S) (found : Option (Host S)) → acts w found ≡ true → runs found ≡ true
 acts_runs w None holds = holds
-acts_runs w (Some h) holds = first h.up (not (is_gone w h.node.id)) (second (not (is_some w.ending)) (is_up w h) holds)
+acts_runs w (Some h) holds = first h.up (not (is_gone w h.node.id)) (second (not (is_halted w)) (is_up w h) holds)
 
 kept : {A : Type 0} (over up : Bool) (x w : A) → (not over && up) ≡ false → cond over w (cond (not up) w x) ≡ w
 kept true up x w fails = refl
@@ -43,14 +43,14 @@ either false false x y w left right = refl
 not_called : {S : Type 0} (course : Course S) (i : ℕ) (w : World S) (h : Host S) → slice_get w.hosts i ≡ Some h → acts w (Some h) ≡ false → calls_disk course i w ≡ w
 unfolding calls_disk
 not_called course i w h there fails =
-    ap (λ found. cond (is_some w.ending) w (host_calls course i w found)) there
-    ∙ kept (is_some w.ending) (is_up w h) (cond (call_due h.store) (hears_firm course i w (disk_called course h)) w) w fails
+    ap (λ found. cond (is_halted w) w (host_calls course i w found)) there
+    ∙ kept (is_halted w) (is_up w h) (cond (call_due h.store) (hears_firm course i w (disk_called course h)) w) w fails
 
 not_taken : {S : Type 0} (course : Course S) (i : ℕ) (event : NodeEvent) (w : World S) (h : Host S) → slice_get w.hosts i ≡ Some h → acts w (Some h) ≡ false → node_takes course i event w ≡ w
 unfolding node_takes
 not_taken course i event w h there fails =
-    ap (λ found. cond (is_some w.ending) w (host_takes course i event w found)) there
-    ∙ kept (is_some w.ending) (is_up w h) (stepped course w i h (course.step h.node event)) w fails
+    ap (λ found. cond (is_halted w) w (host_takes course i event w found)) there
+    ∙ kept (is_halted w) (is_up w h) (stepped course w i h (course.step h.node event)) w fails
 
 none_due : {S : Type 0} (course : Course S) (i : ℕ) (w : World S) (found : Option (Host S)) → slice_get w.hosts i ≡ found → acts w found ≡ false → takes_due course i w found ≡ w
 none_due course i w None is fails = refl

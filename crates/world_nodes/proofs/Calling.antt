@@ -1,10 +1,10 @@
 -- A device call, and then what the node hears.
 use Rattle.std.proofs.Common.{◌≡◌, ℕ, zero, suc, ◌<◌, Bool, true, false, List, [], ◌∷◌, ◌++◌, Option, Some, None, refl, ap, cond, length, ◌∙◌, arith}
-use Rattle.std.specs.Prelude.{slice_get, slice_set, nat_lt, ◌-◌}
+use Rattle.std.specs.Prelude.{slice_get, slice_set, get_or, nat_lt, ◌-◌}
 use Rattle.std.specs.List.{flat_map}
 use Rattle.smart_statements.specs.declared.entry.NodeEvent.{NodeEvent}
 use Rattle.smart_statements.specs.declared.entry.NodeEvent.TheVariants.{Firm}
-use Rattle.node_rules.specs.Nodes.{next_place}
+use Rattle.node_rules.specs.Nodes.{next_place, view_of}
 use Rattle.node_rules.specs.Steps.{Outcome, leaving}
 use Rattle.world_rules.specs.Worlds.{Course, Host, World, disk_called, stepped, sends_all, hears_firm, host_after, chosen_with, told_drop, told_fired}
 use Rattle.world_hosts.specs.Hearing.{firmness}
@@ -21,11 +21,17 @@ get_set [] i a within = absurd (omega arith)
 get_set (x ∷ xs) zero a within = refl
 get_set (x ∷ xs) (suc i) a within = get_set xs i a (omega arith)
 
+-- and is read there
+pub read_set : {A : Type 0} (xs : List A) (i : ℕ) (a d : A) → i < length xs → get_or (slice_set xs i a) i d ≡ a
+read_set [] i a d within = absurd (omega arith)
+read_set (x ∷ xs) zero a d within = refl
+read_set (x ∷ xs) (suc i) a d within = read_set xs i a d (omega arith)
+
 -- a step behind a change of its host
 stepped_set : {S : Type 0} (course : Course S) (w : World S) (i : ℕ) (h : Host S) (o : Outcome S) → stepped course (record w { hosts = slice_set w.hosts i h }) i h o ≡ stepped course w i h o
 unfolding stepped
 stepped_set {S = S} course w i h o =
-    ap (λ (hs : List (Host S)). sends_all h.node.id
+    ap (λ (hs : List (Host S)). sends_all h.node.id (view_of o.node)
     (record w {
       hosts = hs;
       chosen = chosen_with w.chosen (next_place o.node) o.node.waiting;

@@ -1,6 +1,7 @@
 -- What is given to one member.
-use Rattle.std.proofs.Common.{◌≡◌, ℕ, List, Option, Some, None, refl}
+use Rattle.std.proofs.Common.{◌≡◌, ℕ, List, Option, Some, None, refl, subst, sym}
 use Rattle.std.specs.Prelude.{slice_get}
+use Rattle.smart_statements.specs.declared.entry.NodeEvent.{NodeEvent}
 use Rattle.smart_statements.specs.declared.entry.NodeEvent.TheVariants.{Arrive}
 use Rattle.world_rules.specs.Worlds.{Course, Host, World, node_takes, settle, where_listed, at_listed, at_index, host_index, gives, give_one}
 
@@ -15,7 +16,13 @@ one : {S : Type 0} (course : Course S) (members bytes : List ℕ) (w : World S) 
 one course members bytes w None = refl
 one course members bytes w (Some i) = listed course members bytes i w (slice_get w.hosts i)
 
--- the node of a member takes bytes where it takes their arrival
-pub given_one : {S : Type 0} (course : Course S) (members bytes : List ℕ) (member : ℕ) (w : World S)
+-- the node of a listed member takes bytes where it takes their arrival
+given_one : {S : Type 0} (course : Course S) (members bytes : List ℕ) (member : ℕ) (w : World S)
     → at_index (at_listed members (λ j v. settle course j (node_takes course j (Arrive bytes) v))) w (host_index w.hosts member) ≡ give_one course members bytes member w
 given_one course members bytes member w = one course members bytes w (host_index w.hosts member)
+
+pub given_arrival : {S : Type 0} (course : Course S) (members bytes : List ℕ) (event : NodeEvent) (member : ℕ) (w : World S) → event ≡ Arrive bytes
+    → at_index (at_listed members (λ j v. settle course j (node_takes course j event v))) w (host_index w.hosts member) ≡ give_one course members bytes member w
+given_arrival course members bytes event member w is =
+    subst (λ (e : NodeEvent). at_index (at_listed members (λ j v. settle course j (node_takes course j e v))) w (host_index w.hosts member) ≡ give_one course members bytes member w) (sym is)
+    (given_one course members bytes member w)

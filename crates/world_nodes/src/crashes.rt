@@ -51,7 +51,7 @@ fn crash<S: Service>(
 ) -> Result<(), AllocError>
     ensures { OnOk result (world.new ≡ crashes (core_course S.meaning) image patches.now i world.old) }
 {
-    if world.ending.is_some() || i >= world.hosts.len() {
+    if world.is_halted() || i >= world.hosts.len() {
         return Ok(());
     }
     if world.is_up(&world.hosts[i]) {
@@ -118,7 +118,7 @@ fn resume_at<S: Service>(world: &mut WorldState<S>, i: usize) -> Result<(), Allo
 fn resume<S: Service>(world: &mut WorldState<S>, i: usize) -> Result<(), AllocError>
     ensures { OnOk result (world.new ≡ resumes (core_course S.meaning) i world.old) }
 {
-    if world.ending.is_some() || i >= world.hosts.len() {
+    if world.is_halted() || i >= world.hosts.len() {
         return Ok(());
     }
     if world.hosts[i].is_up() || world.is_gone(world.hosts[i].id()) {

@@ -124,7 +124,7 @@ fn try_at<S: Service>(
 ) -> Result<(), AllocError>
     ensures { OnOk result (world.new ≡ tries_at (core_course S.meaning) event.now i world.old) }
 {
-    if world.ending.is_some() || i >= world.hosts.len() {
+    if world.is_halted() || i >= world.hosts.len() {
         return Ok(());
     }
     if world.is_up(&world.hosts[i]) {

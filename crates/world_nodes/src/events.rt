@@ -1,14 +1,14 @@
 //! Events of nodes: what is due there, and what is given to those that a line lists.
 ghost use Rattle.std.specs.Prelude.{◌≡◌, ◌<◌, true, IfOk, OnOk, length, slice_get, false};
-ghost use Rattle.world_rules.specs.Worlds.{core_course, told_absent, settle_present, node_takes, calls_disk, takes_due, settle_once, settle, settle_all, give_all, give_one, is_listed, at_listed, at_index, host_index, telling_all};
+ghost use Rattle.world_rules.specs.Worlds.{core_course, told_absent, settle_present, node_takes, calls_disk, takes_due, settle_once, settle, settle_all, is_listed, at_listed, at_index, host_index, telling_all};
 ghost use Rattle.world_rules.specs.Repeats.{repeated};
 ghost use Rattle.world_nodes.specs.Acting.{acts};
 ghost use Rattle.world_nodes.specs.Calling.{steps_if, calls};
 ghost use Rattle.world_nodes.specs.Crashes.{runs};
 ghost use Rattle.world_nodes.specs.Idling.{steps, is_idle_at};
 
+use smart_base::duplicate::Duplicate;
 use smart_base::name::MemberId;
-use smart_base::sequence::Bytes;
 use smart_service::service::Service;
 use smart_statements::entry::NodeEvent;
 use std::alloc::AllocError;
@@ -43,7 +43,8 @@ pub fn step_at<S: Service>(
         &mut world.told,
         event,
     )?;
-    world.send_all(id, left.messages)?;
+    let view = world.hosts[i].view().duplicate(world.alloc)?;
+    world.send_all(id, &view, left.messages)?;
     Ok(left.idle)
 }
 
@@ -56,7 +57,7 @@ pub fn node_takes<S: Service>(
 ) -> Result<(), AllocError>
     ensures { OnOk result (world.new ≡ node_takes (core_course S.meaning) i event.now world.old) }
 {
-    if world.ending.is_some() || i >= world.hosts.len() {
+    if world.is_halted() || i >= world.hosts.len() {
         return Ok(());
     }
     if world.is_up(&world.hosts[i]) {
@@ -100,7 +101,7 @@ fn call_at<S: Service>(world: &mut WorldState<S>, i: usize) -> Result<(), AllocE
 fn calls_disk<S: Service>(world: &mut WorldState<S>, i: usize) -> Result<(), AllocError>
     ensures { OnOk result (world.new ≡ calls_disk (core_course S.meaning) i world.old) }
 {
-    if world.ending.is_some() || i >= world.hosts.len() {
+    if world.is_halted() || i >= world.hosts.len() {
         return Ok(());
     }
     if world.is_up(&world.hosts[i]) && world.hosts[i].has_call() {
@@ -129,7 +130,7 @@ pub fn call_often<S: Service>(
 fn acts<S: Service>(world: &WorldState<S>, i: usize) -> bool
     ensures { result ≡ acts world.now (slice_get world.now.hosts i) }
 {
-    if world.ending.is_some() || i >= world.hosts.len() {
+    if world.is_halted() || i >= world.hosts.len() {
         return false;
     }
     world.is_up(&world.hosts[i])
@@ -271,25 +272,8 @@ fn give_listed<S: Service>(
     Ok(())
 }
 
-/// Gives the bytes of a message to each listed node, which settles, by number. Error: want of memory.
-#[tactic(auto, using(crate::proofs::Turns::each_more, crate::proofs::Turns::each_done), unfolding(world_rules::specs::Worlds::gives))]
-pub fn give_all<S: Service>(
-    world: &mut WorldState<S>,
-    members: &[MemberId],
-    bytes: Bytes,
-) -> Result<(), AllocError>
-    ensures { OnOk result (world.new ≡ give_all (core_course S.meaning) members.now bytes world.old) }
-{
-    let count = world.hosts.len();
-    let arrival = NodeEvent::Arrive(bytes);
-    for i in 0..count {
-        give_listed(world, members, i, &arrival)?;
-    }
-    Ok(())
-}
-
 /// Takes an event at a member's node and settles it, if the member is listed. Error: want of memory.
-fn give_member<S: Service>(
+pub fn give_member<S: Service>(
     world: &mut WorldState<S>,
     members: &[MemberId],
     member: MemberId,
@@ -301,19 +285,4 @@ fn give_member<S: Service>(
         give_listed(world, members, i, event)?;
     }
     Ok(())
-}
-
-/// Gives the bytes of a message to a member's node, which settles, if the member is listed. Error:
-/// want of memory.
-#[tactic(auto, using(crate::proofs::Giving::given_one))]
-pub fn give_one<S: Service>(
-    world: &mut WorldState<S>,
-    members: &[MemberId],
-    bytes: Bytes,
-    member: MemberId,
-) -> Result<(), AllocError>
-    ensures { OnOk result (world.new ≡ give_one (core_course S.meaning) members.now bytes member world.old) }
-{
-    let arrival = NodeEvent::Arrive(bytes);
-    give_member(world, members, member, &arrival)
 }

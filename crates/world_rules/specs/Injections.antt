@@ -2,6 +2,7 @@
 use Rattle.std.specs.Prelude.{ℕ, ◌-◌, ◌^◌, nat_lt, nat_le, Bool, ◌&&◌, List, [], ◌∷◌, length, if◌then◌else◌, Option, Some, None, Result, Ok, Err, slice_get}
 use Rattle.std.specs.List.{list_all}
 use Rattle.std.specs.Option.{option_and_then, option_map}
+use Rattle.smart_base.specs.declared.limits.TheConstants.{BATCH_BYTES, BATCH_REQUESTS, MESSAGE_BYTES}
 use Rattle.smart_statements.specs.Forms.{SignedBy}
 use Rattle.smart_statements.specs.Kinds.{requests, proposals, ballots, answers}
 use Rattle.smart_statements.specs.Batches.{Batch, batch_text}
@@ -64,7 +65,7 @@ reports_at sent (n ∷ ns) =
 
 -- the bytes of a message, if they are at most 1,048,576
 abbrev pub short_bytes : List ℕ → Option (List ℕ)
-short_bytes bytes = if nat_le (length bytes) 1048576 then Some bytes else None
+short_bytes bytes = if nat_le (length bytes) MESSAGE_BYTES then Some bytes else None
 
 -- what a report takes over of another one: the lock, with its batch
 pub record Locked : Type 0 where
@@ -93,7 +94,7 @@ sync_bytes signer view regency collect =
 -- the bytes of a PROPOSE of a batch with 1 to 64 requests and at most 262,144 bytes
 abbrev pub proposal_bytes : ℕ → Slot → Batch → Option (List ℕ)
 proposal_bytes signer slot batch =
-    if nat_le 1 (length batch) && nat_le (length batch) 64 && nat_le (length (batch_text batch)) 262144
+    if nat_le 1 (length batch) && nat_le (length batch) BATCH_REQUESTS && nat_le (length (batch_text batch)) BATCH_BYTES
     then Some (spelling (Propose (record { head = signed proposals group_secret signer (record { slot = slot; digest = digest_of batch }); batch = batch })))
     else None
 

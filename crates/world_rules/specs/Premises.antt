@@ -1,5 +1,5 @@
 -- The premises of a play, which are checked when members are declared faulty and when messages get their numbers.
-use Rattle.std.specs.Prelude.{ℕ, ◌==◌, nat_lt, Bool, false, not, ◌&&◌, List, [], ◌∷◌, length, filter, map, option_to_list}
+use Rattle.std.specs.Prelude.{ℕ, ◌==◌, nat_lt, Bool, false, not, ◌&&◌, List, [], length, filter, map, option_to_list}
 use Rattle.std.specs.List.{flat_map, list_any}
 use Rattle.smart_base.specs.Lists.{same_bytes}
 use Rattle.smart_base.specs.Views.{View}
@@ -13,7 +13,7 @@ use Rattle.smart_statements.specs.Batches.{Batch, batch_text}
 use Rattle.smart_messages.specs.declared.message.Message.TheVariants.{Ask, Propose, Vote, Reply}
 use Rattle.smart_messages.specs.declared.message.Message.TheVariants as changes
 use Rattle.smart_messages.specs.declared.message.Message.{Message}
-use Rattle.replica_rules.specs.Seals.{digest_of}
+use Rattle.smart_keys.specs.Keys.{digest}
 use Rattle.agreement_laws.specs.Statements.{Statement, Asked, Proposed, Voted, Stopped, Reported, Synced, Marked, Replied, Informed, sealed_of, signer_of, statements}
 use Rattle.world_rules.specs.Secrets.{group_secret}
 use Rattle.world_rules.specs.declared.message.Content.{Content}
@@ -83,7 +83,8 @@ is_forgery faulty rogue sent c = not (is_excused faulty rogue c.signer) && not (
 unfoldable pub is_forged : List ℕ → List ℕ → List Sent → Content → Bool
 is_forged faulty rogue sent content = list_any (is_forgery faulty rogue sent) (claims content)
 
--- the third premise: no two different batches have one digest
+-- The third premise: no two different texts that were met have one digest. INTERIM(checkpoints): the texts of batches alone are met; those of
+-- snapshots follow, by the same words.
 
 -- the batches in a message
 abbrev pub batches_in : Message → List Batch
@@ -93,17 +94,25 @@ abbrev pub batches : Content → List Batch
 batches (contents.Message m) = batches_in m
 batches (contents.Raw bytes) = []
 
+-- the texts that a content brings: those of its batches
+abbrev pub texts_in : Content → List (List ℕ)
+texts_in content = map batch_text (batches content)
+
 -- the batches in all messages that were sent
-abbrev pub met : List Sent → List Batch
-met sent = flat_map (λ s. batches s.content) sent
+abbrev pub batches_met : List Sent → List Batch
+batches_met sent = flat_map (λ s. batches s.content) sent
 
--- two different batches with one digest
-abbrev pub clash : Batch → Batch → Bool
-clash a b = same_bytes (digest_of a) (digest_of b) && not (same_bytes (batch_text a) (batch_text b))
+-- the texts that were met in all messages that were sent
+abbrev pub met : List Sent → List (List ℕ)
+met sent = map batch_text (batches_met sent)
 
--- a content with a batch that clashes with an earlier one
-unfoldable pub collides : List Sent → Content → Bool
-collides sent content = list_any (λ batch. list_any (clash batch) (met sent)) (batches content)
+-- two different texts with one digest
+abbrev pub clash : List ℕ → List ℕ → Bool
+clash a b = same_bytes (digest a) (digest b) && not (same_bytes a b)
+
+-- texts of which one clashes with one that was met before them
+unfoldable pub collides : List (List ℕ) → List (List ℕ) → Bool
+collides before texts = list_any (λ text. list_any (clash text) before) texts
 
 -- the bytes that arrive when a content is given
 abbrev pub bytes_of : Content → List ℕ

@@ -6,6 +6,7 @@ use Rattle.smart_base.specs.Lists.{same_bytes}
 use Rattle.smart_base.specs.Views.{View}
 use Rattle.smart_base.specs.declared.party.Party.{Party}
 use Rattle.smart_base.specs.declared.party.Party.TheVariants as parties
+use Rattle.smart_base.specs.declared.limits.TheConstants.{FAULTY, LAST_CLIENT, LINE_BYTES, MEMBERS, MESSAGES, PAYLOAD_BYTES}
 use Rattle.world_rules.specs.declared.line.App.{App}
 use Rattle.world_rules.specs.declared.line.App.TheVariants as apps
 use Rattle.smart_statements.specs.declared.statement.Slot.{Slot}
@@ -26,11 +27,11 @@ use Rattle.world_rules.specs.declared.line.Kind.TheVariants as kinds
 
 -- a line whose bytes print; it is not read past byte 65,537, with which it is too long
 abbrev pub is_printed : List ℕ → Bool
-is_printed bytes = list_all (λ b. nat_le 32 b && nat_le b 126) (take 65537 bytes)
+is_printed bytes = list_all (λ b. nat_le 32 b && nat_le b 126) (take (LINE_BYTES + 1) bytes)
 
 -- a line of at most 65,536 bytes
 abbrev pub is_short : List ℕ → Bool
-is_short bytes = nat_le (length bytes) 65536
+is_short bytes = nat_le (length bytes) LINE_BYTES
 
 -- a line that does nothing: an empty one, or a comment, which begins with #
 abbrev pub is_nothing : List ℕ → Bool
@@ -66,7 +67,7 @@ abbrev pub member_of : List ℕ → Option ℕ
 member_of word = number_in 1 65535 word
 
 abbrev pub client_of : List ℕ → Option ℕ
-client_of word = number_in 1 1024 word
+client_of word = number_in 1 LAST_CLIENT word
 
 -- the values of words, if each word gives one
 abbrev pub with_value : {A : Type 0} → Option A → Option (List A) → Option (List A)
@@ -101,7 +102,7 @@ or_number make (Some x) = Ok (make x)
 -- the line `ask`: an operation is the rest of the line, of at most 4,096 bytes
 abbrev pub ask_with : List ℕ → Option ℕ → Result Line Kind
 ask_with op None = Err kinds.Number
-ask_with op (Some client) = if nat_le (length op) 4096 then Ok (lines.Ask client op) else Err kinds.Form
+ask_with op (Some client) = if nat_le (length op) PAYLOAD_BYTES then Ok (lines.Ask client op) else Err kinds.Form
 
 abbrev pub ask_line : List ℕ → List (List ℕ) → Result Line Kind
 ask_line bytes [] = Err kinds.Count
@@ -135,7 +136,7 @@ give_to (Some number) (Some to) = Ok (lines.Give number to)
 abbrev pub give_line : List (List ℕ) → Result Line Kind
 give_line [] = Err kinds.Count
 give_line (number ∷ []) = Err kinds.Count
-give_line (number ∷ to ∷ more) = give_to (number_in 1 (2 ^ 24) number) (each_word party_of_word (to ∷ more))
+give_line (number ∷ to ∷ more) = give_to (number_in 1 MESSAGES number) (each_word party_of_word (to ∷ more))
 
 abbrev pub deliver_line : List (List ℕ) → Result Line Kind
 deliver_line [] = Err kinds.Count
@@ -307,7 +308,7 @@ abbrev pub places : Range
 places = range 1 (2 ^ 63 - 1)
 
 abbrev pub numbers_of_messages : Range
-numbers_of_messages = range 1 (2 ^ 24)
+numbers_of_messages = range 1 MESSAGES
 
 -- the ranges of S V K R
 abbrev pub of_slot : List Range
@@ -332,14 +333,14 @@ behind_spaces (suc n) bytes = behind_spaces n (behind_space bytes)
 
 -- an injection with an operation or a reply, of at most 4,096 bytes
 abbrev pub with_text : (List ℕ → Injection) → List ℕ → Result Injection Kind
-with_text make text = if nat_le (length text) 4096 then Ok (make text) else Err kinds.Form
+with_text make text = if nat_le (length text) PAYLOAD_BYTES then Ok (make text) else Err kinds.Form
 
 -- ask C SEQ AFTER OP: the operation is the rest of the line
 abbrev pub ask_form : List ℕ → List (List ℕ) → Result Injection Kind
 ask_form bytes words =
     if nat_le 4 (length words)
     then form_of (λ ns. with_text (forms.Ask (nth ns 0) (nth ns 1) (nth ns 2)) (behind_spaces 5 bytes))
-    (numbers_in (range 1 1024 ∷ places ∷ range 0 (2 ^ 64 - 1) ∷ []) words)
+    (numbers_in (range 1 LAST_CLIENT ∷ places ∷ range 0 (2 ^ 64 - 1) ∷ []) words)
     else Err kinds.Count
 
 -- propose S V K R NUM..: 1 to 64 requests
@@ -372,7 +373,7 @@ stop_form words =
 abbrev pub message_or_none : List ℕ → Option (Option ℕ)
 message_or_none word =
     if same_bytes word (codes "-") then Some None
-    else option_map (λ n. Some n) (number_in 1 (2 ^ 24) word)
+    else option_map (λ n. Some n) (number_in 1 MESSAGES word)
 
 abbrev pub stopdata_by : List ℕ → Option (Option ℕ) → Option (Option ℕ) → Result Injection Kind
 stopdata_by ns None lock = Err kinds.Number
@@ -401,7 +402,7 @@ sync_with ns (Some reports) = Ok (forms.Sync (nth ns 0) (nth ns 1) (nth ns 2) re
 abbrev pub sync_form : List (List ℕ) → Result Injection Kind
 sync_form words =
     if nat_le 3 (length words)
-    then form_of (λ ns. sync_with ns (each_word (number_in 1 (2 ^ 24)) (drop 3 words))) (numbers_in of_turn words)
+    then form_of (λ ns. sync_with ns (each_word (number_in 1 MESSAGES) (drop 3 words))) (numbers_in of_turn words)
     else Err kinds.Count
 
 -- reply S V K I C SEQ TEXT: the text is the rest of the line
@@ -412,7 +413,7 @@ abbrev pub reply_form : List ℕ → List (List ℕ) → Result Injection Kind
 reply_form bytes words =
     if nat_le 7 (length words)
     then form_of (λ ns. with_text (λ text. forms.Reply (nth ns 0) (answer_in ns text)) (behind_spaces 8 bytes))
-    (numbers_in (members ∷ small_numbers ∷ places ∷ range 0 65535 ∷ range 1 1024 ∷ places ∷ []) words)
+    (numbers_in (members ∷ small_numbers ∷ places ∷ range 0 65535 ∷ range 1 LAST_CLIENT ∷ places ∷ []) words)
     else Err kinds.Count
 
 -- raw HEX: one byte or more
@@ -485,7 +486,7 @@ abbrev pub view_for : Option ℕ → Option ℕ → Option View
 view_for None f = None
 view_for (Some n) None = None
 view_for (Some n) (Some f) =
-    if nat_le 1 n && nat_le n 31 && nat_le f 10 && nat_le (3 * f + 1) n
+    if nat_le 1 n && nat_le n MEMBERS && nat_le f FAULTY && nat_le (3 * f + 1) n
     then Some (record { number = 0; start = 1; f = f; members = members_from 1 n })
     else None
 

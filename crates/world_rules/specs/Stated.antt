@@ -1,19 +1,17 @@
 -- What has been stated in a world, what became firm at its members, and the decisions among what has been stated.
-use Rattle.std.specs.Prelude.{ℕ, suc, ◌≡◌, true, false, List, [], ◌∷◌, take, map, Option, Some, None}
+use Rattle.std.specs.Prelude.{ℕ, ◌≡◌, true, false, List, [], take, map, Option, Some, None}
 use Rattle.smart_base.specs.Lists.{Each}
 use Rattle.vote_book.specs.Entries.{entry_text}
 use Rattle.durable_store.specs.Restored.{restores}
 use Rattle.world_rules.specs.Crashes.{bytes_held}
-use Rattle.smart_statements.specs.declared.statement.Ballot.{Ballot}
 use Rattle.std.specs.List.{flat_map}
 use Rattle.smart_base.specs.Views.{View}
-use Rattle.smart_statements.specs.Forms.{SignedBy}
 use Rattle.smart_statements.specs.Batches.{Batch}
 use Rattle.vote_book.specs.declared.entry.LogEntry.{LogEntry}
 use Rattle.replica_rules.specs.Seals.{digest_of}
 use Rattle.agreement_laws.specs.Statements.{Statement, statements}
-use Rattle.agreement_laws.specs.Certificates.{IsDecision}
 use Rattle.agreement_laws.specs.Law.{Witnessed}
+use Rattle.agreement_laws.specs.Lists.{AllCertified}
 use Rattle.world_rules.specs.Secrets.{group_secret}
 use Rattle.world_rules.specs.Premises.{is_among}
 use Rattle.world_rules.specs.Worlds.{Host, World, host_of}
@@ -39,16 +37,9 @@ diary_of (Some h) = h.life.diary
 abbrev pub diary : {S : Type 0} → World S → ℕ → List LogEntry
 diary w member = diary_of (host_of w.hosts member)
 
--- a decision among what has been stated: a quorum of the view has accepted the batch of a digest at a place, in some regency
-pub record Certified (stated : List Statement) (view : View) (place : ℕ) (digest : List ℕ) : Type 0 where
-  pub regency : ℕ
-  pub accepts : List (SignedBy Ballot)
-  pub decision : IsDecision group_secret view stated place regency digest accepts
-
--- batches of which each, from a place on, has a decision at its place
-abbrev pub AllCertified : List Statement → View → ℕ → List Batch → Type 0
-AllCertified stated view place [] = Unit {0}
-AllCertified stated view place (batch ∷ batches) = Certified stated view place (digest_of batch) × AllCertified stated view (suc place) batches
+-- batches of which each has a decision at its place among what has been stated; the first stands at place 1
+abbrev pub AreDecided : List Statement → View → List Batch → Type 0
+AreDecided stated view batches = AllCertified group_secret digest_of stated (λ front. view) [] batches
 
 -- A host with its diary. While its node runs, the diary is the firm part of the node's book. After its member has crashed, the diary is
 -- what the devices restore, no more and no less. INTERIM(checkpoints): later the book and the devices hold the cut of the diary.
@@ -60,4 +51,4 @@ pub record HasDiary {S : Type 0} (h : Host S) : Type 0 where
 pub record IsWitnessed {S : Type 0} (w : World S) : Type 0 where
   pub diaries : Each HasDiary w.hosts
   pub witnessed : Witnessed group_secret digest_of w.view (is_among w.faulty) (diary w) (stated w.sent)
-  pub chosen : AllCertified (stated w.sent) w.view 1 w.chosen
+  pub chosen : AreDecided (stated w.sent) w.view w.chosen

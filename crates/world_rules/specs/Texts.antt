@@ -3,10 +3,12 @@ use Rattle.std.specs.Prelude.{ℕ, Bool, Option, Some, None, List, [], ◌∷◌
 use Rattle.std.specs.List.{flat_map}
 use Rattle.std.specs.Fmt.{decimal}
 use Rattle.smart_base.specs.Views.{View}
+use Rattle.smart_base.specs.declared.limits.TheConstants.{PERIOD}
 use Rattle.node_rules.specs.declared.node.Why.{Why}
 use Rattle.node_rules.specs.declared.node.Why.TheVariants as whys
 use Rattle.client_quorum.specs.declared.client.Ignored.{Ignored}
 use Rattle.client_quorum.specs.declared.client.Ignored.TheVariants as reasons
+use Rattle.world_rules.specs.Secrets.{period}
 use Rattle.world_rules.specs.declared.message.Origin.{Origin}
 use Rattle.world_rules.specs.declared.message.Origin.TheVariants as origins
 use Rattle.world_rules.specs.declared.line.App.{App}
@@ -85,7 +87,7 @@ abbrev pub shown : ℕ → List ℕ
 shown b = if nat_le 32 b && nat_le b 126 && not (b == 92) then b ∷ [] else 92 ∷ 120 ∷ hex_digit (b / 16) ∷ hex_digit (b % 16) ∷ []
 
 abbrev pub words_of : OutLine → List ℕ
-words_of (outs.Group n f app) = codes "group" ++ (after_space n ++ (after_space f ++ (32 ∷ app_text app ++ codes " 1024")))
+words_of (outs.Group n f app) = codes "group" ++ (after_space n ++ (after_space f ++ (32 ∷ app_text app ++ after_space period)))
 words_of (outs.Sent number origin summary) = codes "sent" ++ (after_space number ++ (32 ∷ origin_text origin ++ (32 ∷ summary_text summary)))
 words_of (outs.Decided id k) = codes "decided n" ++ (decimal id ++ after_space k)
 words_of (outs.Delivered id k count) = codes "delivered n" ++ (decimal id ++ (after_space k ++ after_space count))

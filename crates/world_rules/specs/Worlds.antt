@@ -21,11 +21,12 @@ use Rattle.smart_statements.specs.declared.entry.NodeEvent.{NodeEvent}
 use Rattle.smart_statements.specs.declared.entry.NodeEvent.TheVariants.{Arrive, Tick, Deliver, Firm}
 use Rattle.smart_base.specs.declared.party.Party.{Party}
 use Rattle.smart_base.specs.declared.party.Party.TheVariants as parties
+use Rattle.smart_base.specs.declared.limits.TheConstants.{CLIENTS, MESSAGES, PAYLOAD_BYTES, PERIOD}
 use Rattle.smart_service.specs.Services.{Meaning}
 use Rattle.replica_rules.specs.Seals.{signed}
 use Rattle.node_rules.specs.Nodes.{Node, next_place, view_of, regency_of}
 use Rattle.node_rules.specs.Deliveries.{delivery_in}
-use Rattle.node_rules.specs.Steps.{Outcome, step_of, leaving, released, opened}
+use Rattle.node_rules.specs.Steps.{Outcome, Outset, step_of, leaving, released, opened, outset}
 use Rattle.node_rules.specs.Kept.{core_step}
 use Rattle.node_rules.specs.declared.node.Why.{Why}
 use Rattle.node_rules.specs.declared.node.Held.{Held}
@@ -46,8 +47,8 @@ use Rattle.world_rules.specs.declared.crash.Patch.{Patch}
 use Rattle.world_rules.specs.declared.crash.NotAnImage as stores
 use Rattle.node_rules.specs.Reopening.{reopened, damaged, entries_in}
 use Rattle.world_rules.specs.Repeats.{until_rest, each_from}
-use Rattle.world_rules.specs.Secrets.{group_secret}
-use Rattle.world_rules.specs.Premises.{is_among, too_many, is_forged, collides, bytes_of}
+use Rattle.world_rules.specs.Secrets.{group_secret, period, outset_place}
+use Rattle.world_rules.specs.Premises.{is_among, too_many, is_forged, met, texts_in, collides, bytes_of}
 use Rattle.world_rules.specs.Injections.{injected}
 use Rattle.client_quorum.specs.Clients.{fresh, request_of, asking, learning, after_heard, reply_read}
 use Rattle.world_rules.specs.Clients.{heard}
@@ -131,6 +132,10 @@ pub record World (S : Type 0) : Type 0 where
   -- the reason for which the play has ended, if it has
   pub ending : Option Ending
 
+-- nothing more happens in the present line
+abbrev pub is_halted : {S : Type 0} → World S → Bool
+is_halted w = is_some w.ending
+
 -- messages that leave
 
 -- the transcript's words for a vote
@@ -164,26 +169,32 @@ abbrev pub summary : Content → Summary
 summary (contents.Message m) = summary_of m
 summary (contents.Raw bytes) = summaries.Raw
 
--- The world after something was sent: it gets the next number, up to 2^24. A batch in it that clashes with an earlier one ends the play,
+-- The world after something was sent: it gets the next number, up to 2^24. A text in it that clashes with one that was met ends the play,
 -- also if no number is left.
 unfoldable pub posts : {S : Type 0} → World S → Sent → World S
 posts w s =
-    if collides w.sent s.content then record w { ending = Some (Premise Collision) }
-    else if nat_lt (length w.sent) (2 ^ 24)
+    if collides (met w.sent) (texts_in s.content) then record w { ending = Some (Premise Collision) }
+    else if nat_lt (length w.sent) MESSAGES
     then record w {
       sent = w.sent ++ s ∷ [];
       told = w.told ++ outs.Sent (length w.sent + 1) s.origin (summary s.content) ∷ [];
     }
     else record w { ending = or_else w.ending (Some Limit) }
 
--- the world after a message was sent
-abbrev pub sends : {S : Type 0} → World S → Origin → Target → Message → World S
-sends w origin to message = posts w (record { origin = origin; to = Some to; content = contents.Message message })
+-- the parties that hear a message for a target: the members of its sender's view, one member, or a client
+abbrev pub heard_by : View → Target → List Party
+heard_by view targets.View = map (λ (id : ℕ). parties.Member id) view.members
+heard_by view (targets.Node id) = parties.Member id ∷ []
+heard_by view (targets.Client id) = parties.Client id ∷ []
+
+-- the world after a message was sent for a target, from a sender in a view
+abbrev pub sends : {S : Type 0} → World S → Origin → View → Target → Message → World S
+sends w origin view to message = posts w (record { origin = origin; to = heard_by view to; content = contents.Message message })
 
 -- the world after a node's messages left, in order
-abbrev pub sends_all : {S : Type 0} → ℕ → World S → List Held → World S
-sends_all id w [] = w
-sends_all id w (h ∷ hs) = sends_all id (sends w (origins.Node id) h.to h.message) hs
+abbrev pub sends_all : {S : Type 0} → ℕ → View → World S → List Held → World S
+sends_all id view w [] = w
+sends_all id view w (h ∷ hs) = sends_all id view (sends w (origins.Node id) view h.to h.message) hs
 
 -- events of a node
 
@@ -215,13 +226,13 @@ chosen_with chosen place (Some batch) = if place == length chosen + 1 then chose
 abbrev pub spelled_behind : ℕ → List LogEntry → List (List ℕ)
 spelled_behind count entries = map entry_text (drop count entries)
 
--- a diary, with what a book has after it among so many first entries
-abbrev pub with_front : List LogEntry → ℕ → List LogEntry → List LogEntry
-with_front diary count book = diary ++ drop (length diary) (take count book)
+-- the entries of a book behind so many first ones, up to a count
+abbrev pub from_to : ℕ → ℕ → List LogEntry → List LogEntry
+from_to low high book = take (high - low) (drop low book)
 
--- a life whose diary has the firm entries of the node's book
-abbrev pub life_firm : {S : Type 0} → Life → Node S → Life
-life_firm l n = record { diary = with_front l.diary n.firm n.entries; aside = l.aside }
+-- the life of a node's member after a later node of it: the diary goes on with the entries that became firm between
+abbrev pub life_firm : {S : Type 0} → Life → Node S → Node S → Life
+life_firm l n later = record { diary = l.diary ++ from_to n.firm later.firm later.entries; aside = l.aside }
 
 -- the new life, if the course writes lives down; else the old one
 abbrev pub remembered : {S : Type 0} → Course S → Life → Life → Life
@@ -232,14 +243,15 @@ abbrev pub host_after : {S : Type 0} → Course S → Host S → Outcome S → H
 host_after course h o = record h {
   node = released o.node;
   store = started h.store (spelled_behind (length h.node.entries) o.node.entries);
-  life = remembered course h.life (life_firm h.life o.node);
+  life = remembered course h.life (life_firm h.life h.node o.node);
   delivered = h.delivered ++ flat_map delivery_in o.fired;
 }
 
--- the world after a step of a node. Its transcript tells the step's events first, and then the messages that leave.
+-- The world after a step of a node. Its transcript tells the step's events first, and then the messages that leave. The view is the node's
+-- behind the step.
 unfoldable pub stepped : {S : Type 0} → Course S → World S → ℕ → Host S → Outcome S → World S
 stepped course w i h o =
-    sends_all h.node.id
+    sends_all h.node.id (view_of o.node)
     (record w {
       hosts = slice_set w.hosts i (host_after course h o);
       chosen = chosen_with w.chosen (next_place o.node) o.node.waiting;
@@ -266,7 +278,7 @@ host_takes course i event w (Some h) = if not (is_up w h) then w else stepped co
 
 -- the world after an event at the node at an index; nothing happens after the play has ended
 unfoldable pub node_takes : {S : Type 0} → Course S → ℕ → NodeEvent → World S → World S
-node_takes course i event w = if is_some w.ending then w else host_takes course i event w (slice_get w.hosts i)
+node_takes course i event w = if is_halted w then w else host_takes course i event w (slice_get w.hosts i)
 
 -- a life after a device call: what was written past a torn gate is lost when the gate is closed
 abbrev pub life_called : Life → StoreState → Life
@@ -293,7 +305,7 @@ host_calls course i w (Some h) =
 
 -- the world after the store at an index made its next device call, if one is due; its node hears what is firm then
 unfoldable pub calls_disk : {S : Type 0} → Course S → ℕ → World S → World S
-calls_disk course i w = if is_some w.ending then w else host_calls course i w (slice_get w.hosts i)
+calls_disk course i w = if is_halted w then w else host_calls course i w (slice_get w.hosts i)
 
 -- the world after one thing that is due at a host without another message: a device call, or else a delivery
 abbrev pub takes_due : {S : Type 0} → Course S → ℕ → World S → Option (Host S) → World S
@@ -352,10 +364,6 @@ settle_all course members w = each_listed members (λ i v. settle_present course
 unfoldable pub gives : {S : Type 0} → Course S → List ℕ → ℕ → World S → World S
 gives course bytes i w = settle course i (node_takes course i (Arrive bytes) w)
 
--- the world after each listed node took the bytes of a message and settled
-abbrev pub give_all : {S : Type 0} → Course S → List ℕ → List ℕ → World S → World S
-give_all course members bytes w = each_listed members (gives course bytes) w
-
 -- the index of a member's host, if the member has one
 abbrev pub host_index : {S : Type 0} → List (Host S) → ℕ → Option ℕ
 host_index hosts member = position (λ h. h.node.id == member) hosts
@@ -403,15 +411,15 @@ hears_bytes w i bytes (Some c) = client_hears w i c (reply_read (decoded bytes))
 
 -- the world after a client heard the bytes of a message
 unfoldable pub client_takes : {S : Type 0} → ℕ → List ℕ → World S → World S
-client_takes i bytes w = if is_some w.ending then w else hears_bytes w i bytes (slice_get w.clients i)
+client_takes i bytes w = if is_halted w then w else hears_bytes w i bytes (slice_get w.clients i)
 
 -- the world after a client asked, if none of its requests waits. It has at most 2^63 - 1 requests, and an operation has at most 4,096
 -- bytes.
 abbrev pub client_asks : {S : Type 0} → World S → ℕ → Client → List ℕ → Option Request → World S
 client_asks w i c op (Some q) = telling w (outs.Busy c.id q.seq)
 client_asks w i c op None =
-    if nat_lt (c.last + 1) (2 ^ 63) && nat_le (length op) 4096
-    then sends (record w { clients = slice_set w.clients i (asking c (request_of c op)) }) (origins.Client c.id) targets.View
+    if nat_lt (c.last + 1) (2 ^ 63) && nat_le (length op) PAYLOAD_BYTES
+    then sends (record w { clients = slice_set w.clients i (asking c (request_of c op)) }) (origins.Client c.id) w.view targets.View
     (Ask (signed requests group_secret c.id (request_of c op)))
     else w
 
@@ -421,19 +429,19 @@ ask_found w i op None = w
 ask_found w i op (Some c) = if is_rogue w c.id then telling w (outs.IdleClient c.id) else client_asks w i c op c.waiting
 
 unfoldable pub asks : {S : Type 0} → ℕ → List ℕ → World S → World S
-asks i op w = if is_some w.ending then w else ask_found w i op (slice_get w.clients i)
+asks i op w = if is_halted w then w else ask_found w i op (slice_get w.clients i)
 
 -- the world after a client sent its waiting request again
 abbrev pub client_repeats : {S : Type 0} → World S → Client → Option Request → World S
 client_repeats w c None = telling w (outs.IdleClient c.id)
-client_repeats w c (Some q) = sends w (origins.Client c.id) targets.View (Ask (signed requests group_secret c.id q))
+client_repeats w c (Some q) = sends w (origins.Client c.id) w.view targets.View (Ask (signed requests group_secret c.id q))
 
 abbrev pub repeat_found : {S : Type 0} → World S → Option Client → World S
 repeat_found w None = w
 repeat_found w (Some c) = if is_rogue w c.id then telling w (outs.IdleClient c.id) else client_repeats w c c.waiting
 
 unfoldable pub repeats : {S : Type 0} → ℕ → World S → World S
-repeats i w = if is_some w.ending then w else repeat_found w (slice_get w.clients i)
+repeats i w = if is_halted w then w else repeat_found w (slice_get w.clients i)
 
 -- the world after a client was told of a place
 abbrev pub learns : {S : Type 0} → World S → ℕ → ℕ → Option Client → World S
@@ -446,26 +454,29 @@ learns_from w (Some c) i = if is_rogue w c.id then telling w (outs.IdleClient c.
 
 -- the world after a client was told of the greatest place that another one knows
 unfoldable pub tells : {S : Type 0} → ℕ → ℕ → World S → World S
-tells from to w = if is_some w.ending then w else learns_from w (slice_get w.clients from) to
+tells from to w = if is_halted w then w else learns_from w (slice_get w.clients from) to
 
 -- flow
 
--- the world after bytes went to their target; what is for nobody goes nowhere
-abbrev pub goes : {S : Type 0} → Course S → List ℕ → World S → List ℕ → Option Target → World S
-goes course members w bytes None = w
-goes course members w bytes (Some targets.View) = give_all course members bytes w
-goes course members w bytes (Some (targets.Node id)) = give_one course members bytes id w
-goes course members w bytes (Some (targets.Client id)) = client_takes id bytes w
+-- the world after bytes reached an addressee: a member, if the line lists it, or a client
+abbrev pub reaches : {S : Type 0} → Course S → List ℕ → List ℕ → Party → World S → World S
+reaches course members bytes (parties.Member id) w = give_one course members bytes id w
+reaches course members bytes (parties.Client id) w = client_takes id bytes w
+
+-- the world after bytes went to addressees, in order
+abbrev pub goes : {S : Type 0} → Course S → List ℕ → World S → List ℕ → List Party → World S
+goes course members w bytes [] = w
+goes course members w bytes (to ∷ tos) = goes course members (reaches course members bytes to w) bytes tos
 
 abbrev pub flow_sent : {S : Type 0} → Course S → List ℕ → World S → Option Sent → World S
 flow_sent course members w None = w
 flow_sent course members w (Some s) = goes course members (record w { mark = w.mark + 1 }) (bytes_of s.content) s.to
 
--- the world after the next message past the mark went to its targets among the listed members, or to its client
+-- the world after the next message past the mark went to its addressees: listed members, and clients
 unfoldable pub flow_once : {S : Type 0} → Course S → List ℕ → World S → World S
-flow_once course members w = if is_some w.ending then w else flow_sent course members w (slice_get w.sent w.mark)
+flow_once course members w = if is_halted w then w else flow_sent course members w (slice_get w.sent w.mark)
 
--- the world after a flow: the listed nodes settle, and each message past the mark goes to its targets until none is left
+-- the world after a flow: the listed nodes settle, and each message past the mark goes to its addressees until none is left
 abbrev pub flows : {S : Type 0} → Course S → List ℕ → World S → World S
 flows course members w = until_rest (flow_once course members) (settle_all course members w)
 
@@ -509,7 +520,7 @@ host_tries course event i w (Some h) =
 
 -- the world after the node at an index was to deliver, or time passed there
 unfoldable pub tries_at : {S : Type 0} → Course S → NodeEvent → ℕ → World S → World S
-tries_at course event i w = if is_some w.ending then w else host_tries course event i w (slice_get w.hosts i)
+tries_at course event i w = if is_halted w then w else host_tries course event i w (slice_get w.hosts i)
 
 -- the world after the nodes of some members were to deliver, or time passed there, in order
 abbrev pub tries_each : {S : Type 0} → Course S → NodeEvent → List ℕ → World S → World S
@@ -524,14 +535,23 @@ tick_each course members w = tries_each course Tick members w
 
 -- crashes
 
+-- a diary, with what a book has after it among so many first entries
+abbrev pub with_front : List LogEntry → ℕ → List LogEntry → List LogEntry
+with_front diary count book = diary ++ drop (length diary) (take count book)
+
 -- The life of a member after a crash. The bytes left restore the first entries of one book: this life's, or an earlier one's until a torn
--- gate is closed. The diary gains what it lacks of these entries. If a gate is torn now, that book is put aside.
+-- gate is closed. The diary gains what it lacks of these entries. If a gate is torn now, that book is put aside. INTERIM(checkpoints): later
+-- these entries count from the cut of the diary.
 abbrev pub life_left : Life → List LogEntry → Images → Life
 life_left l book left = record { diary = with_front l.diary (length (restores left).entries) book; aside = still_aside (store_opened left) book }
 
+-- what the diary of a host's member would be, if all entries of its node became firm
+abbrev pub written : {S : Type 0} → Host S → List LogEntry
+written h = h.life.diary ++ drop h.node.firm h.node.entries
+
 -- the life of a host's member after a crash that leaves given bytes
 abbrev pub life_crashed : {S : Type 0} → Host S → Images → Life
-life_crashed h left = life_left h.life (written_book h.store h.node.entries h.life.aside) left
+life_crashed h left = life_left h.life (written_book h.store (written h) h.life.aside) left
 
 -- the host after a crash that leaves given bytes
 abbrev pub host_crashed : {S : Type 0} → Course S → Host S → Images → Host S
@@ -552,13 +572,17 @@ host_crashes course image patches i w (Some h) =
 
 -- the world after a crash of the member at an index, which leaves an image of its devices with patches
 unfoldable pub crashes : {S : Type 0} → Course S → Image → List Patch → ℕ → World S → World S
-crashes course image patches i w = if is_some w.ending then w else host_crashes course image patches i w (slice_get w.hosts i)
+crashes course image patches i w = if is_halted w then w else host_crashes course image patches i w (slice_get w.hosts i)
 
 -- the world after a crash of each member whose node runs
 abbrev pub crash_all : {S : Type 0} → Course S → Image → World S → World S
 crash_all course image w = each_from (crashes course image []) (length w.hosts) 0 w
 
 -- restart: a node starts again from what its devices hold (recovery: Dura-SMaRt, USENIX ATC 2013)
+
+-- what a member of a play begins from, at the first opening of its book and at each restart
+abbrev pub outset_of : {S : Type 0} → Meaning S → View → ℕ → Outset S
+outset_of m view id = outset m group_secret id view period
 
 -- the host after a restart; if nothing was restored, the node opens a new book
 abbrev pub host_resumed : {S : Type 0} → Host S → Node S → Host S
@@ -575,7 +599,7 @@ host_resumed h n = record h {
 abbrev pub resumes_from : {S : Type 0} → Course S → ℕ → World S → Host S → List (List ℕ) → Option ℕ → World S
 resumes_from course i w h restored (Some entry) = w
 resumes_from course i w h restored None =
-    let n : Node _ = reopened course.meaning group_secret h.node.id w.view 1024 (entries_in restored) in
+    let n : Node _ = reopened course.meaning (outset_of course.meaning w.view h.node.id) (entries_in restored) in
     telling (record w { hosts = slice_set w.hosts i (host_resumed h n) }) (outs.Restarted h.node.id n.replica.place (length restored))
 
 -- the world after a restart at a host, if its node does not run and its member is not faulty
@@ -583,11 +607,11 @@ abbrev pub host_resumes : {S : Type 0} → Course S → ℕ → World S → Opti
 host_resumes course i w None = w
 host_resumes course i w (Some h) =
     if h.up || is_gone w h.node.id then w
-    else resumes_from course i w h (restores (bytes_held h.store)).entries (damaged group_secret w.view (restores (bytes_held h.store)).entries)
+    else resumes_from course i w h (restores (bytes_held h.store)).entries (damaged group_secret outset_place w.view (restores (bytes_held h.store)).entries)
 
 -- the world after a restart of the member at an index
 unfoldable pub resumes : {S : Type 0} → Course S → ℕ → World S → World S
-resumes course i w = if is_some w.ending then w else host_resumes course i w (slice_get w.hosts i)
+resumes course i w = if is_halted w then w else host_resumes course i w (slice_get w.hosts i)
 
 -- the world after a restart of each member that has crashed
 abbrev pub restart_all : {S : Type 0} → Course S → World S → World S
@@ -632,24 +656,24 @@ turns_faulty w member = if is_gone w member then w else with_faulty w (w.faulty 
 
 -- the world after a member was declared faulty
 unfoldable pub declares_faulty : {S : Type 0} → ℕ → World S → World S
-declares_faulty member w = if is_some w.ending then w else turns_faulty w member
+declares_faulty member w = if is_halted w then w else turns_faulty w member
 
 -- the world in which a client is rogue from now on
 abbrev pub turns_rogue : {S : Type 0} → World S → ℕ → World S
 turns_rogue w client = if is_rogue w client then w else record w { rogue = w.rogue ++ client ∷ [] }
 
 unfoldable pub declares_rogue : {S : Type 0} → ℕ → World S → World S
-declares_rogue client w = if is_some w.ending then w else turns_rogue w client
+declares_rogue client w = if is_halted w then w else turns_rogue w client
 
 -- the world after an injection: a forged one ends the play, and any other gets a number and is for nobody
 abbrev pub injects_content : {S : Type 0} → World S → Option Content → World S
 injects_content w None = w
 injects_content w (Some content) =
     if is_forged w.faulty w.rogue w.sent content then record w { ending = Some (Premise Forged) }
-    else posts w (record { origin = origins.Script; to = None; content = content })
+    else posts w (record { origin = origins.Script; to = []; content = content })
 
 unfoldable pub injects : {S : Type 0} → Injection → World S → World S
-injects form w = if is_some w.ending then w else injects_content w (injected w.sent form)
+injects form w = if is_halted w then w else injects_content w (injected w.sent form)
 
 -- the host of a member, if it has one
 abbrev pub host_of : {S : Type 0} → List (Host S) → ℕ → Option (Host S)
@@ -673,7 +697,7 @@ host_of_node n = record {
 -- the hosts of new nodes, for some members
 abbrev pub hosts_from : {S : Type 0} → Meaning S → View → List ℕ → List (Host S)
 hosts_from m view [] = []
-hosts_from m view (id ∷ ids) = host_of_node (opened m group_secret id view 1024) ∷ hosts_from m view ids
+hosts_from m view (id ∷ ids) = host_of_node (opened (outset_of m view id)) ∷ hosts_from m view ids
 
 -- clients that have not asked: so many, from a number on
 unfoldable pub clients_from : ℕ → ℕ → List Client
@@ -686,7 +710,7 @@ begun m view =
     record {
       view = view;
       hosts = hosts_from m view view.members;
-      clients = clients_from 1025 0;
+      clients = clients_from CLIENTS 0;
       sent = [];
       mark = 0;
       chosen = [];

@@ -1,8 +1,8 @@
 //! Messages that were sent.
 use crate::crash::NotAnImage;
-use node_rules::node::Target;
 use smart_base::name::{ClientId, MemberId};
-use smart_base::sequence::Bytes;
+use smart_base::party::Party;
+use smart_base::sequence::{Bytes, Sequence};
 use smart_messages::message::Message;
 
 /// The origin of a message.
@@ -22,11 +22,11 @@ pub enum Content {
     Raw(Bytes),
 }
 
-/// A message that was sent, and its target; one that the script injected has no target. Messages are
-/// numbered from 1, in the order in which they were sent.
+/// A message that was sent, and its addressees, which were fixed as it left; one that the script
+/// injected has none. Messages are numbered from 1, in the order in which they were sent.
 pub struct Sent {
     pub origin: Origin,
-    pub to: Option<Target>,
+    pub to: Sequence<Party>,
     pub content: Content,
 }
 

@@ -30,8 +30,3 @@ next_patch (Err a) (Ok p) (Ok qs) = refl
 next_patch (Err a) (Ok p) (Err c) = refl
 next_patch (Err a) (Err b) (Ok qs) = refl
 next_patch (Err a) (Err b) (Err c) = ap Err (before_next a b c)
-
--- no words are left
-pub no_patch : (ps : Result (List Patch) Kind) → patches_then ps (Ok []) ≡ ps
-no_patch (Ok ps) = ap Ok (append-nil ps)
-no_patch (Err a) = refl

@@ -82,6 +82,3 @@ words_counted (b ∷ bs) = count_step b bs (b == 32) refl (words_counted bs)
 -- one space less is left
 pub spaces_left : (count i : ℕ) (bytes : List ℕ) → i < count → behind_spaces (count - i) bytes ≡ behind_spaces (count - (i + 1)) (behind_space bytes)
 spaces_left count i bytes lt = let e : count - i ≡ suc (count - (i + 1)) = omega arith in rw e refl
-
-pub none_left : (count i : ℕ) (bytes : List ℕ) → count ≤ i → behind_spaces (count - i) bytes ≡ bytes
-none_left count i bytes le = let e : count - i ≡ 0 = omega arith in rw e refl

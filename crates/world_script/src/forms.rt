@@ -9,9 +9,9 @@ use crate::numbers::{
 };
 use crate::words::{Words, behind_spaces, payload_of};
 use smart_base::equality::same_bytes;
+use smart_base::limits::BATCH_REQUESTS;
 use smart_base::name::{ClientId, MemberId};
 use smart_base::number::{Place, Regency, ViewNo};
-use smart_statements::batch::BATCH_REQUESTS;
 use smart_statements::statement::{Answer, Slot, VoteKind};
 use std::alloc::{AllocError, Global};
 use world_rules::line::{Injection, Kind};

@@ -1,10 +1,12 @@
 //! Words that are numbers.
 ghost use Rattle.std.specs.Prelude.{◌≡◌, ◌≤◌, ◌^◌, ℕ, IfSome, IfOk, OnSome, drop};
+ghost use Rattle.smart_base.specs.declared.limits.TheConstants as constants;
 ghost use Rattle.world_rules.specs.Scripts.{number_in, member_of, client_of, numbers_in, each_word};
 ghost use Rattle.world_script.specs.Words.{Within};
 
 use crate::words::Words;
 use smart_base::decimal::number_of;
+use smart_base::limits;
 use smart_base::name::{ClientId, MemberId};
 use smart_base::sequence::Sequence;
 use std::alloc::{AllocError, Global};
@@ -33,7 +35,7 @@ pub const MEMBERS: Range = Range {
 /// The numbers of clients.
 pub const CLIENTS: Range = Range {
     least: 1,
-    most: 1024,
+    most: limits::LAST_CLIENT as u64,
 };
 /// How many device calls a line may ask for.
 pub const CALLS: Range = Range {
@@ -45,7 +47,7 @@ pub const DEVICES: Range = Range { least: 0, most: 3 };
 /// The numbers of messages in lines.
 pub const MESSAGES: Range = Range {
     least: 1,
-    most: 1 << 24,
+    most: limits::MESSAGES as u64,
 };
 /// The numbers of views and of regencies.
 pub const SMALL_NUMBERS: Range = Range {
@@ -115,7 +117,7 @@ pub fn numbers_in<const N: usize>(ranges: &[Range; N], words: &mut Words<'_>) ->
 
 /// The numbers of messages that the words are, if each is one.
 pub fn messages_in(alloc: Global, mut words: Words<'_>) -> Result<Option<Sequence<u64>>, AllocError>
-    ensures { IfOk result (λ numbers. numbers ≡ each_word (number_in 1 (2 ^ 24)) words.entry) }
+    ensures { IfOk result (λ numbers. numbers ≡ each_word (number_in 1 constants.MESSAGES) words.entry) }
 {
     let mut numbers = Sequence::new(alloc);
     while let Some((word, more)) = words.split_first() {

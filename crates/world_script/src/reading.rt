@@ -1,6 +1,7 @@
 //! What the lines of a script mean.
-ghost use Rattle.std.specs.Prelude.{◌≡◌, ◌&&◌, ◌<◌, ◌≤◌, nat_le, Ok, Err, IfOk, IfSome, take};
+ghost use Rattle.std.specs.Prelude.{◌≡◌, ◌&&◌, ◌<◌, ◌≤◌, nat_le, Ok, Err, IfOk, IfSome, take, ◌+◌};
 ghost use Rattle.std.specs.List.{list_all};
+ghost use Rattle.smart_base.specs.declared.limits.TheConstants.{LINE_BYTES};
 ghost use Rattle.world_rules.specs.Scripts.{is_printed, is_short, is_nothing, number_in, member_of, client_of, each_word, party_of_word, ask_line, again_line, told_line, flow_line, give_line, deliver_line, tick_line, settle_line, disk_with, disk_line, show_line, faulty_line, rogue_line, form_by, injecting, line_by, line_of, members_from, view_for, group_words, group_line, app_line};
 ghost use Rattle.world_rules.specs.declared.line.Kind.{Kind};
 ghost use Rattle.world_script.specs.declared.fault.LineFault.TheVariants as faults;
@@ -12,15 +13,13 @@ use crate::numbers::{CALLS, MESSAGES, client_of, member_of, number_in};
 use crate::words::{Words, behind_spaces, payload_of, words_in};
 use smart_base::decimal::number_of;
 use smart_base::equality::same_bytes;
+use smart_base::limits::{FAULTY, LINE_BYTES, MEMBERS};
 use smart_base::name::MemberId;
 use smart_base::party::Party;
 use smart_base::sequence::Sequence;
 use smart_base::view::View;
 use std::alloc::{AllocError, Global};
 use world_rules::line::{App, Kind, Line};
-
-/// The most bytes that a line has.
-const LINE_BYTES: usize = 65_536;
 
 fn all_print(bytes: &[u8]) -> bool
     ensures { result ≡ list_all (λ b. nat_le 32 b && nat_le b 126) bytes.now }
@@ -30,7 +29,7 @@ fn all_print(bytes: &[u8]) -> bool
 
 /// The bytes up to the one that makes a line too long.
 fn looked_at(bytes: &[u8]) -> &[u8]
-    ensures { result.now ≡ take 65537 bytes.now }
+    ensures { result.now ≡ take (LINE_BYTES + 1) bytes.now }
 {
     if bytes.len() <= LINE_BYTES + 1 {
         return bytes;
@@ -379,7 +378,7 @@ fn view_for(alloc: Global, n: Option<u64>, f: Option<u64>) -> Result<Option<View
     let Some(f) = f else {
         return Ok(None);
     };
-    if 1 <= n && n <= 31 && f <= 10 && 3 * f + 1 <= n {
+    if 1 <= n && n <= MEMBERS as u64 && f <= FAULTY as u64 && 3 * f + 1 <= n {
         let members = first_members(alloc, n as u16)?;
         Ok(View::checked(0, 1, f as u8, members.into_vec()))
     } else {

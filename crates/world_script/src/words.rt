@@ -1,10 +1,12 @@
 //! The words of a line.
 ghost use Rattle.std.specs.Prelude.{◌≡◌, ◌==◌, ◌∷◌, ◌⊎◌, ◌<◌, ◌≤◌, [], IfOk, IfSome, if◌then◌else◌, nat_le, count_by, length, position};
 ghost use Rattle.std.specs.Option.{MatchOption};
+ghost use Rattle.smart_base.specs.declared.limits.TheConstants.{PAYLOAD_BYTES};
 ghost use Rattle.world_rules.specs.Scripts.{words_in, behind_space, behind_spaces, parted_at};
 ghost use Rattle.world_script.specs.Words.{Several};
 
-use smart_base::bytes::{PAYLOAD_BYTES, Payload};
+use smart_base::bytes::Payload;
+use smart_base::limits::PAYLOAD_BYTES;
 use std::alloc::{AllocError, Global};
 use std::marker::Model;
 
@@ -87,7 +89,7 @@ pub fn behind_spaces(count: u64, bytes: &[u8]) -> &[u8]
 
 /// An operation or a reply, if the bytes are few enough to be one.
 pub fn payload_of(alloc: Global, bytes: &[u8]) -> Result<Option<Payload>, AllocError>
-    ensures { IfOk result (λ p. p ≡ (if nat_le (length bytes.now) 4096 then Some bytes.now else None)) }
+    ensures { IfOk result (λ p. p ≡ (if nat_le (length bytes.now) PAYLOAD_BYTES then Some bytes.now else None)) }
 {
     if bytes.len() > PAYLOAD_BYTES {
         return Ok(None);

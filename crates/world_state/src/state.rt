@@ -1,16 +1,19 @@
 //! A world: its hosts and clients, and the messages that leave them.
-ghost use Rattle.std.specs.Prelude.{◌≡◌, [], IfOk, OnOk, Some};
+ghost use Rattle.std.specs.Prelude.{◌≡◌, ℕ, [], ◌∷◌, IfOk, OnOk, Some, map};
 ghost use Rattle.smart_base.specs.Lists.{or_else};
+ghost use Rattle.smart_base.specs.declared.limits.TheConstants.{PERIOD};
 ghost use Rattle.node_rules.specs.Steps.{opened};
 ghost use Rattle.world_rules.specs.Secrets.{group_secret};
 ghost use Rattle.world_rules.specs.Premises.{is_among};
-ghost use Rattle.world_rules.specs.Worlds.{telling, posts, is_gone, is_rogue, is_up, sends, sends_all, host_of_node, hosts_from, clients_from, begun};
+ghost use Rattle.world_rules.specs.Worlds.{telling, posts, is_gone, is_rogue, is_up, heard_by, sends, sends_all, host_of_node, hosts_from, outset_of, clients_from, begun, is_halted};
 ghost use Rattle.world_rules.specs.Plays.{rested};
 
 use client_quorum::client::{Acceptance, Client};
 use node_rules::node::{Held, Target};
 use smart_base::duplicate::Duplicate;
+use smart_base::limits::{CLIENTS, MESSAGES};
 use smart_base::name::{ClientId, MemberId};
+use smart_base::party::Party;
 use smart_base::sequence::Sequence;
 use smart_base::view::View;
 use smart_keys::ring::Ring;
@@ -26,12 +29,6 @@ use world_ledger::ledger::Ledger;
 use world_ledger::secret::GroupRing;
 use world_rules::line::OutLine;
 use world_rules::message::{Content, Ending, Origin, Premise, Sent};
-
-/// The greatest number of a message.
-const MESSAGES: usize = 1 << 24;
-
-/// The number of clients, the view manager among them.
-const CLIENTS: u16 = 1025;
 
 /// The world: hosts and clients, each message that was sent, the chosen list of batches, who breaks
 /// the rules, and what the present script line tells.
@@ -118,7 +115,7 @@ fn first_host<S: Service>(
     id: MemberId,
 ) -> Result<Host<S>, AllocError>
     requires { ring.now ≡ group_secret }
-    ensures { IfOk result (λ h. h ≡ host_of_node (opened S.meaning group_secret id view.now 1024)) }
+    ensures { IfOk result (λ h. h ≡ host_of_node (opened (outset_of S.meaning view.now id))) }
 {
     let view = view.duplicate(alloc)?;
     let ring = ring.duplicate(alloc)?;
@@ -150,6 +147,38 @@ fn first_clients(alloc: Global, count: u16) -> Result<Vec<Client>, AllocError>
     Ok(clients)
 }
 
+/// The members of a view, as parties. Error: want of memory.
+fn members_of(alloc: Global, view: &View) -> Result<Sequence<Party>, AllocError>
+    ensures { IfOk result (λ parties. parties ≡ map (λ (id : ℕ). Party.Member id) view.now.members) }
+{
+    let mut parties: Sequence<Party> = Sequence::new(alloc);
+    for id in view.members() {
+        parties.push(Party::Member(*id))?;
+    }
+    Ok(parties)
+}
+
+/// A list of one party. Error: want of memory.
+fn one_party(alloc: Global, party: Party) -> Result<Sequence<Party>, AllocError>
+    ensures { IfOk result (λ parties. parties ≡ party ∷ []) }
+{
+    let mut parties: Sequence<Party> = Sequence::new(alloc);
+    parties.push(party)?;
+    Ok(parties)
+}
+
+/// The parties that hear a message for a target: the members of its sender's view, one member, or a
+/// client. Error: want of memory.
+pub fn heard_by(alloc: Global, view: &View, target: Target) -> Result<Sequence<Party>, AllocError>
+    ensures { IfOk result (λ parties. parties ≡ heard_by view.now target) }
+{
+    match target {
+        Target::View => members_of(alloc, view),
+        Target::Node(id) => one_party(alloc, Party::Member(id)),
+        Target::Client(id) => one_party(alloc, Party::Client(id)),
+    }
+}
+
 impl<S: Service> WorldState<S> {
     /// The world at the end of a header. Error: want of memory.
     pub fn begin(alloc: Global, view: View) -> Result<Self, AllocError>
@@ -171,6 +200,13 @@ impl<S: Service> WorldState<S> {
             rogue: Vec::new(alloc),
             ending: None,
         })
+    }
+
+    /// Whether nothing more happens in the present line.
+    pub fn is_halted(&self) -> bool
+        ensures { result ≡ is_halted self.now }
+    {
+        self.ending.is_some()
     }
 
     /// Whether a member is faulty, so that its node is gone.
@@ -233,23 +269,42 @@ impl<S: Service> WorldState<S> {
         self.sent.push(self.alloc, sent)
     }
 
-    /// Sends a message. Error: want of memory.
-    pub fn send(&mut self, origin: Origin, to: Target, message: Message) -> Result<(), AllocError>
-        ensures { OnOk result (self.new ≡ sends self.old origin to message) }
+    /// Sends a message to some parties. Error: want of memory.
+    pub fn send(
+        &mut self,
+        origin: Origin,
+        to: Sequence<Party>,
+        message: Message,
+    ) -> Result<(), AllocError>
+        ensures { OnOk result (self.new ≡ posts self.old (record { origin = origin; to = to; content = Content.Message message })) }
     {
         let sent = Sent {
             origin,
-            to: Some(to),
+            to,
             content: Content::Message(message),
         };
         self.post(sent)
     }
 
-    pub fn send_all(&mut self, id: MemberId, held: Sequence<Held>) -> Result<(), AllocError>
-        ensures { OnOk result (self.new ≡ sends_all id self.old held) }
+    /// Sends what a node in a view lets go. Error: want of memory.
+    fn send_held(&mut self, id: MemberId, view: &View, held: Held) -> Result<(), AllocError>
+        ensures { OnOk result (self.new ≡ sends self.old (Origin.Node id) view.now held.to held.message) }
+    {
+        let to = heard_by(self.alloc, view, held.to)?;
+        self.send(Origin::Node(id), to, held.message)
+    }
+
+    /// Sends all that a node in a view lets go, in order. Error: want of memory.
+    pub fn send_all(
+        &mut self,
+        id: MemberId,
+        view: &View,
+        held: Sequence<Held>,
+    ) -> Result<(), AllocError>
+        ensures { OnOk result (self.new ≡ sends_all id view.now self.old held) }
     {
         for message in held.into_vec() {
-            self.send(Origin::Node(id), message.to, message.message)?;
+            self.send_held(id, view, message)?;
         }
         Ok(())
     }

@@ -6,6 +6,7 @@ ghost use Rattle.world_rules.specs.Texts.{why_text, ignored_text, app_text, orig
 
 use client_quorum::client::Ignored;
 use node_rules::node::Why;
+use smart_base::limits::PERIOD;
 use smart_base::number::Regency;
 use std::alloc::{AllocError, Global};
 use std::fmt::{self, Write};
@@ -248,7 +249,8 @@ fn push_group(out: &mut String, members: u64, faulty: u8, app: App) -> Result<()
     ensures { OnOk result (string_bytes out.new ≡ string_bytes out.old ++ words_of (OutLine.Group members faulty app)) }
 {
     let app = app_text(app);
-    write!(out, "group {members} {faulty} {app} 1024")
+    let period = PERIOD;
+    write!(out, "group {members} {faulty} {app} {period}")
 }
 
 fn push_sent(

@@ -1,7 +1,7 @@
 //! Where regencies first began.
 ghost use Rattle.std.specs.Prelude.{◌≡◌, ℕ, [], is_none, true, OnOk, OnErr, option_copied};
 ghost use Rattle.smart_base.specs.Lists.{or_else};
-ghost use Rattle.vote_book.specs.Standing.{start_of, start_under};
+ghost use Rattle.vote_book.specs.Standing.{start_if, start_under};
 
 use crate::entry::Start;
 use indexmap::IndexMap;
@@ -49,7 +49,7 @@ impl FirstStarts {
     /// Adds a beginning, where it is its regency's first.
     #[tactic(auto, using(crate::proofs::Standing::under_kept))]
     pub fn add(&mut self, start: &Start) -> Result<(), AllocError>
-        ensures ok { OnOk result ((view regency : ℕ) → start_under view regency self.new ≡ or_else (start_under view regency self.old) (start_of view regency start.now)) }
+        ensures ok { OnOk result ((view regency : ℕ) → start_under view regency self.new ≡ or_else (start_under view regency self.old) (start_if view regency start.now)) }
         ensures err { OnErr result (self.new ≡ self.old) }
     {
         if self.get(start.view, start.regency).is_none() {
@@ -61,7 +61,7 @@ impl FirstStarts {
     /// Adds its regency's first beginning.
     fn put(&mut self, start: &Start) -> Result<(), AllocError>
         requires { is_none (start_under start.now.view start.now.regency self.old) ≡ true }
-        ensures ok { OnOk result ((view regency : ℕ) → start_under view regency self.new ≡ or_else (start_under view regency self.old) (start_of view regency start.now)) }
+        ensures ok { OnOk result ((view regency : ℕ) → start_under view regency self.new ≡ or_else (start_under view regency self.old) (start_if view regency start.now)) }
         ensures err { OnErr result (self.new ≡ self.old) }
     {
         let key = (start.view.get(), start.regency.get());

@@ -1,4 +1,6 @@
 use Rattle.std.proofs.Common.{refl}
+use Rattle.smart_statements.specs.declared.statement.VoteKind.TheVariants.{Accept}
+use Rattle.agreement_laws.specs.Example.{votes, first_voters}
 use Rattle.agreement_laws.proofs.Example.{is_group, witnessed, accepts_two, first_decided, later_decided}
 use Rattle.agreement_laws.proofs.ExampleBooks.{diary_tidy}
 use Rattle.agreement_laws.proofs.agreement.regencies_decide.Goals as goal
@@ -20,3 +22,13 @@ returns-clause-first c = first_decided
 
 pub returns-clause-later : goal.returns-clause-later
 returns-clause-later c = later_decided
+
+pub returns-clause-list : goal.returns-clause-list
+returns-clause-list c = λ secret digest_of other batch. (
+  record {
+    regency = 0;
+    accepts = votes secret 0 Accept (digest_of batch) first_voters;
+    decision = first_decided secret (digest_of batch) other batch;
+  },
+  tt,
+)

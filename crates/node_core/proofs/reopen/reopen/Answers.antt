@@ -4,6 +4,6 @@ use Rattle.node_core.proofs.reopen.reopen.Goals as goal
 
 pub returns-in-Ok-clause-node : goal.returns-in-Ok-clause-node
 returns-in-Ok-clause-node g c =
-    c.go_on.ensures
+    c.in_ok-node.ensures
     ∙ reopened_where g.S.Service.meaning c.args.ring c.args.id c.args.view c.args.period c.in-Ok.back c.args.restored.now c.in-Ok.ensures.whole (sym c.is_empty.ensures ∙ c.if-is_empty.false)
     c.in-Ok.ensures.entries c.in-Ok.ensures.replica

@@ -1,6 +1,8 @@
-use Rattle.node_state.proofs.Following.{arrived_after}
+use Rattle.std.proofs.Common.{sym, ◌∙◌}
+use Rattle.smart_messages.specs.declared.message.Message.TheVariants as messages
+use Rattle.node_judging.proofs.Keeping.{stays}
 use Rattle.node_judging.proofs.arrivals.take_proposal.Goals as goal
 
-pub invariant_of-node-then-is_none : goal.invariant_of-node-then-is_none
-invariant_of-node-then-is_none g c =
-    arrived_after _ _ _ _ _ c.node.inside.instance c.on_propose.new.self c.node.inside.synchronizer _ c.on_propose.result c.on_propose.ensures.ok c.on_propose.ensures.err c.node.invariant
+pub keep_proposal-requires : goal.keep_proposal-requires
+keep_proposal-requires g c =
+    stays c.args.node.now c.note.new.node (messages.Propose c.args.proposed) c.in_ok-dropped.dropped _ c.in_ok-dropped.ensures (sym c.is_some.ensures ∙ c.if-is_some.false) c.note.ensures

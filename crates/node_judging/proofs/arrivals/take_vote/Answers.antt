@@ -1,6 +1,8 @@
-use Rattle.node_state.proofs.Following.{arrived_after}
+use Rattle.std.proofs.Common.{sym, ◌∙◌}
+use Rattle.smart_messages.specs.declared.message.Message.TheVariants as messages
+use Rattle.node_judging.proofs.Keeping.{stays}
 use Rattle.node_judging.proofs.arrivals.take_vote.Goals as goal
 
-pub invariant_of-node-then-is_none : goal.invariant_of-node-then-is_none
-invariant_of-node-then-is_none g c =
-    arrived_after _ _ _ _ _ c.node.inside.instance c.on_vote.new.self c.node.inside.synchronizer _ c.on_vote.result c.on_vote.ensures.ok c.on_vote.ensures.err c.node.invariant
+pub keep_vote-requires : goal.keep_vote-requires
+keep_vote-requires g c =
+    stays c.args.node.now c.note.new.node (messages.Vote c.args.ballot) c.why_vote-dropped.result _ c.why_vote-dropped.ensures (sym c.is_some.ensures ∙ c.if-is_some.false) c.note.ensures

@@ -1,6 +1,7 @@
 use Rattle.node_laws.proofs.Restored.{book_sound, front_sound, front_decided, book_more}
 use Rattle.node_laws.proofs.Reopened.{sound_reopened, reopened_is, place_reopened, count_is, latest_is, in_turn}
 use Rattle.node_laws.proofs.Undamaged.{undamaged, read_again}
+use Rattle.node_laws.proofs.CertifiedBooks.{certified_book}
 use Rattle.node_laws.proofs.laws.a_restart_is_sound.Goals as goal
 
 pub returns-clause-book : goal.returns-clause-book
@@ -10,7 +11,7 @@ pub returns-clause-front : goal.returns-clause-front
 returns-clause-front g c = λ secret stated view entries k is. front_sound secret stated view entries k is
 
 pub returns-clause-decided : goal.returns-clause-decided
-returns-clause-decided g c = λ entries k. front_decided entries k
+returns-clause-decided g c = λ past entries k. front_decided past entries k
 
 pub returns-clause-more : goal.returns-clause-more
 returns-clause-more g c = λ secret stated more view entries grows is. book_more stated more grows secret view entries is
@@ -19,7 +20,7 @@ pub returns-clause-reopened : goal.returns-clause-reopened
 returns-clause-reopened g c = λ secret id stated view period entries book. sound_reopened g.S.Service.meaning secret id stated view period entries book
 
 pub returns-clause-node : goal.returns-clause-node
-returns-clause-node g c = λ secret id view period e es. reopened_is g.S.Service.meaning secret id view period e es
+returns-clause-node g c = λ o e es. reopened_is g.S.Service.meaning o e es
 
 pub returns-clause-place : goal.returns-clause-place
 returns-clause-place g c = λ secret id stated view period entries book. place_reopened g.S.Service.meaning secret id stated view period entries book
@@ -38,3 +39,6 @@ returns-clause-count g c = λ secret stated view entries book. count_is g.S.Serv
 
 pub returns-clause-latest : goal.returns-clause-latest
 returns-clause-latest g c = λ secret stated view entries book. latest_is g.S.Service.meaning secret stated view entries book
+
+pub returns-clause-certified : goal.returns-clause-certified
+returns-clause-certified g c = λ secret stated view entries book. certified_book g.S.Service.meaning secret stated view entries book

@@ -8,5 +8,5 @@ use Rattle.node_state.proofs.find.accept_by_quorum.Given as goal
 -- a quorum accepted none of those so far in the slot
 abbrev pub invariant-loop-index : goal.invariant-loop-index
 invariant-loop-index l =
-    find (λ (a : Accept). has_quorum l.instance.arrivals l.view kinds.Accept l.slot a.digest) (drop l.index (filter_map (accept_for l.slot.view l.slot.place) l.book.entries))
-    ≡ find (λ (a : Accept). has_quorum l.instance.arrivals l.view kinds.Accept l.slot a.digest) (filter_map (accept_for l.slot.view l.slot.place) l.book.entries)
+    find (λ (a : Accept). has_quorum l.instance.arrivals l.instance.view kinds.Accept l.slot a.digest) (drop l.index (filter_map (accept_for l.slot.view l.slot.place) l.book.entries))
+    ≡ find (λ (a : Accept). has_quorum l.instance.arrivals l.instance.view kinds.Accept l.slot a.digest) (filter_map (accept_for l.slot.view l.slot.place) l.book.entries)

@@ -4,4 +4,4 @@ use Rattle.node_votes.proofs.decisions.proposed_by_quorum.Goals as goal
 
 pub returns : goal.returns
 returns g c =
-    c.accepted_proposal.ensures ∙ named_after c.args.node.now _ c.node.inside.instance c.view.result.now c.args.slot.now c.node.view_is c.view.ensures c.node.invariant.instance
+    c.accepted_proposal.ensures ∙ named_after c.args.node.now _ c.node.inside.instance c.args.slot.now c.node.view_is c.node.invariant.instance

@@ -36,5 +36,5 @@ returns-in_err-hold-clause-err g c =
     on_err _ (entry_made c.args.node.now.entries c.hold.new.self.entries
     (Accepted (record { slot = open_slot c.args.node.now; digest = c.args.digest; writes = certificate_votes c.args.node.now.arrivals (view_of c.args.node.now) Write (open_slot c.args.node.now) c.args.digest; batch = c.args.batch }))
     (c.in_err-hold.ensures.err ∙ (ap (λ (b : Book). b.entries) c.in_ok-push.ensures.ok ∙ made_same c.node.inside.book.entries c.args.node.now.entries _ _ (ap (λ (n : Node g.row.S.Denot). n.entries) c.node.view_is)
-    (accept_same c.args.node.now c.node.inside.instance.arrivals c.view-view.result.now c.open_slot-slot.result c.args.digest c.in_ok-writes.writes c.args.batch (ap (λ (n : Node g.row.S.Denot). n.arrivals) c.node.view_is)
-    c.view-view.ensures c.open_slot-slot.ensures c.in_ok-writes.ensures))))
+    (accept_same c.args.node.now c.args.node.now.arrivals (view_of c.args.node.now) c.open_slot-slot.result c.args.digest c.in_ok-writes.writes c.args.batch refl refl c.open_slot-slot.ensures
+    c.in_ok-writes.ensures))))

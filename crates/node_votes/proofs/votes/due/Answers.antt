@@ -4,7 +4,7 @@ use Rattle.node_votes.proofs.votes.due.Goals as goal
 
 pub returns-clause-proposal : goal.returns-clause-proposal
 returns-clause-proposal g c =
-    c.due.ensures.proposal ∙ due_after c.args.rule c.args.node.now _ c.node.inside.instance c.view.result.now c.node.view_is c.view.ensures c.node.invariant.instance
+    c.due.ensures.proposal ∙ due_after c.args.rule c.args.node.now _ c.node.inside.instance c.node.view_is c.node.invariant.instance
 
 pub returns-clause-free : goal.returns-clause-free
 returns-clause-free g c = λ some. sym (free_after c.args.node.now _ c.node.inside.instance c.node.view_is c.node.invariant.instance) ∙ c.due.ensures.free some

@@ -4,4 +4,4 @@ use Rattle.replica_laws.proofs.Once.{once_after}
 use Rattle.replica_laws.proofs.laws.accepts_once.Goals as goal
 
 pub returns : goal.returns
-returns g c = λ secret id view period events. once_after g.S.Service.meaning (opened g.S.Service.meaning secret id view period) events (λ slot. omega arith)
+returns g c = λ o events. once_after g.S.Service.meaning (opened o) events (λ slot. omega arith)

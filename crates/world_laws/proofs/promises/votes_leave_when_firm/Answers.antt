@@ -9,5 +9,5 @@ returns g c =
     record {
       node = λ secret id view period events. leaves_firm g.S.Service.meaning secret id view period events;
       first = λ view ls members nodes i k is. firm-first g.S.Service.meaning brief view is ls members nodes i k;
-      given = λ view ls members turn bytes nodes i k is. firm-given g.S.Service.meaning brief view is ls members turn bytes nodes i k;
+      given = λ view ls members turn bytes tos i k is. firm-given g.S.Service.meaning brief view is ls members turn bytes tos i k;
     }

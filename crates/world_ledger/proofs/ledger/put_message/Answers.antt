@@ -13,14 +13,14 @@ pub returns-in_err-put_batch-clause-err : goal.returns-in_err-put_batch-clause-e
 returns-in_err-put_batch-clause-err c =
     on_err c.from_residual-in_err-put_batch.result _
     (λ before index. record {
-      batches = index-same (get (pointwise nat_eq) c.args.texts.now) (get (pointwise nat_eq) c.put_batch.new.index) (met before) index.batches c.in_err-put_batch.ensures.err;
+      texts = index-same (get (pointwise nat_eq) c.args.texts.now) (get (pointwise nat_eq) c.put_batch.new.index) (met before) index.texts c.in_err-put_batch.ensures.err;
       statements = stated-same (contains same_stated c.args.stated.now) (contains same_stated c.reserve.new.self) before index.statements c.in_ok-reserve.ensures.keys.2;
     })
 
 pub returns-clause-ok : goal.returns-clause-ok
 returns-clause-ok c =
     λ before free index. record {
-      batches = index-more (get (pointwise nat_eq) c.args.texts.now) (get (pointwise nat_eq) c.put_batch.new.index) before c.args.sent.now index.batches free c.in_ok-put_batch.ensures.ok;
+      texts = index-more (get (pointwise nat_eq) c.args.texts.now) (get (pointwise nat_eq) c.put_batch.new.index) before c.args.sent.now index.texts free c.in_ok-put_batch.ensures.ok;
       statements = stated-more (contains same_stated c.args.stated.now) (contains same_stated c.put_all.new.index) before c.args.sent.now c.in_ok-own.own.items index.statements c.in_ok-own.ensures
           (λ q. c.put_all.ensures q ∙ ap (λ b. list_any (λ o. same_stated o q) c.in_ok-own.own.items || b) (c.in_ok-reserve.ensures.keys.2 q));
     }

@@ -6,4 +6,4 @@ pub open_slot-requires : goal.open_slot-requires
 open_slot-requires g c = free_after c.args.self.now _ c.self.inside.instance c.self.view_is c.self.invariant.instance ∙ c.requires
 
 pub returns : goal.returns
-returns g c = c.open_slot.ensures ∙ slot_after c.args.self.now _ c.self.inside.instance c.view.result.now c.self.view_is c.view.ensures c.self.invariant.instance
+returns g c = c.open_slot.ensures ∙ slot_after c.args.self.now _ c.self.inside.instance c.self.view_is c.self.invariant.instance

@@ -5,6 +5,6 @@ use Rattle.regency_sync.proofs.synchronizer.Synchronizer.collect.Goals as goal
 
 pub collect-requires : goal.collect-requires
 collect-requires c =
-    let parts = view_parts c.args.view.now c.members.ensures.view in
-    let size : c.collect_size.result ≡ collect_size c.args.view.now = c.collect_size.ensures in
+    let parts = view_parts c.self.inside.view c.members.ensures.view in
+    let size : c.collect_size.result ≡ collect_size c.self.inside.view = c.collect_size.ensures in
     omega (arith, parts.few, size)

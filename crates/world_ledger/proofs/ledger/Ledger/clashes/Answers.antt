@@ -1,21 +1,21 @@
-use Rattle.std.proofs.Common.{List, ◌∙◌, sym, ap, ℕ}
+use Rattle.std.proofs.Common.{◌≡◌, List, ◌∙◌, sym, ap, ℕ}
 use Rattle.std.specs.Prelude.{nat_eq}
 use Rattle.std.specs.Cmp.Lexicographic.{pointwise}
 use Rattle.std.specs.HashMap.{get}
 use Rattle.smart_keys.specs.Keys.{digest}
 use Rattle.world_rules.specs.Premises.{met}
-use Rattle.world_ledger.proofs.LedgerLaws.{missing, found, digest_of_is}
+use Rattle.world_ledger.proofs.LedgerLaws.{missing, found}
 use Rattle.world_ledger.proofs.ledger.Ledger.clashes.Goals as goal
 
 pub returns-in-None : goal.returns-in-None
 returns-in-None c =
     let texts = λ (d : List ℕ). get (pointwise nat_eq) c.self.inside.texts d in
-    let named = digest_of_is c.args.batch.now c.in_ok-text.text.items c.get-digest.result c.in_ok-text.ensures (c.get-digest.ensures ∙ (c.digest.ensures ∙ ap (λ x. digest x) c.as_slice.ensures.value)) in
-    rw (← c.self.view_is) (missing texts c.args.batch.now (met c.self.inside.sent.items) c.self.invariant.batches (ap texts named ∙ sym c.in-None.ensures.value))
+    let named : digest c.args.text.now ≡ c.get-digest.result = sym (c.get-digest.ensures ∙ c.digest.ensures) in
+    rw (← c.self.view_is) (missing texts c.args.text.now (met c.self.inside.sent.items) c.self.invariant.texts (ap texts named ∙ sym c.in-None.ensures.value))
 
 pub returns : goal.returns
 returns c =
     let texts = λ (d : List ℕ). get (pointwise nat_eq) c.self.inside.texts d in
-    let named = digest_of_is c.args.batch.now c.in_ok-text.text.items c.get-digest.result c.in_ok-text.ensures (c.get-digest.ensures ∙ (c.digest.ensures ∙ ap (λ x. digest x) c.as_slice.ensures.value)) in
-    let is = found texts c.args.batch.now (met c.self.inside.sent.items) c.in-Some.known.now c.self.invariant.batches (ap texts named ∙ sym c.in-Some.ensures.value) in
-    rw (c.same_bytes.ensures, c.as_slice-in-Some.ensures.value, c.as_slice-in-Some-2.ensures, c.in_ok-text.ensures, ← c.self.view_is) is
+    let named : digest c.args.text.now ≡ c.get-digest.result = sym (c.get-digest.ensures ∙ c.digest.ensures) in
+    let is = found texts c.args.text.now (met c.self.inside.sent.items) c.in-Some.known.now c.self.invariant.texts (ap texts named ∙ sym c.in-Some.ensures.value) in
+    rw (c.same_bytes.ensures, c.as_slice.ensures, ← c.self.view_is) is

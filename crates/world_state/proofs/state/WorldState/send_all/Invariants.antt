@@ -4,4 +4,4 @@ use Rattle.world_state.proofs.state.WorldState.send_all.Given as goal
 
 -- sending what is left sends all
 abbrev pub invariant-loop-message : goal.invariant-loop-message
-invariant-loop-message g l = sends_all l.id l.self l.message-iterator.rest.items ≡ sends_all l.id l.fn.self l.fn.held
+invariant-loop-message g l = sends_all l.id l.view l.self l.message-iterator.rest.items ≡ sends_all l.id l.view l.fn.self l.fn.held
