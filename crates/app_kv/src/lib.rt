@@ -7,7 +7,7 @@ pub mod snapshot;
 pub mod store;
 
 use crate::operation::{Operation, operation_of};
-use crate::snapshot::{put_store, read_store};
+use crate::snapshot::{put_store, read_store, room_of};
 use crate::store::{Entry, ascends, del, get, put};
 use smart_base::bytes::Payload;
 use smart_base::fault::ReadError;
@@ -78,8 +78,9 @@ impl Service for KeyValueStore {
     }
 
     fn snapshot(&self, alloc: Global) -> Result<Bytes, AllocError> {
-        let mut out = Vec::new(alloc);
-        put_store(&mut out, self.entries.as_slice())?;
+        let entries = self.entries.as_slice();
+        let mut out = Vec::with_capacity(alloc, room_of(entries))?;
+        put_store(&mut out, entries)?;
         Ok(Bytes::from_vec(out))
     }
 

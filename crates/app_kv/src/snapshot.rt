@@ -121,6 +121,16 @@ fn put_entries(out: &mut Vec<u8>, entries: &[Entry]) -> Result<(), AllocError>
     Ok(())
 }
 
+/// How many bytes the snapshot of entries has: room that is made once. No promise rests on it.
+pub fn room_of(entries: &[Entry]) -> usize {
+    let mut room: usize = 2;
+    for entry in entries {
+        let held = entry.key.len().wrapping_add(entry.value.len());
+        room = room.wrapping_add(held).wrapping_add(8);
+    }
+    room
+}
+
 /// Adds the bytes of entries.
 pub fn put_store(out: &mut Vec<u8>, entries: &[Entry]) -> Result<(), AllocError>
     requires { IsStore entries.now }
