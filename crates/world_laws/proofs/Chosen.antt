@@ -1,5 +1,5 @@
 -- The list of chosen batches: each is certified, and every host stands along it.
-use Rattle.std.proofs.Common.{◌≡◌, ℕ, zero, suc, ◌+◌, ◌-◌, ◌^◌, ◌≤◌, ◌++◌, ◌==◌, true, false, List, [], ◌∷◌, length, ◌∙◌, sym, arith, Option, Some, None, subst, take, length-append, eqb-true, eq-eqb, ap, inl, refl, nat_lt, ◌<◌, append_assoc}
+use Rattle.std.proofs.Common.{◌≡◌, ℕ, zero, suc, ◌+◌, ◌-◌, ◌^◌, ◌≤◌, ◌++◌, ◌==◌, true, false, List, [], ◌∷◌, length, ◌∙◌, sym, arith, Option, Some, None, subst, take, length-append, eqb-true, eq-eqb, ap, nat_lt}
 use Rattle.std.proofs.lemmas.List.{length-take-le}
 use Rattle.std.proofs.Math.Seq.{take-append_seam}
 use Rattle.std.specs.List.{cons_option}
@@ -24,9 +24,8 @@ use Rattle.agreement_laws.proofs.OneList.{one_list, certified_more, certified_en
 use Rattle.node_laws.specs.Sound.{IsSound}
 use Rattle.node_laws.proofs.More.{sound_more}
 use Rattle.node_laws.specs.Restored.{IsSoundBook}
-use Rattle.node_laws.proofs.Restored.{book_sound, front_sound, front_decided, book_more, decided_here, decided_last, decided_none}
+use Rattle.node_laws.proofs.Restored.{book_sound, front_sound, front_decided, book_more}
 use Rattle.node_laws.proofs.CertifiedBooks.{certified_book}
-use Rattle.node_laws.proofs.Reopened.{in_turn}
 use Rattle.world_rules.specs.Secrets.{group_secret}
 use Rattle.world_rules.specs.Premises.{is_among, too_many}
 use Rattle.world_rules.specs.Worlds.{Host, World, chosen_with}

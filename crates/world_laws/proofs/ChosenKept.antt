@@ -27,7 +27,7 @@ use Rattle.smart_statements.specs.declared.entry.NodeEvent.{NodeEvent}
 use Rattle.smart_statements.specs.declared.entry.NodeEvent.TheVariants.{Arrive, Tick, Deliver, Firm}
 use Rattle.smart_service.specs.Services.{Meaning}
 use Rattle.vote_book.specs.Books.{Among}
-use Rattle.replica_rules.specs.Replicas.{state, batch_at}
+use Rattle.replica_rules.specs.Replicas.{empty, state, batch_at}
 use Rattle.replica_rules.specs.Seals.{signed}
 use Rattle.node_rules.specs.Nodes.{Node, next_place, view_of}
 use Rattle.node_rules.specs.Steps.{Outcome, made_firm, step_of, leaving, opened}

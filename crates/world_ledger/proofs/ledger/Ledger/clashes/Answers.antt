@@ -13,8 +13,8 @@ returns-in-None c =
     let named : digest c.args.text.now ≡ c.get-digest.result = sym (c.get-digest.ensures ∙ c.digest.ensures) in
     rw (← c.self.view_is) (missing texts c.args.text.now (met c.self.inside.sent.items) c.self.invariant.texts (ap texts named ∙ sym c.in-None.ensures.value))
 
-pub returns : goal.returns
-returns c =
+pub returns-in-Some : goal.returns-in-Some
+returns-in-Some c =
     let texts = λ (d : List ℕ). get (pointwise nat_eq) c.self.inside.texts d in
     let named : digest c.args.text.now ≡ c.get-digest.result = sym (c.get-digest.ensures ∙ c.digest.ensures) in
     let is = found texts c.args.text.now (met c.self.inside.sent.items) c.in-Some.known.now c.self.invariant.texts (ap texts named ∙ sym c.in-Some.ensures.value) in
