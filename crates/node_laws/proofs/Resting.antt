@@ -43,7 +43,7 @@ certified secret view (Decided d) is =
       accepts = (votes-exact secret view (accept_of d.slot (digest_of d.batch)) d.accepts).0 (none_is (votes_fault secret view (accept_of d.slot (digest_of d.batch)) d.accepts) parts.1);
       batch = parts.2;
     }
-certified secret view (Installed i) is = tt
+certified secret view (Installed i) is = absurd (cc)
 certified secret view (Marked m) is = tt
 
 pub resting : (secret : List ℕ) (view : View) (e : LogEntry) → IsCertified secret view e → rests secret view e ≡ true
@@ -58,7 +58,7 @@ resting secret view (Decided d) has =
     all_three (d.slot.view == view.number) (is_none (votes_fault secret view (accept_of d.slot (digest_of d.batch)) d.accepts))
     (is_batch_for secret d.slot.place (digest_of d.batch) d.batch)
     (eq-eqb d.slot.view view.number has.of_view) (ap is_none ((votes-exact secret view (accept_of d.slot (digest_of d.batch)) d.accepts).1 has.accepts)) has.batch
-resting secret view (Installed i) has = refl
+resting secret view (Installed i) has = absurd has
 resting secret view (Marked m) has = refl
 
 pub certified_exact : (secret : List ℕ) (view : View) (e : LogEntry) → (rests secret view e ≡ true) ↔ IsCertified secret view e

@@ -48,7 +48,7 @@ entry_rests secret stated view place regency (Decided d) within backed has =
       accepts = subst (λ (s : Slot). IsCertificate secret view (accept_of s (digest_of d.batch)) d.accepts) (slot_of_view view d.slot of) (backed of).holds;
       batch = has.may;
     })
-entry_rests secret stated view place regency (Installed i) within backed has = refl
+entry_rests secret stated view place regency (Installed i) within backed has = absurd within
 entry_rests secret stated view place regency (Marked k) within backed has = refl
 
 all_rest : (secret : List ℕ) (stated : List Statement) (view : View) (before entries : List LogEntry) → IsSoundBook secret stated view (before ++ entries)

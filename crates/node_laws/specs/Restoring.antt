@@ -26,7 +26,8 @@ pub record IsProven (secret : List ℕ) (view : View) (d : Decision) : Type 0 wh
   pub accepts : IsDecisionProof secret view d.slot (digest_of d.batch) d.accepts
   pub batch : is_batch_for secret d.slot.place (digest_of d.batch) d.batch ≡ true
 
--- an entry with its evidence: an accept has its write certificate, and a decision its proof; others need none
+-- an entry with its evidence: an accept has its write certificate, and a decision its proof; others need none. INTERIM(transfer): an
+-- installation has none yet.
 abbrev pub IsCertified : List ℕ → View → LogEntry → Type 0
 IsCertified secret view (Opened o) = Unit {0}
 IsCertified secret view (Wrote w) = Unit {0}
@@ -34,7 +35,7 @@ IsCertified secret view (Accepted a) = IsWritten secret view a
 IsCertified secret view (Promised p) = Unit {0}
 IsCertified secret view (Synced s) = Unit {0}
 IsCertified secret view (Decided d) = IsProven secret view d
-IsCertified secret view (Installed i) = Unit {0}
+IsCertified secret view (Installed i) = ⊥
 IsCertified secret view (Marked m) = Unit {0}
 
 -- ---- what is damaged

@@ -82,7 +82,7 @@ above_none (Some l) last at place stands above none = let lt : last < at = ltb-t
 
 installs_here : (secret : List ℕ) (view : View) (entries : List LogEntry) (i : Installation) (place : ℕ) → may_restore secret 0 view entries (Installed i) ≡ true → number_or (latest_made entries) 0 ≡ place → i.place ≡ place
 installs_here secret view entries i place is stands =
-    let e1 = and_true (opens_first entries (Installed i) && may_install 0 (length entries + 1) entries i.place) true is in
+    let e1 = and_true (opens_first entries (Installed i) && may_install 0 (length entries + 1) entries i.place) false is in
     let e2 = and_true (opens_first entries (Installed i)) (may_install 0 (length entries + 1) entries i.place) e1.0 in
     let e3 = and_true (is_above (latest_made entries) (last_made entries) i.place) (not (nat_lt (length entries) (length entries + 1)) || nat_le i.place 0) e2.1 in
     above_none (latest_made entries) (last_made entries) i.place place stands e3.0 (nothing_over (length entries) i.place e3.1)

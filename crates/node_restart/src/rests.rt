@@ -147,7 +147,8 @@ pub fn rests(
         | LogEntry::Wrote(_)
         | LogEntry::Promised(_)
         | LogEntry::Synced(_)
-        | LogEntry::Installed(_)
         | LogEntry::Marked(_) => Ok(true),
+        // INTERIM(transfer): an installation has no evidence yet.
+        LogEntry::Installed(_) => Ok(false),
     }
 }

@@ -244,4 +244,4 @@ kept n (changes.Sync s) = record n {
   syncs = n.syncs ++ s ∷ [];
   behind = n.behind || nat_lt (decided_place n + 1) (choice s.statement.collect).base;
 }
-kept n _ = n
+kept n (Reply a) = n

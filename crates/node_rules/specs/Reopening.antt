@@ -28,8 +28,7 @@ is_opening (Installed i) = false
 is_opening (Marked m) = false
 
 -- an entry whose evidence holds, as members of the view signed it. An accept has its certificate of WRITEs, a decision its proof, and each
--- batch may stand at its place. INTERIM(views): there is one view. INTERIM(transfer): an installation is admitted at place 0 alone, and
--- changes nothing.
+-- batch may stand at its place. INTERIM(views): there is one view. INTERIM(transfer): an installation has no evidence yet.
 abbrev pub rests : List ℕ → View → LogEntry → Bool
 rests secret view (Opened o) = true
 rests secret view (Wrote w) = true
@@ -43,7 +42,7 @@ rests secret view (Decided d) =
     (d.slot.view == view.number)
     && is_none (votes_fault secret view (accept_of d.slot (digest_of d.batch)) d.accepts)
     && is_batch_for secret d.slot.place (digest_of d.batch) d.batch
-rests secret view (Installed i) = true
+rests secret view (Installed i) = false
 rests secret view (Marked m) = true
 
 -- a book's first entry opens it

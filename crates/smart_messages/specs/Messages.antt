@@ -174,11 +174,15 @@ slot_of (Propose p) = Some p.head.statement.slot
 slot_of (Vote b) = Some b.statement.slot
 slot_of _ = None
 
--- the batch of a PROPOSE, or of the lock in a STOPDATA
+-- the batch of a PROPOSE, or of the lock in a STOPDATA. Each kind is named, since premises rest on the texts of all batches that were met.
 abbrev pub batch_in : Message → Option Batch
+batch_in (Ask q) = None
 batch_in (Propose p) = Some p.batch
+batch_in (Vote b) = None
+batch_in (changes.Stop s) = None
 batch_in (changes.StopData r) = r.batch
-batch_in _ = None
+batch_in (changes.Sync s) = None
+batch_in (Reply a) = None
 
 -- a value that is there and passes a test
 abbrev pub some_of : {A : Type 0} → (A → Bool) → Option A → Bool

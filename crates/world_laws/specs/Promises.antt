@@ -54,7 +54,7 @@ pub record IsChosenAt {S : Type 0} (m : Meaning S) (view : View) (chosen : List 
 
 -- A host that has delivered a front of the list. Its replica is the state after that front. In this life it has delivered one batch at each
 -- place after the one at which the life began, in order. Each delivery of any of its lives is right by the list. The batch that it has decided
--- and not delivered is the list's too.
+-- and not delivered is the list's too. INTERIM(transfer): an installed replica will begin a segment of deliveries, as a restart does.
 pub record IsPrefix {S : Type 0} (m : Meaning S) (view : View) (chosen : List Batch) (h : Host S) : Type 0 where
   pub within : h.node.replica.place ≤ length chosen
   pub replica : h.node.replica ≡ state m view (take h.node.replica.place chosen)
@@ -79,7 +79,7 @@ abbrev pub MayBeLeft : {S : Type 0} → World S → (ℕ → Images) → Type 0
 MayBeLeft w left = Each (λ h. is_gone w h.node.id ≡ false → MayLeave h.store (left h.node.id)) w.hosts
 
 -- A place that crashes cannot take back. Whatever crashes leave of the devices of correct members, more than f of these members restore that
--- place or a later one.
+-- place or a later one. INTERIM(views): later these are members of the view that is in force at the place.
 pub record IsKept {S : Type 0} (m : Meaning S) (w : World S) (place : ℕ) : Type 0 where
   pub enough : (left : ℕ → Images) → MayBeLeft w left → w.view.f < length (filter (has_place m w left place) w.hosts)
 
@@ -173,6 +173,7 @@ numbers_from (suc count) i = i ∷ numbers_from count (i + 1)
 -- reply that a node holds or a correct member has stated is right. Each accepted reply is right, a quorum has given it, and its place is kept.
 -- A client accepts one reply to each number. What a node or a client has sent is its own. A node's votes, replies and reports rest on what became firm there.
 pub record OneList {S : Type 0} (m : Meaning S) (w : World S) : Type 0 where
+  -- INTERIM(views): the hosts are the members of the view that the group begins with
   pub members : map (λ h. h.node.id) w.hosts ≡ w.view.members
   pub clients : map (λ c. c.id) w.clients ≡ numbers_from CLIENTS 0
   pub hosts : Each (IsPrefix m w.view w.chosen) w.hosts
@@ -313,7 +314,7 @@ last_restart id before [] = before
 last_restart id before (line ∷ lines) = last_restart id (restarts_with id before line) lines
 
 -- A host whose node began this life at a place, with this number of restored entries. INTERIM(checkpoints): later a node restores those of a
--- cut.
+-- cut. INTERIM(transfer): later an installation begins a segment of deliveries, too.
 pub record WentOn {S : Type 0} (from : Restart) (h : Host S) : Type 0 where
   pub place : h.resumed ≡ from.place
   pub entries : h.node.restored ≡ from.entries
@@ -360,7 +361,7 @@ HasTaught w before after (lines.Faulty member) = Unit {0}
 HasTaught w before after (lines.Rogue client) = Unit {0}
 HasTaught w before after (lines.Inject form) = Unit {0}
 
--- One list throughout a play: it holds after each line. The group's view stays. The faulty members and the rogue clients are those that a line
+-- One list throughout a play: it holds after each line. The group's view stays, INTERIM(views). The faulty members and the rogue clients are those that a line
 -- has declared. The list, what was sent, what was accepted and each diary only grow. Each transcript line of an accepted reply tells the
 -- service's answer on the list. The transcript tells each accepted reply once, in order, and no other. It tells the deliveries of each node
 -- once, in order, through all its lives, and no other. Each node began this life as the last line of its restart tells. After a line that tells

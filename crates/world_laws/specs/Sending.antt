@@ -44,10 +44,15 @@ pub record IsNodes (view : View) (id : ℕ) (to : List Party) (content : Content
   pub addressed : to ≡ heard_by view target
   pub own : IsForTarget id target content
 
--- a message that is a request with a client's signature
+-- A message that is a request with a client's signature. INTERIM(reads): a client sends nothing else.
 abbrev pub IsRequestOf : ℕ → Message → Type 0
 IsRequestOf id (Ask q) = q.signer ≡ id
-IsRequestOf id _ = ⊥
+IsRequestOf id (Propose p) = ⊥
+IsRequestOf id (Vote b) = ⊥
+IsRequestOf id (changes.Stop s) = ⊥
+IsRequestOf id (changes.StopData r) = ⊥
+IsRequestOf id (changes.Sync s) = ⊥
+IsRequestOf id (Reply a) = ⊥
 
 -- a content that is a request with a client's signature
 abbrev pub IsAskOf : ℕ → Content → Type 0
@@ -161,7 +166,7 @@ abbrev pub has_replied : List ℕ → List Sent → Acceptance → ℕ → Bool
 has_replied faulty sent a member =
     list_any (λ s. is_reply_of member a s.content && (is_among faulty member || (is_of member s.origin && is_for a.request.client s.to))) sent
 
--- an acceptance whose reply a quorum of the view's members has sent
+-- an acceptance whose reply a quorum of the view's members has sent. INTERIM(views): that is the view that the group begins with
 abbrev pub QuorumReplied : View → List ℕ → List Sent → Acceptance → Type 0
 QuorumReplied view faulty sent a = quorum view ≤ weight_of view (filter (has_replied faulty sent a) view.members)
 

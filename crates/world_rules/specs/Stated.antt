@@ -37,7 +37,8 @@ diary_of (Some h) = h.life.diary
 abbrev pub diary : {S : Type 0} → World S → ℕ → List LogEntry
 diary w member = diary_of (host_of w.hosts member)
 
--- batches of which each has a decision at its place among what has been stated; the first stands at place 1
+-- batches of which each has a decision at its place among what has been stated; the first stands at place 1. INTERIM(views): all are decided
+-- in one view
 abbrev pub AreDecided : List Statement → View → List Batch → Type 0
 AreDecided stated view batches = AllCertified group_secret digest_of stated (λ front. view) [] batches
 

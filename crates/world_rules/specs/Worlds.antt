@@ -110,7 +110,7 @@ pub record Host (S : Type 0) : Type 0 where
 
 -- the world after some lines of a script
 pub record World (S : Type 0) : Type 0 where
-  -- the view of the group
+  -- the view that the group begins with
   pub view : View
   -- the members' hosts, by ascending number
   pub hosts : List (Host S)

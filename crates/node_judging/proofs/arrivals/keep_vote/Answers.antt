@@ -8,5 +8,9 @@ pub invariant_of-node : goal.invariant_of-node
 invariant_of-node g c =
     arrived_after _ _ _ _ _ c.node.inside.instance c.on_vote.new.self c.node.inside.synchronizer (keeps_vote c.args.ballot c.node.inside.instance) (Vote c.args.ballot) c.on_vote.result c.on_vote.ensures.ok c.on_vote.ensures.err c.node.invariant
 
+pub invariant_of-node-2 : goal.invariant_of-node-2
+invariant_of-node-2 g c =
+    arrived_after _ _ _ _ _ c.node.inside.instance c.on_vote.new.self c.node.inside.synchronizer (keeps_vote c.args.ballot c.node.inside.instance) (Vote c.args.ballot) c.on_vote.result c.on_vote.ensures.ok c.on_vote.ensures.err c.node.invariant
+
 pub returns-clause-node : goal.returns-clause-node
 returns-clause-node g c = vote_where c.args.node.now _ c.node.inside.instance c.on_vote.new.self c.args.ballot c.node.view_is c.node.invariant.instance c.requires c.in_ok-on_vote.ensures.ok
