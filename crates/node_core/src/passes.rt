@@ -21,11 +21,11 @@ use std::alloc::AllocError;
 /// memory.
 pub fn pass<S: Service>(
     node: &mut NodeState<S>,
-    cause: Cause,
+    cause: &Cause,
     fired: &mut Sequence<Fired>,
 ) -> Result<(), AllocError>
-    ensures pass { OnOk result (pass (rules S.meaning) node.old cause fired.old ≡ (node.new, fired.new)) }
-    ensures err { OnErr result (IsPartly node.old.entries node.new.entries (pass (rules S.meaning) node.old cause fired.old).0.entries) }
+    ensures pass { OnOk result (pass (rules S.meaning) node.old cause.now fired.old ≡ (node.new, fired.new)) }
+    ensures err { OnErr result (IsPartly node.old.entries node.new.entries (pass (rules S.meaning) node.old cause.now fired.old).0.entries) }
 {
     deliver_due(node, cause, fired)?;
     turns(node, cause, fired)?;
@@ -37,10 +37,10 @@ pub fn pass<S: Service>(
 /// Delivers, where the service is to execute what waits. Error: want of memory.
 fn deliver_due<S: Service>(
     node: &mut NodeState<S>,
-    cause: Cause,
+    cause: &Cause,
     fired: &mut Sequence<Fired>,
 ) -> Result<(), AllocError>
-    ensures row { OnOk result (deliver_row S.meaning node.old cause fired.old ≡ (node.new, fired.new)) }
+    ensures row { OnOk result (deliver_row S.meaning node.old cause.now fired.old ≡ (node.new, fired.new)) }
     ensures err { OnErr result (node.new.entries ≡ node.old.entries) }
 {
     match cause {
@@ -56,11 +56,11 @@ fn deliver_due<S: Service>(
 /// memory.
 fn ends<S: Service>(
     node: &mut NodeState<S>,
-    cause: Cause,
+    cause: &Cause,
     fired: &mut Sequence<Fired>,
 ) -> Result<(), AllocError>
-    ensures pass { OnOk result (pass end_rows node.old cause fired.old ≡ (node.new, fired.new)) }
-    ensures err { OnErr result (IsPartly node.old.entries node.new.entries (pass end_rows node.old cause fired.old).0.entries) }
+    ensures pass { OnOk result (pass end_rows node.old cause.now fired.old ≡ (node.new, fired.new)) }
+    ensures err { OnErr result (IsPartly node.old.entries node.new.entries (pass end_rows node.old cause.now fired.old).0.entries) }
 {
     decides(node, fired)?;
     act_on_time(node, cause, fired)?;
@@ -71,10 +71,10 @@ fn ends<S: Service>(
 /// Acts on time, where time passed. Error: want of memory.
 fn act_on_time<S: Service>(
     node: &mut NodeState<S>,
-    cause: Cause,
+    cause: &Cause,
     fired: &mut Sequence<Fired>,
 ) -> Result<(), AllocError>
-    ensures row { OnOk result (time_row node.old cause fired.old ≡ (node.new, fired.new)) }
+    ensures row { OnOk result (time_row node.old cause.now fired.old ≡ (node.new, fired.new)) }
     ensures err { OnErr result (node.new.entries ≡ node.old.entries) }
 {
     match cause {
@@ -89,10 +89,10 @@ fn act_on_time<S: Service>(
 /// Answers again, where a request came. Error: want of memory.
 fn answer_due<S: Service>(
     node: &mut NodeState<S>,
-    cause: Cause,
+    cause: &Cause,
     fired: &mut Sequence<Fired>,
 ) -> Result<(), AllocError>
-    ensures row { OnOk result (answer_row node.old cause fired.old ≡ (node.new, fired.new)) }
+    ensures row { OnOk result (answer_row node.old cause.now fired.old ≡ (node.new, fired.new)) }
     ensures err { OnErr result (node.new.entries ≡ node.old.entries) }
 {
     match cause {
@@ -109,14 +109,14 @@ fn answer_due<S: Service>(
 #[tactic(auto, unfolding(node_rules::specs::Rules::answers_again))]
 fn answers<S: Service>(
     node: &mut NodeState<S>,
-    asked: Option<Asked>,
+    asked: &Option<Asked>,
     fired: &mut Sequence<Fired>,
 ) -> Result<(), AllocError>
-    ensures node { OnOk result (node.new ≡ answers_again node.old asked) }
-    ensures fired { OnOk result (fired.new ≡ fired.old ++ fired_if fires.Answered (answering node.old asked)) }
+    ensures node { OnOk result (node.new ≡ answers_again node.old asked.now) }
+    ensures fired { OnOk result (fired.new ≡ fired.old ++ fired_if fires.Answered (answering node.old asked.now)) }
     ensures err { OnErr result (node.new.entries ≡ node.old.entries) }
 {
-    let line = answering(node, asked)?;
+    let line = answering(node, *asked)?;
     answer_line(node, line, fired)?;
     Ok(())
 }

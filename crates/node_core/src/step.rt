@@ -43,7 +43,7 @@ fn step_of<S: Service>(node: &mut NodeState<S>, event: &NodeEvent) -> Result<Out
             dropped: Some(why),
         }),
         None => {
-            pass(node, taken.cause, &mut fired)?;
+            pass(node, &taken.cause, &mut fired)?;
             Ok(Outcome {
                 fired,
                 dropped: None,

@@ -33,11 +33,11 @@ use vote_book::entry::Promise;
 #[tactic(auto, unfolding(node_rules::specs::Steps::pass, node_rules::specs::Steps::turn_rows))]
 pub fn turns<S: Service>(
     node: &mut NodeState<S>,
-    cause: Cause,
+    cause: &Cause,
     fired: &mut Sequence<Fired>,
 ) -> Result<(), AllocError>
-    ensures pass { OnOk result (pass turn_rows node.old cause fired.old ≡ (node.new, fired.new)) }
-    ensures err { OnErr result (IsPartly node.old.entries node.new.entries (pass turn_rows node.old cause fired.old).0.entries) }
+    ensures pass { OnOk result (pass turn_rows node.old cause.now fired.old ≡ (node.new, fired.new)) }
+    ensures err { OnErr result (IsPartly node.old.entries node.new.entries (pass turn_rows node.old cause.now fired.old).0.entries) }
 {
     adopts(node, fired)?;
     joins(node, fired)?;

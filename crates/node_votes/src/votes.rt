@@ -36,11 +36,11 @@ use vote_book::entry::{Accept, LogEntry, Write};
 #[tactic(auto, unfolding(node_rules::specs::Steps::pass, node_rules::specs::Steps::vote_rows))]
 pub fn votes<S: Service>(
     node: &mut NodeState<S>,
-    cause: Cause,
+    cause: &Cause,
     fired: &mut Sequence<Fired>,
 ) -> Result<(), AllocError>
-    ensures pass { OnOk result (pass vote_rows node.old cause fired.old ≡ (node.new, fired.new)) }
-    ensures err { OnErr result (IsPartly node.old.entries node.new.entries (pass vote_rows node.old cause fired.old).0.entries) }
+    ensures pass { OnOk result (pass vote_rows node.old cause.now fired.old ≡ (node.new, fired.new)) }
+    ensures err { OnErr result (IsPartly node.old.entries node.new.entries (pass vote_rows node.old cause.now fired.old).0.entries) }
 {
     proposes(node, fired)?;
     writes(node, fired)?;
