@@ -1,7 +1,7 @@
 //! The end that puts entries.
 ghost use Rattle.std.specs.Prelude.{◌≡◌, ◌≤◌, [], length};
 ghost use Rattle.std.specs.Arc.{arc_value};
-ghost use Rattle.queue_ends.specs.Ends.{put_list};
+ghost use Rattle.queue_ends.specs.Ends.{put_list, put_capacity};
 ghost use Rattle.log_lane.specs.Word.{reading};
 
 use crate::stored::Stored;
@@ -28,6 +28,7 @@ pub struct LaneIn<T> {
     pub ghost role: { seat.me.0 ≡ reading seat.me.0.found seat.me.0.heard },
     pub ghost has_read: { (read ≤ seat.me.0.found) × (read ≤ length (put_list items)) },
     pub ghost has_heard: { seat.me.0.heard ≤ length (put_list items) },
+    pub ghost holds: { capacity ≤ put_capacity items },
 }
 
 impl<T: Drop> LaneIn<T> {

@@ -1,19 +1,20 @@
 -- What a member finds among what it still needs alone.
-use Rattle.std.proofs.Common.{◌≡◌, ℕ, ◌+◌, ◌≤◌, ◌==◌, ◌&&◌, nat_lt, nat_le, not, is_some, Bool, true, false, cond, List, [], ◌∷◌, length, take, Some, None, option_map, refl, ap, sym, ◌∙◌, arith}
+use Rattle.std.proofs.Common.{◌≡◌, ℕ, ◌+◌, ◌≤◌, ◌==◌, ◌&&◌, nat_lt, nat_le, not, is_some, Bool, true, false, cond, List, [], ◌∷◌, length, take, Option, Some, None, option_map, refl, ap, sym, ◌∙◌, arith}
 use Rattle.std.specs.Prelude.{filter}
 use Rattle.std.specs.List.{list_any}
 use Rattle.std.proofs.lemmas.Bool.{eqb-true, leb-true, le-leb, and_parts, and_left}
 use Rattle.smart_base.specs.Lists.{Each}
-use Rattle.smart_base.specs.Views.{View, leader}
+use Rattle.smart_base.specs.Views.{View, is_member, leader}
 use Rattle.smart_view.specs.Sizes.{collect_size, stop_size}
 use Rattle.smart_statements.specs.Forms.{SignedBy}
+use Rattle.smart_statements.specs.Batches.{Batch}
 use Rattle.smart_statements.specs.declared.report.Report.{Report}
 use Rattle.smart_messages.specs.declared.regency.Stop.{Stop}
 use Rattle.smart_messages.specs.declared.regency.Sync.{Sync}
 use Rattle.smart_messages.specs.declared.regency.Reported.{Reported}
 use Rattle.regency_sync.specs.declared.rule.Rule.{Rule}
 use Rattle.regency_sync.specs.declared.rule.Rule.TheVariants.{Join, Promise, Collect}
-use Rattle.regency_sync.specs.Synchronizers.{Synchronizer, is_synced, is_needed, needs_stop, needs_report, needs_sync, is_same_stop, is_same_report, is_same_sync, repeats_stop, repeats_report, repeats_sync, is_stop, has_next, stoppers, is_joining, is_promising, is_report, first_report, reporters, is_collecting, collect, collecting, is_due, due, is_lock_of, bears, batch_in, batch_of, with_stop, with_report, with_sync, adopted, stopped, promised, led, moved, trimmed, HasNothingOf}
+use Rattle.regency_sync.specs.Synchronizers.{Synchronizer, is_synced, is_needed, needs_stop, needs_report, needs_sync, is_same_stop, is_same_report, is_same_sync, repeats_stop, repeats_report, repeats_sync, is_reached, keeps_stop, keeps_report, keeps_sync, is_stop, has_next, stoppers, is_joining, is_promising, is_report, first_report, reporters, is_collecting, collect, collecting, is_due, due, is_lock_of, bears, batch_in, batch_of, with_stop, with_report, with_sync, keeping_stop, keeping_report, keeping_sync, adopted, stopped, promised, led, moved, trimmed, HasNothingOf}
 use Rattle.regency_sync.proofs.Lists.{any_filter, find_filter, filter_filter, filter_end, filter_none, each_filter, each_as, filter_alike, find_alike, filter_map_alike}
 
 -- ---- which are needed
@@ -154,20 +155,109 @@ same_lists : (s : Synchronizer) {ts us : List (SignedBy Stop)} {ps qs : List Rep
     → record s { stops = ts; reports = ps; syncs = ys } ≡ record s { stops = us; reports = qs; syncs = zs }
 same_lists s t p y = rw (t, p, y) refl
 
-pub with_stop_same : (view : View) (s : Synchronizer) (stop : SignedBy Stop) → needs_stop view.number s.regency stop ≡ true
+with_stop_same : (view : View) (s : Synchronizer) (stop : SignedBy Stop) → needs_stop view.number s.regency stop ≡ true
     → with_stop stop (trimmed view s) ≡ trimmed view (with_stop stop s)
 unfolding trimmed
 with_stop_same view s stop needed = same_lists s (filter_end (needs_stop view.number s.regency) s.stops stop needed) refl refl
 
-pub with_report_same : (view : View) (s : Synchronizer) (r : Reported) → needs_report view.number s.regency r ≡ true
+with_report_same : (view : View) (s : Synchronizer) (r : Reported) → needs_report view.number s.regency r ≡ true
     → with_report r.head r.batch (trimmed view s) ≡ trimmed view (with_report r.head r.batch s)
 unfolding trimmed
 with_report_same view s r needed = same_lists s refl (filter_end (needs_report view.number s.regency) s.reports r needed) refl
 
-pub with_sync_same : (view : View) (s : Synchronizer) (sync : SignedBy Sync) → needs_sync view.number s.regency sync ≡ true
+with_sync_same : (view : View) (s : Synchronizer) (sync : SignedBy Sync) → needs_sync view.number s.regency sync ≡ true
     → with_sync sync (trimmed view s) ≡ trimmed view (with_sync sync s)
 unfolding trimmed
 with_sync_same view s sync needed = same_lists s refl refl (filter_end (needs_sync view.number s.regency) s.syncs sync needed)
+
+-- ---- what is kept
+
+-- two tests of what passes a first one, which agree there
+agree_where : (a b c : Bool) → (a ≡ true → b ≡ c) → (a && not b) ≡ (a && not c)
+agree_where true b c same = ap not (same refl)
+agree_where false b c same = refl
+
+kept_or_left : (view : View) (s whole less : Synchronizer) (t : Bool) → (t ≡ true → less ≡ trimmed view whole)
+    → cond t less (trimmed view s) ≡ trimmed view (cond t whole s)
+kept_or_left view s whole less true same = same refl
+kept_or_left view s whole less false same = refl
+
+abbrev may_stop : Synchronizer → SignedBy Stop → Bool
+may_stop s stop = is_member s.view stop.signer && (is_reached s stop.statement.view stop.statement.regency && nat_lt s.regency stop.statement.regency)
+
+may_stop_needed : (s : Synchronizer) (stop : SignedBy Stop) → may_stop s stop ≡ true → needs_stop s.view.number s.regency stop ≡ true
+may_stop_needed s stop may =
+    let reach = is_reached s stop.statement.view stop.statement.regency in
+    let later = nat_lt s.regency stop.statement.regency in
+    let parts = and_parts (is_member s.view stop.signer) (reach && later) may in
+    let within = and_parts reach later parts.1 in
+    (and_parts (needs_stop s.view.number s.regency stop) (nat_le stop.statement.regency (s.regency + 1)) within.0).0
+
+keeps_stop_same : (s : Synchronizer) (stop : SignedBy Stop) → keeps_stop (trimmed s.view s) stop ≡ keeps_stop s stop
+unfolding keeps_stop trimmed
+keeps_stop_same s stop =
+    agree_where (may_stop s stop) (repeats_stop (trimmed s.view s) stop) (repeats_stop s stop)
+    (λ may. stop_repeats s.view s stop (may_stop_needed s stop may))
+
+keeps_stop_needed : (s : Synchronizer) (stop : SignedBy Stop) → keeps_stop s stop ≡ true → needs_stop s.view.number s.regency stop ≡ true
+unfolding keeps_stop
+keeps_stop_needed s stop kept = may_stop_needed s stop (and_parts (may_stop s stop) (not (repeats_stop s stop)) kept).0
+
+pub keeping_stop_same : (s : Synchronizer) (stop : SignedBy Stop) → keeping_stop stop (trimmed s.view s) ≡ trimmed s.view (keeping_stop stop s)
+keeping_stop_same s stop =
+    ap (λ t. cond t (with_stop stop (trimmed s.view s)) (trimmed s.view s)) (keeps_stop_same s stop)
+    ∙ kept_or_left s.view s (with_stop stop s) (with_stop stop (trimmed s.view s)) (keeps_stop s stop)
+    (λ kept. with_stop_same s.view s stop (keeps_stop_needed s stop kept))
+
+abbrev may_report : Synchronizer → Reported → Bool
+may_report s r = is_member s.view r.head.signer && is_reached s r.head.statement.view r.head.statement.regency
+
+may_report_needed : (s : Synchronizer) (r : Reported) → may_report s r ≡ true → needs_report s.view.number s.regency r ≡ true
+may_report_needed s r may =
+    let parts = and_parts (is_member s.view r.head.signer) (is_reached s r.head.statement.view r.head.statement.regency) may in
+    (and_parts (needs_report s.view.number s.regency r) (nat_le r.head.statement.regency (s.regency + 1)) parts.1).0
+
+keeps_report_same : (s : Synchronizer) (r : Reported) → keeps_report (trimmed s.view s) r ≡ keeps_report s r
+unfolding keeps_report trimmed
+keeps_report_same s r =
+    agree_where (may_report s r) (repeats_report (trimmed s.view s) r.head) (repeats_report s r.head)
+    (λ may. report_repeats s.view s r (may_report_needed s r may))
+
+keeps_report_needed : (s : Synchronizer) (r : Reported) → keeps_report s r ≡ true → needs_report s.view.number s.regency r ≡ true
+unfolding keeps_report
+keeps_report_needed s r kept = may_report_needed s r (and_parts (may_report s r) (not (repeats_report s r.head)) kept).0
+
+pub keeping_report_same : (s : Synchronizer) (report : SignedBy Report) (batch : Option Batch)
+    → keeping_report report batch (trimmed s.view s) ≡ trimmed s.view (keeping_report report batch s)
+keeping_report_same s report batch =
+    let r : Reported = record { head = report; batch = batch } in
+    ap (λ t. cond t (with_report report batch (trimmed s.view s)) (trimmed s.view s)) (keeps_report_same s r)
+    ∙ kept_or_left s.view s (with_report report batch s) (with_report report batch (trimmed s.view s)) (keeps_report s r)
+    (λ kept. with_report_same s.view s r (keeps_report_needed s r kept))
+
+abbrev may_sync : Synchronizer → SignedBy Sync → Bool
+may_sync s sync = is_member s.view sync.signer && needs_sync s.view.number s.regency sync
+
+may_sync_needed : (s : Synchronizer) (sync : SignedBy Sync) → may_sync s sync ≡ true → needs_sync s.view.number s.regency sync ≡ true
+may_sync_needed s sync may = (and_parts (is_member s.view sync.signer) (needs_sync s.view.number s.regency sync) may).1
+
+keeps_sync_same : (s : Synchronizer) (sync : SignedBy Sync) → keeps_sync (trimmed s.view s) sync ≡ keeps_sync s sync
+unfolding keeps_sync trimmed
+keeps_sync_same s sync =
+    agree_where (may_sync s sync) (repeats_sync (trimmed s.view s) sync) (repeats_sync s sync)
+    (λ may. sync_repeats s.view s sync (may_sync_needed s sync may))
+
+keeps_sync_needed : (s : Synchronizer) (sync : SignedBy Sync) → keeps_sync s sync ≡ true → needs_sync s.view.number s.regency sync ≡ true
+unfolding keeps_sync
+keeps_sync_needed s sync kept = may_sync_needed s sync (and_parts (may_sync s sync) (not (repeats_sync s sync)) kept).0
+
+pub keeping_sync_same : (s : Synchronizer) (sync : SignedBy Sync) → keeping_sync sync (trimmed s.view s) ≡ trimmed s.view (keeping_sync sync s)
+keeping_sync_same s sync =
+    ap (λ t. cond t (with_sync sync (trimmed s.view s)) (trimmed s.view s)) (keeps_sync_same s sync)
+    ∙ kept_or_left s.view s (with_sync sync s) (with_sync sync (trimmed s.view s)) (keeps_sync s sync)
+    (λ kept. with_sync_same s.view s sync (keeps_sync_needed s sync kept))
+
+-- ---- what the member has done
 
 pub stopped_same : (view : View) (s : Synchronizer) → stopped (trimmed view s) ≡ trimmed view (stopped s)
 unfolding trimmed

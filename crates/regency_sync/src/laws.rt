@@ -1,5 +1,5 @@
 //! Laws of choices, and of a member that drops what it no longer needs.
-ghost use Rattle.std.specs.Prelude.{◌≡◌, ℕ, ◌+◌, ◌<◌, ◌≤◌, ◌↔◌, true, List, [], Some, None};
+ghost use Rattle.std.specs.Prelude.{◌≡◌, ℕ, ◌+◌, ◌<◌, ◌≤◌, ◌↔◌, true, List, [], Option, Some, None};
 ghost use Rattle.smart_base.specs.Lists.{Each};
 ghost use Rattle.smart_base.specs.Views.{View};
 ghost use Rattle.smart_statements.specs.Forms.{SignedBy};
@@ -10,7 +10,7 @@ ghost use Rattle.smart_messages.specs.declared.regency.Sync.{Sync};
 ghost use Rattle.smart_messages.specs.declared.regency.Reported.{Reported};
 ghost use Rattle.regency_sync.specs.Choices.{greatest_last, lock_behind, choice, IsBound};
 ghost use Rattle.regency_sync.specs.Synchronizers.{Synchronizer, needs_stop, needs_report, needs_sync, repeats_stop, repeats_report, repeats_sync};
-ghost use Rattle.regency_sync.specs.Synchronizers.{is_joining, is_promising, collecting, due, batch_of, with_stop, with_report, with_sync};
+ghost use Rattle.regency_sync.specs.Synchronizers.{is_joining, is_promising, collecting, due, batch_of, keeping_stop, keeping_report, keeping_sync};
 ghost use Rattle.regency_sync.specs.Synchronizers.{adopted, stopped, promised, led, moved, trimmed, HasNothingOf};
 
 /// A regency begins at the least place, from 1, that is past each last place.
@@ -49,16 +49,14 @@ pub fn what_is_needed_repeats_what_is_needed()
         repeats_sync (trimmed view s) sync ≡ repeats_sync s sync }
 {}
 
-/// A member that drops what it no longer needs does the same as one that keeps everything, and keeps
-/// what that one needs. The premises are that regencies do not fall, and that nothing of a later view
-/// was kept.
+/// A member that drops what it no longer needs keeps and refuses the same as one that drops nothing.
+/// It does the same too, and has what that one needs. The premises are that regencies do not fall,
+/// and that nothing of a later view was kept.
 pub fn what_is_dropped_is_not_missed()
-    ensures stop { (view : View) (s : Synchronizer) (stop : SignedBy Stop) → needs_stop view.number s.regency stop ≡ true →
-        with_stop stop (trimmed view s) ≡ trimmed view (with_stop stop s) }
-    ensures report { (view : View) (s : Synchronizer) (r : Reported) → needs_report view.number s.regency r ≡ true →
-        with_report r.head r.batch (trimmed view s) ≡ trimmed view (with_report r.head r.batch s) }
-    ensures sync { (view : View) (s : Synchronizer) (sync : SignedBy Sync) → needs_sync view.number s.regency sync ≡ true →
-        with_sync sync (trimmed view s) ≡ trimmed view (with_sync sync s) }
+    ensures stop { (s : Synchronizer) (stop : SignedBy Stop) → keeping_stop stop (trimmed s.view s) ≡ trimmed s.view (keeping_stop stop s) }
+    ensures report { (s : Synchronizer) (report : SignedBy Report) (batch : Option Batch) →
+        keeping_report report batch (trimmed s.view s) ≡ trimmed s.view (keeping_report report batch s) }
+    ensures sync { (s : Synchronizer) (sync : SignedBy Sync) → keeping_sync sync (trimmed s.view s) ≡ trimmed s.view (keeping_sync sync s) }
     ensures stopped { (view : View) (s : Synchronizer) → stopped (trimmed view s) ≡ trimmed view (stopped s) }
     ensures led { (view : View) (s : Synchronizer) → led (trimmed view s) ≡ trimmed view (led s) }
     ensures adopted { (view : View) (s : Synchronizer) (regency : ℕ) → s.regency ≤ regency →

@@ -1,14 +1,14 @@
-use Rattle.regency_sync.proofs.Needs.{with_stop_same, with_report_same, with_sync_same, stopped_same, led_same, adopted_same, promised_same, moved_same}
+use Rattle.regency_sync.proofs.Needs.{keeping_stop_same, keeping_report_same, keeping_sync_same, stopped_same, led_same, adopted_same, promised_same, moved_same}
 use Rattle.regency_sync.proofs.laws.what_is_dropped_is_not_missed.Goals as goal
 
 pub returns-clause-stop : goal.returns-clause-stop
-returns-clause-stop c = λ view s stop needed. with_stop_same view s stop needed
+returns-clause-stop c = λ s stop. keeping_stop_same s stop
 
 pub returns-clause-report : goal.returns-clause-report
-returns-clause-report c = λ view s r needed. with_report_same view s r needed
+returns-clause-report c = λ s report batch. keeping_report_same s report batch
 
 pub returns-clause-sync : goal.returns-clause-sync
-returns-clause-sync c = λ view s sync needed. with_sync_same view s sync needed
+returns-clause-sync c = λ s sync. keeping_sync_same s sync
 
 pub returns-clause-stopped : goal.returns-clause-stopped
 returns-clause-stopped c = λ view s. stopped_same view s
