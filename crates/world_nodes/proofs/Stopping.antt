@@ -7,7 +7,7 @@ use Rattle.world_rules.specs.declared.crash.Image.{Image}
 use Rattle.world_rules.specs.declared.crash.Patch.{Patch}
 use Rattle.world_rules.specs.declared.crash.NotAnImage as stores
 use Rattle.node_rules.specs.Reopening.{damaged}
-use Rattle.world_rules.specs.Secrets.{group_secret}
+use Rattle.world_rules.specs.Secrets.{group_secret, outset_place}
 use Rattle.world_rules.specs.Worlds.{Course, core_course, Host, World, at_host, at_index, at_member, host_index, disk_called, resumes_from}
 use Rattle.world_rules.specs.declared.line.OutLine.{OutLine}
 use Rattle.world_rules.specs.declared.message.Ending.TheVariants.{Premise}
@@ -56,4 +56,4 @@ pub resumed_at : {S : Type 0} (m : Meaning S) (i : ℕ) (w x w' : World S) (h h'
     → h' ≡ host_with h (node_in m w.view h) → line ≡ told_with h.node.id (length (held h)) (node_in m w.view h)
     → x ≡ record w { hosts = slice_set w.hosts i h' } → w' ≡ telling_if x line → w' ≡ goes_on (core_course m) i w (slice_get w.hosts i)
 resumed_at m i w x w' h h' line there host_is line_is x_is is =
-    rw (is, x_is, line_is, host_is, there) (resumed m i w h (damaged group_secret w.view (held h)) there)
+    rw (is, x_is, line_is, host_is, there) (resumed m i w h (damaged group_secret outset_place w.view (held h)) there)
