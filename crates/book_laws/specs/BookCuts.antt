@@ -43,7 +43,7 @@ promise_by (Decided d) = None
 promise_by (Installed i) = None
 promise_by (Marked m) = None
 
--- the greater promise: of the later view, or of one view the later regency; of equals the first
+-- the greater of two promises: that of the later view, or in one view that of the later regency; of equals the first
 abbrev pub greater_promise : Option Promise → Option Promise → Option Promise
 greater_promise None right = right
 greater_promise (Some a) None = Some a
@@ -91,8 +91,8 @@ from_place place (e ∷ es) = if makes place e then e ∷ es else from_place pla
 abbrev pub has_cut : ℕ → List LogEntry → Bool
 has_cut place entries = nat_lt 0 place && list_any (makes place) entries
 
--- The cut of entries at the place of a checkpoint: what is kept of those before the entry that makes this place, and the entries from that
--- one on. It is all entries if none of them makes the place, and at place 0.
+-- The cut of entries at a checkpoint's place. It has what is kept of those before the entry that makes this place, and all entries from
+-- that one on. It is all entries at place 0, or if none of them makes the place.
 abbrev pub cut_at : ℕ → List LogEntry → List LogEntry
 cut_at place entries = if has_cut place entries then kept_of (before_place place entries) ++ from_place place entries else entries
 
