@@ -1,0 +1,7 @@
+mod Lists
+mod Promises
+mod Kept
+mod Places
+mod Cut
+mod CutAgain
+mod CutLawful
