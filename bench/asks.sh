@@ -4,7 +4,7 @@
 # usage: bench/asks.sh [N [CLIENTS [PROGRAM [EVERY [CRASH]]]]]
 # Without N it is 2000, without CLIENTS 8, and without PROGRAM the proved program that ./prove makes. With EVERY the leader is
 # replaced at every ask whose number it divides: the others ask for the next regency as time passes. With CRASH all members
-# stop behind every ask whose number it divides, and go on from what their devices hold. With 1000 clients most
+# crash after every ask whose number it divides, and restart from what their devices hold. With 1000 clients most
 # batches have 64 requests. Of three runs the fastest counts, and
 # the least peak. A line of ratios follows, of the run of 2N to that of N: near 2 where the work grows with the asks alone.
 # The status is 1 where the seconds' ratio is 2.3 or more. Memory is measured where there is a GNU time.

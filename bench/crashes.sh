@@ -1,11 +1,11 @@
 #!/bin/sh
-# What crashes cost: the bench of asks over so many places and over twice as many, where all members stop behind each 64th
-# place and go on from what their devices hold. There are 64 clients. A round of them has two places, as the first request is
-# proposed alone and the others together.
+# What crashes cost: the bench of asks over so many places and over twice as many. After each 64th place all members crash and
+# restart from what their devices hold. There are 64 clients. A round of them has two places: the first request is proposed
+# alone and the others together.
 # usage: bench/crashes.sh [PLACES [PROGRAM]]
 # Without PLACES it is 64, and without PROGRAM the proved program that ./prove makes. The status is that of bench/asks.sh.
-# A member that goes on reads and checks all that it ever wrote down, so the work of restarts grows with the square of the places,
-# and the ratio with the places, until checkpoints shorten what is read.
+# A member that restarts reads and checks all that it ever wrote down. The work of restarts thus grows with the square of the
+# places, and the ratio with the places. INTERIM(checkpoints)
 top=$(CDPATH= cd -- "$(dirname -- "$0")/.." && pwd) || exit 1
 places=${1:-64}
 case $places in
