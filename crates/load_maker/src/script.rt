@@ -43,7 +43,7 @@ enum Turn {
 }
 
 /// What is still to come of a load's script. To contracts it is the list of these lines. It keeps
-/// four numbers and no text.
+/// three numbers and the kind of the next line, and no text.
 #[derive(Drop)]
 pub struct LoadScript {
     /// The number of asks of the whole script.
