@@ -1,9 +1,11 @@
 //! Tests of what every layer stands on: views and their bytes, digests and tags, sources and sinks,
-//! and services; and of checkpoints and marks.
+//! and services; of checkpoints and marks; and of the scripts of loads.
 #![tactic(auto)]
 
 #[cfg(test)]
 mod keys;
+#[cfg(test)]
+mod loads;
 #[cfg(test)]
 mod marks;
 #[cfg(test)]
