@@ -145,10 +145,7 @@ fn why_vote<S: Service>(node: &NodeState<S>, ballot: &Signed<Ballot>) -> Option<
 
 /// Why a member's message is dropped that is of a kind for which no member waits.
 #[tactic(auto, unfolding(node_rules::specs::Arrivals::why_unasked))]
-pub fn why_unasked<S: Service, T: Statement>(
-    node: &NodeState<S>,
-    signed: &Signed<T>,
-) -> Option<Why>
+pub fn why_unasked<S: Service, T: Statement>(node: &NodeState<S>, signed: &Signed<T>) -> Option<Why>
     ensures { result ≡ why_unasked T.form node.now signed.now }
 {
     if let Some(why) = signer_why(node, signed) {
