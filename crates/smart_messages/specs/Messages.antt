@@ -131,9 +131,9 @@ message_at c = do
 unfoldable pub decoded : List ℕ → Result Message ℕ
 decoded bytes = whole (limited MESSAGE_BYTES message_at) (record { at = 0; left = bytes })
 
--- ---- a message as one of a kind. Each kind is named, since promises and premises rest on these.
+-- ---- a message as one of a kind
 
--- the request that a message is, if it is one
+-- the request that a message is, if it is one. Each kind is named here and in what follows, since promises and premises rest on these.
 abbrev pub request_in : Message → Option (SignedBy Request)
 request_in (Ask q) = Some q
 request_in (Propose p) = None
