@@ -28,16 +28,16 @@ use Rattle.node_judging.specs.Arriving.{why_offered, kept_unless}
 pub own_request : (q : SignedBy Request) → Fits (Ask q) → q.signer ≡ q.statement.client
 own_request q fits = sym fits.content_fits.statement_fits.client_is
 
--- a message that does not tell a node that it is behind
+-- a message that tells a node nothing of being behind leaves it as it is
 silent_noted : {S : Type 0} (n : Node S) (message : Message) → tells_behind n message ≡ false → noted n message ≡ n
 unfolding noted
 silent_noted {S = S} n message silent = ap (λ (b : Bool). record n { behind = n.behind || b }) silent ∙ ap (λ (b : Bool). record n { behind = b }) (or-false n.behind)
 
--- as a request, which does not
+-- so does a request
 pub ask_noted : {S : Type 0} (n : Node S) (q : SignedBy Request) → noted n (Ask q) ≡ n
 ask_noted n q = silent_noted n (Ask q) refl
 
--- a message that does not either, and of which nothing is kept, changes nothing, whether it is dropped or not
+-- if nothing is kept of such a message either, the node stays as it is, whether the message is dropped or not
 pub unasked_kept : {S : Type 0} (n : Node S) (message : Message) (why : Option Why) → tells_behind n message ≡ false → kept n message ≡ n → kept_unless why (noted n message) message ≡ n
 unasked_kept {S = S} n message None silent same = ap (λ (x : Node S). kept x message) (silent_noted n message silent) ∙ same
 unasked_kept n message (Some why) silent same = silent_noted n message silent
