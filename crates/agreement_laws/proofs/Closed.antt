@@ -11,7 +11,7 @@ use Rattle.smart_statements.specs.declared.report.Evidence.TheVariants as eviden
 use Rattle.smart_statements.specs.declared.report.Report.{Report}
 use Rattle.smart_messages.specs.declared.message.Message.{Message}
 use Rattle.vote_book.specs.Books.{Among}
-use Rattle.agreement_laws.specs.Statements.{Statement, Asked, Proposed, Voted, Stopped, Reported, Synced, Marked, Replied, Informed, verifies, parts_of_evidence, parts_of_lock, in_report, within, said, statements, IsClosed}
+use Rattle.agreement_laws.specs.Statements.{Statement, Voted, Reported, Synced, Marked, verifies, parts_of_evidence, parts_of_lock, in_report, within, said, statements, IsClosed}
 use Rattle.agreement_laws.proofs.Lists.{among_either, given, within_one, among_flat, among_filtered, among_filter}
 
 -- nothing stands in a vote, nor in a mark
@@ -57,18 +57,12 @@ alone whole statement part (inr none) inside = absurd none
 
 -- what stands in a part of a statement stands in the statement
 through : (whole statement part : Statement) → Among statement (within whole) → Among part (within statement) → Among part (within whole)
-through (Asked q) statement part there inside = alone (Asked q) statement part there inside
-through (Proposed p) statement part there inside = alone (Proposed p) statement part there inside
-through (Voted b) statement part there inside = alone (Voted b) statement part there inside
-through (Stopped s) statement part there inside = alone (Stopped s) statement part there inside
 through (Reported r) statement part there inside = through_report r statement part there inside
 through (Synced s) statement part (inl is) inside = through_itself (Synced s) statement part is inside
 through (Synced s) statement part (inr there) inside =
     let found = within_one in_report s.statement.collect statement there in
     inr (among_flat in_report s.statement.collect found.value part found.there (through_report found.value statement part found.within inside))
-through (Marked m) statement part there inside = alone (Marked m) statement part there inside
-through (Replied a) statement part there inside = alone (Replied a) statement part there inside
-through (Informed i) statement part there inside = alone (Informed i) statement part there inside
+through whole statement part there inside = alone whole statement part there inside
 
 in_message : (secret : List ℕ) (m : Message) (statement part : Statement) → Among statement (statements secret m) → Among part (within statement)
     → verifies secret part ≡ true → Among part (statements secret m)

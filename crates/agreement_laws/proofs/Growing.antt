@@ -15,7 +15,7 @@ use Rattle.vote_book.specs.declared.entry.LogEntry.TheVariants as entries
 use Rattle.vote_book.specs.Books.{Among, last_made, Lawful}
 use Rattle.regency_sync.proofs.Lists.{each_as}
 use Rattle.agreement_laws.specs.Fronts.{IsFront}
-use Rattle.agreement_laws.specs.Statements.{Statement, Asked, Proposed, Voted, Stopped, Reported, Synced, Marked, Replied, Informed, signer_of, within, verifies}
+use Rattle.agreement_laws.specs.Statements.{Statement, Voted, Reported, Synced, Marked, Replied, Informed, signer_of, within, verifies}
 use Rattle.agreement_laws.specs.Diaries.{HasReached, HasVoted, IsShown}
 use Rattle.agreement_laws.specs.Certificates.{IsDrawn, IsChosen, IsBacked}
 use Rattle.agreement_laws.specs.Law.{IsCorrect, FewFaulty, Witnessed}
@@ -52,10 +52,7 @@ HasVoted-more book more Accept slot digest voted = record {
 
 pub IsShown-more : (digest_of : Batch → List ℕ) (book more : List LogEntry) (statement : Statement) → IsShown digest_of book statement
     → IsShown digest_of (book ++ more) statement
-IsShown-more digest_of book more (Asked q) shown = tt
-IsShown-more digest_of book more (Proposed p) shown = tt
 IsShown-more digest_of book more (Voted b) shown = HasVoted-more book more b.statement.kind b.statement.slot b.statement.digest shown
-IsShown-more digest_of book more (Stopped s) shown = tt
 IsShown-more digest_of book more (Reported r) shown = record {
   before = shown.before;
   after = shown.after ++ more;
@@ -63,10 +60,10 @@ IsShown-more digest_of book more (Reported r) shown = record {
       ∙ append_assoc shown.before (entries.Promised (record { view = r.statement.view; regency = r.statement.regency }) ∷ shown.after) more;
   reports = shown.reports;
 }
-IsShown-more digest_of book more (Synced s) shown = tt
 IsShown-more digest_of book more (Marked m) shown = among_left (entries.Marked m.statement) book more shown
 IsShown-more digest_of book more (Replied a) shown = HasReached-more book more a.statement.place shown
 IsShown-more digest_of book more (Informed i) shown = let longer = last-more book more in omega (arith, shown, longer)
+IsShown-more digest_of book more _ shown = tt
 
 pub IsShown-front : (digest_of : Batch → List ℕ) (front whole : List LogEntry) (statement : Statement) → IsFront front whole → IsShown digest_of front statement
     → IsShown digest_of whole statement

@@ -17,7 +17,7 @@ use smart_base::sequence::{Bytes, Sequence};
 use smart_keys::hash::{Sha, hmac};
 use smart_keys::ring::Ring;
 use smart_messages::codec::{decode, encode};
-use smart_messages::message::{Message, Proposed};
+use smart_messages::message::{Message, Proposed, proposal_in};
 use smart_service::fault::RestoreError;
 use smart_service::replica::Replica;
 use smart_statements::batch::Batch;
@@ -183,14 +183,9 @@ fn encodes(alloc: Global, times: u64) -> Result<Done, Stopped> {
 
 /// How many requests a message has.
 fn requests_in(message: &Message) -> u64 {
-    match message {
-        Message::Propose(proposed) => proposed.batch.len() as u64,
-        Message::Ask(_)
-        | Message::Vote(_)
-        | Message::Stop(_)
-        | Message::StopData(_)
-        | Message::Sync(_)
-        | Message::Reply(_) => 0,
+    match proposal_in(message) {
+        Some(proposed) => proposed.batch.len() as u64,
+        None => 0,
     }
 }
 

@@ -12,13 +12,12 @@ use Rattle.smart_messages.specs.Regencies.{stops, syncs}
 use Rattle.smart_statements.specs.declared.statement.Request.{Request}
 use Rattle.smart_statements.specs.declared.statement.Slot.{Slot}
 use Rattle.smart_statements.specs.declared.statement.Ballot.{Ballot}
-use Rattle.smart_statements.specs.declared.statement.Answer.{Answer}
 use Rattle.smart_messages.specs.declared.regency.Stop.{Stop}
 use Rattle.smart_messages.specs.declared.regency.Sync.{Sync}
 use Rattle.smart_messages.specs.declared.regency.Reported.{Reported}
 use Rattle.smart_messages.specs.declared.message.Message.TheVariants as changes
 use Rattle.smart_messages.specs.declared.message.Message.{Message}
-use Rattle.smart_messages.specs.declared.message.Message.TheVariants.{Ask, Propose, Vote, Reply}
+use Rattle.smart_messages.specs.declared.message.Message.TheVariants.{Ask, Propose, Vote}
 use Rattle.smart_messages.specs.declared.message.Proposed.{Proposed}
 use Rattle.regency_sync.specs.Choices.{choice}
 use Rattle.regency_sync.specs.Synchronizers.{is_needed, needs_stop, needs_report, needs_sync, repeats_stop, repeats_report, repeats_sync}
@@ -26,7 +25,7 @@ use Rattle.regency_sync.proofs.Lists.{any_filter, filter_end}
 use Rattle.regency_sync.proofs.Needs.{stop_repeats, report_repeats, sync_repeats}
 use Rattle.replica_rules.specs.Replicas.{is_next}
 use Rattle.replica_rules.specs.Seals.{is_verified}
-use Rattle.node_rules.specs.Arrivals.{is_same_proposal, is_same_vote, signer_why, view_why, place_why, regency_why, wish_why, slot_why, why_ask, is_batch_for, is_unbound, why_propose, why_vote, why_reply, why_stop, is_proven, why_report, is_collect, why_sync, why_dropped, noted, kept}
+use Rattle.node_rules.specs.Arrivals.{is_same_proposal, is_same_vote, signer_why, view_why, place_why, regency_why, wish_why, slot_why, why_ask, is_batch_for, is_unbound, why_propose, why_vote, why_unasked, why_stop, is_proven, why_report, is_collect, why_sync, why_dropped, noted, kept}
 use Rattle.replica_rules.specs.Pools.{offered}
 use Rattle.node_rules.specs.Nodes.{Node, view_of, regency_of, start_of, is_begun, decided_place, synchronizer_of}
 use Rattle.node_rules.specs.declared.node.Why.{Why}
@@ -101,10 +100,6 @@ why_vote_same n b =
     ap (λ (why : Option Why). or_else (signer_why n (is_verified ballots n.secret b) b.signer) why)
     (or_else_where (slot_why n b.statement.slot) _ _ (λ none. ap (λ (again : Bool). cond again (Some Repeated) None) (vote_repeats n b none)))
 
-why_reply_same : {S : Type 0} (n : Node S) (a : SignedBy Answer) → why_reply (trimmed n) a ≡ why_reply n a
-unfolding why_reply signer_why trimmed
-why_reply_same n a = refl
-
 -- of the view in force, and of the regency in force or a later one
 needed_here : {S : Type 0} (n : Node S) (view regency : ℕ) → view ≡ (view_of n).number → regency_of n ≤ regency
     → is_needed (view_of n).number (regency_of n) view regency ≡ true
@@ -159,25 +154,21 @@ why_sync_same n s =
     (sync_repeats_same n s (needed_here n s.statement.view s.statement.regency (view_is n s.statement.view here) (ltb-false s.statement.regency (regency_of n) later))))))
 
 pub why_same : {S : Type 0} (n : Node S) (message : Message) → why_dropped (trimmed n) message ≡ why_dropped n message
+unfolding why_unasked signer_why trimmed
 why_same n (Ask q) = why_ask_same n q
 why_same n (Propose p) = why_propose_same n p
 why_same n (Vote b) = why_vote_same n b
-why_same n (Reply a) = why_reply_same n a
 why_same n (changes.Stop s) = why_stop_same n s
 why_same n (changes.StopData r) = why_report_same n r
 why_same n (changes.Sync s) = why_sync_same n s
+why_same n _ = refl
 
 -- ---- what an arrival tells
 
 pub noted_same : {S : Type 0} (n : Node S) (message : Message) → noted (trimmed n) message ≡ trimmed (noted n message)
 unfolding noted signer_why trimmed regency_of
 noted_same n (Ask q) = refl
-noted_same n (Propose p) = refl
-noted_same n (Vote b) = refl
-noted_same n (Reply a) = refl
-noted_same n (changes.Stop s) = refl
-noted_same n (changes.StopData r) = refl
-noted_same n (changes.Sync s) = refl
+noted_same n _ = refl
 
 -- ---- what is kept
 
@@ -231,10 +222,6 @@ kept_vote : {S : Type 0} (n : Node S) (b : SignedBy Ballot) → ahead_of n b.sta
 unfolding kept trimmed
 kept_vote n b ahead = added n (Vote b) ahead
 
-kept_reply : {S : Type 0} (n : Node S) (a : SignedBy Answer) → kept (trimmed n) (Reply a) ≡ trimmed (kept n (Reply a))
-unfolding kept trimmed
-kept_reply n a = refl
-
 kept_stop : {S : Type 0} (n : Node S) (s : SignedBy Stop) → needs_stop (view_of n).number (regency_of n) s ≡ true
     → kept (trimmed n) (changes.Stop s) ≡ trimmed (kept n (changes.Stop s))
 unfolding kept trimmed regency_of
@@ -255,10 +242,11 @@ kept_sync n s needed =
     (filter_end (needs_sync (view_of n).number (regency_of n)) n.syncs s needed)
 
 pub kept_same : {S : Type 0} (n : Node S) (message : Message) → why_dropped n message ≡ None → kept (trimmed n) message ≡ trimmed (kept n message)
+unfolding kept trimmed
 kept_same n (Ask q) none = kept_ask n q
 kept_same n (Propose p) none = kept_propose n p (propose_ahead n p none)
 kept_same n (Vote b) none = kept_vote n b (vote_ahead n b none)
-kept_same n (Reply a) none = kept_reply n a
 kept_same n (changes.Stop s) none = kept_stop n s (stop_needed n s none)
 kept_same n (changes.StopData r) none = kept_report n r (report_needed n r none)
 kept_same n (changes.Sync s) none = kept_sync n s (sync_needed n s none)
+kept_same n _ none = refl

@@ -1,5 +1,5 @@
 -- What becomes of a request that is offered to the pool.
-use Rattle.std.proofs.Common.{◌≡◌, ℕ, ◌+◌, ◌==◌, Bool, true, false, not, ◌&&◌, refl, ap, sym, ◌∙◌, cond, arith, nat_lt, nat_le, List, Option, Some, None}
+use Rattle.std.proofs.Common.{◌≡◌, ℕ, ◌+◌, ◌==◌, Bool, true, false, not, ◌&&◌, ◌||◌, refl, ap, sym, ◌∙◌, cond, arith, nat_lt, nat_le, List, Option, Some, None}
 use Rattle.std.specs.Prelude.{is_none}
 use Rattle.std.proofs.lemmas.Bool.{ltb-true, ltb-false, leb-true, leb-false, eqb-true, eq-eqb, false_from_ne_true}
 use Rattle.std.proofs.Math.Bool.{or-false}
@@ -9,9 +9,8 @@ use Rattle.smart_statements.specs.Kinds.{requests}
 use Rattle.smart_statements.specs.Batches.{Batch}
 use Rattle.smart_messages.specs.Messages.{Fits}
 use Rattle.smart_statements.specs.declared.statement.Request.{Request}
-use Rattle.smart_statements.specs.declared.statement.Answer.{Answer}
 use Rattle.smart_messages.specs.declared.message.Message.{Message}
-use Rattle.smart_messages.specs.declared.message.Message.TheVariants.{Ask, Propose, Vote, Reply}
+use Rattle.smart_messages.specs.declared.message.Message.TheVariants.{Ask}
 use Rattle.smart_service.specs.Tables.{last_seq, kept_reply}
 use Rattle.smart_service.specs.declared.replica.Replica.{Replica}
 use Rattle.request_pool.specs.Offers.{has_client, offer_of, pool_after}
@@ -20,7 +19,7 @@ use Rattle.request_pool.specs.declared.pool.Offer.TheVariants as offers
 use Rattle.replica_rules.specs.Seals.{is_verified}
 use Rattle.replica_rules.specs.Replicas.{is_next}
 use Rattle.node_rules.specs.Nodes.{Node, view_of}
-use Rattle.node_rules.specs.Arrivals.{why_ask, noted, kept}
+use Rattle.node_rules.specs.Arrivals.{why_ask, tells_behind, noted, kept}
 use Rattle.node_rules.specs.declared.node.Why.{Why}
 use Rattle.node_rules.specs.declared.node.Why.TheVariants.{BadTag, Stranger, OldSeq, FarSeq}
 use Rattle.node_judging.specs.Arriving.{why_offered, kept_unless}
@@ -29,20 +28,19 @@ use Rattle.node_judging.specs.Arriving.{why_offered, kept_unless}
 pub own_request : (q : SignedBy Request) → Fits (Ask q) → q.signer ≡ q.statement.client
 own_request q fits = sym fits.content_fits.statement_fits.client_is
 
--- a request does not tell a node that it is behind
+-- a message that tells a node nothing of being behind leaves it as it is
+silent_noted : {S : Type 0} (n : Node S) (message : Message) → tells_behind n message ≡ false → noted n message ≡ n
+unfolding noted
+silent_noted {S = S} n message silent = ap (λ (b : Bool). record n { behind = n.behind || b }) silent ∙ ap (λ (b : Bool). record n { behind = b }) (or-false n.behind)
+
+-- so does a request
 pub ask_noted : {S : Type 0} (n : Node S) (q : SignedBy Request) → noted n (Ask q) ≡ n
-unfolding noted
-ask_noted {S = S} n q = ap (λ (b : Bool). record n { behind = b }) (or-false n.behind)
+ask_noted n q = silent_noted n (Ask q) refl
 
--- no reply is kept, and none tells a node that it is behind
-pub reply_noted : {S : Type 0} (n : Node S) (a : SignedBy Answer) → noted n (Reply a) ≡ n
-unfolding noted
-reply_noted {S = S} n a = ap (λ (b : Bool). record n { behind = b }) (or-false n.behind)
-
-pub reply_kept : {S : Type 0} (n : Node S) (a : SignedBy Answer) (why : Option Why) → kept_unless why (noted n (Reply a)) (Reply a) ≡ n
-unfolding kept
-reply_kept n a None = reply_noted n a
-reply_kept n a (Some why) = reply_noted n a
+-- if nothing is kept of such a message either, the node stays as it is, whether the message is dropped or not
+pub unasked_kept : {S : Type 0} (n : Node S) (message : Message) (why : Option Why) → tells_behind n message ≡ false → kept n message ≡ n → kept_unless why (noted n message) message ≡ n
+unasked_kept {S = S} n message None silent same = ap (λ (x : Node S). kept x message) (silent_noted n message silent) ∙ same
+unasked_kept n message (Some why) silent same = silent_noted n message silent
 
 -- the answer to a request, and why it is dropped, by what is found of it
 

@@ -2,7 +2,7 @@
 ghost use Rattle.std.specs.Prelude.{◌≡◌, ◌||◌, ◌&&◌, None, is_none, IfOk, OnOk, OnErr};
 ghost use Rattle.replica_rules.specs.Seals.{is_verified};
 ghost use Rattle.node_rules.specs.Nodes.{ring_of};
-ghost use Rattle.node_rules.specs.Arrivals.{signer_why, is_unbound, why_propose, why_vote, why_reply, is_beyond, noted, kept};
+ghost use Rattle.node_rules.specs.Arrivals.{signer_why, is_unbound, why_propose, why_vote, why_unasked, is_beyond, noted, kept};
 ghost use Rattle.node_judging.specs.Arriving.{kept_unless};
 ghost use Rattle.smart_messages.specs.declared.message.Message.TheVariants as plain;
 
@@ -13,7 +13,7 @@ use node_state::state::NodeState;
 use smart_messages::message::Proposed;
 use smart_service::service::Service;
 use smart_statements::signed::{Signed, Statement};
-use smart_statements::statement::{Answer, Ballot, Slot};
+use smart_statements::statement::{Ballot, Slot};
 use std::alloc::AllocError;
 
 /// Keeps a PROPOSE, or tells why it is dropped. Error: want of memory.
@@ -143,11 +143,12 @@ fn why_vote<S: Service>(node: &NodeState<S>, ballot: &Signed<Ballot>) -> Option<
     }
 }
 
-#[tactic(auto, unfolding(node_rules::specs::Arrivals::why_reply))]
-pub fn why_reply<S: Service>(node: &NodeState<S>, answer: &Signed<Answer>) -> Option<Why>
-    ensures { result ≡ why_reply node.now answer.now }
+/// Why a member's message is dropped that is of a kind for which no member waits.
+#[tactic(auto, unfolding(node_rules::specs::Arrivals::why_unasked))]
+pub fn why_unasked<S: Service, T: Statement>(node: &NodeState<S>, signed: &Signed<T>) -> Option<Why>
+    ensures { result ≡ why_unasked T.form node.now signed.now }
 {
-    if let Some(why) = signer_why(node, answer) {
+    if let Some(why) = signer_why(node, signed) {
         return Some(why);
     }
     Some(Why::Unasked)

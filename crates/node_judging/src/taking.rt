@@ -4,7 +4,7 @@ ghost use Rattle.smart_messages.specs.Messages.{Fits};
 ghost use Rattle.node_rules.specs.Arrivals.{why_dropped, noted};
 ghost use Rattle.node_judging.specs.Arriving.{kept_unless};
 
-use crate::arrivals::{take_proposal, take_vote, why_reply};
+use crate::arrivals::{take_proposal, take_vote, why_unasked};
 use crate::asks::take_request;
 use crate::reports::{take_report, take_stop, take_sync};
 use node_rules::node::Why;
@@ -14,7 +14,7 @@ use smart_service::service::Service;
 use std::alloc::AllocError;
 
 /// Keeps an arrival, or tells why it is dropped. Error: want of memory.
-#[tactic(auto, using(crate::proofs::Requests::own_request, crate::proofs::Requests::ask_noted, crate::proofs::Requests::reply_kept))]
+#[tactic(auto, using(crate::proofs::Requests::own_request, crate::proofs::Requests::ask_noted, crate::proofs::Requests::unasked_kept), unfolding(node_rules::specs::Arrivals::kept))]
 pub fn take<S: Service>(
     node: &mut NodeState<S>,
     message: Message,
@@ -31,6 +31,6 @@ pub fn take<S: Service>(
         Message::Stop(stop) => take_stop(node, stop),
         Message::StopData(reported) => take_report(node, reported),
         Message::Sync(sync) => take_sync(node, sync),
-        Message::Reply(answer) => Ok(why_reply(node, &answer)),
+        Message::Reply(answer) => Ok(why_unasked(node, &answer)),
     }
 }

@@ -16,7 +16,7 @@ use Rattle.smart_statements.specs.Kinds.{ballots, proposals, requests}
 use Rattle.smart_messages.specs.Regencies.{stops, syncs}
 use Rattle.smart_statements.specs.Reports.{reports}
 use Rattle.smart_messages.specs.declared.message.Message.{Message}
-use Rattle.smart_messages.specs.declared.message.Message.TheVariants.{Ask, Propose, Reply, Vote}
+use Rattle.smart_messages.specs.declared.message.Message.TheVariants.{Ask, Propose, Vote}
 use Rattle.smart_messages.specs.declared.message.Proposed.{Proposed}
 use Rattle.smart_messages.specs.declared.regency.Reported.{Reported}
 use Rattle.smart_messages.specs.declared.regency.Stop.{Stop}
@@ -152,7 +152,7 @@ sound_arrived stated view n (changes.StopData r) behind is none was =
 sound_arrived stated view n (changes.Sync s) behind is none was =
     keeps stated view n n.pool n.arrivals n.stops n.reports (n.syncs ++ s ∷ []) (behind || nat_lt (decided_place n + 1) (choice s.statement.collect).base) is is.pool is.arrivals is.stops is.reports
     (each_end (SyncKept n stated view) n.syncs s is.syncs (λ of. sync_kept stated view n s is none, was))
-sound_arrived stated view n (Reply a) behind is none was = aside stated view n n.firm n.held n.proposed n.stop_made n.sync_made n.impatient behind is is.held
+sound_arrived stated view n _ behind is none was = aside stated view n n.firm n.held n.proposed n.stop_made n.sync_made n.impatient behind is is.held
 
 pub sound_noted : {S : Type 0} (stated : List Statement) (view : View) (n : Node S) (message : Message) → IsSound stated view n → IsSound stated view (noted n message)
 unfolding noted

@@ -5,7 +5,7 @@ use Rattle.smart_base.specs.Lists.{or_else, same_bytes}
 use Rattle.smart_base.specs.Views.{is_member, leader}
 use Rattle.smart_base.specs.declared.limits.TheConstants.{LAST_CLIENT}
 use Rattle.smart_statements.specs.Equality.{same_slot, same_kind}
-use Rattle.smart_statements.specs.Forms.{SignedBy}
+use Rattle.smart_statements.specs.Forms.{Form, SignedBy}
 use Rattle.smart_statements.specs.Kinds.{requests, proposals, ballots, answers}
 use Rattle.smart_statements.specs.Batches.{Batch}
 use Rattle.smart_statements.specs.Reports.{reports}
@@ -13,7 +13,6 @@ use Rattle.smart_messages.specs.Regencies.{stops, syncs}
 use Rattle.smart_statements.specs.declared.statement.Request.{Request}
 use Rattle.smart_statements.specs.declared.statement.Slot.{Slot}
 use Rattle.smart_statements.specs.declared.statement.Ballot.{Ballot}
-use Rattle.smart_statements.specs.declared.statement.Answer.{Answer}
 use Rattle.smart_statements.specs.declared.report.Evidence.{Evidence}
 use Rattle.smart_statements.specs.declared.report.Evidence.TheVariants as evidence
 use Rattle.smart_statements.specs.declared.report.LockCertificate.{LockCertificate}
@@ -123,9 +122,9 @@ why_vote n b =
     (or_else (slot_why n b.statement.slot)
     (if list_any (is_same_vote b) n.arrivals then Some Repeated else None))
 
--- the first reason to drop a reply; every reply is dropped, as no member waits for one
-unfoldable pub why_reply : {S : Type 0} → Node S → SignedBy Answer → Option Why
-why_reply n a = or_else (signer_why n (is_verified answers (ring_of n) a) a.signer) (Some Unasked)
+-- the first reason to drop a member's message of a kind for which no member waits; each such message is dropped
+unfoldable pub why_unasked : {S A : Type 0} → Form A → Node S → SignedBy A → Option Why
+why_unasked form n x = or_else (signer_why n (is_verified form (ring_of n) x) x.signer) (Some Unasked)
 
 -- ---- what changes the regency
 
@@ -206,7 +205,7 @@ why_dropped n (Vote b) = why_vote n b
 why_dropped n (changes.Stop s) = why_stop n s
 why_dropped n (changes.StopData r) = why_report n r
 why_dropped n (changes.Sync s) = why_sync n s
-why_dropped n (Reply a) = why_reply n a
+why_dropped n (Reply a) = why_unasked answers n a
 
 -- ---- what tells a node that it is behind
 

@@ -33,7 +33,7 @@ use Rattle.smart_messages.specs.declared.regency.Sync.{Sync}
 use Rattle.smart_messages.specs.declared.regency.Reported.{Reported}
 use Rattle.smart_messages.specs.declared.message.Message.TheVariants as changes
 use Rattle.smart_messages.specs.declared.message.Message.{Message}
-use Rattle.smart_messages.specs.declared.message.Message.TheVariants.{Ask, Propose, Vote, Reply}
+use Rattle.smart_messages.specs.declared.message.Message.TheVariants.{Ask, Propose, Vote}
 use Rattle.smart_messages.specs.declared.message.Proposed.{Proposed}
 use Rattle.smart_statements.specs.declared.entry.NodeEvent.{NodeEvent}
 use Rattle.smart_statements.specs.declared.entry.NodeEvent.TheVariants.{Arrive, Tick, Deliver, Firm}
@@ -391,7 +391,6 @@ fit-kept secret n (Vote b) fine fit is =
       held = is.held;
       service = is.service;
     }
-fit-kept secret n (Reply a) fine fit is = is
 fit-kept secret n (changes.Stop s) fine fit is =
     record {
       named = is.named;
@@ -452,6 +451,7 @@ fit-kept secret n (changes.Sync s) fine fit is =
       held = is.held;
       service = is.service;
     }
+fit-kept secret n _ fine fit is = is
 
 -- a node is told that it is behind
 pub fit-noted : {S : Type 0} {m : Meaning S} (secret : List ℕ) (n : Node S) (message : Message) → FitNode m secret n → FitNode m secret (noted n message)

@@ -15,7 +15,7 @@ use Rattle.smart_statements.specs.declared.statement.VoteKind.TheVariants.{Write
 use Rattle.smart_statements.specs.declared.report.Report.{Report}
 use Rattle.smart_messages.specs.declared.regency.Sync.{Sync}
 use Rattle.smart_messages.specs.declared.message.Message.TheVariants as changes
-use Rattle.smart_messages.specs.declared.message.Message.TheVariants.{Ask, Propose, Vote, Reply}
+use Rattle.smart_messages.specs.declared.message.Message.TheVariants.{Ask, Propose, Reply}
 use Rattle.smart_messages.specs.declared.message.Message.{Message}
 use Rattle.smart_messages.specs.declared.message.Proposed.{Proposed}
 use Rattle.smart_statements.specs.declared.entry.NodeEvent.{NodeEvent}
@@ -48,7 +48,8 @@ use Rattle.replica_laws.proofs.Again.{ForLine, answering-each, each-delivered}
 use Rattle.node_rules.proofs.Rulewise.{KeptByRules, free-read, reads_as, keeps_from}
 use Rattle.agreement_laws.proofs.Lists.{among_left, either, each_end}
 use Rattle.node_laws.proofs.Lists.{among_last}
-use Rattle.agreement_laws.proofs.Growing.{HasReached-more, HasVoted-more}
+use Rattle.agreement_laws.specs.Statements.{head}
+use Rattle.agreement_laws.proofs.Growing.{HasReached-more, IsShown-more}
 use Rattle.smart_base.proofs.ViewFacts.{each-weaken}
 use Rattle.node_laws.proofs.Passes.{each_staying}
 use Rattle.node_rules.specs.declared.node.Asked.{Asked}
@@ -75,23 +76,9 @@ longer-front (suc k) zero xs le = absurd (omega (arith, le))
 longer-front (suc k) (suc j) [] le = record { more = []; split = refl }
 longer-front (suc k) (suc j) (x ∷ xs) le = let rest = longer-front k j xs (omega (arith, le)) in record { more = rest.more; split = ap (λ zs. x ∷ zs) rest.split }
 
-reported-append : (es more : List LogEntry) (r : Report) → HasReported digest_of es r → HasReported digest_of (es ++ more) r
-reported-append es more r has = record {
-  before = has.before;
-  after = has.after ++ more;
-  split = ap (λ xs. xs ++ more) has.split ∙ append_assoc has.before (entries.Promised (record { view = r.view; regency = r.regency }) ∷ has.after) more;
-  reports = has.reports;
-}
-
-rests-append : (es more : List LogEntry) (message : Message) → RestsOn es message → RestsOn (es ++ more) message
-rests-append es more (Vote b) rests = HasVoted-more es more b.statement.kind b.statement.slot b.statement.digest rests
-rests-append es more (Reply a) rests = HasReached-more es more a.statement.place rests
-rests-append es more (changes.StopData r) rests = reported-append es more r.head.statement rests
-rests-append es more _ rests = tt
-
 -- what a message rests on stands in a longer book too
 pub rests-more : (xs ys : List LogEntry) → Longer xs ys → (message : Message) → RestsOn xs message → RestsOn ys message
-rests-more xs ys longer message rests = subst (λ (es : List LogEntry). RestsOn es message) (sym longer.split) (rests-append xs longer.more message rests)
+rests-more xs ys longer message rests = subst (λ (es : List LogEntry). RestsOn es message) (sym longer.split) (IsShown-more digest_of xs longer.more (head message) rests)
 
 -- ---- nodes
 

@@ -11,7 +11,7 @@ use Rattle.smart_statements.specs.Forms.{SignedBy}
 use Rattle.smart_statements.specs.Batches.{Batch}
 use Rattle.smart_messages.specs.Messages.{decoded, proposal_in, vote_in, stop_in, sync_in}
 use Rattle.smart_messages.specs.declared.message.Message.{Message}
-use Rattle.smart_messages.specs.declared.message.Message.TheVariants.{Ask, Propose, Vote, Reply}
+use Rattle.smart_messages.specs.declared.message.Message.TheVariants.{Ask, Propose, Vote}
 use Rattle.smart_messages.specs.declared.message.Proposed.{Proposed}
 use Rattle.smart_messages.specs.declared.message.Message.TheVariants as changes
 use Rattle.smart_messages.specs.declared.regency.Stop.{Stop}
@@ -453,7 +453,6 @@ is_from-kept sources n (Vote b) came is = record {
   };
   some = is.some;
 }
-is_from-kept sources n (Reply a) came is = is
 is_from-kept sources n (changes.Stop s) came is = record {
   from = record {
     arrivals = is.from.arrivals;
@@ -473,6 +472,7 @@ is_from-kept sources n (changes.Sync s) came is = record {
   };
   some = is.some;
 }
+is_from-kept sources n _ came is = is
 
 is_from-deliver_batch : {S : Type 0} (sources : List (List ℕ)) (m : Meaning S) (n : Node S) (batch : Option Batch) → IsFrom sources n → IsFrom sources (deliver_batch m n batch)
 unfolding deliver_batch

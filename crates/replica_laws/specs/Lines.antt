@@ -1,10 +1,9 @@
 -- The executions of a list of batches.
-use Rattle.std.specs.Prelude.{◌≡◌, ◌<◌, ◌⊎◌, List, [], ◌∷◌}
+use Rattle.std.specs.Prelude.{◌≡◌, ◌<◌, ◌⊎◌, List, [], ◌∷◌, IfSome}
 use Rattle.smart_base.specs.Views.{View}
 use Rattle.smart_statements.specs.Batches.{Batch}
 use Rattle.smart_statements.specs.declared.statement.Answer.{Answer}
-use Rattle.smart_messages.specs.declared.message.Message.TheVariants.{Ask, Propose, Vote, Reply}
-use Rattle.smart_messages.specs.declared.message.Message.TheVariants as changes
+use Rattle.smart_messages.specs.Messages.{reply_in}
 use Rattle.smart_messages.specs.declared.message.Message.{Message}
 use Rattle.smart_service.specs.Services.{Meaning}
 use Rattle.replica_rules.specs.Replicas.{executions}
@@ -40,13 +39,7 @@ IsExecuted m view list a = HasLine (executions m view list) (line_told a)
 
 -- a message that tells an execution of a list, if it is a reply
 abbrev pub ReplyRight : {S : Type 0} → Meaning S → View → List Batch → Message → Type 0
-ReplyRight m view list (Ask q) = Unit {0}
-ReplyRight m view list (Propose p) = Unit {0}
-ReplyRight m view list (Vote b) = Unit {0}
-ReplyRight m view list (changes.Stop s) = Unit {0}
-ReplyRight m view list (changes.StopData r) = Unit {0}
-ReplyRight m view list (changes.Sync s) = Unit {0}
-ReplyRight m view list (Reply a) = IsExecuted m view list a.statement
+ReplyRight m view list message = IfSome (reply_in message) (λ a. IsExecuted m view list a.statement)
 
 -- a node of which each held reply tells an execution of a list
 abbrev pub HeldRight : {S : Type 0} → Meaning S → View → List Batch → Node S → Type 0

@@ -1,5 +1,5 @@
 -- The senders of held messages, and the entries that held messages rest on.
-use Rattle.std.specs.Prelude.{ℕ, ◌≡◌, Bool, true, ◌&&◌, List, take, Option, Some, None, IfSome, Ok}
+use Rattle.std.specs.Prelude.{ℕ, ◌≡◌, Bool, true, false, ◌&&◌, List, take, Option, Some, None, IfSome, Ok}
 use Rattle.std.specs.List.{list_all}
 use Rattle.smart_base.specs.Cuts.{IsBytes}
 use Rattle.smart_base.specs.Lists.{Each}
@@ -17,7 +17,8 @@ use Rattle.smart_messages.specs.declared.message.Message.TheVariants.{Ask, Propo
 use Rattle.smart_messages.specs.declared.message.Message.{Message}
 use Rattle.vote_book.specs.declared.entry.LogEntry.{LogEntry}
 use Rattle.replica_rules.specs.Seals.{is_verified, digest_of}
-use Rattle.agreement_laws.specs.Diaries.{HasVoted, HasReached, HasReported}
+use Rattle.agreement_laws.specs.Statements.{head}
+use Rattle.agreement_laws.specs.Diaries.{IsShown}
 use Rattle.node_rules.specs.Nodes.{Node, ring_of}
 use Rattle.node_rules.specs.Steps.{leaving}
 use Rattle.node_rules.specs.declared.node.Target.{Target}
@@ -40,16 +41,20 @@ IsOwn id to (changes.Stop s) = s.signer ≡ id
 IsOwn id to (changes.StopData r) = (r.head.signer ≡ id) × IsToNode to
 IsOwn id to (changes.Sync s) = s.signer ≡ id
 
--- Entries that a message rests on. A vote has its own entry, a reply its place or a later one. A report has its promise, after entries that
--- are what it says. Other messages rest on nothing.
+-- Entries that a message rests on: those that show the statement that it is signed as. A vote has its own entry, a reply its place or a later
+-- one. A report has its promise, after entries that are what it says. Other messages rest on nothing.
 abbrev pub RestsOn : List LogEntry → Message → Type 0
-RestsOn entries (Ask q) = Unit {0}
-RestsOn entries (Propose p) = Unit {0}
-RestsOn entries (Vote b) = HasVoted entries b.statement.kind b.statement.slot b.statement.digest
-RestsOn entries (Reply a) = HasReached entries a.statement.place
-RestsOn entries (changes.Stop s) = Unit {0}
-RestsOn entries (changes.StopData r) = HasReported digest_of entries r.head.statement
-RestsOn entries (changes.Sync s) = Unit {0}
+RestsOn entries m = IsShown digest_of entries (head m)
+
+-- a message that orders requests or answers one; it has at most 1,048,576 bytes
+abbrev pub orders : Message → Bool
+orders (Ask q) = true
+orders (Propose p) = true
+orders (Vote b) = true
+orders (Reply a) = true
+orders (changes.Stop s) = false
+orders (changes.StopData r) = false
+orders (changes.Sync s) = false
 
 -- a node whose leaving messages rest on firm entries
 abbrev pub LeavesFirm : {S : Type 0} → Node S → Type 0

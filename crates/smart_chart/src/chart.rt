@@ -5,19 +5,11 @@ use crate::label::{happening_text, label, message_text};
 use crate::party::{Column, Party, add_party, column_of, columns_of, note_regency};
 use crate::picture::{Figure, Shape, Side};
 use crate::scene::{
-    Happening, Kind, Message, Scene, client_of, is_of_script, number_at, regency_of, scene_of,
+    Audience, Happening, Message, Scene, client_of, is_of_script, number_at, regency_of, scene_of,
     split_word,
 };
 use std::alloc::{AllocError, Global};
 use std::fmt::Write;
-
-/// The parties that a message is for.
-#[derive(Clone, Copy, PartialEq, Eq)]
-enum Audience {
-    View,
-    One(Party),
-    Nobody,
-}
 
 /// What is drawn so far.
 struct Chart {
@@ -130,37 +122,6 @@ fn is_for(audience: Audience, party: Party) -> bool {
     }
 }
 
-/// The leader of a regency.
-fn leader_of(members: u64, regency: u64) -> Audience {
-    match regency.checked_rem(members) {
-        Some(index) => Audience::One(Party::Member(index.saturating_add(1))),
-        None => Audience::Nobody,
-    }
-}
-
-/// The parties that a message is for. A member passes a request to the leader of its regency.
-fn audience_of(members: u64, sender: Column, message: Message<'_>) -> Audience {
-    if sender.party == Party::Script {
-        return Audience::Nobody;
-    }
-    match message.kind {
-        Kind::Ask => match sender.party {
-            Party::Client(_) => Audience::View,
-            _ => leader_of(members, sender.regency),
-        },
-        Kind::Propose | Kind::Write | Kind::Accept | Kind::Stop | Kind::Sync => Audience::View,
-        Kind::Reply => match number_at(message.fields, 0) {
-            Some(client) => Audience::One(Party::Client(client)),
-            None => Audience::Nobody,
-        },
-        Kind::StopData => match number_at(message.fields, 1) {
-            Some(regency) => leader_of(members, regency),
-            None => Audience::Nobody,
-        },
-        Kind::Raw => Audience::Nobody,
-    }
-}
-
 /// Draws an arrow from a column to each that it is for.
 fn draw_arrows(
     shapes: &mut Vec<Shape>,
@@ -202,7 +163,7 @@ fn draw_message(chart: &mut Chart, at: u16, message: Message<'_>) -> Result<(), 
     };
     let text = message_text(chart.alloc, message)?;
     chart.shapes.push(label(sender.x, height_at(at, 12), text))?;
-    let audience = audience_of(chart.members, sender, message);
+    let audience = message.audience(chart.members, sender.regency);
     draw_arrows(
         &mut chart.shapes,
         chart.columns.as_slice(),

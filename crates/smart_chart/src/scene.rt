@@ -26,6 +26,14 @@ pub struct Message<'a> {
     pub fields: &'a str,
 }
 
+/// The parties that a message is for.
+#[derive(Clone, Copy, PartialEq, Eq)]
+pub enum Audience {
+    View,
+    One(Party),
+    Nobody,
+}
+
 /// Something that happens at a party, with the words that follow.
 #[derive(Clone, Copy)]
 pub struct Happening<'a> {
@@ -95,6 +103,39 @@ impl Kind {
             Kind::StopData => "- regency last lock",
             Kind::Sync => "- regency base =",
             Kind::Raw => "",
+        }
+    }
+}
+
+/// The leader of a regency.
+fn leader_of(members: u64, regency: u64) -> Audience {
+    match regency.checked_rem(members) {
+        Some(index) => Audience::One(Party::Member(index.saturating_add(1))),
+        None => Audience::Nobody,
+    }
+}
+
+impl Message<'_> {
+    /// The parties that the message is for. A member passes a request to the leader of its regency.
+    pub fn audience(self, members: u64, regency: u64) -> Audience {
+        if self.sender == Party::Script {
+            return Audience::Nobody;
+        }
+        match self.kind {
+            Kind::Ask => match self.sender {
+                Party::Client(_) => Audience::View,
+                _ => leader_of(members, regency),
+            },
+            Kind::Propose | Kind::Write | Kind::Accept | Kind::Stop | Kind::Sync => Audience::View,
+            Kind::Reply => match number_at(self.fields, 0) {
+                Some(client) => Audience::One(Party::Client(client)),
+                None => Audience::Nobody,
+            },
+            Kind::StopData => match number_at(self.fields, 1) {
+                Some(regency) => leader_of(members, regency),
+                None => Audience::Nobody,
+            },
+            Kind::Raw => Audience::Nobody,
         }
     }
 }

@@ -1,28 +1,34 @@
 -- What is read is spelled so, and what is spelled so is read.
-use Rattle.std.proofs.Common.{◌≡◌, ℕ, ◌^◌, ◌<◌, ◌≤◌, Bool, true, false, eqb, ◌||◌, List, length, Result, Ok, Err, refl, sym, subst, ◌∙◌, arith}
+use Rattle.std.proofs.Common.{◌≡◌, ℕ, ◌+◌, ◌^◌, ◌<◌, ◌≤◌, ◌==◌, Bool, true, false, cond, eqb, eq-eqb, ◌||◌, List, [], ◌∷◌, ◌++◌, append-nil, length, Result, Ok, Err, refl, sym, ap, subst, ◌∙◌, arith}
 use Rattle.std.specs.Prelude.{IfOk}
 use Rattle.std.specs.Int.{w8, to_be_bytes}
 use Rattle.std.proofs.lemmas.Bool.{eqb-true}
-use Rattle.smart_base.specs.Cuts.{Cut, IsBytes, ◌>>=◌, number_at, limited, GivesAll}
-use Rattle.smart_base.specs.Spelling.{Spelled, Law}
+use Rattle.smart_base.specs.Cuts.{Cut, Read, IsBytes, ◌>>=◌, number_at, limited, GivesAll}
+use Rattle.smart_base.specs.Spelling.{u8, member_kind, Spelled, Law}
+use Rattle.smart_base.specs.declared.party.Party.TheVariants as parties
 use Rattle.smart_base.specs.declared.fault.ReadError.{ReadError}
 use Rattle.smart_base.specs.Laws.{bind_ok, bind_is, ok_is, spelled-bytes, spelled-then, spelled-front, spelled-back, middle, then_law, refit, ranged_law, limited_law, whole_takes, whole_again}
 use Rattle.smart_base.specs.FieldLaws.{u8_law}
-use Rattle.smart_statements.specs.Spelling.{signed, FitsSigned, FitsProposal, FitsBallot, FitsAnswer}
+use Rattle.smart_statements.specs.Forms.{Form, SignedBy, party_of}
+use Rattle.smart_statements.specs.Spelling.{signed, slot, vote_kind, FitsSigned, FitsProposal, FitsBallot, FitsAnswer, FitsRequest}
 use Rattle.smart_statements.specs.Kinds.{proposals, ballots, answers, requests}
 use Rattle.smart_statements.specs.Reading.{signed_at, batch_at}
 use Rattle.smart_statements.specs.Batches.{batch_text, FitsBatch}
 use Rattle.smart_statements.specs.SignedLists.{optional, FitsOptional, optional_at}
 use Rattle.smart_statements.specs.SignedListLaws.{optional_law}
-use Rattle.smart_statements.specs.Reports.{reports, FitsReport}
-use Rattle.smart_statements.specs.ReportLaws.{report_law}
-use Rattle.smart_messages.specs.Regencies.{stops, FitsStop, syncs, FitsSync}
-use Rattle.smart_messages.specs.RegencyLaws.{stop_law, sync_law}
-use Rattle.smart_messages.specs.Messages.{kind, content, spelling, FitsContent, Fits, ask_at, propose_at, vote_at, stop_message_at, stop_data_at, sync_message_at, reply_at, body_at, is_kind, message_kind_at, message_at, decoded}
+use Rattle.smart_statements.specs.Reports.{reports, FitsReport, marks, FitsMark}
+use Rattle.smart_statements.specs.ReportLaws.{report_law, mark_law}
+use Rattle.smart_statements.specs.declared.statement.VoteKind.{VoteKind}
+use Rattle.smart_statements.specs.declared.statement.VoteKind.TheVariants.{Write, Accept}
+use Rattle.smart_messages.specs.Regencies.{stops, FitsStop, syncs, FitsSync, view_infos, FitsViewInfo}
+use Rattle.smart_messages.specs.RegencyLaws.{stop_law, sync_law, view_info_law}
+use Rattle.smart_messages.specs.Messages.{kind, content, spelling, FitsContent, Fits, ask_at, propose_at, vote_at, stop_message_at, stop_data_at, sync_message_at, reply_at, body_at, is_kind, message_kind_at, message_at, decoded, batch_in}
+use Rattle.smart_messages.specs.Statements.{Statement, Asked, Proposed, Voted, Stopped, Reported, Synced, Marked, Replied, Informed, sealed, sealed_of, head}
+use Rattle.smart_messages.specs.declared.standing.Sealed.{Sealed}
 use Rattle.smart_messages.specs.declared.message.Message.{Message}
 use Rattle.smart_messages.specs.declared.message.Message.TheVariants.{Ask, Propose, Vote, Reply}
 use Rattle.smart_messages.specs.declared.message.Message.TheVariants as changes
-use Rattle.smart_statements.specs.Statements.{proposal_law, ballot_law, answer_law, signed_law}
+use Rattle.smart_statements.specs.Statements.{request_law, proposal_law, ballot_law, answer_law, signed_law}
 use Rattle.smart_statements.proofs.Batches.{ask_law, batch_law, start}
 use Rattle.smart_statements.proofs.Branches.{picked}
 
@@ -201,3 +207,110 @@ is_found bytes (Err e) bs given = tt
 
 pub is_only : (bytes : List ℕ) (m : Message) → Fits m → bytes ≡ spelling m → decoded bytes ≡ Ok m
 is_only bytes m fits e = subst (λ (b : List ℕ). decoded b ≡ Ok m) (sym e) (spelling_is m fits)
+
+-- ---- statements that are alike are one
+
+-- a text is one statement's of a kind
+text_one : {A : Type 0} (fits : A → Type 0) (spell : A → List ℕ) (read : Cut → Read A) → Law fits spell read → (x y : A) → fits x → fits y → spell x ≡ spell y → x ≡ y
+text_one {A} fits spell read law x y fx fy same =
+    let c : Cut = record { at = 0; left = spell x } in
+    let d : Cut = record { at = 0 + length (spell x); left = [] } in
+    let one : read c ≡ Ok (x, d) = law.again c x d fx (record { left = sym (append-nil (spell x)); at = refl }) in
+    let other : read c ≡ Ok (y, d) =
+    law.again c y d fy (record { left = same ∙ sym (append-nil (spell y)); at = ap (λ (t : List ℕ). 0 + length t) same }) in
+    let pairs : (x, d) ≡ (y, d) = cc in
+    ap (λ (p : A × Cut). p.0) pairs
+
+-- a party tells its number
+party_one : (kind a b : ℕ) → party_of kind a ≡ party_of kind b → a ≡ b
+party_one kind a b same = by (kind == member_kind) same
+  where
+    by : (t : Bool) → cond t (parties.Member a) (parties.Client a) ≡ cond t (parties.Member b) (parties.Client b) → a ≡ b
+    by true same = cc
+    by false same = cc
+
+-- a seal is one statement's of a kind
+sealed_one : {A : Type 0} (form : Form A) (fits : ℕ → A → Type 0) → ((signer : ℕ) → Law (fits signer) form.spell (form.read signer)) → (s t : SignedBy A) → fits s.signer s.statement
+    → fits t.signer t.statement → sealed form s ≡ sealed form t → s ≡ t
+sealed_one {A} form fits law s t fs ft same =
+    let signer : s.signer ≡ t.signer = party_one form.kind s.signer t.signer (ap (λ (x : Sealed). x.who) same) in
+    let statement : s.statement ≡ t.statement =
+    text_one (fits t.signer) form.spell (form.read t.signer) (law t.signer) s.statement t.statement (subst (λ (i : ℕ). fits i s.statement) signer fs) ft (ap (λ (x : Sealed). x.text) same) in
+    let tag : s.tag ≡ t.tag = ap (λ (x : Sealed). x.tag) same in
+    ap (λ (i : ℕ). record { signer = i; statement = s.statement; tag = s.tag }) signer
+    ∙ (ap (λ (x : A). record { signer = t.signer; statement = x; tag = s.tag }) statement
+    ∙ ap (λ (bytes : List ℕ). record { signer = t.signer; statement = t.statement; tag = bytes }) tag)
+
+-- the first byte of a text
+first_of : List ℕ → ℕ
+first_of [] = 0
+first_of (x ∷ xs) = x
+
+-- a first byte says of which kind a statement is; votes have two
+number_by : ℕ → ℕ
+number_by first = cond (first == 3) 2 first
+
+number_of : Statement → ℕ
+number_of (Asked q) = 9
+number_of (Proposed p) = 1
+number_of (Voted b) = 2
+number_of (Stopped s) = 4
+number_of (Reported r) = 5
+number_of (Synced s) = 6
+number_of (Marked m) = 7
+number_of (Replied a) = 8
+number_of (Informed i) = 10
+
+vote_number : (kind : VoteKind) (rest : List ℕ) → number_by (first_of (u8 (vote_kind kind) ++ rest)) ≡ 2
+unfolding number_by first_of
+vote_number Write rest = refl
+vote_number Accept rest = refl
+
+number_is : (s : Statement) → number_by (first_of (sealed_of s).text) ≡ number_of s
+unfolding number_by first_of number_of
+number_is (Voted b) = vote_number b.statement.kind (slot b.statement.slot ++ b.statement.digest)
+number_is _ = refl
+
+numbers_same : (s t : Statement) → sealed_of s ≡ sealed_of t → number_of s ≡ number_of t
+numbers_same s t same = sym (number_is s) ∙ (ap (λ (x : Sealed). number_by (first_of x.text)) same ∙ number_is t)
+
+differ : (m n : ℕ) → (m == n) ≡ false → m ≡ n → ⊥
+differ m n isnt same = let is = eq-eqb m n same in cc
+
+-- a statement that has a spelling
+abbrev pub FitsStatement : Statement → Type 0
+FitsStatement (Asked q) = FitsRequest q.signer q.statement
+FitsStatement (Proposed p) = FitsProposal p.statement
+FitsStatement (Voted b) = FitsBallot b.statement
+FitsStatement (Stopped s) = FitsStop s.statement
+FitsStatement (Reported r) = FitsReport r.statement
+FitsStatement (Synced s) = FitsSync s.statement
+FitsStatement (Marked m) = FitsMark m.statement
+FitsStatement (Replied a) = FitsAnswer a.statement
+FitsStatement (Informed i) = FitsViewInfo i.statement
+
+-- two that have one seal are one
+pub one_seal : (s t : Statement) → FitsStatement s → FitsStatement t → sealed_of s ≡ sealed_of t → s ≡ t
+unfolding number_of
+one_seal (Asked q) (Asked q') fs ft same = ap Asked (sealed_one requests FitsRequest request_law q q' fs ft same)
+one_seal (Proposed p) (Proposed p') fs ft same = ap Proposed (sealed_one proposals (λ signer. FitsProposal) proposal_law p p' fs ft same)
+one_seal (Voted b) (Voted b') fs ft same = ap Voted (sealed_one ballots (λ signer. FitsBallot) ballot_law b b' fs ft same)
+one_seal (Stopped s) (Stopped s') fs ft same = ap Stopped (sealed_one stops (λ signer. FitsStop) stop_law s s' fs ft same)
+one_seal (Reported r) (Reported r') fs ft same = ap Reported (sealed_one reports (λ signer. FitsReport) report_law r r' fs ft same)
+one_seal (Synced y) (Synced y') fs ft same = ap Synced (sealed_one syncs (λ signer. FitsSync) sync_law y y' fs ft same)
+one_seal (Marked m) (Marked m') fs ft same = ap Marked (sealed_one marks (λ signer. FitsMark) mark_law m m' fs ft same)
+one_seal (Replied a) (Replied a') fs ft same = ap Replied (sealed_one answers (λ signer. FitsAnswer) answer_law a a' fs ft same)
+one_seal (Informed i) (Informed i') fs ft same = ap Informed (sealed_one view_infos (λ signer. FitsViewInfo) view_info_law i i' fs ft same)
+one_seal s t fs ft same = absurd (differ (number_of s) (number_of t) refl (numbers_same s t same))
+
+-- ---- what a message that is read states
+
+pub head_fits : (m : Message) → FitsContent m → FitsStatement (head m)
+head_fits (Propose p) fits = fits.0.statement_fits
+head_fits (changes.StopData r) fits = fits.0.statement_fits
+head_fits _ fits = fits.statement_fits
+
+pub batch_in_fits : (m : Message) → FitsContent m → FitsOptional FitsBatch (batch_in m)
+batch_in_fits (Propose p) fits = fits.1
+batch_in_fits (changes.StopData r) fits = fits.1
+batch_in_fits _ fits = tt

@@ -133,48 +133,87 @@ decoded bytes = whole (limited MESSAGE_BYTES message_at) (record { at = 0; left 
 
 -- ---- a message as one of a kind
 
--- the request that a message is, if it is one
+-- the request that a message is, if it is one. Each kind is named here and in what follows, since promises and premises rest on these.
 abbrev pub request_in : Message → Option (SignedBy Request)
 request_in (Ask q) = Some q
-request_in _ = None
+request_in (Propose p) = None
+request_in (Vote b) = None
+request_in (changes.Stop s) = None
+request_in (changes.StopData r) = None
+request_in (changes.Sync s) = None
+request_in (Reply a) = None
 
 -- the PROPOSE that a message is, if it is one
 abbrev pub proposal_in : Message → Option Proposed
+proposal_in (Ask q) = None
 proposal_in (Propose p) = Some p
-proposal_in _ = None
+proposal_in (Vote b) = None
+proposal_in (changes.Stop s) = None
+proposal_in (changes.StopData r) = None
+proposal_in (changes.Sync s) = None
+proposal_in (Reply a) = None
 
 -- the vote that a message is, if it is one
 abbrev pub vote_in : Message → Option (SignedBy Ballot)
+vote_in (Ask q) = None
+vote_in (Propose p) = None
 vote_in (Vote b) = Some b
-vote_in _ = None
+vote_in (changes.Stop s) = None
+vote_in (changes.StopData r) = None
+vote_in (changes.Sync s) = None
+vote_in (Reply a) = None
 
 -- the STOP that a message is, if it is one
 abbrev pub stop_in : Message → Option (SignedBy Stop)
+stop_in (Ask q) = None
+stop_in (Propose p) = None
+stop_in (Vote b) = None
 stop_in (changes.Stop s) = Some s
-stop_in _ = None
+stop_in (changes.StopData r) = None
+stop_in (changes.Sync s) = None
+stop_in (Reply a) = None
 
 -- the STOPDATA that a message is, if it is one
 abbrev pub report_in : Message → Option Reported
+report_in (Ask q) = None
+report_in (Propose p) = None
+report_in (Vote b) = None
+report_in (changes.Stop s) = None
 report_in (changes.StopData r) = Some r
-report_in _ = None
+report_in (changes.Sync s) = None
+report_in (Reply a) = None
 
 -- the SYNC that a message is, if it is one
 abbrev pub sync_in : Message → Option (SignedBy Sync)
+sync_in (Ask q) = None
+sync_in (Propose p) = None
+sync_in (Vote b) = None
+sync_in (changes.Stop s) = None
+sync_in (changes.StopData r) = None
 sync_in (changes.Sync s) = Some s
-sync_in _ = None
+sync_in (Reply a) = None
 
 -- the reply that a message is, if it is one
 abbrev pub reply_in : Message → Option (SignedBy Answer)
+reply_in (Ask q) = None
+reply_in (Propose p) = None
+reply_in (Vote b) = None
+reply_in (changes.Stop s) = None
+reply_in (changes.StopData r) = None
+reply_in (changes.Sync s) = None
 reply_in (Reply a) = Some a
-reply_in _ = None
 
 -- the slot of a PROPOSE or of a vote
 abbrev pub slot_of : Message → Option Slot
+slot_of (Ask q) = None
 slot_of (Propose p) = Some p.head.statement.slot
 slot_of (Vote b) = Some b.statement.slot
-slot_of _ = None
+slot_of (changes.Stop s) = None
+slot_of (changes.StopData r) = None
+slot_of (changes.Sync s) = None
+slot_of (Reply a) = None
 
--- the batch of a PROPOSE, or of the lock in a STOPDATA. Each kind is named, since premises rest on the texts of all batches that were met.
+-- the batch of a PROPOSE, or of the lock in a STOPDATA
 abbrev pub batch_in : Message → Option Batch
 batch_in (Ask q) = None
 batch_in (Propose p) = Some p.batch

@@ -15,6 +15,7 @@ use Rattle.smart_statements.specs.declared.report.Evidence.{Evidence}
 use Rattle.smart_statements.specs.declared.report.Evidence.TheVariants as evidence
 use Rattle.smart_statements.specs.declared.report.Report.{Report}
 use Rattle.smart_messages.specs.Regencies.{stops, syncs, view_infos}
+use Rattle.smart_messages.specs.Messages.{batch_in}
 use Rattle.smart_messages.specs.declared.regency.Stop.{Stop}
 use Rattle.smart_messages.specs.declared.regency.Sync.{Sync}
 use Rattle.smart_messages.specs.declared.regency.ViewInfo.{ViewInfo}
@@ -82,16 +83,32 @@ abbrev pub requests_of : Option Batch → List Statement
 requests_of None = []
 requests_of (Some batch) = map Asked batch
 
+-- the statement that a message is signed as
+abbrev pub head : Message → Statement
+head (messages.Ask q) = Asked q
+head (messages.Propose p) = Proposed p.head
+head (messages.Vote b) = Voted b
+head (messages.Stop s) = Stopped s
+head (messages.StopData r) = Reported r.head
+head (messages.Sync s) = Synced s
+head (messages.Reply a) = Replied a
+
 -- the statements that a message makes itself: its own, and the requests of its batch
 abbrev pub said : Message → List Statement
-said (messages.Ask q) = Asked q ∷ []
-said (messages.Propose p) = Proposed p.head ∷ map Asked p.batch
-said (messages.Vote b) = Voted b ∷ []
-said (messages.Stop s) = Stopped s ∷ []
-said (messages.StopData r) = Reported r.head ∷ requests_of r.batch
-said (messages.Sync s) = Synced s ∷ []
-said (messages.Reply a) = Replied a ∷ []
+said m = head m ∷ requests_of (batch_in m)
 
 -- all statements that stand in a message, at any depth
 abbrev pub statements_in : Message → List Statement
 statements_in m = flat_map within (said m)
+
+-- the reply that a statement is, if it is one
+abbrev pub reply_stated : Statement → Option (SignedBy Answer)
+reply_stated (Asked q) = None
+reply_stated (Proposed p) = None
+reply_stated (Voted b) = None
+reply_stated (Stopped s) = None
+reply_stated (Reported r) = None
+reply_stated (Synced s) = None
+reply_stated (Marked m) = None
+reply_stated (Replied a) = Some a
+reply_stated (Informed i) = None

@@ -27,7 +27,8 @@ use Rattle.client_quorum.specs.declared.client.Heard.TheVariants as hears
 use Rattle.world_rules.specs.declared.message.Origin.{Origin}
 use Rattle.world_rules.specs.declared.message.Origin.TheVariants as origins
 use Rattle.world_rules.specs.declared.message.Sent.{Sent}
-use Rattle.world_laws.specs.Sending.{AllGenuine, IsReadIfShort, IsHeardAs, IsReadAs, IsGenuineContent, IsGenuineFrom, orders}
+use Rattle.replica_laws.specs.Sending.{orders}
+use Rattle.world_laws.specs.Sending.{AllGenuine, IsReadIfShort, IsHeardAs, IsReadAs, IsGenuineContent, IsGenuineFrom}
 use Rattle.world_laws.proofs.Lists.{each_set, each_get}
 use Rattle.world_laws.proofs.Keeps.{with_host, entries_left, node_resumed, after_call, MayCome, read_whole, read_fits, long_unread, ask_of, asked_by, Keeps, by-posts, ReadsSent, signed_by, OwnWaits, from_node, from_client, HasContent, IsRead, read_has, from_script}
 use Rattle.smart_statements.specs.Kinds.{requests, proposals, ballots, answers}

@@ -7,8 +7,8 @@ use Rattle.smart_base.specs.Views.{View, is_view}
 use Rattle.smart_statements.specs.Forms.{SignedBy}
 use Rattle.smart_statements.specs.Batches.{Batch}
 use Rattle.smart_statements.specs.declared.statement.Answer.{Answer}
-use Rattle.smart_messages.specs.declared.message.Message.TheVariants.{Ask, Propose, Vote, Reply}
-use Rattle.smart_messages.specs.declared.message.Message.TheVariants as changes
+use Rattle.smart_messages.specs.Messages.{batch_in}
+use Rattle.smart_messages.specs.declared.message.Message.TheVariants.{Reply}
 use Rattle.smart_messages.specs.declared.message.Message.{Message}
 use Rattle.smart_service.specs.Services.{Meaning}
 use Rattle.vote_book.specs.Books.{Among}
@@ -83,27 +83,15 @@ asked_right_if m w None = tt
 asked_right_if m w (Some batch) = asked_right m w batch
 
 right_message : {S : Type 0} (m : Meaning S) (w : World S) (x : Message) → RequestsAsked w → ReplyRight m w.view w.chosen x → Each (IsRightStatement m w) (said x)
-right_message m w (Ask q) requests right = (tt, tt)
-right_message m w (Propose p) requests right = (tt, asked_right m w p.batch)
-right_message m w (Vote b) requests right = (tt, tt)
 right_message m w (Reply a) requests right = (executed-right m w a.statement requests right, tt)
-right_message m w (changes.Stop s) requests right = (tt, tt)
-right_message m w (changes.StopData r) requests right = (tt, asked_right_if m w r.batch)
-right_message m w (changes.Sync s) requests right = (tt, tt)
+right_message m w x requests right = (tt, asked_right_if m w (batch_in x))
 
 -- what members have stated that are not faulty is right
 right_stated : {S : Type 0} (m : Meaning S) (w : World S) → Heard m w → RequestsAsked w → (s : Statement) (member : ℕ) → Among s (stated w.sent) → signer_of s ≡ Member member → is_among w.faulty member ≡ false
     → IsRightStatement m w s
-right_stated m w is requests (statements.Asked q) member there signer correct = tt
-right_stated m w is requests (statements.Proposed p) member there signer correct = tt
-right_stated m w is requests (statements.Voted b) member there signer correct = tt
-right_stated m w is requests (statements.Stopped s) member there signer correct = tt
-right_stated m w is requests (statements.Reported r) member there signer correct = tt
-right_stated m w is requests (statements.Synced s) member there signer correct = tt
-right_stated m w is requests (statements.Marked x) member there signer correct = tt
 right_stated m w is requests (statements.Replied a) member there signer correct =
     executed-right m w a.statement requests (stated_executed m w is a there (subst (λ (k : ℕ). is_among w.faulty k ≡ false) (sym (members_same a.signer member signer)) correct))
-right_stated m w is requests (statements.Informed i) member there signer correct = tt
+right_stated m w is requests _ member there signer correct = tt
 
 -- so is what nodes hold
 all_replies_right : {S : Type 0} (m : Meaning S) (w : World S) → Heard m w → RequestsAsked w → AreRepliesRight m w

@@ -1,24 +1,18 @@
 -- A statement is told by its signer and its bytes, among those that are read.
-use Rattle.std.proofs.Common.{◌≡◌, ⊎_elim, ℕ, ◌+◌, ◌++◌, ◌==◌, Bool, true, false, List, [], ◌∷◌, length, refl, ap, sym, ◌∙◌, subst, cond, inl, inr, Ok, append-nil, eqb-true, eq-eqb, Option, Some, None}
+use Rattle.std.proofs.Common.{◌≡◌, ⊎_elim, ℕ, Bool, true, false, List, [], ◌∷◌, refl, ap, sym, ◌∙◌, subst, cond, inl, inr, eqb-true, Option, Some, None}
 use Rattle.std.specs.Prelude.{map, filter}
 use Rattle.std.specs.List.{flat_map, AllByRecursion}
-use Rattle.smart_base.specs.Cuts.{Cut, Read}
 use Rattle.smart_base.specs.Lists.{same_bytes}
-use Rattle.smart_base.specs.Spelling.{Law, u8}
 use Rattle.smart_base.specs.declared.party.Party.{Party}
 use Rattle.smart_base.specs.declared.party.Party.TheVariants as parties
+use Rattle.smart_keys.specs.Keys.{tag_of}
 use Rattle.smart_keys.proofs.Tags.{is_tag-equal}
-use Rattle.smart_statements.specs.Forms.{Form, SignedBy, party_of}
-use Rattle.smart_statements.specs.Kinds.{requests, proposals, ballots, answers}
+use Rattle.smart_statements.specs.Forms.{SignedBy}
+use Rattle.smart_statements.specs.Kinds.{requests}
 use Rattle.smart_statements.specs.Batches.{Batch, FitsBatch}
 use Rattle.smart_statements.specs.SignedLists.{FitsOptional}
-use Rattle.smart_statements.specs.Reports.{reports, report, FitsReport, marks, mark, FitsMark, FitsVote, votes_of, FitsEvidence, FitsLockCertificate}
-use Rattle.smart_messages.specs.Regencies.{stops, stop, FitsStop, syncs, sync, FitsSync, view_infos, view_info, FitsViewInfo}
-use Rattle.smart_statements.specs.Spelling as spells
-use Rattle.smart_statements.specs.Spelling.{FitsProposal, FitsBallot, FitsAnswer, FitsRequest, FitsSigned}
-use Rattle.smart_statements.specs.Statements.{request_law, proposal_law, ballot_law, answer_law}
-use Rattle.smart_statements.specs.ReportLaws.{report_law, mark_law}
-use Rattle.smart_messages.specs.RegencyLaws.{stop_law, sync_law, view_info_law}
+use Rattle.smart_statements.specs.Reports.{reports, FitsReport, marks, FitsMark, FitsVote, votes_of, FitsEvidence, FitsLockCertificate}
+use Rattle.smart_statements.specs.Spelling.{FitsRequest, FitsSigned}
 use Rattle.smart_statements.specs.declared.statement.Request.{Request}
 use Rattle.smart_statements.specs.declared.statement.VoteKind.{VoteKind}
 use Rattle.smart_statements.specs.declared.statement.VoteKind.TheVariants.{Write, Accept}
@@ -28,12 +22,12 @@ use Rattle.smart_statements.specs.declared.report.Report.{Report}
 use Rattle.smart_statements.specs.declared.report.Evidence.{Evidence}
 use Rattle.smart_statements.specs.declared.report.Evidence.TheVariants as evidence
 use Rattle.smart_statements.specs.declared.report.LockCertificate.{LockCertificate}
-use Rattle.smart_messages.specs.declared.message.Message.TheVariants as changes
-use Rattle.smart_messages.specs.declared.message.Message.TheVariants.{Ask, Propose, Vote, Reply}
 use Rattle.smart_messages.specs.declared.message.Message.{Message}
+use Rattle.smart_messages.specs.declared.standing.Sealed.{Sealed}
+use Rattle.smart_messages.specs.Messages.{FitsContent, batch_in}
+use Rattle.smart_messages.proofs.Messages.{FitsStatement, one_seal, head_fits, batch_in_fits}
 use Rattle.vote_book.specs.Books.{Among}
-use Rattle.replica_rules.specs.Seals.{signed, is_verified}
-use Rattle.agreement_laws.specs.Statements.{Statement, Asked, Proposed, Voted, Stopped, Reported, Synced, Marked, Replied, Informed, signer_of, verifies, within, in_report, parts_of_evidence, parts_of_lock, requests_of, said, statements}
+use Rattle.agreement_laws.specs.Statements.{Statement, Asked, Voted, Reported, Synced, Marked, sealed_of, signer_of, verifies, within, in_report, parts_of_evidence, parts_of_lock, requests_of, head, said, statements}
 use Rattle.agreement_laws.proofs.Lists.{among_either, among_filtered, among_filter, among_flat, given, within_one}
 use Rattle.world_rules.specs.Secrets.{group_secret}
 use Rattle.world_rules.specs.Premises.{claim_of, bytes_stated, claims, same_party, same_claim}
@@ -42,125 +36,30 @@ use Rattle.world_rules.specs.declared.message.Content.TheVariants as contents
 use Rattle.world_rules.specs.Stated.{stated_in}
 use Rattle.smart_base.proofs.SameLists.{and_true}
 use Rattle.vote_book.proofs.Tested.{same_bytes_is}
-use Rattle.smart_messages.specs.Messages.{FitsContent}
 
 -- statements that are alike are one
 
--- what is verified is what its signer signs
-signed_is : {A : Type 0} (form : Form A) (s : SignedBy A) → is_verified form group_secret s ≡ true → s ≡ signed form group_secret s.signer s.statement
-signed_is {A} form s is =
-    ap (λ (t : List ℕ). record { signer = s.signer; statement = s.statement; tag = t })
-    (is_tag-equal group_secret (party_of form.kind s.signer) (form.spell s.statement) s.tag is)
-
--- so two that are verified are one, where their signers and statements are
-signed_one : {A : Type 0} (form : Form A) (s t : SignedBy A) → is_verified form group_secret s ≡ true → is_verified form group_secret t ≡ true → s.signer ≡ t.signer → s.statement ≡ t.statement → s ≡ t
-signed_one {A} form s t is it signer statement =
-    signed_is form s is
-    ∙ (ap (λ (i : ℕ). signed form group_secret i s.statement) signer
-    ∙ (ap (λ (x : A). signed form group_secret t.signer x) statement ∙ sym (signed_is form t it)))
-
--- a text is one statement's of a kind
-text_one : {A : Type 0} (fits : A → Type 0) (spell : A → List ℕ) (read : Cut → Read A) → Law fits spell read → (x y : A) → fits x → fits y → spell x ≡ spell y → x ≡ y
-text_one {A} fits spell read law x y fx fy same =
-    let c : Cut = record { at = 0; left = spell x } in
-    let d : Cut = record { at = 0 + length (spell x); left = [] } in
-    let one : read c ≡ Ok (x, d) = law.again c x d fx (record { left = sym (append-nil (spell x)); at = refl }) in
-    let other : read c ≡ Ok (y, d) =
-    law.again c y d fy (record { left = same ∙ sym (append-nil (spell y)); at = ap (λ (t : List ℕ). 0 + length t) same }) in
-    let pairs : (x, d) ≡ (y, d) = cc in
-    ap (λ (p : A × Cut). p.0) pairs
-
--- the kind of a statement is told by its first byte
-
-head_of : List ℕ → ℕ
-head_of [] = 0
-head_of (x ∷ xs) = x
-
--- a first byte says which statement it is the first byte of
-number_by : ℕ → ℕ
-number_by first =
-    cond (first == 9) 0 (cond (first == 1) 1 (cond (first == 2) 2 (cond (first == 3) 2 (cond (first == 4) 3 (cond (first == 5) 4 (cond (first == 6) 5 (cond (first == 7) 6 (cond (first == 8) 7 8))))))))
-
-number_of : Statement → ℕ
-number_of (Asked q) = 0
-number_of (Proposed p) = 1
-number_of (Voted b) = 2
-number_of (Stopped s) = 3
-number_of (Reported r) = 4
-number_of (Synced s) = 5
-number_of (Marked m) = 6
-number_of (Replied a) = 7
-number_of (Informed i) = 8
-
-vote_number : (kind : VoteKind) (rest : List ℕ) → number_by (head_of (u8 (spells.vote_kind kind) ++ rest)) ≡ 2
-unfolding number_by head_of
-vote_number Write rest = refl
-vote_number Accept rest = refl
-
-number_is : (s : Statement) → number_by (head_of (bytes_stated s)) ≡ number_of s
-unfolding number_by head_of number_of
-number_is (Asked q) = refl
-number_is (Proposed p) = refl
-number_is (Voted b) = vote_number b.statement.kind (spells.slot b.statement.slot ++ b.statement.digest)
-number_is (Stopped s) = refl
-number_is (Reported r) = refl
-number_is (Synced s) = refl
-number_is (Marked m) = refl
-number_is (Replied a) = refl
-number_is (Informed i) = refl
-
-numbers_same : (s t : Statement) → bytes_stated s ≡ bytes_stated t → number_of s ≡ number_of t
-numbers_same s t same = sym (number_is s) ∙ (ap (λ (bytes : List ℕ). number_by (head_of bytes)) same ∙ number_is t)
-
-differ : (m n : ℕ) → (m == n) ≡ false → m ≡ n → ⊥
-differ m n isnt same = let is = eq-eqb m n same in cc
-
--- a statement that has a spelling
-abbrev pub FitsStatement : Statement → Type 0
-FitsStatement (Asked q) = FitsRequest q.signer q.statement
-FitsStatement (Proposed p) = FitsProposal p.statement
-FitsStatement (Voted b) = FitsBallot b.statement
-FitsStatement (Stopped s) = FitsStop s.statement
-FitsStatement (Reported r) = FitsReport r.statement
-FitsStatement (Synced s) = FitsSync s.statement
-FitsStatement (Marked m) = FitsMark m.statement
-FitsStatement (Replied a) = FitsAnswer a.statement
-FitsStatement (Informed i) = FitsViewInfo i.statement
-
--- with its signer's tag
+-- a statement that has a spelling, with its signer's tag
 abbrev pub Proper : Statement → Type 0
 Proper s = FitsStatement s × (verifies group_secret s ≡ true)
 
-members_same : (a b : ℕ) → parties.Member a ≡ parties.Member b → a ≡ b
-members_same a b same = cc
+-- a signer's seal of some bytes
+abbrev seal_by : Party → List ℕ → Sealed
+seal_by who bytes = record { who = who; text = bytes; tag = tag_of group_secret who bytes }
 
-clients_same : (a b : ℕ) → parties.Client a ≡ parties.Client b → a ≡ b
-clients_same a b same = cc
+-- what is verified bears its signer's seal
+seal_is : (s : Statement) → verifies group_secret s ≡ true → sealed_of s ≡ seal_by (signer_of s) (bytes_stated s)
+seal_is s is =
+    ap (λ (t : List ℕ). record { who = signer_of s; text = bytes_stated s; tag = t })
+    (is_tag-equal group_secret (signer_of s) (bytes_stated s) (sealed_of s).tag is)
 
 -- two that claim one thing are one
 one_claim : (s t : Statement) → Proper s → Proper t → signer_of s ≡ signer_of t → bytes_stated s ≡ bytes_stated t → s ≡ t
-unfolding number_of
-one_claim (Asked q) (Asked q') ps pt who same =
-    let one : q.signer ≡ q'.signer = clients_same q.signer q'.signer who in
-    let fit : FitsRequest q'.signer q.statement = subst (λ (i : ℕ). FitsRequest i q.statement) one ps.0 in
-    ap Asked (signed_one requests q q' ps.1 pt.1 one (text_one (FitsRequest q'.signer) spells.request _ (request_law q'.signer) q.statement q'.statement fit pt.0 same))
-one_claim (Proposed p) (Proposed p') ps pt who same =
-    ap Proposed (signed_one proposals p p' ps.1 pt.1 (members_same p.signer p'.signer who) (text_one FitsProposal spells.proposal _ (proposal_law 0) p.statement p'.statement ps.0 pt.0 same))
-one_claim (Voted b) (Voted b') ps pt who same =
-    ap Voted (signed_one ballots b b' ps.1 pt.1 (members_same b.signer b'.signer who) (text_one FitsBallot spells.ballot _ (ballot_law 0) b.statement b'.statement ps.0 pt.0 same))
-one_claim (Stopped s) (Stopped s') ps pt who same =
-    ap Stopped (signed_one stops s s' ps.1 pt.1 (members_same s.signer s'.signer who) (text_one FitsStop stop _ (stop_law 0) s.statement s'.statement ps.0 pt.0 same))
-one_claim (Reported r) (Reported r') ps pt who same =
-    ap Reported (signed_one reports r r' ps.1 pt.1 (members_same r.signer r'.signer who) (text_one FitsReport report _ (report_law 0) r.statement r'.statement ps.0 pt.0 same))
-one_claim (Synced y) (Synced y') ps pt who same =
-    ap Synced (signed_one syncs y y' ps.1 pt.1 (members_same y.signer y'.signer who) (text_one FitsSync sync _ (sync_law 0) y.statement y'.statement ps.0 pt.0 same))
-one_claim (Marked m) (Marked m') ps pt who same =
-    ap Marked (signed_one marks m m' ps.1 pt.1 (members_same m.signer m'.signer who) (text_one FitsMark mark _ (mark_law 0) m.statement m'.statement ps.0 pt.0 same))
-one_claim (Replied a) (Replied a') ps pt who same =
-    ap Replied (signed_one answers a a' ps.1 pt.1 (members_same a.signer a'.signer who) (text_one FitsAnswer spells.answer _ (answer_law 0) a.statement a'.statement ps.0 pt.0 same))
-one_claim (Informed i) (Informed i') ps pt who same =
-    ap Informed (signed_one view_infos i i' ps.1 pt.1 (members_same i.signer i'.signer who) (text_one FitsViewInfo view_info _ (view_info_law 0) i.statement i'.statement ps.0 pt.0 same))
-one_claim s t ps pt who same = absurd (differ (number_of s) (number_of t) refl (numbers_same s t same))
+one_claim s t ps pt who same =
+    one_seal s t ps.0 pt.0
+    (seal_is s ps.1
+    ∙ (ap (λ (p : Party). seal_by p (bytes_stated s)) who
+    ∙ (ap (λ (bytes : List ℕ). seal_by (signer_of t) bytes) same ∙ sym (seal_is t pt.1))))
 
 -- parties that are the same are equal
 pub same_party-equal : (a b : Party) → same_party a b ≡ true → a ≡ b
@@ -252,18 +151,12 @@ alone_fits s x fits (inr none) = absurd none
 
 -- what stands in a statement that has a spelling
 within_fits : (s x : Statement) → FitsStatement s → Among x (within s) → FitsStatement x
-within_fits (Asked q) x fits there = alone_fits (Asked q) x fits there
-within_fits (Proposed p) x fits there = alone_fits (Proposed p) x fits there
-within_fits (Voted b) x fits there = alone_fits (Voted b) x fits there
-within_fits (Stopped s) x fits there = alone_fits (Stopped s) x fits there
 within_fits (Reported r) x fits there = report_fits r x fits there
 within_fits (Synced s) x fits (inl is) = fits_as x (Synced s) is fits
 within_fits (Synced s) x fits (inr there) =
     let found = within_one in_report s.statement.collect x there in
     report_fits found.value x (all_among (FitsSigned reports (λ signer. FitsReport)) s.statement.collect found.value fits.collect_fits.1 found.there).statement_fits found.within
-within_fits (Marked m) x fits there = alone_fits (Marked m) x fits there
-within_fits (Replied a) x fits there = alone_fits (Replied a) x fits there
-within_fits (Informed i) x fits there = alone_fits (Informed i) x fits there
+within_fits s x fits there = alone_fits s x fits there
 
 -- a request of a batch
 pub record OfBatch (batch : Batch) (x : Statement) : Type 0 where
@@ -285,15 +178,8 @@ there_fits (Some batch) x fits there = batch_fits batch x fits there
 
 -- what a message says
 said_fits : (m : Message) (s : Statement) → FitsContent m → Among s (said m) → FitsStatement s
-said_fits (Ask q) s fits there = alone_fits (Asked q) s fits.statement_fits there
-said_fits (Propose p) s fits (inl is) = fits_as s (Proposed p.head) is fits.0.statement_fits
-said_fits (Propose p) s fits (inr there) = batch_fits p.batch s fits.1 there
-said_fits (Vote b) s fits there = alone_fits (Voted b) s fits.statement_fits there
-said_fits (Reply a) s fits there = alone_fits (Replied a) s fits.statement_fits there
-said_fits (changes.Stop t) s fits there = alone_fits (Stopped t) s fits.statement_fits there
-said_fits (changes.StopData r) s fits (inl is) = fits_as s (Reported r.head) is fits.0.statement_fits
-said_fits (changes.StopData r) s fits (inr there) = there_fits r.batch s fits.1 there
-said_fits (changes.Sync t) s fits there = alone_fits (Synced t) s fits.statement_fits there
+said_fits m s fits (inl is) = fits_as s (head m) is (head_fits m fits)
+said_fits m s fits (inr there) = there_fits (batch_in m) s (batch_in_fits m fits) there
 
 -- each statement of a message that is read is proper
 pub message_proper : (m : Message) (x : Statement) → FitsContent m → Among x (statements group_secret m) → Proper x

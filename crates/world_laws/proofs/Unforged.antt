@@ -17,13 +17,13 @@ use Rattle.smart_statements.specs.declared.report.Report.{Report}
 use Rattle.smart_statements.specs.declared.report.Evidence.{Evidence}
 use Rattle.smart_statements.specs.declared.report.Evidence.TheVariants as evidence
 use Rattle.smart_statements.specs.declared.report.LockCertificate.{LockCertificate}
-use Rattle.smart_messages.specs.declared.message.Message.TheVariants as changes
-use Rattle.smart_messages.specs.declared.message.Message.TheVariants.{Ask, Propose, Vote, Reply}
+use Rattle.smart_messages.specs.Messages.{batch_in}
+use Rattle.smart_messages.specs.declared.message.Message.TheVariants.{Reply}
 use Rattle.smart_messages.specs.declared.message.Message.{Message}
 use Rattle.vote_book.specs.Books.{Among}
 use Rattle.vote_book.proofs.Tested.{passing}
 use Rattle.node_rules.specs.Steps.{Outcome, leaving}
-use Rattle.agreement_laws.specs.Statements.{Statement, Asked, Proposed, Voted, Stopped, Reported, Synced, Marked, Replied, Informed, signer_of, within, in_report, parts_of_evidence, parts_of_lock, requests_of, said}
+use Rattle.agreement_laws.specs.Statements.{Statement, Asked, Voted, Reported, Synced, Marked, Replied, signer_of, within, in_report, parts_of_evidence, parts_of_lock, requests_of, head, said}
 use Rattle.agreement_laws.proofs.Lists.{among_either, each_among, given, within_one, each_end}
 use Rattle.world_rules.specs.Premises.{Claim, claim_of, claims, same_claim, is_among, is_from, is_stated, is_excused, is_forgery, is_forged}
 use Rattle.world_rules.specs.Worlds.{Course, Host, World, posts, stepped, hearing}
@@ -277,40 +277,27 @@ no_report a r (inr there) = ⊎_elim (λ e. no_evidence a r.statement.evidence e
 
 -- a reply stands in itself alone
 reply_within : (a : SignedBy Answer) (s : Statement) → Among (Replied a) (within s) → s ≡ Replied a
-reply_within a (Asked q) there = sym (alone (Asked q) (Replied a) there refl)
-reply_within a (Proposed p) there = sym (alone (Proposed p) (Replied a) there refl)
-reply_within a (Voted b) there = sym (alone (Voted b) (Replied a) there refl)
-reply_within a (Stopped t) there = sym (alone (Stopped t) (Replied a) there refl)
 reply_within a (Reported r) there = absurd (no_report a r there)
 reply_within a (Synced y) (inl same) = sym same
 reply_within a (Synced y) (inr there) = let found = within_one in_report y.statement.collect (Replied a) there in absurd (no_report a found.value found.within)
-reply_within a (Marked m) there = sym (alone (Marked m) (Replied a) there refl)
-reply_within a (Replied b) there = sym (alone (Replied b) (Replied a) there refl)
-reply_within a (Informed i) there = sym (alone (Informed i) (Replied a) there refl)
+reply_within a s there = sym (alone s (Replied a) there refl)
 
 no_requests : (a : SignedBy Answer) (batch : Option Batch) → Among (Replied a) (requests_of batch) → ⊥
 no_requests a None there = there
 no_requests a (Some batch) there = no_request a batch there
 
--- a message says one alone
-one_said : (x s : Statement) → Among x (s ∷ []) → x ≡ s
-one_said x s (inl is) = is
-one_said x s (inr none) = absurd none
+-- a message that is signed as a reply is that reply
+reply_head : (m : Message) (a : SignedBy Answer) → Replied a ≡ head m → m ≡ Reply a
+reply_head (Reply r) a is =
+    let named : Replied a ≡ Replied r = is in
+    let same : r ≡ a = cc in
+    ap (λ (x : SignedBy Answer). Reply x) same
+reply_head _ a is = absurd (cc)
 
 -- a message that says a reply is that reply
 reply_said : (m : Message) (a : SignedBy Answer) → Among (Replied a) (said m) → m ≡ Reply a
-reply_said (Ask q) a there = let is = one_said (Replied a) (Asked q) there in absurd (cc)
-reply_said (Propose p) a (inl is) = absurd (cc)
-reply_said (Propose p) a (inr there) = absurd (no_request a p.batch there)
-reply_said (Vote b) a there = let is = one_said (Replied a) (Voted b) there in absurd (cc)
-reply_said (Reply r) a there =
-    let is : Replied a ≡ Replied r = one_said (Replied a) (Replied r) there in
-    let same : r ≡ a = cc in
-    ap (λ (x : SignedBy Answer). Reply x) same
-reply_said (changes.Stop t) a there = let is = one_said (Replied a) (Stopped t) there in absurd (cc)
-reply_said (changes.StopData r) a (inl is) = absurd (cc)
-reply_said (changes.StopData r) a (inr there) = absurd (no_requests a r.batch there)
-reply_said (changes.Sync y) a there = let is = one_said (Replied a) (Synced y) there in absurd (cc)
+reply_said m a (inl is) = reply_head m a is
+reply_said m a (inr there) = absurd (no_requests a (batch_in m) there)
 
 pub reply_content : (x : Content) (a : SignedBy Answer) → Among (Replied a) (stated_in x) → x ≡ contents.Message (Reply a)
 reply_content (contents.Message m) a there =

@@ -1,5 +1,5 @@
 -- The promise of a play: all members deliver one list of batches (state machine replication).
-use Rattle.std.specs.Prelude.{ℕ, zero, suc, true, ◌+◌, ◌-◌, ◌++◌, ◌==◌, ◌≡◌, ◌<◌, ◌≤◌, ◌⊎◌, List, [], ◌∷◌, length, take, slice_get, max, filter, map, if◌then◌else◌, nat_le, not, ◌&&◌, Bool, false, Option, Some, None}
+use Rattle.std.specs.Prelude.{ℕ, zero, suc, true, ◌+◌, ◌-◌, ◌++◌, ◌==◌, ◌≡◌, ◌<◌, ◌≤◌, ◌⊎◌, List, [], ◌∷◌, length, take, slice_get, max, filter, map, if◌then◌else◌, nat_le, not, ◌&&◌, Bool, false, Option, Some, None, IfSome}
 use Rattle.smart_base.specs.Lists.{Each}
 use Rattle.smart_base.specs.Views.{View}
 use Rattle.smart_statements.specs.Kinds.{requests}
@@ -18,7 +18,7 @@ use Rattle.node_rules.specs.Reopening.{reopened, damaged, entries_in}
 use Rattle.smart_service.specs.declared.replica.Replica.{Replica}
 use Rattle.vote_book.specs.Books.{Among}
 use Rattle.vote_book.specs.Entries.{entry_text}
-use Rattle.agreement_laws.specs.Statements.{Statement, Asked, Proposed, Voted, Stopped, Reported, Synced, Marked, Replied, Informed, signer_of, said}
+use Rattle.agreement_laws.specs.Statements.{Statement, signer_of, said, reply_stated}
 use Rattle.durable_store.specs.Restored.{Images, restores}
 use Rattle.world_rules.specs.Crashes.{bytes_held, images_left, wrong_images}
 use Rattle.world_rules.specs.declared.crash.Image.{Image}
@@ -129,15 +129,7 @@ pub record IsRightReply {S : Type 0} (m : Meaning S) (w : World S) (a : Answer) 
 
 -- a right statement: a reply is a right one; for other kinds nothing is claimed
 abbrev pub IsRightStatement : {S : Type 0} → Meaning S → World S → Statement → Type 0
-IsRightStatement m w (Asked q) = Unit {0}
-IsRightStatement m w (Proposed p) = Unit {0}
-IsRightStatement m w (Voted b) = Unit {0}
-IsRightStatement m w (Stopped s) = Unit {0}
-IsRightStatement m w (Reported r) = Unit {0}
-IsRightStatement m w (Synced s) = Unit {0}
-IsRightStatement m w (Marked x) = Unit {0}
-IsRightStatement m w (Replied a) = IsRightReply m w a.statement
-IsRightStatement m w (Informed i) = Unit {0}
+IsRightStatement m w s = IfSome (reply_stated s) (λ a. IsRightReply m w a.statement)
 
 -- A world of right replies. Each reply in a message that a node holds is right. Each reply with a correct member's tag is right, in whichever
 -- message it was sent.

@@ -1,5 +1,5 @@
 -- The senders of messages, and the entries that messages rest on.
-use Rattle.std.specs.Prelude.{ℕ, ◌≡◌, ◌<◌, ◌≤◌, ◌⊎◌, ◌==◌, Bool, false, ◌&&◌, ◌||◌, List, [], ◌∷◌, length, filter, Option, Ok, Err, option_and_then, true}
+use Rattle.std.specs.Prelude.{ℕ, ◌≡◌, ◌<◌, ◌≤◌, ◌⊎◌, ◌==◌, Bool, false, ◌&&◌, ◌||◌, List, [], ◌∷◌, length, filter, Option, IsSomeAnd, Ok, Err, option_and_then, true}
 use Rattle.smart_base.specs.declared.party.Party.TheVariants as parties
 use Rattle.smart_base.specs.declared.party.Party.{Party}
 use Rattle.std.specs.List.{list_any}
@@ -8,17 +8,15 @@ use Rattle.smart_base.specs.Views.{View, weight_of, quorum}
 use Rattle.smart_base.specs.declared.limits.TheConstants.{MESSAGE_BYTES}
 use Rattle.smart_statements.specs.Forms.{SignedBy}
 use Rattle.smart_statements.specs.Kinds.{answers}
-use Rattle.smart_messages.specs.Messages.{spelling, decoded, reply_in, some_of}
+use Rattle.smart_messages.specs.Messages.{spelling, decoded, request_in, reply_in, some_of}
 use Rattle.smart_statements.specs.declared.statement.Request.{Request}
 use Rattle.smart_statements.specs.declared.statement.Answer.{Answer}
 use Rattle.smart_messages.specs.declared.message.Message.{Message}
-use Rattle.smart_messages.specs.declared.message.Message.TheVariants.{Ask, Propose, Vote, Reply}
-use Rattle.smart_messages.specs.declared.message.Message.TheVariants as changes
 use Rattle.vote_book.specs.declared.entry.LogEntry.{LogEntry}
 use Rattle.replica_rules.specs.Seals.{is_verified}
 use Rattle.node_rules.specs.declared.node.Target.{Target}
 use Rattle.node_rules.specs.declared.node.Target.TheVariants as targets
-use Rattle.replica_laws.specs.Sending.{IsOwn, RestsOn, IsGenuine}
+use Rattle.replica_laws.specs.Sending.{IsOwn, RestsOn, orders, IsGenuine}
 use Rattle.world_rules.specs.Secrets.{group_secret}
 use Rattle.world_rules.specs.Premises.{is_among, bytes_of, same_party}
 use Rattle.client_quorum.specs.Clients.{after_heard, reply_read}
@@ -46,13 +44,7 @@ pub record IsNodes (view : View) (id : ℕ) (to : List Party) (content : Content
 
 -- A message that is a request with a client's signature. INTERIM(reads): a client sends nothing else.
 abbrev pub IsRequestOf : ℕ → Message → Type 0
-IsRequestOf id (Ask q) = q.signer ≡ id
-IsRequestOf id (Propose p) = ⊥
-IsRequestOf id (Vote b) = ⊥
-IsRequestOf id (changes.Stop s) = ⊥
-IsRequestOf id (changes.StopData r) = ⊥
-IsRequestOf id (changes.Sync s) = ⊥
-IsRequestOf id (Reply a) = ⊥
+IsRequestOf id message = IsSomeAnd (request_in message) (λ q. q.signer ≡ id)
 
 -- a content that is a request with a client's signature
 abbrev pub IsAskOf : ℕ → Content → Type 0
@@ -75,16 +67,6 @@ IsOwnSent view origins.Script to content = to ≡ []
 pub record IsUnread (bytes : List ℕ) : Type 0 where
   pub at : ℕ
   pub unread : decoded bytes ≡ Err at
-
--- a message that orders requests or answers one; it has at most 1,048,576 bytes
-abbrev pub orders : Message → Bool
-orders (Ask q) = true
-orders (Propose p) = true
-orders (Vote b) = true
-orders (changes.Stop s) = false
-orders (changes.StopData r) = false
-orders (changes.Sync s) = false
-orders (Reply a) = true
 
 -- A message that its bytes are read as, if they are at most 1,048,576. More bytes are read as no message. A message that orders requests is
 -- always read as itself.
