@@ -1,5 +1,5 @@
 //! What a transcript tells of a message that was sent, and the words for it.
-ghost use Rattle.std.specs.Prelude.{◌≡◌, ◌++◌, OnOk, length, string_bytes};
+ghost use Rattle.std.specs.Prelude.{◌≡◌, ◌++◌, OnOk, string_bytes};
 ghost use Rattle.message_words.specs.Words.{vote_summary, regency_locked, summary_of, lock_text, bound_text, summary_text};
 
 use regency_sync::choosing::choice;

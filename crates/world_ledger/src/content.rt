@@ -1,5 +1,5 @@
 //! What is sent: its bytes, and what a transcript tells of it.
-ghost use Rattle.std.specs.Prelude.{◌≡◌, IfOk, length, option_to_list, option_copied};
+ghost use Rattle.std.specs.Prelude.{◌≡◌, IfOk, option_to_list, option_copied};
 ghost use Rattle.world_rules.specs.Premises.{batches, bytes_of};
 ghost use Rattle.world_rules.specs.Injections.{batch_proposed, content_of};
 ghost use Rattle.world_rules.specs.Worlds.{summary};
