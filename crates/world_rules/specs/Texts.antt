@@ -1,9 +1,10 @@
 -- The text of transcript lines.
-use Rattle.std.specs.Prelude.{ℕ, Bool, Option, Some, None, List, [], ◌∷◌, ◌++◌, codes, nat_lt, nat_le, ◌&&◌, ◌==◌, not, ◌+◌, ◌/◌, ◌%◌, length, if◌then◌else◌}
+use Rattle.std.specs.Prelude.{ℕ, List, [], ◌∷◌, ◌++◌, codes, nat_lt, nat_le, ◌&&◌, ◌==◌, not, ◌+◌, ◌/◌, ◌%◌, length, if◌then◌else◌}
 use Rattle.std.specs.List.{flat_map}
 use Rattle.std.specs.Fmt.{decimal}
 use Rattle.smart_base.specs.Views.{View}
 use Rattle.smart_base.specs.declared.limits.TheConstants.{PERIOD}
+use Rattle.message_words.specs.Words.{after_space, bound_text, summary_text}
 use Rattle.node_rules.specs.declared.node.Why.{Why}
 use Rattle.node_rules.specs.declared.node.Why.TheVariants as whys
 use Rattle.client_quorum.specs.declared.client.Ignored.{Ignored}
@@ -13,8 +14,6 @@ use Rattle.world_rules.specs.declared.message.Origin.{Origin}
 use Rattle.world_rules.specs.declared.message.Origin.TheVariants as origins
 use Rattle.world_rules.specs.declared.line.App.{App}
 use Rattle.world_rules.specs.declared.line.App.TheVariants as apps
-use Rattle.world_rules.specs.declared.line.Summary.{Summary}
-use Rattle.world_rules.specs.declared.line.Summary.TheVariants as summaries
 use Rattle.world_rules.specs.declared.line.OutLine.{OutLine}
 use Rattle.world_rules.specs.declared.line.OutLine.TheVariants as outs
 
@@ -46,34 +45,10 @@ ignored_text reasons.UnknownView = codes "UnknownView"
 ignored_text reasons.Stranger = codes "Stranger"
 ignored_text reasons.Repeated = codes "Repeated"
 
--- a number after a space
-abbrev pub after_space : ℕ → List ℕ
-after_space n = 32 ∷ decimal n
-
 abbrev pub origin_text : Origin → List ℕ
 origin_text (origins.Node id) = 110 ∷ decimal id
 origin_text (origins.Client id) = 99 ∷ decimal id
 origin_text origins.Script = codes "x"
-
--- the regency of a lock, or a dash
-abbrev pub lock_text : Option ℕ → List ℕ
-lock_text None = codes " -"
-lock_text (Some regency) = after_space regency
-
--- the word that tells whether a batch binds at the base of a regency
-abbrev pub bound_text : Bool → List ℕ
-bound_text bound = if bound then codes " bound" else codes " free"
-
-abbrev pub summary_text : Summary → List ℕ
-summary_text (summaries.Ask c s after) = codes "ask" ++ (after_space c ++ (after_space s ++ after_space after))
-summary_text (summaries.Propose v k r count) = codes "propose" ++ (after_space v ++ (after_space k ++ (after_space r ++ after_space count)))
-summary_text (summaries.Write v k r) = codes "write" ++ (after_space v ++ (after_space k ++ after_space r))
-summary_text (summaries.Accept v k r) = codes "accept" ++ (after_space v ++ (after_space k ++ after_space r))
-summary_text (summaries.Stop v r) = codes "stop" ++ (after_space v ++ after_space r)
-summary_text (summaries.StopData v r last lock) = codes "stopdata" ++ (after_space v ++ (after_space r ++ (after_space last ++ lock_text lock)))
-summary_text (summaries.Sync v r base bound) = codes "sync" ++ (after_space v ++ (after_space r ++ (after_space base ++ bound_text bound)))
-summary_text (summaries.Reply c s k i) = codes "reply" ++ (after_space c ++ (after_space s ++ (after_space k ++ after_space i)))
-summary_text summaries.Raw = codes "raw"
 
 abbrev pub app_text : App → List ℕ
 app_text apps.Count = codes "count"

@@ -7,16 +7,13 @@ use Rattle.smart_statements.specs.Forms.{SignedBy}
 use Rattle.smart_statements.specs.Kinds.{requests}
 use Rattle.smart_statements.specs.Batches.{Batch}
 use Rattle.smart_messages.specs.Messages.{decoded}
-use Rattle.smart_statements.specs.declared.report.LockCertificate.{LockCertificate}
 use Rattle.smart_messages.specs.declared.message.Message.{Message}
-use Rattle.smart_messages.specs.declared.message.Message.TheVariants as changes
-use Rattle.regency_sync.specs.Choices.{choice}
+use Rattle.message_words.specs.Words.{summary_of}
+use Rattle.message_words.specs.declared.words.Summary.{Summary}
+use Rattle.message_words.specs.declared.words.Summary.TheVariants as summaries
 use Rattle.smart_statements.specs.declared.statement.Request.{Request}
-use Rattle.smart_statements.specs.declared.statement.VoteKind.{VoteKind}
-use Rattle.smart_statements.specs.declared.statement.VoteKind.TheVariants.{Write, Accept}
-use Rattle.smart_statements.specs.declared.statement.Ballot.{Ballot}
 use Rattle.smart_statements.specs.declared.statement.Answer.{Answer}
-use Rattle.smart_messages.specs.declared.message.Message.TheVariants.{Ask, Propose, Vote, Reply}
+use Rattle.smart_messages.specs.declared.message.Message.TheVariants.{Ask}
 use Rattle.smart_statements.specs.declared.entry.NodeEvent.{NodeEvent}
 use Rattle.smart_statements.specs.declared.entry.NodeEvent.TheVariants.{Arrive, Tick, Deliver, Firm}
 use Rattle.smart_base.specs.declared.party.Party.{Party}
@@ -66,8 +63,6 @@ use Rattle.world_rules.specs.declared.message.Premise.TheVariants.{TooManyFaulty
 use Rattle.world_rules.specs.declared.message.Content.{Content}
 use Rattle.world_rules.specs.declared.message.Content.TheVariants as contents
 use Rattle.world_rules.specs.declared.line.Injection.{Injection}
-use Rattle.world_rules.specs.declared.line.Summary.{Summary}
-use Rattle.world_rules.specs.declared.line.Summary.TheVariants as summaries
 use Rattle.world_rules.specs.declared.line.OutLine.{OutLine}
 use Rattle.world_rules.specs.declared.line.OutLine.TheVariants as outs
 
@@ -137,28 +132,6 @@ abbrev pub is_halted : {S : Type 0} → World S → Bool
 is_halted w = is_some w.ending
 
 -- messages that leave
-
--- the transcript's words for a vote
-abbrev pub vote_summary : Ballot → VoteKind → Summary
-vote_summary b Write = summaries.Write b.slot.view b.slot.place b.slot.regency
-vote_summary b Accept = summaries.Accept b.slot.view b.slot.place b.slot.regency
-
--- the regency of a lock, if there is one
-abbrev pub regency_locked : Option LockCertificate → Option ℕ
-regency_locked None = None
-regency_locked (Some l) = Some l.regency
-
--- the transcript's words for a message
-abbrev pub summary_of : Message → Summary
-summary_of (Ask q) = summaries.Ask q.statement.client q.statement.seq q.statement.after
-summary_of (Propose p) = summaries.Propose p.head.statement.slot.view p.head.statement.slot.place p.head.statement.slot.regency (length p.batch)
-summary_of (Vote b) = vote_summary b.statement b.statement.kind
-summary_of (changes.Stop s) = summaries.Stop s.statement.view s.statement.regency
-summary_of (changes.StopData r) =
-    summaries.StopData r.head.statement.view r.head.statement.regency r.head.statement.last (regency_locked r.head.statement.lock)
-summary_of (changes.Sync s) =
-    summaries.Sync s.statement.view s.statement.regency (choice s.statement.collect).base (is_some (choice s.statement.collect).bound)
-summary_of (Reply a) = summaries.Reply a.statement.client a.statement.seq a.statement.place a.statement.index
 
 -- a transcript line added to those of the present script line
 abbrev pub telling : {S : Type 0} → World S → OutLine → World S

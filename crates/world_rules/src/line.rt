@@ -2,6 +2,7 @@
 use crate::crash::{Image, Patch};
 use crate::message::Origin;
 use client_quorum::client::Ignored;
+use message_words::words::Summary;
 use node_rules::node::Why;
 use smart_base::bytes::Payload;
 use smart_base::name::{ClientId, MemberId};
@@ -177,58 +178,6 @@ pub enum Kind {
     /// A message or a member that is not there, a message that is not of that kind, or an injection
     /// whose batch passes its limit.
     Refer,
-}
-
-/// What a transcript tells of a message.
-#[derive(Clone, Copy, Debug, PartialEq, Eq)]
-pub enum Summary {
-    Ask {
-        client: ClientId,
-        seq: u64,
-        after: u64,
-    },
-    Propose {
-        view: ViewNo,
-        place: Place,
-        regency: Regency,
-        requests: u64,
-    },
-    Write {
-        view: ViewNo,
-        place: Place,
-        regency: Regency,
-    },
-    Accept {
-        view: ViewNo,
-        place: Place,
-        regency: Regency,
-    },
-    Reply {
-        client: ClientId,
-        seq: u64,
-        place: Place,
-        index: u16,
-    },
-    Stop {
-        view: ViewNo,
-        regency: Regency,
-    },
-    /// A STOPDATA: its last place, and the regency of its lock, if it has one.
-    StopData {
-        view: ViewNo,
-        regency: Regency,
-        last: u64,
-        lock: Option<Regency>,
-    },
-    /// A SYNC: the place at which its regency begins, and whether a batch binds there.
-    Sync {
-        view: ViewNo,
-        regency: Regency,
-        base: u64,
-        bound: bool,
-    },
-    /// Bytes that are no message.
-    Raw,
 }
 
 /// A line of the transcript.

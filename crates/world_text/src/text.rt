@@ -2,15 +2,16 @@
 ghost use Rattle.std.specs.Prelude.{◌≡◌, ◌++◌, ◌∷◌, ◌<◌, IfOk, OnOk, string_bytes};
 ghost use Rattle.std.specs.Fmt.{decimal};
 ghost use Rattle.std.specs.List.{flat_map};
-ghost use Rattle.world_rules.specs.Texts.{why_text, ignored_text, app_text, origin_text, lock_text, bound_text, summary_text, after_space, hex_digit, shown, words_of, line_text, text_of};
+ghost use Rattle.message_words.specs.Words.{after_space};
+ghost use Rattle.world_rules.specs.Texts.{why_text, ignored_text, app_text, origin_text, hex_digit, shown, words_of, line_text, text_of};
 
 use client_quorum::client::Ignored;
+use message_words::words::{Summary, bound_text, push_summary};
 use node_rules::node::Why;
 use smart_base::limits::PERIOD;
-use smart_base::number::Regency;
 use std::alloc::{AllocError, Global};
 use std::fmt::{self, Write};
-use world_rules::line::{App, OutLine, Summary};
+use world_rules::line::{App, OutLine};
 use world_rules::message::Origin;
 
 /// The name of a reason.
@@ -76,96 +77,6 @@ fn push_origin(out: &mut String, origin: Origin) -> Result<(), AllocError>
             write!(out, "c{id}")
         }
         Origin::Script => out.push_str("x"),
-    }
-}
-
-/// Whether a batch binds where a regency begins.
-fn bound_text(bound: bool) -> &'static str
-    ensures { result.now ≡ bound_text bound }
-{
-    if bound { " bound" } else { " free" }
-}
-
-/// The regency of a lock behind a space, or a dash.
-fn push_lock(out: &mut String, lock: Option<Regency>) -> Result<(), AllocError>
-    ensures { OnOk result (string_bytes out.new ≡ string_bytes out.old ++ lock_text lock) }
-{
-    match lock {
-        None => out.push_str(" -"),
-        Some(regency) => {
-            let regency = regency.get();
-            write!(out, " {regency}")
-        }
-    }
-}
-
-fn push_summary(out: &mut String, summary: Summary) -> Result<(), AllocError>
-    ensures { OnOk result (string_bytes out.new ≡ string_bytes out.old ++ summary_text summary) }
-{
-    match summary {
-        Summary::Ask { client, seq, after } => {
-            let client = client.get();
-            write!(out, "ask {client} {seq} {after}")
-        }
-        Summary::Propose {
-            view,
-            place,
-            regency,
-            requests,
-        } => {
-            let (view, place, regency) = (view.get(), place.get(), regency.get());
-            write!(out, "propose {view} {place} {regency} {requests}")
-        }
-        Summary::Write {
-            view,
-            place,
-            regency,
-        } => {
-            let (view, place, regency) = (view.get(), place.get(), regency.get());
-            write!(out, "write {view} {place} {regency}")
-        }
-        Summary::Accept {
-            view,
-            place,
-            regency,
-        } => {
-            let (view, place, regency) = (view.get(), place.get(), regency.get());
-            write!(out, "accept {view} {place} {regency}")
-        }
-        Summary::Reply {
-            client,
-            seq,
-            place,
-            index,
-        } => {
-            let (client, place) = (client.get(), place.get());
-            write!(out, "reply {client} {seq} {place} {index}")
-        }
-        Summary::Stop { view, regency } => {
-            let (view, regency) = (view.get(), regency.get());
-            write!(out, "stop {view} {regency}")
-        }
-        Summary::StopData {
-            view,
-            regency,
-            last,
-            lock,
-        } => {
-            let (view, regency) = (view.get(), regency.get());
-            write!(out, "stopdata {view} {regency} {last}")?;
-            push_lock(out, lock)
-        }
-        Summary::Sync {
-            view,
-            regency,
-            base,
-            bound,
-        } => {
-            let (view, regency) = (view.get(), regency.get());
-            write!(out, "sync {view} {regency} {base}")?;
-            out.push_str(bound_text(bound))
-        }
-        Summary::Raw => out.push_str("raw"),
     }
 }
 
