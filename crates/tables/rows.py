@@ -4,7 +4,7 @@
 Nothing of the repository's code or definitions is used. The reader below finds where a spelling is faulty. Tags and digests
 are those of Python's library. What votes, marks, reports and books come to is written by hand, row by row.
 """
-import hashlib, hmac, sys, textwrap
+import hashlib, hmac, math, sys, textwrap
 
 FINE = "fine"
 LAST_PLACE = 2**63 - 1
@@ -239,6 +239,13 @@ def told_view(data):
     return fault(data, lambda r: r.signed(False, r.told_view))
 
 
+def cases_of(row):
+    """How many cases a row has: the numbers that its changes name, or one."""
+    _, _, changes = row.partition(";")
+    size = lambda span: int(span.rpartition("-")[2]) - int(span.partition("-")[0]) + 1
+    return sum(math.prod(size(span) for span in change[1:].split(":")) for change in changes.split()) or 1
+
+
 def spans(numbers):
     """Ascending numbers as their spans: `3`, `5-9`."""
     found = []
@@ -254,7 +261,7 @@ class Table:
     """A table's text: comments, names and rows."""
 
     def __init__(self, name, about, call=None):
-        self.name, self.call, self.names = name, call, {}
+        self.name, self.call, self.names, self.cases = name, call, {}, 0
         self.lines = [f"# {line}" for line in textwrap.wrap(about, 110)]
         self.lines.append("# rows.py makes this file.")
 
@@ -274,6 +281,7 @@ class Table:
 
     def row(self, wanted, text):
         self.lines.append(f"{wanted} {text}")
+        self.cases += cases_of(text)
 
     def spelled(self, words, wanted=None):
         """A row of bytes. What is wanted, where it is said by hand, is what the reader finds."""
@@ -317,7 +325,7 @@ class Table:
                             for wanted, by_values in found.items()})
 
     def text(self):
-        return "\n".join(self.lines) + "\n"
+        return "\n".join([*self.lines, "", f"cases {self.cases}"]) + "\n"
 
 
 def hexed(number, width):

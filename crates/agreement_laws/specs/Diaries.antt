@@ -10,7 +10,7 @@ use Rattle.vote_book.specs.declared.entry.LogEntry.{LogEntry}
 use Rattle.vote_book.specs.declared.entry.LogEntry.TheVariants as entries
 use Rattle.vote_book.specs.Books.{last_made, Among}
 use Rattle.vote_book.specs.BookReports.{Reports}
-use Rattle.smart_messages.specs.Statements.{Statement, Asked, Proposed, Voted, Stopped, Reported, Synced, Marked, Replied, Informed}
+use Rattle.smart_messages.specs.Messages.{Statement, Asked, Proposed, Voted, Stopped, Reported, Synced, Marked, Replied, Informed}
 
 -- a diary in which the member has accepted a digest in a slot
 pub record HasAccepted (diary : List LogEntry) (slot : Slot) (digest : List ℕ) : Type 0 where

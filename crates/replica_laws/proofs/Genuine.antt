@@ -17,8 +17,7 @@ use Rattle.smart_statements.specs.SignedLists.{listed, FitsList, optional, FitsO
 use Rattle.smart_statements.specs.Reports as spells_report
 use Rattle.smart_statements.specs.Reports.{reports, votes_of, FitsVote, FitsReport, FitsEvidence, FitsLockCertificate}
 use Rattle.smart_messages.specs.Regencies as spells_change
-use Rattle.smart_messages.specs.Regencies.{stops, syncs, FitsStop, FitsSync}
-use Rattle.smart_messages.specs.RegencyLaws.{stop_small}
+use Rattle.smart_messages.specs.Regencies.{stops, syncs, FitsStop, FitsSync, stop_small}
 use Rattle.smart_messages.proofs.Messages.{spelling_is}
 use Rattle.smart_statements.specs.declared.statement.Request.{Request}
 use Rattle.smart_statements.specs.declared.statement.Proposal.{Proposal}

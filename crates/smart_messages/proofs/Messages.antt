@@ -20,11 +20,9 @@ use Rattle.smart_statements.specs.Reports.{reports, FitsReport, marks, FitsMark}
 use Rattle.smart_statements.specs.ReportLaws.{report_law, mark_law}
 use Rattle.smart_statements.specs.declared.statement.VoteKind.{VoteKind}
 use Rattle.smart_statements.specs.declared.statement.VoteKind.TheVariants.{Write, Accept}
-use Rattle.smart_messages.specs.Regencies.{stops, FitsStop, syncs, FitsSync, view_infos, FitsViewInfo}
-use Rattle.smart_messages.specs.RegencyLaws.{stop_law, sync_law, view_info_law}
-use Rattle.smart_messages.specs.Messages.{kind, content, spelling, FitsContent, Fits, ask_at, propose_at, vote_at, stop_message_at, stop_data_at, sync_message_at, reply_at, body_at, is_kind, message_kind_at, message_at, decoded, batch_in}
-use Rattle.smart_messages.specs.Statements.{Statement, Asked, Proposed, Voted, Stopped, Reported, Synced, Marked, Replied, Informed, sealed, sealed_of, head}
-use Rattle.smart_messages.specs.declared.standing.Sealed.{Sealed}
+use Rattle.smart_messages.specs.Regencies.{stops, FitsStop, syncs, FitsSync, view_infos, FitsViewInfo, stop_law, sync_law, view_info_law}
+use Rattle.smart_messages.specs.Messages.{kind, content, spelling, FitsContent, Fits, ask_at, propose_at, vote_at, stop_message_at, stop_data_at, sync_message_at, reply_at, body_at, is_kind, message_kind_at, message_at, decoded, batch_in, Statement, Asked, Proposed, Voted, Stopped, Reported, Synced, Marked, Replied, Informed, sealed, sealed_of, head}
+use Rattle.smart_messages.specs.declared.message.Sealed.{Sealed}
 use Rattle.smart_messages.specs.declared.message.Message.{Message}
 use Rattle.smart_messages.specs.declared.message.Message.TheVariants.{Ask, Propose, Vote, Reply}
 use Rattle.smart_messages.specs.declared.message.Message.TheVariants as changes

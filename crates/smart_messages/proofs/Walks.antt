@@ -11,9 +11,9 @@ use Rattle.smart_statements.specs.declared.statement.Proposal.{Proposal}
 use Rattle.smart_statements.specs.declared.report.Mark.{Mark}
 use Rattle.smart_statements.specs.declared.report.Report.{Report}
 use Rattle.smart_messages.specs.Regencies.{syncs}
-use Rattle.smart_messages.specs.Statements.{Statement, Asked, Proposed, Voted, Marked, Reported, Synced, sealed, sealed_of, within, in_report, requests_of, parts_of_evidence, parts_of_lock}
+use Rattle.smart_messages.specs.Messages.{Statement, Asked, Proposed, Voted, Marked, Reported, Synced, sealed, sealed_of, within, in_report, requests_of, parts_of_evidence, parts_of_lock}
 use Rattle.smart_messages.specs.declared.regency.Sync.{Sync}
-use Rattle.smart_messages.specs.declared.standing.Sealed.{Sealed}
+use Rattle.smart_messages.specs.declared.message.Sealed.{Sealed}
 
 map-append : {A C : Type 0} (f : A → C) (xs ys : List A) → map f (xs ++ ys) ≡ map f xs ++ map f ys
 map-append f [] ys = refl

@@ -1,4 +1,2 @@
 pub mod Messages
 pub mod Regencies
-pub mod RegencyLaws
-pub mod Statements

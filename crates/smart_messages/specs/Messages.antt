@@ -1,28 +1,37 @@
 -- Messages: their bytes, which messages have bytes, how they are read, and what stands in them.
-use Rattle.std.specs.Prelude.{ℕ, ◌≤◌, List, ◌++◌, length, Bool, false, Option, Some, None, Result, Ok, ◌==◌, ◌||◌, if◌then◌else◌}
+use Rattle.std.specs.Prelude.{ℕ, ◌≤◌, List, ◌++◌, length, Bool, false, Option, Some, None, Result, Ok, ◌==◌, ◌||◌, if◌then◌else◌, [], ◌∷◌, map}
 use Rattle.std.specs.Int.{w8}
+use Rattle.std.specs.List.{flat_map}
 use Rattle.smart_base.specs.Cuts.{Cut, Read, ◌>>=◌, number_at, ranged, limited, whole}
 use Rattle.smart_base.specs.Spelling.{u8}
 use Rattle.smart_base.specs.declared.limits.TheConstants.{MESSAGE_BYTES}
-use Rattle.smart_statements.specs.Forms.{SignedBy}
+use Rattle.smart_statements.specs.Forms.{SignedBy, Form, party_of}
 use Rattle.smart_statements.specs.Batches.{Batch, batch_text, FitsBatch}
 use Rattle.smart_statements.specs.Kinds.{proposals, ballots, answers, requests}
 use Rattle.smart_statements.specs.Spelling.{signed, FitsSigned, FitsProposal, FitsBallot, FitsAnswer, FitsRequest}
 use Rattle.smart_statements.specs.Reading.{signed_at, batch_at}
 use Rattle.smart_statements.specs.SignedLists.{optional, FitsOptional, optional_at}
-use Rattle.smart_statements.specs.Reports.{reports, FitsReport}
+use Rattle.smart_statements.specs.Reports.{reports, FitsReport, marks}
 use Rattle.smart_statements.specs.declared.statement.Request.{Request}
 use Rattle.smart_statements.specs.declared.statement.Slot.{Slot}
 use Rattle.smart_statements.specs.declared.statement.Ballot.{Ballot}
 use Rattle.smart_statements.specs.declared.statement.Answer.{Answer}
-use Rattle.smart_messages.specs.Regencies.{stops, FitsStop, syncs, FitsSync}
+use Rattle.smart_statements.specs.declared.statement.Proposal.{Proposal}
+use Rattle.smart_statements.specs.declared.report.Mark.{Mark}
+use Rattle.smart_statements.specs.declared.report.LockCertificate.{LockCertificate}
+use Rattle.smart_statements.specs.declared.report.Evidence.{Evidence}
+use Rattle.smart_statements.specs.declared.report.Report.{Report}
+use Rattle.smart_statements.specs.declared.report.Evidence.TheVariants as evidence
+use Rattle.smart_messages.specs.Regencies.{stops, FitsStop, syncs, FitsSync, view_infos}
 use Rattle.smart_messages.specs.declared.regency.Stop.{Stop}
 use Rattle.smart_messages.specs.declared.regency.Sync.{Sync}
-use Rattle.smart_messages.specs.declared.regency.Reported.{Reported}
-use Rattle.smart_messages.specs.declared.message.Proposed.{Proposed}
 use Rattle.smart_messages.specs.declared.message.Message.{Message}
 use Rattle.smart_messages.specs.declared.message.Message.TheVariants.{Ask, Propose, Vote, Reply}
+use Rattle.smart_messages.specs.declared.regency.ViewInfo.{ViewInfo}
+use Rattle.smart_messages.specs.declared.message.Sealed.{Sealed}
 use Rattle.smart_messages.specs.declared.message.Message.TheVariants as changes
+use Rattle.smart_messages.specs.declared.message.Proposed as proposed
+use Rattle.smart_messages.specs.declared.regency.Reported as reported
 
 -- ---- the spelling
 
@@ -144,7 +153,7 @@ request_in (changes.Sync s) = None
 request_in (Reply a) = None
 
 -- the PROPOSE that a message is, if it is one
-abbrev pub proposal_in : Message → Option Proposed
+abbrev pub proposal_in : Message → Option proposed.Proposed
 proposal_in (Ask q) = None
 proposal_in (Propose p) = Some p
 proposal_in (Vote b) = None
@@ -174,7 +183,7 @@ stop_in (changes.Sync s) = None
 stop_in (Reply a) = None
 
 -- the STOPDATA that a message is, if it is one
-abbrev pub report_in : Message → Option Reported
+abbrev pub report_in : Message → Option reported.Reported
 report_in (Ask q) = None
 report_in (Propose p) = None
 report_in (Vote b) = None
@@ -232,3 +241,95 @@ some_of wanted (Some x) = wanted x
 abbrev pub kept_if : {A : Type 0} → (A → Bool) → Option A → Option A
 kept_if wanted None = None
 kept_if wanted (Some x) = if wanted x then Some x else None
+
+-- ---- the statements of members and clients
+
+-- a statement of any kind, with its signer and its tag
+pub data Statement : Type 0 where
+  Asked : SignedBy Request → Statement
+  Proposed : SignedBy Proposal → Statement
+  Voted : SignedBy Ballot → Statement
+  Stopped : SignedBy Stop → Statement
+  Reported : SignedBy Report → Statement
+  Synced : SignedBy Sync → Statement
+  Marked : SignedBy Mark → Statement
+  Replied : SignedBy Answer → Statement
+  Informed : SignedBy ViewInfo → Statement
+
+-- the signer of a statement, its bytes, and the tag over them
+abbrev pub sealed : {A : Type 0} → Form A → SignedBy A → Sealed
+sealed form s = record { who = party_of form.kind s.signer; text = form.spell s.statement; tag = s.tag }
+
+abbrev pub sealed_of : Statement → Sealed
+sealed_of (Asked q) = sealed requests q
+sealed_of (Proposed p) = sealed proposals p
+sealed_of (Voted b) = sealed ballots b
+sealed_of (Stopped s) = sealed stops s
+sealed_of (Reported r) = sealed reports r
+sealed_of (Synced s) = sealed syncs s
+sealed_of (Marked m) = sealed marks m
+sealed_of (Replied a) = sealed answers a
+sealed_of (Informed i) = sealed view_infos i
+
+-- ---- what stands in statements and in messages, whatever the tags
+
+-- the votes or marks in evidence
+abbrev pub parts_of_evidence : Evidence → List Statement
+parts_of_evidence evidence.Nothing = []
+parts_of_evidence (evidence.Decided p) = map Voted p.accepts
+parts_of_evidence (evidence.Marked m) = map Marked m.marks
+
+-- the votes in a lock
+abbrev pub parts_of_lock : Option LockCertificate → List Statement
+parts_of_lock None = []
+parts_of_lock (Some l) = map Voted l.writes
+
+-- a report, with the votes and marks in its evidence and its lock
+abbrev pub in_report : SignedBy Report → List Statement
+in_report r = Reported r ∷ (parts_of_evidence r.statement.evidence ++ parts_of_lock r.statement.lock)
+
+-- a statement, and all that stand in it, at any depth
+abbrev pub within : Statement → List Statement
+within (Asked q) = Asked q ∷ []
+within (Proposed p) = Proposed p ∷ []
+within (Voted b) = Voted b ∷ []
+within (Stopped s) = Stopped s ∷ []
+within (Reported r) = in_report r
+within (Synced s) = Synced s ∷ flat_map in_report s.statement.collect
+within (Marked m) = Marked m ∷ []
+within (Replied a) = Replied a ∷ []
+within (Informed i) = Informed i ∷ []
+
+abbrev pub requests_of : Option Batch → List Statement
+requests_of None = []
+requests_of (Some batch) = map Asked batch
+
+-- the statement that a message is signed as
+abbrev pub head : Message → Statement
+head (Ask q) = Asked q
+head (Propose p) = Proposed p.head
+head (Vote b) = Voted b
+head (changes.Stop s) = Stopped s
+head (changes.StopData r) = Reported r.head
+head (changes.Sync s) = Synced s
+head (Reply a) = Replied a
+
+-- the statements that a message makes itself: its own, and the requests of its batch
+abbrev pub said : Message → List Statement
+said m = head m ∷ requests_of (batch_in m)
+
+-- all statements that stand in a message, at any depth
+abbrev pub statements_in : Message → List Statement
+statements_in m = flat_map within (said m)
+
+-- the reply that a statement is, if it is one
+abbrev pub reply_stated : Statement → Option (SignedBy Answer)
+reply_stated (Asked q) = None
+reply_stated (Proposed p) = None
+reply_stated (Voted b) = None
+reply_stated (Stopped s) = None
+reply_stated (Reported r) = None
+reply_stated (Synced s) = None
+reply_stated (Marked m) = None
+reply_stated (Replied a) = Some a
+reply_stated (Informed i) = None

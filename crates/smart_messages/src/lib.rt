@@ -6,4 +6,3 @@ pub mod laws;
 pub mod message;
 pub mod party;
 pub mod regency;
-pub mod standing;

@@ -1,6 +1,5 @@
 //! The statements and messages of a leader change.
-ghost use Rattle.smart_messages.specs.Regencies.{FitsStop, stops, FitsSync, syncs, FitsViewInfo, view_infos};
-ghost use Rattle.smart_messages.specs.RegencyLaws.{stop_law, sync_law, view_info_law};
+ghost use Rattle.smart_messages.specs.Regencies.{FitsStop, stops, FitsSync, syncs, FitsViewInfo, view_infos, stop_law, sync_law, view_info_law};
 
 use smart_base::cursor::Cursor;
 use smart_base::duplicate::Duplicate;
@@ -90,7 +89,7 @@ impl Statement for Stop {
         Ok(Stop { view, regency })
     }
 
-    #[tactic(auto, using(crate::specs::RegencyLaws::stop_small))]
+    #[tactic(auto, using(crate::specs::Regencies::stop_small))]
     fn put(&self, out: &mut Vec<u8>) -> Result<(), AllocError> {
         let (view, regency) = (self.view.get(), self.regency.get());
         put_u8(out, 4)?;
@@ -154,7 +153,7 @@ impl Statement for ViewInfo {
         Ok(ViewInfo { view })
     }
 
-    #[tactic(auto, using(crate::specs::RegencyLaws::view_info_small))]
+    #[tactic(auto, using(crate::specs::Regencies::view_info_small))]
     fn put(&self, out: &mut Vec<u8>) -> Result<(), AllocError> {
         // A view has few members, so its text is short.
         let _few = self.view.members();

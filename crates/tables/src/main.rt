@@ -24,16 +24,23 @@ fn text_of(rt: &HostRuntime, table: Table) -> io::Result<String> {
     fs::read_to_string(rt, path.as_str())
 }
 
-/// Says how many cases of a table are as their rows say. Answers whether all are.
+/// Says whether all cases of a table are as their rows say, and are as many as the table tells.
+/// Answers the same.
 fn say(rt: &HostRuntime, table: Table, tally: Tally) -> io::Result<bool> {
     let name = table.name();
-    let Tally { cases, wrong } = tally;
-    if wrong == 0 {
-        println!(rt; "{name}: {cases} cases ok")?;
-    } else {
+    let Tally { cases, wrong, told } = tally;
+    let is_whole = told == Some(cases);
+    if !is_whole {
+        println!(rt; "{name}: {cases} cases, which is not the number that its last line tells")?;
+    }
+    if wrong != 0 {
         println!(rt; "{name}: {wrong} of {cases} cases differ")?;
     }
-    Ok(wrong == 0)
+    let is_ok = is_whole && wrong == 0;
+    if is_ok {
+        println!(rt; "{name}: ok")?;
+    }
+    Ok(is_ok)
 }
 
 /// Tries a table and says how that ended. Answers whether all of it is as its rows say.

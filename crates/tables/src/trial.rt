@@ -1,14 +1,16 @@
 //! Tries the rows of a table.
 use crate::change::{Change, bytes_with, change_of, front_of};
 use crate::fault::RowFault;
-use crate::names::Names;
+use crate::names::{Names, number_of};
 use crate::table::Table;
 
-/// How many cases of a table were tried, and how many are not as their rows say.
+/// How many cases of a table were tried, how many are not as their rows say, and the number of
+/// cases that the table tells itself, if it does.
 #[derive(Clone, Copy)]
 pub struct Tally {
-    pub cases: u64,
-    pub wrong: u64,
+    pub cases: usize,
+    pub wrong: usize,
+    pub told: Option<usize>,
 }
 
 impl Tally {
@@ -115,7 +117,7 @@ fn try_row(
     row.try_changes(rt, bytes.as_slice(), changes, tally)
 }
 
-/// Takes a line: a name with its words, or a row.
+/// Takes a line: a name with its words, the number of cases, or a row.
 fn try_line(
     rt: &HostRuntime,
     table: Table,
@@ -127,16 +129,24 @@ fn try_line(
     if text.is_empty() || text.starts_with('#') {
         return Ok(());
     }
-    match text.split_once(" = ") {
-        Some((name, words)) => names.give(name, words),
-        None => try_row(rt, table, names, line, text, tally),
+    if let Some((name, words)) = text.split_once(" = ") {
+        return names.give(name, words);
     }
+    if let Some(number) = text.strip_prefix("cases ") {
+        tally.told = Some(number_of(number)?);
+        return Ok(());
+    }
+    try_row(rt, table, names, line, text, tally)
 }
 
 /// Tries the rows of a table's text.
 pub fn try_table(rt: &HostRuntime, table: Table, text: &str) -> Result<Tally, RowFault> {
     let mut names = Names::new(rt.alloc());
-    let mut tally = Tally { cases: 0, wrong: 0 };
+    let mut tally = Tally {
+        cases: 0,
+        wrong: 0,
+        told: None,
+    };
     for (index, text) in text.lines().enumerate() {
         let line = index.saturating_add(1);
         match try_line(rt, table, &mut names, line, text, &mut tally) {

@@ -23,7 +23,7 @@ use Rattle.smart_statements.specs.declared.report.Evidence.{Evidence}
 use Rattle.smart_statements.specs.declared.report.Evidence.TheVariants as evidence
 use Rattle.smart_statements.specs.declared.report.LockCertificate.{LockCertificate}
 use Rattle.smart_messages.specs.declared.message.Message.{Message}
-use Rattle.smart_messages.specs.declared.standing.Sealed.{Sealed}
+use Rattle.smart_messages.specs.declared.message.Sealed.{Sealed}
 use Rattle.smart_messages.specs.Messages.{FitsContent, batch_in}
 use Rattle.smart_messages.proofs.Messages.{FitsStatement, one_seal, head_fits, batch_in_fits}
 use Rattle.vote_book.specs.Books.{Among}

@@ -1,7 +1,7 @@
 -- The claims of what stands in a message are those of its statements.
 use Rattle.std.proofs.Common.{◌≡◌, Bool, true, false, cond, List, [], ◌∷◌, ◌++◌, map, filter, refl, ap, ◌∙◌, append_assoc}
 use Rattle.std.specs.List.{flat_map}
-use Rattle.smart_messages.specs.declared.standing.Sealed.{Sealed}
+use Rattle.smart_messages.specs.declared.message.Sealed.{Sealed}
 use Rattle.smart_messages.specs.declared.message.Message.{Message}
 use Rattle.agreement_laws.specs.Statements.{Statement, verifies, sealed_of, statements_in}
 use Rattle.world_rules.specs.Secrets.{group_secret}

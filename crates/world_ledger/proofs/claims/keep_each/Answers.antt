@@ -1,6 +1,6 @@
 use Rattle.std.proofs.Common.{◌∷◌, ◌∙◌, ◌+◌, drop, sym, ap, List, map}
 use Rattle.std.proofs.lemmas.List.{drop_more}
-use Rattle.smart_messages.specs.declared.standing.Sealed.{Sealed}
+use Rattle.smart_messages.specs.declared.message.Sealed.{Sealed}
 use Rattle.world_ledger.specs.Statements.{claim_of}
 use Rattle.world_ledger.proofs.ClaimLaws.{kept-more}
 use Rattle.world_ledger.proofs.claims.keep_each.Goals as goal

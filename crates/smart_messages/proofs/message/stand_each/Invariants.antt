@@ -1,6 +1,6 @@
 use Rattle.std.proofs.Common.{◌≡◌, ◌++◌, map, drop}
-use Rattle.smart_messages.specs.Statements.{sealed}
-use Rattle.smart_messages.proofs.standing.stand_each.Given as goal
+use Rattle.smart_messages.specs.Messages.{sealed}
+use Rattle.smart_messages.proofs.message.stand_each.Given as goal
 
 -- those so far and those of the statements left are all
 abbrev pub invariant-loop-item : goal.invariant-loop-item

@@ -1,7 +1,7 @@
 use Rattle.std.proofs.Common.{◌≡◌, ◌++◌, map, drop}
 use Rattle.std.specs.List.{flat_map}
-use Rattle.smart_messages.specs.Statements.{sealed_of, in_report}
-use Rattle.smart_messages.proofs.standing.stand_reports.Given as goal
+use Rattle.smart_messages.specs.Messages.{sealed_of, in_report}
+use Rattle.smart_messages.proofs.message.stand_reports.Given as goal
 
 -- those so far and those of the reports left are all
 abbrev pub invariant-loop-report : goal.invariant-loop-report

@@ -2,7 +2,7 @@ use Rattle.std.proofs.Common.{ap, ◌∙◌}
 use Rattle.smart_statements.specs.Forms.{SignedBy}
 use Rattle.smart_messages.specs.declared.regency.Sync.{Sync}
 use Rattle.smart_messages.proofs.Walks.{proposal_stands, reported_stands, sync_stands}
-use Rattle.smart_messages.proofs.standing.stand_all.Goals as goal
+use Rattle.smart_messages.proofs.message.stand_all.Goals as goal
 
 pub returns-in_ok-stand_each-in-Propose : goal.returns-in_ok-stand_each-in-Propose
 returns-in_ok-stand_each-in-Propose c =

@@ -2,9 +2,9 @@ use Rattle.std.proofs.Common.{◌∷◌, ◌∙◌, ◌+◌, drop, sym, ap, List
 use Rattle.std.proofs.lemmas.List.{drop_more}
 use Rattle.smart_statements.specs.Forms.{SignedBy}
 use Rattle.smart_statements.specs.declared.report.Report.{Report}
-use Rattle.smart_messages.specs.Statements.{sealed_of, in_report}
+use Rattle.smart_messages.specs.Messages.{sealed_of, in_report}
 use Rattle.smart_messages.proofs.Walks.{part_more}
-use Rattle.smart_messages.proofs.standing.stand_reports.Goals as goal
+use Rattle.smart_messages.proofs.message.stand_reports.Goals as goal
 
 pub loop-report-preserved : goal.loop-report-preserved
 loop-report-preserved c =

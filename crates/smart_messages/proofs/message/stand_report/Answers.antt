@@ -1,5 +1,5 @@
 use Rattle.smart_messages.proofs.Walks.{report_stands}
-use Rattle.smart_messages.proofs.standing.stand_report.Goals as goal
+use Rattle.smart_messages.proofs.message.stand_report.Goals as goal
 
 pub returns : goal.returns
 returns c =

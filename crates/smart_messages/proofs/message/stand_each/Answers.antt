@@ -1,9 +1,9 @@
 use Rattle.std.proofs.Common.{◌∷◌, ◌∙◌, ◌+◌, drop, sym, ap, List}
 use Rattle.std.proofs.lemmas.List.{drop_more}
 use Rattle.smart_statements.specs.Forms.{SignedBy}
-use Rattle.smart_messages.specs.Statements.{sealed}
+use Rattle.smart_messages.specs.Messages.{sealed}
 use Rattle.smart_messages.proofs.Walks.{one_more}
-use Rattle.smart_messages.proofs.standing.stand_each.Goals as goal
+use Rattle.smart_messages.proofs.message.stand_each.Goals as goal
 
 pub loop-item-preserved : goal.loop-item-preserved
 loop-item-preserved g c =
