@@ -8,8 +8,7 @@ ghost use Rattle.world_ledger.specs.Statements.{claim_of};
 use crate::stated::Stated;
 use smart_base::keys::Verifier;
 use smart_keys::ring::Ring;
-use smart_messages::message::Message;
-use smart_messages::message::{Sealed, statements_in};
+use smart_messages::message::{Message, Sealed, statements_in};
 use std::alloc::{AllocError, Global};
 use world_rules::message::Content;
 
