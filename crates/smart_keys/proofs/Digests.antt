@@ -7,7 +7,7 @@ use Rattle.sha2.specs.Sha256.{sha256, digest_bytes, final_hash, initial_hash_256
 use Rattle.sha2.proofs.Facts256.{length-sha256}
 use Rattle.smart_keys.specs.Keys.{digest, hmac}
 
-each-append : {A : Type 0} (P : A → Type 0) (xs ys : List A) → Each P xs → Each P ys → Each P (xs ++ ys)
+pub each-append : {A : Type 0} (P : A → Type 0) (xs ys : List A) → Each P xs → Each P ys → Each P (xs ++ ys)
 each-append P [] ys front back = back
 each-append P (x ∷ xs) ys front back = (front.0, each-append P xs ys front.1 back)
 

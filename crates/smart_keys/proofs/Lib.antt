@@ -1,3 +1,5 @@
+pub mod Begun
 pub mod Blocks
 pub mod Digests
+pub mod Learnt
 pub mod Tags

@@ -1,11 +1,11 @@
 -- Tags of parties.
-use Rattle.std.proofs.Common.{◌≡◌, ◌<◌, ℕ, true, List, [], ◌∷◌, ◌==◌, length, refl, sym, eq-eqb}
+use Rattle.std.proofs.Common.{◌≡◌, ℕ, true, List, [], ◌∷◌, ◌==◌, length, refl, sym, eq-eqb}
 use Rattle.std.proofs.lemmas.Bool.{eqb-true}
-use Rattle.smart_base.specs.Lists.{same_bytes, Each}
+use Rattle.smart_base.specs.Lists.{same_bytes}
 use Rattle.smart_base.specs.declared.party.Party.{Party}
 use Rattle.smart_base.proofs.SameLists.{same_list-equal}
 use Rattle.smart_keys.specs.Keys.{hmac, key_of, tag_of, is_tag}
-use Rattle.smart_keys.proofs.Digests.{hmac-length, hmac-bytes}
+use Rattle.smart_keys.proofs.Digests.{hmac-length}
 
 same_number : (n : ℕ) → (n == n) ≡ true
 same_number n = eq-eqb n n refl

@@ -10,10 +10,10 @@ use smart_base::keys::Digester;
 const BLOCK: usize = 64;
 
 /// Combined with the key before the text.
-const INNER_PAD: u8 = 0x36;
+pub(crate) const INNER_PAD: u8 = 0x36;
 
 /// Combined with the key before the inner digest.
-const OUTER_PAD: u8 = 0x5c;
+pub(crate) const OUTER_PAD: u8 = 0x5c;
 
 /// SHA-256.
 #[derive(Drop)]
@@ -51,7 +51,7 @@ fn zero_filled(bytes: &[u8]) -> [u8; BLOCK]
     block
 }
 
-fn block_of(key: &[u8]) -> [u8; BLOCK]
+pub(crate) fn block_of(key: &[u8]) -> [u8; BLOCK]
     ensures { result ≡ block_of key.now }
 {
     if key.len() <= BLOCK {
@@ -61,7 +61,7 @@ fn block_of(key: &[u8]) -> [u8; BLOCK]
     }
 }
 
-fn masked(pad: u8, block: &[u8; BLOCK]) -> [u8; BLOCK]
+pub(crate) fn masked(pad: u8, block: &[u8; BLOCK]) -> [u8; BLOCK]
     ensures { result ≡ masked pad block.now }
 {
     let mut out = [0; BLOCK];

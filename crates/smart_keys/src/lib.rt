@@ -2,5 +2,7 @@
 #![tactic(auto)]
 
 pub mod hash;
+pub mod keyed;
+pub mod known;
 pub mod laws;
 pub mod ring;

@@ -1,13 +1,17 @@
 //! Tags under a secret that the parties share.
-ghost use Rattle.std.specs.Prelude.{◌≡◌, IfOk, IfErr};
+ghost use Rattle.std.specs.Prelude.{◌≡◌, IfOk, IfErr, IfSome};
 ghost use Rattle.smart_base.specs.Lists.{same_bytes};
 ghost use Rattle.smart_base.specs.declared.keys.SignRefused.TheVariants.{NoMemory};
-ghost use Rattle.smart_keys.specs.Keys.{hmac, party_bytes, key_of, is_tag};
+ghost use Rattle.smart_keys.specs.Keys.{hmac, party_bytes, key_of};
 
 use crate::hash::hmac;
+use crate::keyed::KeyedHash;
+use crate::known::KnownKeys;
 use smart_base::bytes::{Digest32, Tag};
 use smart_base::duplicate::Duplicate;
 use smart_base::keys::{SignRefused, Signer, Verifier};
+use smart_base::limits::LAST_CLIENT;
+use smart_base::name::MemberId;
 use smart_base::party::Party;
 use smart_base::sequence::Bytes;
 use std::alloc::{AllocError, Global};
@@ -22,13 +26,6 @@ fn party_bytes(who: Party) -> [u8; 3]
     };
     let [high, low] = number.to_be_bytes();
     [kind, high, low]
-}
-
-#[tactic(auto, unfolding(crate::specs::Keys::key_of))]
-fn key_of(secret: &[u8], who: Party) -> Digest32
-    ensures { result ≡ key_of secret.now who }
-{
-    hmac(secret, &party_bytes(who))
 }
 
 /// Every byte is looked at, wherever the first difference is.
@@ -48,13 +45,13 @@ fn same_bytes(a: &[u8], b: &[u8]) -> bool
 /// What makes the tags of one party. It holds the party's key and not the secret, so that it makes
 /// no other party's.
 pub struct Sealer {
-    key: Digest32,
+    hash: KeyedHash,
 }
 
 /// Let go by one call, so that no function that lets one go carries the whole of it.
 impl Drop for Sealer {
     fn drop(self) {
-        let Sealer { key: _ } = self;
+        let Sealer { hash: _ } = self;
     }
 }
 
@@ -63,7 +60,7 @@ impl Model for Sealer {
 
     ghost Value = { List ℕ };
 
-    ghost view = { λ s. s.key };
+    ghost view = { λ s. s.hash };
 }
 
 impl Sealer {
@@ -71,7 +68,7 @@ impl Sealer {
     pub fn seal(&self, alloc: Global, bytes: &[u8]) -> Result<Tag, AllocError>
         ensures { IfOk result (λ tag. tag ≡ hmac self.now bytes.now) }
     {
-        let tag = hmac(self.key.as_slice(), bytes);
+        let tag = self.hash.tag(bytes);
         Ok(Tag::new(Bytes::from_slice(alloc, tag.as_slice())?))
     }
 }
@@ -95,15 +92,20 @@ impl Signer for Sealer {
     }
 }
 
-/// What tells the tags of all parties: it holds the secret.
+/// What tells the tags of all parties: it holds the secret. Keys that it has learnt are kept, begun, so
+/// that a tag of such a party costs less.
 pub struct Ring {
     secret: Bytes,
+    known: KnownKeys,
 }
 
 /// Let go by one call, so that no function that lets one go carries the whole of it.
 impl Drop for Ring {
     fn drop(self) {
-        let Ring { secret: _ } = self;
+        let Ring {
+            secret: _,
+            known: _,
+        } = self;
     }
 }
 
@@ -112,30 +114,118 @@ impl Model for Ring {
 
     ghost Value = { List ℕ };
 
+    ghost use Rattle.smart_keys.specs.Known.{AreKeysOf};
+
     ghost view = { λ r. r.secret };
+
+    // The known keys are made from the secret.
+    ghost invariant = { λ r. AreKeysOf r.secret r.known };
 }
 
-impl Ring {
-    pub fn from_secret(secret: Bytes) -> Self
-        ensures { result ≡ secret }
-    {
-        Ring { secret }
-    }
-
-    /// What makes the tags of a party.
-    pub fn sealer(&self, who: Party) -> Sealer
-        ensures { result ≡ key_of self.now who }
-    {
-        Sealer {
-            key: key_of(self.secret.as_slice(), who),
+/// Whether a ring keeps the key of a party: those of members, and of the clients that there are.
+fn is_kept(who: &Party) -> bool {
+    match who {
+        Party::Member(_) => true,
+        Party::Client(client) => {
+            let number = client.get();
+            1 <= number && number <= LAST_CLIENT
         }
     }
 }
 
+impl Ring {
+    /// A ring that has learnt no key. It takes no memory.
+    pub fn from_secret(secret: Bytes) -> Self
+        ensures { result ≡ secret }
+    {
+        let bytes = secret.into_vec();
+        let alloc = *bytes.allocator();
+        Ring {
+            secret: Bytes::from_vec(bytes),
+            known: KnownKeys::new(alloc),
+        }
+    }
+
+    /// The key of the party of these bytes, if it is known.
+    fn known(&self, name: &[u8; 3]) -> Option<&KeyedHash>
+        ensures { IfSome result (λ hash. hash.now ≡ hmac self.now name.now) }
+    {
+        match self.known.find(name) {
+            None => None,
+            Some(hash) => Some(hash),
+        }
+    }
+
+    /// The key of the party of these bytes, begun. It takes no memory.
+    fn begun(&self, name: &[u8; 3]) -> KeyedHash
+        ensures { result ≡ hmac self.now name.now }
+    {
+        match self.known(name) {
+            None => KeyedHash::new(hmac(self.secret.as_slice(), name)),
+            Some(hash) => hash.again(),
+        }
+    }
+
+    /// The tag of the party of these bytes over a text. It takes no memory.
+    fn tag(&self, name: &[u8; 3], text: &[u8]) -> Digest32
+        ensures { result ≡ hmac (hmac self.now name.now) text.now }
+    {
+        match self.known(name) {
+            None => hmac(hmac(self.secret.as_slice(), name).as_slice(), text),
+            Some(hash) => hash.tag(text),
+        }
+    }
+
+    /// What makes the tags of a party.
+    #[tactic(auto, unfolding(crate::specs::Keys::key_of))]
+    pub fn sealer(&self, who: Party) -> Sealer
+        ensures { result ≡ key_of self.now who }
+    {
+        Sealer {
+            hash: self.begun(&party_bytes(who)),
+        }
+    }
+
+    /// Learns the key of a member, or of a client of a number from 1 to 1,024, so that its tags cost
+    /// less from then on. What the ring tells stays. Error: want of memory.
+    pub fn learn(&mut self, who: Party) -> Result<(), AllocError>
+        ensures { self.new ≡ self.old }
+    {
+        if !is_kept(&who) {
+            return Ok(());
+        }
+        self.learn_key(party_bytes(who))
+    }
+
+    /// Learns the key of the party of these bytes, unless it is known. Error: want of memory.
+    fn learn_key(&mut self, name: [u8; 3]) -> Result<(), AllocError>
+        ensures { self.new ≡ self.old }
+    {
+        if self.known(&name).is_some() {
+            return Ok(());
+        }
+        let hash = KeyedHash::new(hmac(self.secret.as_slice(), &name));
+        self.known.put(name, hash)?;
+        Ok(())
+    }
+
+    /// Learns the keys of members. What the ring tells stays. Error: want of memory.
+    pub fn learn_members(&mut self, members: &[MemberId]) -> Result<(), AllocError>
+        ensures { self.new ≡ self.old }
+    {
+        for member in members {
+            self.learn(Party::Member(*member))?;
+        }
+        Ok(())
+    }
+}
+
 impl Duplicate for Ring {
+    /// A copy, which has learnt the same keys. Error: want of memory.
     fn duplicate(&self, alloc: Global) -> Result<Ring, AllocError> {
         Ok(Ring {
             secret: self.secret.duplicate(alloc)?,
+            known: self.known.duplicate(alloc)?,
         })
     }
 }
@@ -145,9 +235,8 @@ impl Verifier for Ring {
 
     ghost verified = { is_tag };
 
-    #[tactic(auto, unfolding(crate::specs::Keys::is_tag, crate::specs::Keys::tag_of))]
+    #[tactic(auto, unfolding(crate::specs::Keys::is_tag, crate::specs::Keys::tag_of, crate::specs::Keys::key_of))]
     fn verifies(&self, who: Party, bytes: &[u8], tag: &[u8]) -> bool {
-        let key = key_of(self.secret.as_slice(), who);
-        same_bytes(hmac(key.as_slice(), bytes).as_slice(), tag)
+        same_bytes(self.tag(&party_bytes(who), bytes).as_slice(), tag)
     }
 }

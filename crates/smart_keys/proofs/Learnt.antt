@@ -1,0 +1,24 @@
+-- Keys that are kept beside the secret which they are made from.
+use Rattle.std.proofs.Common.{◌≡◌, ℕ, zero, suc, List, [], ◌∷◌, ◌++◌, true, slice_get, Some, ◌==◌}
+use Rattle.std.proofs.lemmas.Bool.{eqb-true}
+use Rattle.std.proofs.lemmas.Option.{same_Some}
+use Rattle.smart_base.specs.Lists.{same_bytes}
+use Rattle.smart_base.proofs.SameLists.{same_list-equal}
+use Rattle.smart_keys.specs.Keys.{hmac}
+use Rattle.smart_keys.specs.Known.{known_key, AreKeysOf}
+use Rattle.smart_keys.specs.declared.known.KnownKey.{KnownKey}
+use Rattle.smart_keys.proofs.Digests.{each-append}
+
+-- bytes that a test finds the same are
+pub bytes_equal : (a b : List ℕ) → same_bytes a b ≡ true → a ≡ b
+bytes_equal a b is = same_list-equal (λ x y. x == y) (λ x y same. eqb-true x y same) a b is
+
+-- what stands at a place is made from the secret
+pub key_there : (secret : List ℕ) (keys : List KnownKey) (place : ℕ) (key : KnownKey) → AreKeysOf secret keys → Some key ≡ slice_get keys place → key.hash ≡ hmac secret key.name
+key_there secret [] place key are there = absurd (cc)
+key_there secret (k ∷ keys) zero key are there = rw (same_Some key k there) are.0
+key_there secret (k ∷ keys) (suc place) key are there = key_there secret keys place key are.1 there
+
+-- one more key that is made from the secret
+pub one_more : (secret : List ℕ) (keys : List KnownKey) (name hash : List ℕ) → AreKeysOf secret keys → hash ≡ hmac secret name → AreKeysOf secret (keys ++ known_key name hash ∷ [])
+one_more secret keys name hash are is = each-append (λ (k : KnownKey). k.hash ≡ hmac secret k.name) keys (known_key name hash ∷ []) are (is, tt)
