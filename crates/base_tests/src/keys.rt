@@ -147,29 +147,33 @@ fn is_told(ring: &Ring, who: &Party, tag: &[u8]) -> bool {
         && !ring.verifies(other, b"text", tag)
 }
 
-/// The tags are those that Python's `hmac` makes by the keys `01 01 02` and `02 00 07` of the secret.
+/// Whether the tags of two parties are those that Python's `hmac` makes by the keys `01 01 02` and
+/// `02 00 07` of the secret.
+fn seals_both(alloc: Global, ring: &Ring) -> bool {
+    seals(
+        alloc,
+        ring,
+        &Party::Member(MemberId::new(258)),
+        "219e8cdde443c6460da4b0c89e84fa1b2eea85dd3f2310ff924c6d7dfe56d0ec",
+    ) && seals(
+        alloc,
+        ring,
+        &Party::Client(ClientId::new(7)),
+        "18ff7e5e2beacb23e5bcef7f78e56267c88936e205135f7c9489a120442d620e",
+    )
+}
+
+/// Tags are told to be their party's before its key is learnt and after it, and by a copy.
 #[test]
 fn tags_are_told_to_be_their_partys(rt: HostRuntime) {
     let alloc = rt.alloc();
     let secret = Bytes::from_slice(alloc, b"the group's secret").expect(&rt, "there is memory");
-    let ring = Ring::from_secret(secret);
-    let ring = ring.duplicate(alloc).expect(&rt, "there is memory");
-    let member = Party::Member(MemberId::new(258));
-    let client = Party::Client(ClientId::new(7));
-    assert!(rt;
-        seals(
-            alloc,
-            &ring,
-            &member,
-            "219e8cdde443c6460da4b0c89e84fa1b2eea85dd3f2310ff924c6d7dfe56d0ec",
-        )
-    );
-    assert!(rt;
-        seals(
-            alloc,
-            &ring,
-            &client,
-            "18ff7e5e2beacb23e5bcef7f78e56267c88936e205135f7c9489a120442d620e",
-        )
-    );
+    let mut ring = Ring::from_secret(secret);
+    assert!(rt; seals_both(alloc, &ring));
+    ring.learn(Party::Member(MemberId::new(258)))
+        .expect(&rt, "there is memory");
+    ring.learn(Party::Client(ClientId::new(7)))
+        .expect(&rt, "there is memory");
+    let copy = ring.duplicate(alloc).expect(&rt, "there is memory");
+    assert!(rt; seals_both(alloc, &ring) && seals_both(alloc, &copy));
 }

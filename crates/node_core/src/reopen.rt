@@ -12,7 +12,7 @@ use delivery::replica::KeptReplica;
 use node_restart::fault::ReopenFault;
 use node_restart::restart::{Restart, restarted};
 use node_state::find::{first_start, greatest_regency, start_at};
-use node_state::seal::MemberKeys;
+use node_state::seal::{MemberKeys, taught};
 use node_state::state::NodeState;
 use outbox::outbox::Outbox;
 use regency_sync::synchronizer::Synchronizer;
@@ -38,6 +38,7 @@ pub fn begin<S: Service>(
 ) -> Result<NodeState<S>, AllocError>
     ensures { IfOk result (λ node. node ≡ opened (outset S.meaning ring id view period)) }
 {
+    let ring = taught(ring, view.members())?;
     let instance = Instance::begin(alloc, id, view.duplicate(alloc)?);
     let synchronizer = Synchronizer::begin(alloc, id, view.duplicate(alloc)?);
     let opening = Opening {
@@ -119,6 +120,7 @@ pub fn reopen<S: Service>(
     ensures node { IfOk result (λ node. node ≡ reopened S.meaning (outset S.meaning ring id view period) (entries_in restored.now)) }
     ensures cause { (entry : ℕ) → IsErrOf result (Damaged entry) → damaged ring 0 view restored.now ≡ Some entry }
 {
+    let ring = taught(ring, view.members())?;
     if restored.is_empty() {
         let node = reopen_empty(alloc, id, view, period, ring)?;
         return Ok(node);

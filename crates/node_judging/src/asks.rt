@@ -13,6 +13,8 @@ use node_state::seal::is_verified;
 use node_state::state::NodeState;
 use request_pool::pool::Offer;
 use smart_base::duplicate::Duplicate;
+use smart_base::name::ClientId;
+use smart_base::party::Party;
 use smart_messages::message::{Message, request_in};
 use smart_service::service::Service;
 use smart_service::table::Execution;
@@ -50,6 +52,7 @@ pub fn take_request<S: Service>(
         return Ok(Some(Why::NotMember));
     }
     if request.signer() != 0 {
+        learn(node, request.statement().client)?;
         return offer(node, request);
     }
     if is_verified(node.keys.ring(), &request) {
@@ -57,6 +60,14 @@ pub fn take_request<S: Service>(
     } else {
         Ok(Some(Why::BadTag))
     }
+}
+
+/// Learns the key of a client that asks, so that its tags cost less from then on. Error: want of
+/// memory.
+fn learn<S: Service>(node: &mut NodeState<S>, client: ClientId) -> Result<(), AllocError>
+    ensures { node.new ≡ node.old }
+{
+    node.keys.learn(Party::Client(client))
 }
 
 /// Whether no reply to a request is kept.

@@ -64,6 +64,15 @@ fn no_memory(_why: SignRefused) -> AllocError
     AllocError
 }
 
+/// A ring that has learnt the keys of members, so that their tags cost less from then on. Error: want
+/// of memory.
+pub fn taught(mut ring: Ring, members: &[MemberId]) -> Result<Ring, AllocError>
+    ensures { IfOk result (λ taught. taught ≡ ring) }
+{
+    ring.learn_members(members)?;
+    Ok(ring)
+}
+
 /// The keys of a member: one that checks all tags, and one that makes its own, which is made once.
 pub struct MemberKeys {
     member: MemberId,
@@ -105,6 +114,13 @@ impl MemberKeys {
             ring,
             sealer,
         }
+    }
+
+    /// Learns the key of a party, so that its tags cost less from then on. Error: want of memory.
+    pub fn learn(&mut self, who: Party) -> Result<(), AllocError>
+        ensures { self.new ≡ self.old }
+    {
+        self.ring.learn(who)
     }
 
     /// The member whose keys these are.

@@ -16,6 +16,7 @@ use smart_base::bytes::Payload;
 use smart_base::duplicate::Duplicate;
 use smart_base::name::ClientId;
 use smart_base::number::Place;
+use smart_base::party::Party;
 use smart_base::view::View;
 use smart_keys::ring::Ring;
 use smart_messages::message::Message;
@@ -182,6 +183,7 @@ pub fn ask<S: Service>(world: &mut WorldState<S>, i: usize, op: &Payload) -> Res
     if world.clients[i].last >= (1 << 63) - 1 {
         return Ok(());
     }
+    world.ring.learn(Party::Client(client))?;
     match world.clients[i].ask(world.alloc, world.ring.get(), op) {
         Ok(request) => {
             send_ask(world, client, request)?;

@@ -4,7 +4,6 @@ ghost use Rattle.std.specs.Cmp.Lexicographic.{pointwise};
 ghost use Rattle.std.specs.HashMap.{get};
 ghost use Rattle.std.specs.HashSet.{contains};
 ghost use Rattle.std.specs.List.{list_any};
-ghost use Rattle.world_rules.specs.Secrets.{group_secret};
 ghost use Rattle.world_rules.specs.Premises.{texts_in, met, clash, is_forgery, is_forged, collides};
 ghost use Rattle.world_rules.specs.declared.message.Sent.{Sent};
 ghost use Rattle.world_ledger.specs.Statements.{claim_of, same_stated};
@@ -17,13 +16,13 @@ use crate::stated::{Stated, StatedIndex, is_excused, own_statements, put_all};
 use smart_base::equality::same_bytes;
 use smart_base::keys::Digester;
 use smart_base::name::{ClientId, MemberId};
+use smart_base::party::Party;
 use smart_base::sequence::Bytes;
 use smart_keys::hash::Sha;
-use smart_keys::ring::Ring;
 use std::alloc::{AllocError, Global};
 use std::collections::{HashMap, HashSet};
 use std::marker::Model;
-use world_rules::message::{Content, Sent};
+use world_rules::message::{Content, Origin, Sent};
 
 /// Texts by their digests.
 type TextIndex = HashMap<[u8; 32], Bytes>;
@@ -78,22 +77,33 @@ fn put_batch(alloc: Global, index: &mut TextIndex, content: &Content) -> Result<
     Ok(())
 }
 
+/// Learns the key of who sent a message, whose tags stand in it. Error: want of memory.
+fn learn_sender(ring: &mut GroupRing, origin: &Origin) -> Result<(), AllocError>
+    ensures { ring.new ≡ ring.old }
+{
+    match *origin {
+        Origin::Node(id) => ring.learn(Party::Member(id)),
+        Origin::Client(id) => ring.learn(Party::Client(id)),
+        Origin::Script => Ok(()),
+    }
+}
+
 /// Puts what a message holds that does not collide into the indexes of the messages before it.
 /// Without memory they stay those of these messages.
 fn put_message(
     alloc: Global,
-    ring: &Ring,
+    ring: &mut GroupRing,
     texts: &mut TextIndex,
     stated: &mut StatedIndex,
     sent: &Sent,
 ) -> Result<(), AllocError>
-    requires { ring.now ≡ group_secret }
     ensures ok { OnOk result ((before : List Sent) → collides (met before) (texts_in sent.now.content) ≡ false → IsIndexed (get (pointwise nat_eq) texts.old) (contains same_stated stated.old) before →
         IsIndexed (get (pointwise nat_eq) texts.new) (contains same_stated stated.new) (before ++ sent.now ∷ [])) }
     ensures err { OnErr result ((before : List Sent) → IsIndexed (get (pointwise nat_eq) texts.old) (contains same_stated stated.old) before →
         IsIndexed (get (pointwise nat_eq) texts.new) (contains same_stated stated.new) before) }
 {
-    let own = own_statements(alloc, ring, sent)?;
+    learn_sender(ring, &sent.origin)?;
+    let own = own_statements(alloc, ring.get(), sent)?;
     stated.reserve(own.len())?;
     put_batch(alloc, texts, &sent.content)?;
     put_all(stated, own);
@@ -184,7 +194,7 @@ impl Ledger {
         self.sent.reserve(1)?;
         put_message(
             alloc,
-            self.ring.get(),
+            &mut self.ring,
             &mut self.texts,
             &mut self.stated,
             &sent,

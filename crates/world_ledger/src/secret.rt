@@ -2,6 +2,8 @@
 ghost use Rattle.std.specs.Prelude.{◌≡◌, IfOk};
 ghost use Rattle.world_rules.specs.Secrets.{group_secret};
 
+use smart_base::name::MemberId;
+use smart_base::party::Party;
 use smart_base::sequence::Bytes;
 use smart_keys::ring::Ring;
 use std::alloc::{AllocError, Global};
@@ -41,6 +43,20 @@ impl GroupRing {
         Ok(GroupRing {
             ring: Ring::from_secret(secret),
         })
+    }
+
+    /// Learns the key of a party, so that its tags cost less from then on. Error: want of memory.
+    pub fn learn(&mut self, who: Party) -> Result<(), AllocError>
+        ensures { self.new ≡ self.old }
+    {
+        self.ring.learn(who)
+    }
+
+    /// Learns the keys of members, so that their tags cost less from then on. Error: want of memory.
+    pub fn learn_members(&mut self, members: &[MemberId]) -> Result<(), AllocError>
+        ensures { self.new ≡ self.old }
+    {
+        self.ring.learn_members(members)
     }
 
     pub fn get(&self) -> &Ring

@@ -184,7 +184,8 @@ impl<S: Service> WorldState<S> {
     pub fn begin(alloc: Global, view: View) -> Result<Self, AllocError>
         ensures { IfOk result (λ world. world ≡ begun S.meaning view) }
     {
-        let ring = GroupRing::new(alloc)?;
+        let mut ring = GroupRing::new(alloc)?;
+        ring.learn_members(view.members())?;
         Ok(WorldState {
             alloc,
             hosts: first_hosts(alloc, &view, ring.get())?,
