@@ -209,7 +209,7 @@ no_cut place entries has not_cut = ⊎_elim (λ zero_. zero_) (λ some. absurd (
 pub parts_lawful : (place : ℕ) (entries : List LogEntry) → Lawful 0 0 entries → Lawful 0 0 (before_place place entries ++ from_place place entries)
 parts_lawful place entries lawful = subst (λ (es : List LogEntry). Lawful 0 0 es) (sym (both_parts place entries)) lawful
 
-parts_begin : (place : ℕ) (entries : List LogEntry) → has_cut place entries ≡ true → Begins place (from_place place entries)
+pub parts_begin : (place : ℕ) (entries : List LogEntry) → has_cut place entries ≡ true → Begins place (from_place place entries)
 parts_begin place entries is = begins place entries (cut_makes place entries is)
 
 admits_uncut : (restored : ℕ) (diary : List LogEntry) (entry : LogEntry) → Admits 0 restored diary entry → Admits 0 0 diary entry

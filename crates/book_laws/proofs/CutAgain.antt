@@ -31,7 +31,7 @@ cut_is_whole place entries is = ap (λ (t : Bool). cond t (kept_of (before_place
 none_at_zero : (place : ℕ) (entries : List LogEntry) → place ≡ 0 → has_cut place entries ≡ false
 none_at_zero place entries is = subst (λ (n : ℕ). has_cut n entries ≡ false) (sym is) refl
 
-more_made : (place : ℕ) (entries more : List LogEntry) → HasMade entries place → HasMade (entries ++ more) place
+pub more_made : (place : ℕ) (entries more : List LogEntry) → HasMade entries place → HasMade (entries ++ more) place
 more_made place entries more has = record { entry = has.entry; there = among_left has.entry entries more has.there; made = has.made }
 
 more_cut : (place : ℕ) (entries more : List LogEntry) → has_cut place entries ≡ true → has_cut place (entries ++ more) ≡ true

@@ -38,7 +38,7 @@ module _ (place : ℕ) (front back : List LogEntry) (some : 0 < place) (lawful :
   tidy_front = front_tidy front back tidy
 
   -- the beginning that a vote stands on is one of the cut
-  start_in_short : (slot : Slot) (s : Start) → ((p : Promise) → Among (Promised p) (front ++ back) → IsBelow slot p → ⊥) → s.view ≡ slot.view → s.regency ≡ slot.regency
+  pub start_in_short : (slot : Slot) (s : Start) → ((p : Promise) → Among (Promised p) (front ++ back) → IsBelow slot p → ⊥) → s.view ≡ slot.view → s.regency ≡ slot.regency
       → Among (Synced s) (front ++ back) → Among (Synced s) (kept_of front ++ back)
   start_in_short slot s promises of_view of_regency there =
       ⊎_elim (λ f. by f (first_start slot.view slot.regency front) refl) (λ b. back_among place front back some lawful starts (Synced s) b) (among_either (Synced s) front back there)
@@ -158,7 +158,7 @@ module _ (place restored : ℕ) (front back : List LogEntry) (some : 0 < place) 
   short_lawful : Lawful place restored (kept_of front ++ back)
   short_lawful before entry after split =
       ⊎_elim
-      (λ k. (kept front entry k).admitted place restored before)
+      (λ k. (kept front entry (among_split entry (kept_of front) before k.rest k.split)).admitted place restored before)
       (λ r. subst (λ (es : List LogEntry). Admits place restored es entry) (sym r.before_is) (in_the_back r.more entry after r.split))
       (first_or_second (kept_of front) back before entry after split)
 

@@ -5,3 +5,6 @@ mod Places
 mod Cut
 mod CutAgain
 mod CutLawful
+mod CutTidy
+mod CutGrown
+mod CutEntries

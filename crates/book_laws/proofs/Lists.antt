@@ -47,16 +47,22 @@ in_order (w ∷ before) after x (z ∷ before') after' y e =
     let tails : before ++ x ∷ after ≡ before' ++ y ∷ after' = cc in
     ⊎_elim (λ l. inl (inr l)) (⊎_elim (λ m. inr (inl m)) (λ r. inr (inr (inr r)))) (in_order before after x before' after' y tails)
 
--- a value at its place in two lists stands in the first, or in the second with all of the first before it
+-- a value at its place in two lists stands in the first
+pub record InFirst {A : Type 0} (xs before : List A) (x : A) : Type 0 where
+  pub rest : List A
+  pub split : xs ≡ before ++ x ∷ rest
+
+-- or in the second, with all of the first before it
 pub record InSecond {A : Type 0} (xs ys before : List A) (x : A) (after : List A) : Type 0 where
   pub more : List A
   pub before_is : before ≡ xs ++ more
   pub split : ys ≡ more ++ x ∷ after
 
-pub first_or_second : {A : Type 0} (xs ys before : List A) (x : A) (after : List A) → xs ++ ys ≡ before ++ x ∷ after → Among x xs ⊎ InSecond xs ys before x after
+pub first_or_second : {A : Type 0} (xs ys before : List A) (x : A) (after : List A) → xs ++ ys ≡ before ++ x ∷ after → InFirst xs before x ⊎ InSecond xs ys before x after
 first_or_second [] ys before x after is = inr (record { more = before; before_is = refl; split = is })
-first_or_second (y ∷ xs) ys [] x after is = inl (inl cc)
+first_or_second (y ∷ xs) ys [] x after is = inl (record { rest = xs; split = (let head : y ≡ x = cc in ap (λ z. z ∷ xs) head) })
 first_or_second (y ∷ xs) ys (z ∷ before) x after is =
     let head : y ≡ z = cc in
     let tails : xs ++ ys ≡ before ++ x ∷ after = cc in
-    ⊎_elim (λ h. inl (inr h)) (λ r. inr (record { more = r.more; before_is = (let more = r.before_is in cc); split = r.split })) (first_or_second xs ys before x after tails)
+    ⊎_elim (λ f. inl (record { rest = f.rest; split = (let rest = f.split in cc) }))
+    (λ r. inr (record { more = r.more; before_is = (let more = r.before_is in cc); split = r.split })) (first_or_second xs ys before x after tails)

@@ -1,13 +1,15 @@
 //! Laws of cuts. They speak of definitions alone. A diary is a member's firm entries of all its lives,
 //! a cut of it is the book of a later life. INTERIM(checkpoints): no rule cuts a book yet.
-ghost use Rattle.std.specs.Prelude.{◌≡◌, ◌<◌, ◌≤◌, ◌++◌, ◌↔◌, ℕ, List};
+ghost use Rattle.std.specs.Prelude.{◌≡◌, ◌+◌, ◌<◌, ◌≤◌, ◌++◌, ◌∷◌, [], ◌↔◌, ℕ, List, length, take};
 ghost use Rattle.smart_statements.specs.Batches.{Batch};
 ghost use Rattle.smart_statements.specs.declared.report.Report.{Report};
 ghost use Rattle.vote_book.specs.declared.entry.LogEntry.{LogEntry};
-ghost use Rattle.vote_book.specs.Books.{last_made, HasMade, Admits, Lawful};
+ghost use Rattle.vote_book.specs.declared.entry.LogEntry.TheVariants.{Opened};
+ghost use Rattle.vote_book.specs.declared.entry.Opening.{Opening};
+ghost use Rattle.vote_book.specs.Books.{last_made, Among, HasMade, Admits, Lawful};
 ghost use Rattle.vote_book.specs.BookReports.{last_maker, lock_of, Reports};
-ghost use Rattle.vote_book.specs.Tidy.{IsTidy};
-ghost use Rattle.book_laws.specs.BookCuts.{cut_at, IsNoVoteUpTo, InstallUpTo};
+ghost use Rattle.vote_book.specs.Tidy.{IsTidy, IsTidyAfter};
+ghost use Rattle.book_laws.specs.BookCuts.{from_place, cut_at, IsNoVoteUpTo, InstallUpTo};
 
 /// An entry that the cut of a lawful diary admits may stand after the diary, unless it is a vote for
 /// the cut's place or an earlier one.
@@ -45,4 +47,34 @@ pub fn a_cut_is_cut_as_its_diary()
 pub fn a_cut_is_a_lawful_book()
     ensures { (place restored : ℕ) (diary : List LogEntry) →
         Lawful 0 0 diary → IsTidy diary → InstallUpTo place diary → Lawful place restored (cut_at place diary) }
+{}
+
+/// The cut of a lawful and tidy diary is tidy, too.
+pub fn a_cut_is_a_tidy_book()
+    ensures { (place : ℕ) (diary : List LogEntry) → Lawful 0 0 diary → IsTidy diary → IsTidy (cut_at place diary) }
+{}
+
+/// An entry that is tidy after the cut of a lawful and tidy diary is tidy after the diary. If the diary
+/// has made the place, the entry is no vote for it or an earlier one.
+pub fn what_is_tidy_after_a_cut_is_tidy_after_its_diary()
+    ensures tidy { (place : ℕ) (diary : List LogEntry) (entry : LogEntry) →
+        Lawful 0 0 diary → IsTidy diary → IsTidyAfter (cut_at place diary) entry → IsTidyAfter diary entry }
+    ensures vote { (place : ℕ) (diary : List LogEntry) (entry : LogEntry) →
+        Lawful 0 0 diary → (0 < place → HasMade diary place) → IsTidyAfter (cut_at place diary) entry → IsNoVoteUpTo place entry }
+{}
+
+/// A lawful and tidy diary stays so with all entries with which its cut is a lawful and tidy book. The
+/// diary has made the place.
+pub fn a_diary_grows_as_its_cut()
+    ensures { (place restored : ℕ) (diary more : List LogEntry) →
+        Lawful 0 0 diary → IsTidy diary → (0 < place → HasMade diary place) →
+        Lawful place restored (cut_at place diary ++ more) → IsTidy (cut_at place diary ++ more) → Lawful 0 0 (diary ++ more) × IsTidy (diary ++ more) }
+{}
+
+/// Each entry of a cut is one of its diary. Three at most stand before the one that makes the place. If
+/// the diary begins with an opening, the cut begins with it.
+pub fn a_cut_is_of_its_diary()
+    ensures entries { (place : ℕ) (diary : List LogEntry) (entry : LogEntry) → Among entry (cut_at place diary) → Among entry diary }
+    ensures short { (place : ℕ) (diary : List LogEntry) → 0 < place → HasMade diary place → length (cut_at place diary) ≤ length (from_place place diary) + 3 }
+    ensures begun { (place : ℕ) (opening : Opening) (rest : List LogEntry) → take 1 (cut_at place (Opened opening ∷ rest)) ≡ Opened opening ∷ [] }
 {}
