@@ -268,6 +268,13 @@ impl<D: Disk> Store<D> {
         self.plan.running.is_empty()
     }
 
+    /// Whether there is a device call to make: a job runs, or one is to begin.
+    pub fn is_due<E: Stops>(&self) -> bool
+        ensures { result ≡ is_due E.stops (state_of D.cells self.now) }
+    {
+        self.plan.is_due::<E>()
+    }
+
     /// The devices, taken out of the store.
     pub fn into_disks(self) -> Disks<D>
         ensures { result ≡ self.disks }
