@@ -5,3 +5,4 @@ pub mod Runs
 pub mod Held
 pub mod Appends
 pub mod Comes
+pub mod Opened

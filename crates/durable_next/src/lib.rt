@@ -3,4 +3,5 @@
 #![tactic(auto)]
 
 pub mod disks;
+pub mod reopening;
 pub mod store;

@@ -5,10 +5,13 @@ ghost use Rattle.disk_model.specs.Cells.{IsImage, settled};
 ghost use Rattle.disk_model.specs.Calls.{Elapses};
 ghost use Rattle.batch_log.specs.Log.{restored};
 ghost use Rattle.batch_log.specs.Exact.{end_opened};
+ghost use Rattle.store_form.specs.declared.checkpoint.Checkpoint.{Checkpoint};
 ghost use Rattle.checkpoint_store.specs.Slots.{generation_of};
 ghost use Rattle.store_laws.specs.Restored.{log_image, side_of, present_in, restores, entries_of, log_torn};
 ghost use Rattle.store_laws.specs.States.{store_opened};
-ghost use Rattle.store_laws.specs.Stands.{IsRead};
+ghost use Rattle.store_laws.specs.Lives.{StoreWire};
+ghost use Rattle.store_laws.specs.Stands.{IsRead, at_rest, instead, StoreStands, IsOwn};
+ghost use Rattle.store_laws.specs.declared.job.Kept.{Kept};
 ghost use Rattle.durable_next.specs.Stores.{state_of, Stands};
 ghost use Rattle.durable_next.specs.Disks.{contents, AreSettled, AreSame, DiskRose, NoneFell, TimeWent};
 ghost use Rattle.durable_next.specs.Opens.{gate_by, torn_by};
@@ -51,6 +54,12 @@ pub fn reopen<D: Disk>(
     // The log of the present generation is read to its end.
     ensures read { IfOk result (λ r. D.told → IsRead (log_image (side_of (present_in (contents D.cells disks))) (contents D.cells disks))) }
     ensures stands { IfOk result (λ r. D.told → Stands (state_of D.cells r.0)) }
+    // What the store stands for: what it restores, and what a 1 at its first torn gate would bring back.
+    ensures keeps { IfOk result (λ r. D.told → (next : Checkpoint)
+        → StoreStands (state_of D.cells r.0) (at_rest r.1 (instead (store_opened (contents D.cells disks)) (contents D.cells disks)) next)) }
+    // The pair that the store stands for: the one that is claimed of the bytes, if only crashes of its own lives changed them.
+    ensures lives { IfOk result (λ r. D.told → (kept other : Kept) (next : Checkpoint) → StoreWire (contents D.cells disks) kept other
+        → (r.1 ≡ kept) × IsOwn (state_of D.cells r.0) (at_rest kept other next)) }
     // What is known of it without a disk that tells its contents.
     ensures firm { IfOk result (λ r. (r.0.plan.firm ≡ length r.1.entries) × (r.0.plan.restored ≡ length r.1.entries)) }
     ensures waiting { IfOk result (λ r. (r.0.plan.waiting ≡ []) × (r.0.plan.asked ≡ None)) }
@@ -137,8 +146,8 @@ fn plan_of(
     ensures generation { result.0.generation ≡ generation }
     ensures idle { (result.0.running ≡ []) × ((result.0.ending ≡ Ending.Repairs) × (result.0.adding ≡ [])) }
     ensures waiting { (result.0.waiting ≡ []) × (result.0.asked ≡ None) }
-    ensures counts { (result.0.restored ≡ length log.entries) × (result.0.firm ≡ length log.entries) }
-    ensures small { length log.entries < 2 ^ 63 }
+    ensures counts { (result.0.restored ≡ length result.1) × (result.0.firm ≡ length result.1) }
+    ensures small { length result.1 < 2 ^ 63 }
     ensures entries { result.1 ≡ log.entries }
 {
     let LogOpened { end, torn, entries } = log;
