@@ -4,9 +4,9 @@ use Rattle.disk_model.specs.Calls.{Elapses}
 use Rattle.batch_log.specs.Exact.{end_opened}
 use Rattle.checkpoint_store.specs.Slots.{is_odd, generation_of}
 use Rattle.store_laws.specs.Restored.{log_torn}
+use Rattle.store_plan.specs.Plans.{state_with}
 use Rattle.durable_next.specs.Disks.{contents, cells_of}
 use Rattle.durable_next.specs.Opens.{gate_by}
-use Rattle.durable_next.specs.Stores.{state_of}
 use Rattle.durable_next.proofs.Opened.{slot_gate_is, state_opened, counted, same_settled, own_log, back_on_sides, rose_on_side, no_time, bytes_of, entries_read, kept_opened, read_opened, opened_keeps, opened_stands, opened_lives}
 use Rattle.durable_next.proofs.reopening.reopen.Goals as goal
 
@@ -71,8 +71,9 @@ returns-in-Ok-open_log-clause-opened g c = λ told.
     let odd_is = c.is_odd-is_odd.ensures ∙ ap is_odd c.generation_of-generation.ensures in
     let bytes_are = bytes_of images c.in-Ok.opened.1 c.is_odd-is_odd.result bytes (slots.found told) odd_is own in
     let entries_are = entries_read images c.in-Ok.opened.1 c.is_odd-is_odd.result bytes (slots.found told) odd_is own c.plan_of-plan.result.1 (plan.entries ∙ log.entries told) in
-    let disks = record { even_log = c.by_side-odd_log.result.1; odd_log = c.by_side-odd_log.result.0; even_slot = c.into_disks-even_slot.result.0; odd_slot = c.into_disks-even_slot.result.1 } in
-    state_opened c.plan_of-plan.result.0 images (cells_of cells disks) (same_settled cells d disks (c.requires told) (returns-in-Ok-open_log-clause-same g c told))
+    state_opened c.plan_of-plan.result.0 images
+    (cells_of cells (record { even_log = c.by_side-odd_log.result.1; odd_log = c.by_side-odd_log.result.0; even_slot = c.into_disks-even_slot.result.0; odd_slot = c.into_disks-even_slot.result.1 }))
+    (same_settled cells d (record { even_log = c.by_side-odd_log.result.1; odd_log = c.by_side-odd_log.result.0; even_slot = c.into_disks-even_slot.result.0; odd_slot = c.into_disks-even_slot.result.1 }) (c.requires told) (returns-in-Ok-open_log-clause-same g c told))
     (record {
       even = plan.gates.0 ∙ c.gate_of-even.ensures ∙ ap gate_by (slots.jobs told).0 ∙ slot_gate_is false images.even_slot;
       odd = plan.gates.1 ∙ c.gate_of-odd.ensures ∙ ap gate_by (slots.jobs told).1 ∙ slot_gate_is true images.odd_slot;
@@ -92,15 +93,18 @@ returns-in-Ok-open_log-clause-opened g c = λ told.
 
 pub returns-in-Ok-open_log-clause-stands : goal.returns-in-Ok-open_log-clause-stands
 returns-in-Ok-open_log-clause-stands g c = λ told.
-    opened_stands _ (contents g.D.Disk.cells c.args.disks) (returns-in-Ok-open_log-clause-opened g c told) (returns-in-Ok-open_log-clause-read g c told)
+    let s = state_with c.plan_of-plan.result.0 (cells_of g.D.Disk.cells (record { even_log = c.by_side-odd_log.result.1; odd_log = c.by_side-odd_log.result.0; even_slot = c.into_disks-even_slot.result.0; odd_slot = c.into_disks-even_slot.result.1 })) in
+    opened_stands s (contents g.D.Disk.cells c.args.disks) (returns-in-Ok-open_log-clause-opened g c told) (returns-in-Ok-open_log-clause-read g c told)
 
 pub returns-in-Ok-open_log-clause-keeps : goal.returns-in-Ok-open_log-clause-keeps
 returns-in-Ok-open_log-clause-keeps g c = λ told.
-    opened_keeps _ (contents g.D.Disk.cells c.args.disks) (returns-in-Ok-open_log-clause-opened g c told) _ (returns-in-Ok-open_log-clause-kept g c told) (returns-in-Ok-open_log-clause-read g c told)
+    let s = state_with c.plan_of-plan.result.0 (cells_of g.D.Disk.cells (record { even_log = c.by_side-odd_log.result.1; odd_log = c.by_side-odd_log.result.0; even_slot = c.into_disks-even_slot.result.0; odd_slot = c.into_disks-even_slot.result.1 })) in
+    opened_keeps s (contents g.D.Disk.cells c.args.disks) (returns-in-Ok-open_log-clause-opened g c told) (record { present = c.in-Ok.opened.1; entries = c.plan_of-plan.result.1 }) (returns-in-Ok-open_log-clause-kept g c told) (returns-in-Ok-open_log-clause-read g c told)
 
 pub returns-in-Ok-open_log-clause-lives : goal.returns-in-Ok-open_log-clause-lives
 returns-in-Ok-open_log-clause-lives g c = λ told.
-    opened_lives _ (contents g.D.Disk.cells c.args.disks) (returns-in-Ok-open_log-clause-opened g c told) _ (returns-in-Ok-open_log-clause-kept g c told)
+    let s = state_with c.plan_of-plan.result.0 (cells_of g.D.Disk.cells (record { even_log = c.by_side-odd_log.result.1; odd_log = c.by_side-odd_log.result.0; even_slot = c.into_disks-even_slot.result.0; odd_slot = c.into_disks-even_slot.result.1 })) in
+    opened_lives s (contents g.D.Disk.cells c.args.disks) (returns-in-Ok-open_log-clause-opened g c told) (record { present = c.in-Ok.opened.1; entries = c.plan_of-plan.result.1 }) (returns-in-Ok-open_log-clause-kept g c told)
 
 -- ---- the devices that come back
 
