@@ -150,7 +150,9 @@ fn plan_of(
     ensures small { length result.1 < 2 ^ 63 }
     ensures entries { result.1 ≡ log.entries }
 {
-    let LogOpened { end, torn, entries } = log;
+    let LogOpened {
+        end, torn, entries, ..
+    } = log;
     let count = entries.len() as u64;
     let plan = Plan {
         even,
