@@ -49,7 +49,7 @@ first_call xs ys o b x same value is now =
 pub no_first_call : {A : Type 0} (xs ys : List A) (o : Option (Bor A)) → xs ≡ ys → option_copied o ≡ slice_get xs 0 → o ≡ None → ys ≡ []
 no_first_call xs ys o same value is = sym same ∙ none_of xs (sym value ∙ ap option_copied is)
 
-no_tail_fits : IsGroup []
+pub no_tail_fits : IsGroup []
 unfolding payload
 no_tail_fits = record { few = omega arith; each = tt; small = omega arith }
 
@@ -165,7 +165,7 @@ tail_generation tail [] s = refl
 tail_generation tail (On device call ∷ left) s = refl
 tail_generation tail (WriteTail ∷ left) s = refl
 
-begins_firm : (job : Begun) (s : StoreState) → (begins job s).firm ≡ s.firm
+pub begins_firm : (job : Begun) (s : StoreState) → (begins job s).firm ≡ s.firm
 begins_firm NoJob s = refl
 begins_firm (Close odd) s = refl
 begins_firm Repair s = refl
@@ -179,7 +179,7 @@ begins_generation Repair s = refl
 begins_generation (Switch snapshot) s = refl
 begins_generation (AddGroup group) s = refl
 
-begun_firm : (stops : List ℕ → Bool) (s : StoreState) → (begun stops s).firm ≡ s.firm
+pub begun_firm : (stops : List ℕ → Bool) (s : StoreState) → (begun stops s).firm ≡ s.firm
 begun_firm stops s = by (some s.running)
   where
     by : (t : Bool) → (cond t s (begins (due_job stops s) s)).firm ≡ s.firm
