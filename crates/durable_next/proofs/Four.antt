@@ -1,13 +1,14 @@
 -- What a call of one device makes of the four.
-use Rattle.std.proofs.Common.{◌≡◌, ◌⊎◌, inl, inr, ⊎_elim, ℕ, ◌≤◌, Bool, true, false, List, refl, sym, ◌∙◌, ap, subst, arith}
+use Rattle.std.proofs.Common.{◌≡◌, ◌⊎◌, inl, inr, ⊎_elim, ℕ, ◌≤◌, Bool, true, false, List, [], ◌∷◌, refl, sym, ◌∙◌, ap, subst, arith}
 use Rattle.faults.specs.Counts.{Rose}
 use Rattle.disk_model.specs.Cells.{Cells, IsImage, Within}
 use Rattle.disk_model.specs.Calls.{Elapses}
 use Rattle.store_laws.specs.Restored.{Images, log_image, slot_image}
-use Rattle.store_laws.specs.States.{Devices, log_at, slot_at, change, cells_on, MayLeave}
+use Rattle.store_laws.specs.States.{Devices, StoreState, device_of, log_at, slot_at, change, cells_on, MayLeave}
 use Rattle.store_laws.specs.declared.job.Device.{Device}
 use Rattle.store_laws.specs.declared.job.Device.TheVariants.{Log, Slot}
-use Rattle.durable_next.specs.Disks.{disk_at, OthersSame, cells_of, TimeWent, NoneFell, DiskRose, LeftSince}
+use Rattle.store_laws.specs.declared.job.StoreCall.{StoreCall}
+use Rattle.durable_next.specs.Disks.{disk_at, OthersSame, OthersBy, cells_of, TimeWent, NoneFell, DiskRose, LeftSince}
 use Rattle.durable_next.specs.declared.disks.Disks.{Disks}
 
 all_leave : (d : Devices) (images : Images) → IsImage d.even_log images.even_log → IsImage d.odd_log images.odd_log → IsImage d.even_slot images.even_slot → IsImage d.odd_slot images.odd_slot → MayLeave d images
@@ -27,6 +28,16 @@ module _ {D : Type 0} where
   at_device cells (Log true) d = refl
   at_device cells (Slot false) d = refl
   at_device cells (Slot true) d = refl
+
+  same_device : (device : Device) (d : Disks D) → OthersSame device d d
+  same_device (Log false) d = (refl, (refl, refl))
+  same_device (Log true) d = (refl, (refl, refl))
+  same_device (Slot false) d = (refl, (refl, refl))
+  same_device (Slot true) d = (refl, (refl, refl))
+
+  pub same_others : (s : StoreState) (calls : List StoreCall) (d : Disks D) → OthersBy s calls d d
+  same_others s [] d = refl
+  same_others s (call ∷ left) d = same_device (device_of s call) d
 
   -- the contents after a call that changes those of a device by `f`
   pub four_made : (cells : D → Cells) (f : Cells → Cells) (device : Device) (old new : Disks D) → OthersSame device old new → cells (disk_at device new) ≡ f (cells (disk_at device old)) → cells_of cells new ≡ change f device (cells_of cells old)

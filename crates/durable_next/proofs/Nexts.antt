@@ -23,7 +23,7 @@ use Rattle.store_plan.proofs.Due.{nowhere}
 use Rattle.store_plan.proofs.Ready.{readied_called, readied_during, readied_devices, readied_stands, first_can}
 use Rattle.disk_model.specs.Cells.{IsImage, Within}
 use Rattle.disk_model.specs.Calls.{Elapses}
-use Rattle.durable_next.specs.Disks.{disk_at, OthersSame, cells_of, LeftSince}
+use Rattle.durable_next.specs.Disks.{disk_at, OthersSame, OthersBy, cells_of, LeftSince}
 use Rattle.durable_next.specs.Stores.{Stands}
 use Rattle.durable_next.specs.Runs.{no_tail}
 use Rattle.durable_next.specs.declared.disks.Disks.{Disks}
@@ -57,7 +57,27 @@ no_tail_fits = record { few = omega arith; each = tt; small = omega arith }
 pub at_devices : (p : Plan) (d : Devices) (q : StoreState) → state_with p d ≡ q → state_with p q.devices ≡ q
 at_devices p d q is = ap (λ (e : Devices). state_with p e) (sym (ap (λ (s : StoreState). s.devices) is)) ∙ is
 
+-- ---- the devices that a call leaves alone
+
+abbrev device_in : Device → List StoreCall → Device
+device_in none [] = none
+device_in none (On device call ∷ left) = device
+device_in none (WriteTail ∷ left) = none
+
+first_others : {D : Type 0} (tail : Tail) (calls : List StoreCall) (s : StoreState) (device : Device) (call : DeviceCall) (left : List StoreCall) (before after : Disks D) → s.running ≡ calls → (with_tail tail calls s).running ≡ On device call ∷ left → OthersSame device before after
+    → OthersBy s calls before after
+first_others tail [] s device call left before after is first same =
+    let clash : [] ≡ On device call ∷ left = sym is ∙ first in
+    absurd cc
+first_others {D = D} tail (On there made_there ∷ more) s device call left before after is first same = subst (λ (x : Device). OthersSame x before after) (sym (ap (λ (calls : List StoreCall). device_in device calls) (sym is ∙ first))) same
+first_others {D = D} tail (WriteTail ∷ more) s device call left before after is first same = subst (λ (x : Device). OthersSame x before after) (sym (ap (λ (calls : List StoreCall). device_in device calls) first)) same
+
 module _ (stops : List ℕ → Bool) (tail : Tail) (old now : Plan) (ready : (d : Devices) → state_with now d ≡ readied stops tail (state_with old d)) where
+  pub next_others : {D : Type 0} (device : Device) (call : DeviceCall) (left : List StoreCall) → now.running ≡ On device call ∷ left → (before after : Disks D) → OthersSame device before after → (d : Devices)
+      → OthersBy (begun stops (state_with old d)) (begun stops (state_with old d)).running before after
+  next_others device call left first before after same d =
+      first_others tail (begun stops (state_with old d)).running (begun stops (state_with old d)) device call left before after refl (sym (ap (λ (q : StoreState). q.running) (ready d)) ∙ first) same
+
   -- nothing is due
   pub still_called : now.running ≡ [] → (d : Devices) → state_with now d ≡ store_called stops tail (state_with old d)
   still_called idle d =

@@ -1,12 +1,13 @@
 -- The four devices of a store, whether it is open or not.
-use Rattle.std.specs.Prelude.{◌≡◌, ◌≤◌, ◌⊎◌, ℕ, List, true, false}
+use Rattle.std.specs.Prelude.{◌≡◌, ◌≤◌, ◌⊎◌, ℕ, List, [], ◌∷◌, true, false}
 use Rattle.faults.specs.Counts.{Rose}
 use Rattle.disk_model.specs.Cells.{Cells, IsImage, settled}
 use Rattle.disk_model.specs.Calls.{Elapses}
 use Rattle.store_laws.specs.Restored.{Images}
-use Rattle.store_laws.specs.States.{Devices}
+use Rattle.store_laws.specs.States.{Devices, StoreState, device_of}
 use Rattle.store_laws.specs.declared.job.Device.{Device}
 use Rattle.store_laws.specs.declared.job.Device.TheVariants.{Log, Slot}
+use Rattle.store_laws.specs.declared.job.StoreCall.{StoreCall}
 use Rattle.durable_next.specs.declared.disks.Disks.{Disks}
 
 module _ {D : Type 0} where
@@ -22,6 +23,11 @@ module _ {D : Type 0} where
   OthersSame (Log true) old new = (new.even_log ≡ old.even_log) × ((new.even_slot ≡ old.even_slot) × (new.odd_slot ≡ old.odd_slot))
   OthersSame (Slot false) old new = (new.even_log ≡ old.even_log) × ((new.odd_log ≡ old.odd_log) × (new.odd_slot ≡ old.odd_slot))
   OthersSame (Slot true) old new = (new.even_log ≡ old.even_log) × ((new.odd_log ≡ old.odd_log) × (new.even_slot ≡ old.even_slot))
+
+  -- every device but that of the first of these calls is as it was
+  abbrev pub OthersBy : StoreState → List StoreCall → Disks D → Disks D → Type 0
+  OthersBy s [] old new = new ≡ old
+  OthersBy s (call ∷ left) old new = OthersSame (device_of s call) old new
 
   -- the contents of the devices
   abbrev pub cells_of : (D → Cells) → Disks D → Devices

@@ -36,11 +36,11 @@ impl<D: Disk> Store<D> {
     ghost use Rattle.std.specs.Prelude.{◌≡◌, ◌⊎◌, ◌+◌, ◌++◌, ℕ, List, [], not, true, false, IfOk, OnOk, OnErr, IsErrOf};
     ghost use Rattle.store_form.specs.Ends.{Closes};
     ghost use Rattle.store_laws.specs.Restored.{Images};
-    ghost use Rattle.store_laws.specs.States.{Devices, some, writes_tail, is_due, given, asked, store_called, MayLeave};
+    ghost use Rattle.store_laws.specs.States.{Devices, some, writes_tail, is_due, given, asked, begun, store_called, MayLeave};
     ghost use Rattle.store_laws.specs.Runs.{called_times, CallFits, CallLeaves};
     ghost use Rattle.store_plan.specs.Fit.{AreEntries};
     ghost use Rattle.store_plan.specs.Plans.{state_with};
-    ghost use Rattle.durable_next.specs.Disks.{cells_of, TimeWent, NoneFell, DiskRose, LeftSince};
+    ghost use Rattle.durable_next.specs.Disks.{OthersBy, cells_of, TimeWent, NoneFell, DiskRose, LeftSince};
     ghost use Rattle.durable_next.specs.Stores.{state_of, Stands, JobFits, started};
     ghost use Rattle.durable_next.specs.Runs.{Ran, IsUnasked, Comes, no_tail, taken_by};
 
@@ -202,6 +202,8 @@ impl<D: Disk> Store<D> {
             ≡ store_called E.stops tail.now (state_with self.old.plan d)) }
         ensures made { OnOk result (D.told → cells_of D.cells self.new.disks ≡ (store_called E.stops tail.now (state_of D.cells self.old)).devices) }
         ensures done { IfOk result (λ done. done ≡ not (some self.new.plan.running)) }
+        // Only the device of the first call of the running job is called.
+        ensures one { (d : Devices) → OthersBy (begun E.stops (state_with self.old.plan d)) (begun E.stops (state_with self.old.plan d)).running self.old.disks self.new.disks }
         // What the job that begins writes, and the tail, have a spelling.
         ensures fits { OnOk result ((d : Devices) → CallFits E.stops tail.now (state_with self.old.plan d)) }
         // Want of memory before a device call changes nothing. A job was to begin then, or the tail was to be written.

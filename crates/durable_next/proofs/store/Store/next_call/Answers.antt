@@ -1,6 +1,9 @@
 use Rattle.store_laws.specs.declared.job.StoreCall.TheVariants.{On}
+use Rattle.store_laws.specs.States.{begun}
+use Rattle.store_plan.specs.Plans.{state_with}
 use Rattle.durable_next.specs.Disks.{cells_of}
-use Rattle.durable_next.proofs.Nexts.{first_call, no_first_call, still_stands, disk_can, disk_crash, disk_moments, plan_called, disk_made, disk_stands, ready_held}
+use Rattle.durable_next.proofs.Four.{same_others}
+use Rattle.durable_next.proofs.Nexts.{first_call, no_first_call, still_stands, disk_can, disk_crash, disk_moments, plan_called, disk_made, disk_stands, ready_held, next_others}
 use Rattle.durable_next.proofs.store.Store.next_call.Goals as goal
 
 pub returns-in_default-2-clause-stands : goal.returns-in_default-2-clause-stands
@@ -68,3 +71,27 @@ returns-in-Err-Failed-clause-held g c = ready_held g.E.Stops.stops c.args.tail.n
 
 pub returns-in-Err-NoMemory-clause-held : goal.returns-in-Err-NoMemory-clause-held
 returns-in-Err-NoMemory-clause-held g c = ready_held g.E.Stops.stops c.args.tail.now c.args.self.now.plan c.ready.new.self c.in_ok-ready.ensures.ok
+
+pub returns-in_err-check-clause-one : goal.returns-in_err-check-clause-one
+returns-in_err-check-clause-one g c = λ d. same_others (begun g.E.Stops.stops (state_with c.args.self.now.plan d)) (begun g.E.Stops.stops (state_with c.args.self.now.plan d)).running c.args.self.now.disks
+
+pub returns-in_err-ready-clause-one : goal.returns-in_err-ready-clause-one
+returns-in_err-ready-clause-one g c = λ d. same_others (begun g.E.Stops.stops (state_with c.args.self.now.plan d)) (begun g.E.Stops.stops (state_with c.args.self.now.plan d)).running c.args.self.now.disks
+
+pub returns-in_default-2-clause-one : goal.returns-in_default-2-clause-one
+returns-in_default-2-clause-one g c = λ d. same_others (begun g.E.Stops.stops (state_with c.args.self.now.plan d)) (begun g.E.Stops.stops (state_with c.args.self.now.plan d)).running c.args.self.now.disks
+
+pub returns-in-Ok-clause-one : goal.returns-in-Ok-clause-one
+returns-in-Ok-clause-one g c =
+    let first = first_call c.as_slice.result.now c.ready.new.self.running c.first.result c.in-Some-On.field-0 (On c.in-Some-On.device c.in-Some-On.call) c.as_slice.ensures c.first.ensures.value c.in-Some-On.is c.in-Some-On.field-0-is in
+    next_others g.E.Stops.stops c.args.tail.now c.args.self.now.plan c.ready.new.self c.in_ok-ready.ensures.ok c.in-Some-On.device c.in-Some-On.call first.0 first.1 c.args.self.now.disks c.call.new.self c.call.ensures.others
+
+pub returns-in-Err-Failed-clause-one : goal.returns-in-Err-Failed-clause-one
+returns-in-Err-Failed-clause-one g c =
+    let first = first_call c.as_slice.result.now c.ready.new.self.running c.first.result c.in-Some-On.field-0 (On c.in-Some-On.device c.in-Some-On.call) c.as_slice.ensures c.first.ensures.value c.in-Some-On.is c.in-Some-On.field-0-is in
+    next_others g.E.Stops.stops c.args.tail.now c.args.self.now.plan c.ready.new.self c.in_ok-ready.ensures.ok c.in-Some-On.device c.in-Some-On.call first.0 first.1 c.args.self.now.disks c.call.new.self c.call.ensures.others
+
+pub returns-in-Err-NoMemory-clause-one : goal.returns-in-Err-NoMemory-clause-one
+returns-in-Err-NoMemory-clause-one g c =
+    let first = first_call c.as_slice.result.now c.ready.new.self.running c.first.result c.in-Some-On.field-0 (On c.in-Some-On.device c.in-Some-On.call) c.as_slice.ensures c.first.ensures.value c.in-Some-On.is c.in-Some-On.field-0-is in
+    next_others g.E.Stops.stops c.args.tail.now c.args.self.now.plan c.ready.new.self c.in_ok-ready.ensures.ok c.in-Some-On.device c.in-Some-On.call first.0 first.1 c.args.self.now.disks c.call.new.self c.call.ensures.others
