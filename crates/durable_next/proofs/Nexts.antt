@@ -69,8 +69,8 @@ first_others : {D : Type 0} (tail : Tail) (calls : List StoreCall) (s : StoreSta
 first_others tail [] s device call left before after is first same =
     let clash : [] ≡ On device call ∷ left = sym is ∙ first in
     absurd cc
-first_others {D = D} tail (On there made_there ∷ more) s device call left before after is first same = subst (λ (x : Device). OthersSame x before after) (sym (ap (λ (calls : List StoreCall). device_in device calls) (sym is ∙ first))) same
-first_others {D = D} tail (WriteTail ∷ more) s device call left before after is first same = subst (λ (x : Device). OthersSame x before after) (sym (ap (λ (calls : List StoreCall). device_in device calls) first)) same
+first_others tail (On there made_there ∷ more) s device call left before after is first same = subst (λ (x : Device). OthersSame x before after) (sym (ap (λ (calls : List StoreCall). device_in device calls) (sym is ∙ first))) same
+first_others tail (WriteTail ∷ more) s device call left before after is first same = subst (λ (x : Device). OthersSame x before after) (sym (ap (λ (calls : List StoreCall). device_in device calls) first)) same
 
 module _ (stops : List ℕ → Bool) (tail : Tail) (old now : Plan) (ready : (d : Devices) → state_with now d ≡ readied stops tail (state_with old d)) where
   pub next_others : {D : Type 0} (device : Device) (call : DeviceCall) (left : List StoreCall) → now.running ≡ On device call ∷ left → (before after : Disks D) → OthersSame device before after → (d : Devices)
