@@ -1,4 +1,4 @@
-use Rattle.std.proofs.Common.{◌≡◌, ◌≤◌, ◌∙◌, inl, inr, ⊎_elim, ap, refl, arith}
+use Rattle.std.proofs.Common.{◌≡◌, ◌≤◌, ◌∙◌, inl, inr, ⊎_elim, true, false, ap, refl, arith}
 use Rattle.disk_model.specs.Cells.{IsImage}
 use Rattle.disk_model.specs.Calls.{Elapses}
 use Rattle.batch_log.specs.Exact.{end_opened}
@@ -112,15 +112,15 @@ pub returns-in-Err-open_log-clause-back : goal.returns-in-Err-open_log-clause-ba
 returns-in-Err-open_log-clause-back g c = λ told.
     let same = c.in-Ok.ensures.same told in
     let given = c.into_disks-even_slot.ensures in
-    let sides = back_on_sides (λ a b. g.D.Disk.cells b ≡ g.D.Disk.cells a) c.args.disks c.is_odd-is_odd.result c.by_side-log.result c.by_side-odd_log.result c.in-Err-open_log.log
-    c.by_side-log.ensures c.by_side-odd_log.ensures (c.in-Err-open_log.ensures.back told) refl in
+    let sides = back_on_sides (λ a b. g.D.Disk.cells b ≡ g.D.Disk.cells a) c.args.disks c.is_odd-is_odd.result c.by_side-log.result c.by_side-odd_log-in-Err-open_log.result c.in-Err-open_log.log
+    c.by_side-log.ensures c.by_side-odd_log-in-Err-open_log.ensures (c.in-Err-open_log.ensures.back told) refl in
     record { even_log = sides.0; odd_log = sides.1; even_slot = ap g.D.Disk.cells given.even ∙ same.0; odd_slot = ap g.D.Disk.cells given.odd ∙ same.1 }
 
 pub returns-in-Err-open_log-clause-back_time : goal.returns-in-Err-open_log-clause-back_time
 returns-in-Err-open_log-clause-back_time g c = λ told.
     let given = c.into_disks-even_slot.ensures in
-    let sides = back_on_sides (λ a b. Elapses (g.D.Disk.moment a) (g.D.Disk.moment b) (g.D.Disk.left_since a) (g.D.Disk.left_since b) (IsImage (g.D.Disk.cells b))) c.args.disks c.is_odd-is_odd.result c.by_side-log.result c.by_side-odd_log.result c.in-Err-open_log.log
-    c.by_side-log.ensures c.by_side-odd_log.ensures (c.in-Err-open_log.ensures.back_time told) (no_time _ _ _) in
+    let sides = back_on_sides (λ a b. Elapses (g.D.Disk.moment a) (g.D.Disk.moment b) (g.D.Disk.left_since a) (g.D.Disk.left_since b) (IsImage (g.D.Disk.cells b))) c.args.disks c.is_odd-is_odd.result c.by_side-log.result c.by_side-odd_log-in-Err-open_log.result c.in-Err-open_log.log
+    c.by_side-log.ensures c.by_side-odd_log-in-Err-open_log.ensures (c.in-Err-open_log.ensures.back_time told) (no_time _ _ _) in
     record {
       even_log = sides.0;
       odd_log = sides.1;
@@ -131,11 +131,11 @@ returns-in-Err-open_log-clause-back_time g c = λ told.
 pub returns-in-Err-open_log-clause-back_later : goal.returns-in-Err-open_log-clause-back_later
 returns-in-Err-open_log-clause-back_later g c =
     let given = c.into_disks-even_slot.ensures in
-    let sides = back_on_sides (λ a b. g.D.Disk.faults a ≤ g.D.Disk.faults b) c.args.disks c.is_odd-is_odd.result c.by_side-log.result c.by_side-odd_log.result c.in-Err-open_log.log
-    c.by_side-log.ensures c.by_side-odd_log.ensures c.in-Err-open_log.ensures.back_later (omega arith) in
+    let sides = back_on_sides (λ a b. g.D.Disk.faults a ≤ g.D.Disk.faults b) c.args.disks c.is_odd-is_odd.result c.by_side-log.result c.by_side-odd_log-in-Err-open_log.result c.in-Err-open_log.log
+    c.by_side-log.ensures c.by_side-odd_log-in-Err-open_log.ensures c.in-Err-open_log.ensures.back_later (omega arith) in
     record { even_log = sides.0; odd_log = sides.1; even_slot = rw (given.even) c.in-Ok.ensures.later.0; odd_slot = rw (given.odd) c.in-Ok.ensures.later.1 }
 
 pub returns-in-Err-open_log-clause-cause : goal.returns-in-Err-open_log-clause-cause
 returns-in-Err-open_log-clause-cause g c = λ is.
     ⊎_elim (λ even. inl even) (λ odd. inr (inl odd))
-    (rose_on_side g.D.Disk.faults c.args.disks c.is_odd-is_odd.result c.by_side-log.result c.by_side-odd_log.result c.in-Err-open_log.log c.by_side-log.ensures c.by_side-odd_log.ensures (c.in-Err-open_log.ensures.cause is))
+    (rose_on_side g.D.Disk.faults c.args.disks c.is_odd-is_odd.result c.by_side-log.result c.by_side-odd_log-in-Err-open_log.result c.in-Err-open_log.log c.by_side-log.ensures c.by_side-odd_log-in-Err-open_log.ensures (c.in-Err-open_log.ensures.cause is))
