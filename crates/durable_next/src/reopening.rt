@@ -151,7 +151,10 @@ fn plan_of(
     ensures entries { result.1 ≡ log.entries }
 {
     let LogOpened {
-        end, torn, entries, ..
+        end,
+        torn,
+        entries,
+        ..
     } = log;
     let count = entries.len() as u64;
     let plan = Plan {
