@@ -1,7 +1,7 @@
 -- Lists of entries, and of calls.
-use Rattle.std.proofs.Common.{◌≡◌, ℕ, ◌+◌, ◌-◌, ◌^◌, ◌≤◌, ◌<◌, Bool, true, false, not, cond, List, [], ◌∷◌, ◌++◌, length, take, drop, get_or, refl, sym, ◌∙◌, ap, subst, arith, length-drop}
+use Rattle.std.proofs.Common.{◌≡◌, ℕ, ◌+◌, ◌-◌, ◌≤◌, ◌<◌, Bool, true, false, cond, List, [], ◌∷◌, ◌++◌, length, take, drop, get_or, sym, ◌∙◌, ap, length-drop}
 use Rattle.std.proofs.lemmas.List.{take_at, drop_all, drop_more, take_more, append_assoc, append-nil}
-use Rattle.store_laws.specs.States.{group_of, some}
+use Rattle.store_laws.specs.States.{group_of}
 use Rattle.store_laws.specs.declared.job.Ending.{Ending}
 use Rattle.store_laws.specs.declared.job.StoreCall.{StoreCall}
 use Rattle.store_laws.specs.declared.job.StoreCall.TheVariants.{On, WriteTail}

@@ -1,10 +1,10 @@
 -- A store before its next call, with the tail that this call writes.
-use Rattle.std.proofs.Common.{◌≡◌, ℕ, ◌+◌, Bool, true, false, not, cond, List, [], ◌∷◌, Option, Some, None, refl, sym, ◌∙◌, ap, subst}
+use Rattle.std.proofs.Common.{◌≡◌, ℕ, ◌+◌, Bool, true, false, not, cond, List, [], ◌∷◌, refl, sym, ◌∙◌, ap, subst}
 use Rattle.disk_model.specs.DeviceCalls.{CanBeMade}
 use Rattle.disk_model.specs.declared.call.DeviceCall.{DeviceCall}
 use Rattle.store_form.specs.Spelling.{IsGroup, checkpoint_text}
 use Rattle.store_laws.specs.Restored.{Images}
-use Rattle.store_laws.specs.States.{Devices, StoreState, side, slot_gate_of, switch_calls, some, writes_tail, Begun, NoJob, Close, Repair, Switch, AddGroup, due_job, begins, begun, cells_on, job_called, store_called, devices_during}
+use Rattle.store_laws.specs.States.{StoreState, side, slot_gate_of, switch_calls, some, writes_tail, Begun, NoJob, Close, Repair, Switch, AddGroup, due_job, begins, begun, cells_on, job_called, store_called, devices_during}
 use Rattle.store_laws.specs.Stands.{Aim, Runs, StandsBy, HasSpelling, aim_begins, aim_written}
 use Rattle.store_laws.specs.declared.job.Kept.{Kept}
 use Rattle.store_laws.specs.declared.job.Device.{Device}

@@ -1,4 +1,4 @@
-use Rattle.std.proofs.Common.{◌≡◌, List, ℕ, drop, ap, sym, subst, ◌∙◌}
+use Rattle.std.proofs.Common.{List, drop, ap, sym, subst, ◌∙◌}
 use Rattle.store_laws.specs.declared.job.StoreCall.{StoreCall}
 use Rattle.store_plan.specs.Fit.{CanEnd}
 use Rattle.store_plan.proofs.Lists.{can_end_then}

@@ -1,6 +1,6 @@
-use Rattle.std.proofs.Common.{◌≡◌, ◌∙◌, sym, ℕ, Bool, true, false, List, ap}
+use Rattle.std.proofs.Common.{◌≡◌, ◌∙◌, sym, ap}
 use Rattle.std.proofs.lemmas.Bool.{lt-ltb, le-ltb}
-use Rattle.store_laws.specs.States.{greatest, Devices, StoreState, of_group, group_of, due_job, Close, Repair}
+use Rattle.store_laws.specs.States.{greatest, Devices, of_group, group_of, due_job, Close, Repair}
 use Rattle.store_plan.specs.Plans.{state_with}
 use Rattle.store_plan.proofs.Due.{ok_two, on_ok, none_left, begun_begins, due_even, due_odd, due_repair, due_group, due_group_full, begun_group, none_asked}
 use Rattle.store_plan.proofs.plan.Plan.begin.Goals.{else-self-lt18446744073709551615-via-then-self-lt18446744073709551615+else-is_some, else-self-lt18446744073709551615-via-else-self-lt18446744073709551615}

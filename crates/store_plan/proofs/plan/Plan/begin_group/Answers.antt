@@ -1,4 +1,4 @@
-use Rattle.std.proofs.Common.{◌≡◌, ◌∷◌, List, ℕ, Bool, take, ap, ◌∙◌}
+use Rattle.std.proofs.Common.{◌∷◌, List, ℕ, Bool, take, ap, ◌∙◌}
 use Rattle.batch_log.specs.LogCalls.{body_text, group_calls}
 use Rattle.store_laws.specs.States.{calls_on}
 use Rattle.store_laws.specs.declared.job.Device.TheVariants.{Log}

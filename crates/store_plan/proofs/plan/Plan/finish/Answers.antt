@@ -1,4 +1,4 @@
-use Rattle.std.proofs.Common.{◌≡◌, List, ℕ, ap, sym, ◌∙◌}
+use Rattle.std.proofs.Common.{List, ℕ, ap, sym, ◌∙◌}
 use Rattle.store_laws.specs.States.{ends, switches}
 use Rattle.store_laws.specs.declared.job.Ending.{Ending}
 use Rattle.store_plan.specs.Plans.{state_with, leaves_adding}

@@ -1,7 +1,6 @@
-use Rattle.std.proofs.Common.{◌≡◌, ◌∙◌, sym, ap}
+use Rattle.std.proofs.Common.{◌∙◌, sym, ap}
 use Rattle.batch_log.specs.LogCalls.{anew_text}
-use Rattle.store_laws.specs.States.{Devices}
-use Rattle.store_plan.specs.Plans.{state_with, readied}
+use Rattle.store_plan.specs.Plans.{state_with}
 use Rattle.store_plan.proofs.Due.{ready_tail, some_left, none_left, on_ok, nowhere, first_begun, first_readied}
 use Rattle.store_plan.proofs.plan.Plan.ready.Goals as goal
 
