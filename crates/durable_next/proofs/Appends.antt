@@ -1,5 +1,5 @@
 -- A run of a store that was given entries.
-use Rattle.std.proofs.Common.{◌≡◌, ◌⊎◌, inl, inr, ℕ, ◌≤◌, Bool, List, ◌++◌, take, Result, Ok, Err, OnErr, refl, sym, ◌∙◌, ap, subst, arith}
+use Rattle.std.proofs.Common.{◌≡◌, inl, ℕ, Bool, List, ◌++◌, take, Result, Ok, Err, OnErr, refl, sym, ◌∙◌, ap, subst, arith}
 use Rattle.disk_model.specs.Cells.{Cells}
 use Rattle.store_form.specs.declared.ends.State.TheVariants.{Open}
 use Rattle.store_laws.specs.States.{Devices, StoreState, given}

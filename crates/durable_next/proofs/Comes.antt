@@ -1,9 +1,9 @@
 -- A switch that is asked comes to its end, if no other runs.
-use Rattle.std.proofs.Common.{◌≡◌, ◌⊎◌, inl, inr, ⊎_elim, ℕ, ◌+◌, ◌<◌, nat_lt, Bool, true, false, not, cond, List, [], ◌∷◌, length, Option, Some, None, refl, sym, ◌∙◌, ap, subst, arith}
+use Rattle.std.proofs.Common.{◌≡◌, inl, inr, ⊎_elim, ℕ, ◌+◌, ◌<◌, nat_lt, Bool, true, false, not, cond, List, [], ◌∷◌, length, Option, Some, None, refl, sym, ◌∙◌, ap, subst, arith}
 use Rattle.std.proofs.lemmas.Bool.{lt-ltb}
 use Rattle.store_form.specs.Spelling.{group_text, checkpoint_text}
 use Rattle.disk_model.specs.declared.call.DeviceCall.{DeviceCall}
-use Rattle.store_laws.specs.States.{Devices, StoreState, side, slot_gate_of, greatest, is_torn, some, group_of, of_group, of_asked, Begun, Close, Repair, Switch, due_job, begins, begun, is_due, asked, ending_of, advanced, ends, job_called, store_called}
+use Rattle.store_laws.specs.States.{Devices, StoreState, side, slot_gate_of, greatest, is_torn, some, group_of, of_group, of_asked, Begun, Close, Repair, due_job, begins, is_due, asked, advanced, ends, job_called, store_called}
 use Rattle.store_laws.specs.declared.job.Device.{Device}
 use Rattle.store_laws.specs.declared.job.StoreCall.{StoreCall}
 use Rattle.store_laws.specs.declared.job.StoreCall.TheVariants.{On, WriteTail}
@@ -13,7 +13,6 @@ use Rattle.store_laws.specs.declared.job.Tail.{Tail}
 use Rattle.store_laws.proofs.AnyGoes.{some_switch}
 use Rattle.store_plan.specs.declared.plan.Plan.{Plan}
 use Rattle.store_plan.specs.Plans.{state_with}
-use Rattle.store_plan.proofs.Ready.{no_calls}
 use Rattle.durable_next.specs.Runs.{IsNoSwitch, IsUnasked, Waits, IsMade, IsDone, Goes, Comes}
 use Rattle.durable_next.proofs.Held.{idle_no_switch, no_switch_left, no_tail_first}
 

@@ -1,5 +1,5 @@
 -- What a call of one device makes of the four.
-use Rattle.std.proofs.Common.{◌≡◌, ◌⊎◌, inl, inr, ⊎_elim, ℕ, ◌≤◌, Bool, true, false, List, [], ◌∷◌, refl, sym, ◌∙◌, ap, subst, arith}
+use Rattle.std.proofs.Common.{◌≡◌, ◌⊎◌, inl, inr, ⊎_elim, ℕ, ◌≤◌, Bool, true, false, List, [], ◌∷◌, refl, sym, subst, arith}
 use Rattle.faults.specs.Counts.{Rose}
 use Rattle.disk_model.specs.Cells.{Cells, IsImage, Within}
 use Rattle.disk_model.specs.Calls.{Elapses}

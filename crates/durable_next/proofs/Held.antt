@@ -1,6 +1,6 @@
 -- While no switch runs or waits, the entries that wait are taken by one group alone, and nothing is due once that is firm.
-use Rattle.std.proofs.Common.{◌≡◌, ◌⊎◌, inl, inr, ⊎_elim, ℕ, suc, ◌+◌, nat_lt, Bool, true, false, not, cond, List, [], ◌∷◌, length, drop, Option, Some, None, refl, sym, ◌∙◌, ap, subst}
-use Rattle.store_laws.specs.States.{Devices, StoreState, side, greatest, is_torn, some, writes_tail, group_of, of_group, of_asked, Begun, NoJob, Close, Repair, Switch, AddGroup, due_job, begins, begun, is_due, advanced, ends, job_called, store_called}
+use Rattle.std.proofs.Common.{◌≡◌, ◌⊎◌, inl, inr, ⊎_elim, ℕ, nat_lt, Bool, true, false, cond, List, [], ◌∷◌, length, drop, Option, Some, None, refl, sym, ◌∙◌, ap}
+use Rattle.store_laws.specs.States.{Devices, StoreState, greatest, is_torn, some, writes_tail, group_of, of_group, of_asked, Begun, Close, Repair, due_job, begins, is_due, advanced, ends, job_called, store_called}
 use Rattle.store_laws.specs.declared.job.StoreCall.{StoreCall}
 use Rattle.store_laws.specs.declared.job.StoreCall.TheVariants.{On, WriteTail}
 use Rattle.store_laws.specs.declared.job.Device.{Device}

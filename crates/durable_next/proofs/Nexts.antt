@@ -1,5 +1,5 @@
 -- The next call of a store, from the plan that is ready for it.
-use Rattle.std.proofs.Common.{◌≡◌, ◌⊎◌, inl, inr, ⊎_elim, ℕ, Bool, true, false, not, cond, List, [], ◌∷◌, Option, Some, None, Bor, refl, sym, ◌∙◌, ap, subst, arith, length, ◌<◌, ◌^◌}
+use Rattle.std.proofs.Common.{◌≡◌, inl, inr, ⊎_elim, ℕ, Bool, true, false, cond, List, [], ◌∷◌, Option, Some, None, Bor, refl, sym, ◌∙◌, ap, subst, arith}
 use Rattle.std.specs.List.{slice_get}
 use Rattle.std.specs.Option.{option_copied}
 use Rattle.disk_model.specs.Cells.{Cells}
@@ -8,9 +8,9 @@ use Rattle.disk_model.specs.declared.call.DeviceCall.{DeviceCall}
 use Rattle.store_form.specs.Spelling.{IsGroup, payload}
 use Rattle.store_laws.specs.Restored.{Images}
 use Rattle.store_laws.specs.States.{Devices, StoreState, change, cells_on, some, writes_tail, Begun, NoJob, Close, Repair, Switch, AddGroup, due_job, begins, begun, ended, job_called, store_called, devices_during, MayLeave}
-use Rattle.store_laws.specs.Runs.{CallFits, CallLeaves}
+use Rattle.store_laws.specs.Runs.{CallLeaves}
 use Rattle.store_laws.specs.Lives.{Either}
-use Rattle.store_laws.specs.Stands.{Aim, AnyRests, StandsBy, StoreStands, Runs, HasSpelling, aim_called, aim_after}
+use Rattle.store_laws.specs.Stands.{AnyRests, StandsBy, Runs, HasSpelling, aim_called, aim_after}
 use Rattle.store_laws.specs.declared.job.Device.{Device}
 use Rattle.store_laws.specs.declared.job.StoreCall.{StoreCall}
 use Rattle.store_laws.specs.declared.job.StoreCall.TheVariants.{On, WriteTail}
@@ -20,7 +20,7 @@ use Rattle.store_laws.proofs.AnyGoes.{any_begins}
 use Rattle.store_plan.specs.declared.plan.Plan.{Plan}
 use Rattle.store_plan.specs.Plans.{state_with, leaves_calls, with_tail, readied}
 use Rattle.store_plan.proofs.Due.{nowhere}
-use Rattle.store_plan.proofs.Ready.{readied_called, readied_during, readied_devices, readied_stands, first_can}
+use Rattle.store_plan.proofs.Ready.{readied_called, readied_during, readied_stands, first_can}
 use Rattle.disk_model.specs.Cells.{IsImage, Within}
 use Rattle.disk_model.specs.Calls.{Elapses}
 use Rattle.durable_next.specs.Disks.{disk_at, OthersSame, OthersBy, cells_of, LeftSince}

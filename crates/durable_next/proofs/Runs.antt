@@ -1,12 +1,11 @@
 -- A run of calls goes on by one more.
-use Rattle.std.proofs.Common.{◌≡◌, ◌⊎◌, inl, inr, ⊎_elim, ℕ, suc, ◌≤◌, Bool, true, false, List, refl, sym, ◌∙◌, ap, subst, arith}
+use Rattle.std.proofs.Common.{◌≡◌, inl, inr, ℕ, suc, Bool, List, refl, ◌∙◌, ap, subst, arith}
 use Rattle.disk_model.specs.Cells.{Cells}
 use Rattle.store_form.specs.declared.ends.State.TheVariants.{Open}
 use Rattle.store_laws.specs.Restored.{Images}
 use Rattle.store_laws.specs.States.{Devices, StoreState, store_called, MayLeave}
 use Rattle.store_laws.specs.Runs.{called_times, CallFits, RunFits, CallLeaves, RunLeaves}
 use Rattle.store_laws.specs.declared.job.Tail.{Tail}
-use Rattle.store_plan.specs.declared.plan.Plan.{Plan}
 use Rattle.store_plan.specs.Plans.{state_with}
 use Rattle.durable_next.specs.Disks.{cells_of, TimeWent, NoneFell, LeftSince}
 use Rattle.durable_next.specs.Runs.{Passed, Passes, Ran}

@@ -1,7 +1,7 @@
 -- The work that is left for a store: each call makes it less.
-use Rattle.std.proofs.Common.{◌≡◌, ℕ, suc, ◌+◌, ◌-◌, ◌*◌, ◌≤◌, ◌<◌, nat_lt, Bool, true, false, not, cond, List, [], ◌∷◌, length, drop, Option, Some, None, refl, sym, ◌∙◌, ap, subst, arith, length-drop}
+use Rattle.std.proofs.Common.{◌≡◌, ℕ, suc, ◌+◌, ◌-◌, ◌*◌, ◌≤◌, ◌<◌, nat_lt, Bool, true, false, not, cond, List, [], ◌∷◌, length, Option, Some, None, refl, sym, ◌∙◌, ap, arith, length-drop}
 use Rattle.store_form.specs.Spelling.{checkpoint_text}
-use Rattle.store_laws.specs.States.{Devices, StoreState, side, slot_gate_of, greatest, is_torn, some, switch_calls, group_of, of_group, of_asked, Begun, NoJob, Close, Repair, Switch, AddGroup, due_job, begins, begun, is_due, ending_of, advanced, ends, ended, firm_by, job_called, store_called}
+use Rattle.store_laws.specs.States.{Devices, StoreState, side, slot_gate_of, greatest, is_torn, some, switch_calls, group_of, of_group, of_asked, Begun, Close, Repair, Switch, due_job, begins, is_due, ending_of, advanced, ends, firm_by, job_called, store_called}
 use Rattle.store_laws.specs.declared.job.Gate.{Gate}
 use Rattle.store_laws.specs.declared.job.Gate.TheVariants.{Absent, Closed, Torn, Open}
 use Rattle.store_laws.specs.declared.job.StoreCall.{StoreCall}

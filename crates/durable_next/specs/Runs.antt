@@ -1,5 +1,5 @@
 -- A run of calls of a store over its devices.
-use Rattle.std.specs.Prelude.{◌≡◌, ◌⊎◌, ◌+◌, ℕ, zero, suc, Bool, true, List, [], Result, Ok, Err, Option, Some, None}
+use Rattle.std.specs.Prelude.{◌≡◌, ◌⊎◌, ◌+◌, ℕ, zero, suc, Bool, true, List, [], Result, Ok, Err, Some, None}
 use Rattle.disk_model.specs.Cells.{Cells}
 use Rattle.store_form.specs.declared.ends.State.TheVariants.{Open}
 use Rattle.store_laws.specs.Restored.{Images}

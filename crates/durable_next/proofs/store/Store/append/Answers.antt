@@ -1,7 +1,7 @@
 use Rattle.std.proofs.Common.{◌≡◌, ◌∙◌, ◌++◌, List, ℕ, take, sym, ap, subst}
 use Rattle.std.proofs.lemmas.List.{take_at}
 use Rattle.std.proofs.lemmas.Result.{err_from_is_err_and}
-use Rattle.store_laws.specs.States.{Devices, StoreState, given}
+use Rattle.store_laws.specs.States.{StoreState, given}
 use Rattle.store_laws.proofs.Given.{any_waits}
 use Rattle.store_plan.specs.Plans.{state_with}
 use Rattle.store_plan.proofs.Due.{nowhere}

@@ -1,6 +1,6 @@
-use Rattle.std.proofs.Common.{◌≡◌, ◌∙◌, ◌<◌, ℕ, Bool, true, inl, refl, sym, ap, subst}
+use Rattle.std.proofs.Common.{◌≡◌, ◌∙◌, true, inl, refl, sym, ap, subst}
 use Rattle.batch_log.proofs.Answered.{on_err}
-use Rattle.store_laws.specs.States.{Devices, StoreState, is_due, store_called}
+use Rattle.store_laws.specs.States.{StoreState, is_due, store_called}
 use Rattle.store_plan.specs.Plans.{state_with}
 use Rattle.store_plan.proofs.Due.{nowhere}
 use Rattle.durable_next.proofs.Runs.{run_first, run_next, run_ends, run_fails, none_fell, fell_on}

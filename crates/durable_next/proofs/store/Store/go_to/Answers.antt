@@ -1,6 +1,5 @@
-use Rattle.std.proofs.Common.{◌≡◌, ◌∙◌, ◌<◌, ℕ, Bool, true, inl, refl, sym, ap, subst, arith}
-use Rattle.batch_log.proofs.Answered.{on_err}
-use Rattle.store_laws.specs.States.{Devices, StoreState, greatest, is_due, store_called}
+use Rattle.std.proofs.Common.{◌∙◌, ◌<◌, refl, sym, subst, arith}
+use Rattle.store_laws.specs.States.{Devices, StoreState, greatest, store_called}
 use Rattle.store_plan.specs.Plans.{state_with}
 use Rattle.store_plan.proofs.Due.{nowhere}
 use Rattle.durable_next.specs.Runs.{Goes, Comes}

@@ -3,7 +3,7 @@ use Rattle.store_laws.specs.States.{begun}
 use Rattle.store_plan.specs.Plans.{state_with}
 use Rattle.durable_next.specs.Disks.{cells_of}
 use Rattle.durable_next.proofs.Four.{same_others}
-use Rattle.durable_next.proofs.Nexts.{first_call, no_first_call, still_stands, disk_can, disk_crash, disk_moments, plan_called, disk_made, disk_stands, ready_held, next_others}
+use Rattle.durable_next.proofs.Nexts.{first_call, still_stands, disk_can, disk_crash, disk_moments, plan_called, disk_made, disk_stands, ready_held, next_others}
 use Rattle.durable_next.proofs.store.Store.next_call.Goals as goal
 
 pub returns-in_default-2-clause-stands : goal.returns-in_default-2-clause-stands

@@ -1,5 +1,5 @@
-use Rattle.std.proofs.Common.{◌≡◌, ◌∙◌, ◌+◌, refl, sym, ap, subst}
-use Rattle.store_laws.specs.States.{Devices, StoreState, asked}
+use Rattle.std.proofs.Common.{◌∙◌, ◌+◌, refl, sym, ap, subst}
+use Rattle.store_laws.specs.States.{StoreState, asked}
 use Rattle.store_laws.proofs.Given.{any_asked}
 use Rattle.store_plan.specs.Plans.{state_with}
 use Rattle.store_plan.proofs.Due.{nowhere}
