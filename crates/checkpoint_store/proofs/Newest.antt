@@ -55,7 +55,7 @@ counted_own : (odd : Bool) (r : Result (Checkpoint × Cut) ℕ) (y : Checkpoint)
 counted_own odd (Ok x) y some = uses_own odd x.0 y some
 counted_own odd (Err at) y some = absurd cc
 
-slot_own : (odd : Bool) (bytes : List ℕ) (y : Checkpoint) → slot_of odd bytes ≡ Some y → is_odd y.generation ≡ odd
+pub slot_own : (odd : Bool) (bytes : List ℕ) (y : Checkpoint) → slot_of odd bytes ≡ Some y → is_odd y.generation ≡ odd
 slot_own odd [] y some = absurd cc
 slot_own odd (gate ∷ rest) y some = by (eqb gate 1) some
   where

@@ -2,3 +2,4 @@ pub mod Slots
 pub mod SlotJobs
 pub mod Stores
 pub mod Exact
+pub mod SlotCalls

@@ -1,5 +1,6 @@
 pub mod Cells
 pub mod Calls
+pub mod DeviceCalls
 pub mod Undo
 pub mod Platters
 pub mod Replay

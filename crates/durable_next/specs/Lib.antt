@@ -1,0 +1,4 @@
+pub mod Disks
+pub mod Stores
+pub mod Runs
+pub mod Opens

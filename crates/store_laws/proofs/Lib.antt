@@ -1,0 +1,17 @@
+pub mod Roles
+pub mod Restores
+pub mod Crashes
+pub mod Calm
+pub mod Groups
+pub mod Switches
+pub mod Closes
+pub mod Begins
+pub mod SwitchBegins
+pub mod Goes
+pub mod Aims
+pub mod Any
+pub mod AnyBegins
+pub mod AnyGoes
+pub mod Given
+pub mod Counted
+pub mod Booked
