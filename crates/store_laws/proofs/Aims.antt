@@ -61,14 +61,14 @@ job_firm tail [] s few = (omega arith, few)
 job_firm tail (call ∷ []) s few = ends_firm (advanced tail call [] s).ending (advanced tail call [] s) few
 job_firm tail (call ∷ more ∷ left) s few = (omega arith, few)
 
-begins_firm : (job : Begun) (s : StoreState) → (begins job s).firm ≡ s.firm
+pub begins_firm : (job : Begun) (s : StoreState) → (begins job s).firm ≡ s.firm
 begins_firm NoJob s = refl
 begins_firm (Close odd) s = refl
 begins_firm Repair s = refl
 begins_firm (Switch snapshot) s = refl
 begins_firm (AddGroup group) s = refl
 
-begun_firm : (stops : List ℕ → Bool) (s : StoreState) → (begun stops s).firm ≡ s.firm
+pub begun_firm : (stops : List ℕ → Bool) (s : StoreState) → (begun stops s).firm ≡ s.firm
 begun_firm stops s = by (some s.running)
   where
     by : (t : Bool) → (cond t s (begins (due_job stops s) s)).firm ≡ s.firm

@@ -61,6 +61,15 @@ wire_ends bytes own other (fit, inr (inr a)) calm =
     sym (gate_is own (a.gate ∷ (group_text a.group ++ 0 ∷ a.tail)) bytes (wire_restores bytes own other (fit, inr (inr a))) a.are) ∙ not_false (get_or bytes (end_opened bytes) 1) calm in
     absurd (a.torn.0 gate)
 
+-- and with a gate of 1 it would bring back no other group
+pub wire_calm : (bytes : List ℕ) (own other : List Group) → Wire bytes own other → log_torn bytes ≡ false → other ≡ own
+wire_calm bytes own other (fit, inl e) calm = e.nothing
+wire_calm bytes own other (fit, inr (inl b)) calm = b.nothing
+wire_calm bytes own other (fit, inr (inr a)) calm =
+    let gate : a.gate ≡ 0 =
+    sym (gate_is own (a.gate ∷ (group_text a.group ++ 0 ∷ a.tail)) bytes (wire_restores bytes own other (fit, inr (inr a))) a.are) ∙ not_false (get_or bytes (end_opened bytes) 1) calm in
+    absurd (a.torn.0 gate)
+
 pub wired : (cells : Cells) (gs : List Group) (tail : List ℕ) → AreGroups gs → cells.sure ≡ log_bytes gs ++ 0 ∷ tail → Wired cells gs
 wired cells gs tail fit sure = record { instead = gs; wire = (fit, inl (record { tail = tail; are = sure; nothing = refl })) }
 

@@ -1,4 +1,4 @@
--- The firm entries are among those that each crash restores, or the present log no longer has them.
+-- Each crash restores at least as many entries as are firm, but for those that the present log no longer has, or a later generation.
 use Rattle.std.proofs.Common.{◌≡◌, ◌⊎◌, inl, inr, ℕ, ◌+◌, ◌-◌, ◌^◌, ◌≤◌, ◌<◌, min, max, Bool, true, false, not, cond, List, [], ◌∷◌, ◌++◌, length, Option, Some, None, refl, sym, ◌∙◌, ap, subst, arith, length-append}
 use Rattle.std.proofs.lemmas.Grind.{flat_map-append}
 use Rattle.store_form.specs.Spelling.{Group, checkpoint_text}

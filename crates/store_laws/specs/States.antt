@@ -48,8 +48,10 @@ cells_on (Log odd) d = log_at odd d
 cells_on (Slot odd) d = slot_at odd d
 
 -- The state of a store. `even` and `odd` are the gates of the slots. `torn` says that the gate after the groups of the present log is not
--- sure to be closed, and `end` is its index. `running` are the calls that the running job still makes. `adding` are the entries of the
--- running group, and `waiting` those that wait for a group. `asked` is the snapshot of the switch that waits.
+-- sure to be closed, and `end` is its index. These and `generation` change at a job's end alone: while it runs they are as it found them.
+-- `running` are the calls that the running job still makes, and `ending` is what its end makes. At rest `ending` is that of the last job, and
+-- says nothing. `adding` are the entries of the running group, and `waiting` those that wait for a group. `asked` is the snapshot of the
+-- switch that waits.
 pub record StoreState : Type 0 where
   pub devices : Devices
   pub even : Gate
