@@ -109,8 +109,8 @@ module _ (stops : List ℕ → Bool) (s : StoreState) (adds : GroupAdds s) (idle
   pub begins_takes : Begins (due_job stops s)
   begins_takes = choose (is_torn s.even) (is_torn s.odd) s.torn
 
-pub job_takes : (stops : List ℕ → Bool) (s : StoreState) → s.running ≡ [] → GroupAdds s → not_firm (begins (due_job stops s) s) ≡ not_firm s
-job_takes stops s idle adds = (begins_takes stops s adds idle).0
+pub job_takes : (stops : List ℕ → Bool) (s : StoreState) → s.running ≡ [] → GroupAdds s → (not_firm (begins (due_job stops s) s) ≡ not_firm s) × GroupAdds (begins (due_job stops s) s)
+job_takes stops s idle adds = begins_takes stops s adds idle
 
 pub job_firm : (stops : List ℕ → Bool) (s : StoreState) → (begins (due_job stops s) s).firm ≡ s.firm
 job_firm stops s = begins_firm (due_job stops s) s

@@ -8,7 +8,7 @@ use Rattle.store_laws.specs.States.{StoreState, greatest, is_torn, some, Begun, 
 use Rattle.store_laws.specs.Stands.{Aim, IsOwn, aim_begins}
 use Rattle.store_laws.specs.Runs.{called_times, CallFits, RunFits, CallLeaves, aim_begun, aim_first, aim_then}
 use Rattle.store_laws.specs.Books.{NoTail}
-use Rattle.store_laws.specs.Tails.{tail_after, SwitchesBy, HasSwitched, NoSwitch, next_of, SwitchWaits, SwitchRuns, SwitchGoes, SwitchComes}
+use Rattle.store_laws.specs.Tails.{tail_after, SwitchesBy, HasSwitched, NoSwitch, next_of, SwitchWaits, SwitchRuns, SwitchGoes, SwitchComes, SwitchEnded}
 use Rattle.store_laws.specs.declared.job.Kept.{Kept}
 use Rattle.store_laws.specs.declared.job.Tail.{Tail}
 use Rattle.store_laws.specs.declared.job.Device.{Device}
@@ -245,3 +245,20 @@ module _ (from : ℕ) (snapshot : List ℕ) (tail : Tail) where
       let before = run_goes stops n s a own goes fits.0 old in
       let then = call_comes stops (called_times stops tail n s) before.0 before.1.0 fits.1 before.1.1 in
       (then.0, (then.1.0, now_switched (called_times stops tail (suc n) s) then.0 new then.1.1))
+
+  pub run_comes : (stops : List ℕ → Bool) (n : ℕ) (s : StoreState) (a : Aim) → IsOwn s a → SwitchGoes from snapshot tail s a → RunFits stops tail n s
+      → ((b : Aim) × (IsOwn (called_times stops tail n s) b × SwitchGoes from snapshot tail (called_times stops tail n s) b)) ⊎ SwitchEnded stops from snapshot tail n s
+  run_comes stops zero s a own goes fits = inl (a, (own, goes))
+  run_comes stops (suc n) s a own goes fits = by (run_comes stops n s a own goes fits.0)
+    where
+      last : (b : Aim) × (IsOwn (called_times stops tail (suc n) s) b × SwitchComes from snapshot tail (called_times stops tail (suc n) s) b)
+          → ((b : Aim) × (IsOwn (called_times stops tail (suc n) s) b × SwitchGoes from snapshot tail (called_times stops tail (suc n) s) b)) ⊎ SwitchEnded stops from snapshot tail (suc n) s
+      last (b, (now, inl more)) = inl (b, (now, more))
+      last (b, (now, inr has)) = inr (record { call = suc n; among = omega arith; aim = b; own = now; has = has })
+
+      by : ((b : Aim) × (IsOwn (called_times stops tail n s) b × SwitchGoes from snapshot tail (called_times stops tail n s) b)) ⊎ SwitchEnded stops from snapshot tail n s
+          → ((b : Aim) × (IsOwn (called_times stops tail (suc n) s) b × SwitchGoes from snapshot tail (called_times stops tail (suc n) s) b)) ⊎ SwitchEnded stops from snapshot tail (suc n) s
+      by (inl before) = last (call_comes stops (called_times stops tail n s) before.0 before.1.0 fits.1 before.1.1)
+      by (inr e) =
+          let le = e.among in
+          inr (record { call = e.call; among = omega (arith, le); aim = e.aim; own = e.own; has = e.has })

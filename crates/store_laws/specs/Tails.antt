@@ -1,10 +1,11 @@
 -- A switch and its tail: what it aims at before the tail is written and after it, and what it has reached at its end.
-use Rattle.std.specs.Prelude.{◌≡◌, ◌⊎◌, ◌+◌, ℕ, Bool, true, false, List, [], ◌∷◌, length, Option, Some, None}
+use Rattle.std.specs.Prelude.{◌≡◌, ◌≤◌, ◌⊎◌, ◌+◌, ℕ, Bool, true, false, List, [], ◌∷◌, length, Option, Some, None}
 use Rattle.store_form.specs.Spelling.{group_text}
 use Rattle.store_form.specs.declared.checkpoint.Checkpoint.{Checkpoint}
 use Rattle.store_laws.specs.Restored.{switched}
 use Rattle.store_laws.specs.States.{StoreState, is_torn, some}
-use Rattle.store_laws.specs.Stands.{Aim}
+use Rattle.store_laws.specs.Stands.{Aim, IsOwn}
+use Rattle.store_laws.specs.Runs.{called_times}
 use Rattle.store_laws.specs.Books.{NoTail}
 use Rattle.store_laws.specs.declared.job.Kept.{Kept}
 use Rattle.store_laws.specs.declared.job.Tail.{Tail}
@@ -99,3 +100,11 @@ SwitchGoes from snapshot tail s a = SwitchWaits from snapshot s ⊎ SwitchRuns f
 -- it waits or runs, or has just ended
 abbrev pub SwitchComes : ℕ → List ℕ → Tail → StoreState → Aim → Type 0
 SwitchComes from snapshot tail s a = SwitchGoes from snapshot tail s a ⊎ HasSwitched (next_of from snapshot) tail s a
+
+-- A run of this many calls, one of which ended the switch.
+pub record SwitchEnded (stops : List ℕ → Bool) (from : ℕ) (snapshot : List ℕ) (tail : Tail) (n : ℕ) (s : StoreState) : Type 0 where
+  pub call : ℕ
+  pub among : call ≤ n
+  pub aim : Aim
+  pub own : IsOwn (called_times stops tail call s) aim
+  pub has : HasSwitched (next_of from snapshot) tail (called_times stops tail call s) aim

@@ -12,7 +12,7 @@ ghost use Rattle.store_laws.specs.Stands.{Aim, at_rest, Leaves, Runs, IsRead, An
 ghost use Rattle.store_laws.specs.Counts.{Counts, CountsBy, gone_after};
 ghost use Rattle.store_laws.specs.Books.{Books, BooksBy, IsFront};
 ghost use Rattle.store_laws.specs.Runs.{called_times, CallFits, RunFits, CallLeaves, aim_then};
-ghost use Rattle.store_laws.specs.Tails.{aimed_at, tail_after, stake_before, SwitchesBy, HasSwitched, next_of, SwitchGoes, SwitchComes};
+ghost use Rattle.store_laws.specs.Tails.{aimed_at, tail_after, stake_before, SwitchesBy, HasSwitched, next_of, SwitchGoes, SwitchComes, SwitchEnded};
 ghost use Rattle.store_laws.specs.Firm.{not_firm, GroupAdds, SameEntries, KeepsCount, GroupCounts, SwitchCounts, Firms};
 ghost use Rattle.store_laws.specs.declared.job.Device.{Device};
 ghost use Rattle.store_laws.specs.declared.job.Ending.TheVariants.{Closes, Repairs, Adds, Switches};
@@ -117,6 +117,9 @@ pub fn a_run_switches()
     ensures leaves { (stops : List ℕ → Bool) (from : ℕ) (snapshot : List ℕ) (tail : Tail) (s : StoreState) (a : Aim) → IsOwn s a → SwitchGoes from snapshot tail s a
         → (images : Images) → CallLeaves stops tail s images
         → Either images a.kept a.stake ⊎ ((b : Aim) × (IsOwn (store_called stops tail s) b × (SwitchComes from snapshot tail (store_called stops tail s) b × Either images b.kept b.stake))) }
+    // After any number of calls it waits or runs, or it ended at one of them.
+    ensures comes { (stops : List ℕ → Bool) (from : ℕ) (snapshot : List ℕ) (tail : Tail) (n : ℕ) (s : StoreState) (a : Aim) → IsOwn s a → SwitchGoes from snapshot tail s a → RunFits stops tail n s
+        → ((b : Aim) × (IsOwn (called_times stops tail n s) b × SwitchGoes from snapshot tail (called_times stops tail n s) b)) ⊎ SwitchEnded stops from snapshot tail n s }
     ensures stays { (stops : List ℕ → Bool) (from : ℕ) (snapshot : List ℕ) (tail : Tail) (n : ℕ) (s : StoreState) (a : Aim) → IsOwn s a → SwitchGoes from snapshot tail s a → RunFits stops tail n s
         → (called_times stops tail n s).generation ≡ from
         → (b : Aim) × (IsOwn (called_times stops tail n s) b × SwitchGoes from snapshot tail (called_times stops tail n s) b) }
@@ -141,8 +144,8 @@ pub fn a_job_counts_what_it_makes()
     ensures repair { (tail : Tail) (device : Device) (call : DeviceCall) (s : StoreState) → s.ending ≡ Repairs → KeepsCount s (job_called tail (On device call ∷ []) s) }
     // A call that ends no job.
     ensures goes { (tail : Tail) (call more : StoreCall) (left : List StoreCall) (s : StoreState) → SameEntries s (job_called tail (call ∷ (more ∷ left)) s) }
-    // A job begins. Its entries are the first of those that waited.
-    ensures begins { (stops : List ℕ → Bool) (s : StoreState) → s.running ≡ [] → GroupAdds s → not_firm (begins (due_job stops s) s) ≡ not_firm s }
+    // A job begins. If it is a group, its entries are the first of those that waited; else all still wait.
+    ensures begins { (stops : List ℕ → Bool) (s : StoreState) → s.running ≡ [] → GroupAdds s → (not_firm (begins (due_job stops s) s) ≡ not_firm s) × GroupAdds (begins (due_job stops s) s) }
     ensures begins_firm { (stops : List ℕ → Bool) (s : StoreState) → (begins (due_job stops s) s).firm ≡ s.firm }
     // Whatever the next call is, no entry is dropped that did not become firm.
     ensures firms { (stops : List ℕ → Bool) (tail : Tail) (s : StoreState) → GroupAdds s → s.firm ≤ greatest → Firms s (store_called stops tail s) }
