@@ -1,21 +1,21 @@
 -- A store of which no gate of a slot is torn, and whose log ends with a closed gate.
-use Rattle.std.proofs.Common.{◌≡◌, ◌≢◌, ◌⊎◌, inl, inr, ⊎_elim, ℕ, ◌+◌, ◌≤◌, ◌<◌, ◌==◌, Bool, true, false, not, cond, eqb, List, [], ◌∷◌, ◌++◌, length, get_or, Option, Some, None, refl, sym, ◌∙◌, ap, subst, append_assoc, arith, length-append}
+use Rattle.std.proofs.Common.{◌≡◌, inl, inr, ℕ, ◌≤◌, ◌==◌, Bool, true, false, not, eqb, List, [], ◌∷◌, ◌++◌, length, get_or, Option, refl, sym, ◌∙◌, ap, subst, arith}
 use Rattle.std.proofs.lemmas.Bool.{eqb-true}
 use Rattle.std.proofs.lemmas.List.{append-nil, get_or-append-add}
 use Rattle.std.proofs.lemmas.Grind.{flat_map-append}
-use Rattle.disk_model.specs.Cells.{Cells, IsImage, settled, written}
-use Rattle.store_form.specs.Spelling.{Group, group_text, IsGroup}
+use Rattle.disk_model.specs.Cells.{Cells, IsImage, settled}
+use Rattle.store_form.specs.Spelling.{Group, group_text}
 use Rattle.store_form.specs.declared.checkpoint.Checkpoint.{Checkpoint}
 use Rattle.batch_log.specs.Log.{log_bytes, AreGroups, restored}
 use Rattle.batch_log.specs.Exact.{end_opened}
-use Rattle.batch_log.specs.Wires.{Ends, Bare, Armed, Wire, Next, LeavesWire, Wired}
+use Rattle.batch_log.specs.Wires.{Ends, Wire, LeavesWire, Wired}
 use Rattle.batch_log.proofs.Restored.{restored_is, closed}
 use Rattle.batch_log.proofs.Lives.{wire_restores}
-use Rattle.checkpoint_store.specs.Slots.{is_odd, generation_of}
-use Rattle.store_laws.specs.Restored.{Images, log_image, slot_image, side_of, present_in, entries_of, restores, slot_gate, log_torn}
+use Rattle.checkpoint_store.specs.Slots.{generation_of}
+use Rattle.store_laws.specs.Restored.{Images, log_image, slot_image, side_of, present_in, entries_of, slot_gate, log_torn}
 use Rattle.store_laws.specs.States.{Devices, StoreState, log_at, slot_at, all_settled, MayLeave}
-use Rattle.store_laws.specs.Lives.{Present, Beside, LogTorn, StoreWire, StoreNext}
-use Rattle.store_laws.specs.Stands.{Rests, OwnRests}
+use Rattle.store_laws.specs.Lives.{Present, Beside, StoreWire, StoreNext}
+use Rattle.store_laws.specs.Stands.{OwnRests}
 use Rattle.store_laws.specs.declared.job.Kept.{Kept}
 use Rattle.store_laws.proofs.Roles.{as_was}
 use Rattle.store_laws.proofs.Restores.{wire_present}

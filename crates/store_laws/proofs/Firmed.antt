@@ -1,10 +1,9 @@
 -- What becomes firm at the end of a job, and what waits then.
-use Rattle.std.proofs.Common.{◌≡◌, ◌⊎◌, ℕ, ◌+◌, ◌-◌, ◌^◌, ◌≤◌, nat_lt, min, max, Bool, true, false, not, cond, List, [], ◌∷◌, ◌++◌, length, take, drop, Option, Some, None, refl, sym, ◌∙◌, ap, subst, arith}
+use Rattle.std.proofs.Common.{◌≡◌, ℕ, ◌+◌, ◌-◌, ◌≤◌, nat_lt, Bool, true, false, not, cond, List, [], ◌∷◌, ◌++◌, length, take, drop, Option, Some, None, refl, sym, ◌∙◌, ap, subst, arith}
 use Rattle.std.proofs.lemmas.List.{take-append-drop, length-take}
 use Rattle.store_form.specs.Spelling.{checkpoint_text}
 use Rattle.store_laws.specs.Restored.{Images}
-use Rattle.store_laws.specs.States.{StoreState, greatest, side, slot_gate_of, is_torn, some, switch_calls, Begun, NoJob, Close, Repair, Switch, AddGroup, of_group, of_asked, group_of, due_job, begins, begun, firm_by, ending_of, advanced, ends, job_called, store_called, store_opened, given, asked}
-use Rattle.store_laws.specs.Books.{NoTail}
+use Rattle.store_laws.specs.States.{StoreState, greatest, side, slot_gate_of, is_torn, some, switch_calls, Begun, Close, Repair, Switch, of_group, of_asked, group_of, due_job, begins, begun, firm_by, ending_of, advanced, ends, job_called, store_called, store_opened, given, asked}
 use Rattle.store_laws.specs.Firm.{not_firm, AddsBy, AddsIn, GroupAdds, SameEntries, KeepsCount, GroupCounts, SwitchCounts, Firms}
 use Rattle.store_laws.specs.declared.job.Tail.{Tail}
 use Rattle.store_laws.specs.declared.job.Gate.{Gate}

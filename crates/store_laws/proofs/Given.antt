@@ -2,7 +2,7 @@
 use Rattle.std.proofs.Common.{◌≡◌, ℕ, ◌+◌, ◌-◌, Bool, true, false, not, cond, nat_lt, List, [], ◌∷◌, ◌++◌, drop, Option, Some, None, refl, sym, ◌∙◌, ap, subst}
 use Rattle.store_form.specs.Spelling.{checkpoint_text}
 use Rattle.store_laws.specs.Restored.{Images, restores, slot_opened, log_opened}
-use Rattle.store_laws.specs.States.{StoreState, side, slot_gate_of, is_torn, some, switch_calls, with_job, firm_by, advanced, ends, ended, given, asked, Begun, NoJob, Close, Repair, Switch, AddGroup, of_group, of_asked, group_of, greatest, due_job, begins, begun, is_due}
+use Rattle.store_laws.specs.States.{StoreState, side, slot_gate_of, is_torn, some, with_job, firm_by, advanced, ends, given, asked, Begun, NoJob, Close, Repair, Switch, AddGroup, of_group, of_asked, group_of, greatest, due_job, begins, is_due}
 use Rattle.store_laws.specs.Lives.{StoreNext, Either}
 use Rattle.store_laws.specs.Stands.{Aim, at_rest, Runs, StandsBy, OwnRests, AnyRests, StoreStands, IsOwn, aim_called, instead}
 use Rattle.store_laws.specs.declared.job.Kept.{Kept}

@@ -1,16 +1,14 @@
 -- A store that only crashes of its own lives have changed stays one, call by call.
-use Rattle.std.proofs.Common.{◌≡◌, ◌≢◌, ◌⊎◌, inl, inr, ℕ, ◌-◌, ◌^◌, ◌<◌, nat_lt, Bool, true, false, not, cond, List, [], ◌∷◌, ◌++◌, Option, Some, None, refl, sym, ◌∙◌, ap, subst, arith}
+use Rattle.std.proofs.Common.{◌≡◌, ◌⊎◌, inl, inr, ℕ, ◌<◌, nat_lt, Bool, true, false, not, cond, List, [], ◌∷◌, ◌++◌, Option, Some, None, refl, sym, ◌∙◌, ap, subst, arith}
 use Rattle.std.proofs.lemmas.Bool.Decides.{nat_tests}
-use Rattle.disk_model.specs.Cells.{Cells}
 use Rattle.disk_model.specs.DeviceCalls.{made, during}
 use Rattle.disk_model.specs.declared.call.DeviceCall.{DeviceCall}
 use Rattle.disk_model.specs.declared.call.DeviceCall.TheVariants.{Write, Cut, Sync}
-use Rattle.store_form.specs.Spelling.{Group, IsGroup, checkpoint_text}
+use Rattle.store_form.specs.Spelling.{IsGroup, checkpoint_text}
 use Rattle.store_form.specs.declared.checkpoint.Checkpoint.{Checkpoint}
-use Rattle.checkpoint_store.specs.Slots.{is_odd}
-use Rattle.store_laws.specs.Restored.{Images, log_image, slot_image, side_of, present_in, entries_of, restores, slot_gate, log_torn}
-use Rattle.store_laws.specs.States.{Devices, StoreState, greatest, slot_gate_of, is_torn, change, Begun, NoJob, Close, Repair, Switch, AddGroup, of_group, of_asked, group_of, due_job, begins, device_of, call_of, advanced, ends, ended, job_called, MayLeave, devices_during, store_opened}
-use Rattle.store_laws.specs.Lives.{LogTorn, SlotTorn, StoreWire, StoreNext}
+use Rattle.store_laws.specs.Restored.{Images, log_image, slot_image, side_of, present_in, entries_of, slot_gate, log_torn}
+use Rattle.store_laws.specs.States.{Devices, StoreState, greatest, slot_gate_of, is_torn, change, Begun, Close, Repair, of_group, of_asked, group_of, due_job, begins, device_of, call_of, advanced, ends, ended, job_called, MayLeave, devices_during, store_opened}
+use Rattle.store_laws.specs.Lives.{LogTorn, StoreWire, StoreNext}
 use Rattle.store_laws.specs.Stands.{Aim, at_rest, Leaves, Runs, StandsBy, Rests, OwnRests, IsOwn, aim_called, aim_after, aim_begins, HasSpelling}
 use Rattle.store_laws.specs.declared.job.Kept.{Kept}
 use Rattle.store_laws.specs.declared.job.Tail.{Tail}
@@ -18,7 +16,6 @@ use Rattle.store_laws.specs.declared.job.Gate.TheVariants.{Torn}
 use Rattle.store_laws.specs.declared.job.Ending.{Ending}
 use Rattle.store_laws.specs.declared.job.Ending.TheVariants.{Closes, Repairs, Adds, Switches}
 use Rattle.store_laws.specs.declared.job.StoreCall.{StoreCall}
-use Rattle.store_laws.specs.declared.job.StoreCall.TheVariants.{On, WriteTail}
 use Rattle.store_laws.specs.declared.job.Device.{Device}
 use Rattle.store_laws.specs.declared.job.Device.TheVariants.{Log, Slot}
 use Rattle.checkpoint_store.proofs.SlotBytes.{shut}

@@ -1,10 +1,10 @@
 -- The next device call of a store, and a crash before it or at a moment of it.
-use Rattle.std.proofs.Common.{◌≡◌, ◌⊎◌, inl, inr, ℕ, ◌+◌, ◌^◌, Bool, true, false, not, cond, List, [], ◌∷◌, ◌++◌, Option, refl, sym, ◌∙◌, ap, subst, arith}
+use Rattle.std.proofs.Common.{◌≡◌, ◌⊎◌, inl, inr, ℕ, ◌+◌, Bool, true, false, not, cond, List, [], ◌∷◌, refl, sym, ◌∙◌, ap, subst, arith}
 use Rattle.store_form.specs.Spelling.{IsGroup, payload, checkpoint_text}
-use Rattle.store_laws.specs.Restored.{Images, restores}
+use Rattle.store_laws.specs.Restored.{Images}
 use Rattle.store_laws.specs.States.{StoreState, side, slot_gate_of, some, switch_calls, writes_tail, Begun, NoJob, Close, Repair, Switch, AddGroup, due_job, begins, begun, job_called, store_called, MayLeave, devices_during}
 use Rattle.store_laws.specs.Lives.{StoreNext, Either}
-use Rattle.store_laws.specs.Stands.{Aim, Leaves, StandsBy, OwnRests, AnyRests, StoreStands, IsOwn, aim_called, aim_after, aim_begins, HasSpelling}
+use Rattle.store_laws.specs.Stands.{Aim, Leaves, StandsBy, OwnRests, AnyRests, StoreStands, IsOwn, aim_begins, HasSpelling}
 use Rattle.store_laws.specs.Runs.{CallFits, CallLeaves, aim_begun, aim_first, aim_then}
 use Rattle.store_laws.specs.declared.job.Kept.{Kept}
 use Rattle.store_laws.specs.declared.job.Tail.{Tail}

@@ -1,14 +1,12 @@
 -- A run of calls of a store that was asked to switch: the switch waits, it runs, and it ends with the tail that the run gives.
-use Rattle.std.proofs.Common.{◌≡◌, ◌⊎◌, inl, inr, ℕ, zero, suc, ◌+◌, ◌-◌, ◌^◌, ◌≤◌, nat_lt, Bool, true, false, not, cond, List, [], ◌∷◌, ◌++◌, Option, Some, None, refl, sym, ◌∙◌, ap, subst, arith}
+use Rattle.std.proofs.Common.{◌≡◌, ◌⊎◌, inl, inr, ℕ, zero, suc, ◌+◌, ◌≤◌, nat_lt, Bool, true, false, cond, List, [], ◌∷◌, Option, Some, None, refl, sym, ◌∙◌, ap, subst, arith}
 use Rattle.disk_model.specs.declared.call.DeviceCall.{DeviceCall}
-use Rattle.store_form.specs.declared.checkpoint.Checkpoint.{Checkpoint}
 use Rattle.store_laws.specs.Restored.{Images}
 use Rattle.store_laws.specs.Lives.{Either}
 use Rattle.store_laws.specs.States.{StoreState, greatest, is_torn, some, Begun, NoJob, Close, Repair, Switch, AddGroup, of_group, of_asked, group_of, due_job, begins, begun, advanced, ends, job_called, store_called}
 use Rattle.store_laws.specs.Stands.{Aim, IsOwn, aim_begins}
 use Rattle.store_laws.specs.Runs.{called_times, CallFits, RunFits, CallLeaves, aim_begun, aim_first, aim_then}
-use Rattle.store_laws.specs.Books.{NoTail}
-use Rattle.store_laws.specs.Tails.{tail_after, SwitchesBy, HasSwitched, NoSwitch, next_of, SwitchWaits, SwitchRuns, SwitchGoes, SwitchComes, SwitchEnded}
+use Rattle.store_laws.specs.Tails.{tail_after, SwitchesBy, HasSwitched, NoSwitch, next_of, SwitchWaits, SwitchGoes, SwitchComes, SwitchEnded}
 use Rattle.store_laws.specs.declared.job.Kept.{Kept}
 use Rattle.store_laws.specs.declared.job.Tail.{Tail}
 use Rattle.store_laws.specs.declared.job.Device.{Device}
@@ -16,7 +14,6 @@ use Rattle.store_laws.specs.declared.job.Ending.{Ending}
 use Rattle.store_laws.specs.declared.job.Ending.TheVariants.{Closes, Repairs, Adds, Switches}
 use Rattle.store_laws.specs.declared.job.StoreCall.{StoreCall}
 use Rattle.store_laws.specs.declared.job.StoreCall.TheVariants.{On, WriteTail}
-use Rattle.store_laws.proofs.Given.{no_calls}
 use Rattle.store_laws.proofs.Moments.{own_call_goes, own_call_restores}
 use Rattle.store_laws.proofs.Tails.{calm_begins, tail_goes, tail_ends}
 
@@ -202,8 +199,10 @@ module _ (from : ℕ) (snapshot : List ℕ) (tail : Tail) where
           → Either images a.kept a.stake ⊎ ((b : Aim) × (IsOwn (store_called stops tail s) b × (SwitchComes from snapshot tail (store_called stops tail s) b × Either images b.kept b.stake)))
       by (inl now) = inl now
       by (inr then) =
-          inr (aim_then stops tail then.0 s a,
-          (then.1.0, (job_comes (begun stops s).running (begun stops s) (aim_begun stops s a) then.0 refl (begun_goes stops s a goes) then.1.0, then.1.1)))
+          inr (
+            aim_then stops tail then.0 s a,
+            (then.1.0, (job_comes (begun stops s).running (begun stops s) (aim_begun stops s a) then.0 refl (begun_goes stops s a goes) then.1.0, then.1.1)),
+          )
 
   -- ---- a run
 

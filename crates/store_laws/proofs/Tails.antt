@@ -1,22 +1,21 @@
 -- A switch writes the tail that it is given, and keeps the new generation with that tail's entries.
-use Rattle.std.proofs.Common.{◌≡◌, ◌⊎◌, inl, inr, ℕ, ◌+◌, ◌-◌, ◌^◌, nat_lt, Bool, true, false, not, cond, List, [], ◌∷◌, ◌++◌, length, Option, Some, None, refl, sym, ◌∙◌, ap, subst}
+use Rattle.std.proofs.Common.{◌≡◌, ◌⊎◌, inl, inr, ℕ, ◌+◌, nat_lt, Bool, true, false, not, cond, List, [], ◌∷◌, length, Option, Some, None, refl, sym, ◌∙◌, ap, subst}
 use Rattle.disk_model.specs.declared.call.DeviceCall.{DeviceCall}
 use Rattle.store_form.specs.Spelling.{Group, IsGroup, group_text, checkpoint_text}
 use Rattle.store_form.specs.declared.checkpoint.Checkpoint.{Checkpoint}
 use Rattle.store_laws.specs.Restored.{Images, restores, switched}
-use Rattle.store_laws.specs.States.{StoreState, greatest, side, slot_gate_of, is_torn, some, switch_calls, Begun, NoJob, Close, Repair, Switch, AddGroup, of_group, of_asked, group_of, due_job, begins, ending_of, advanced, ends, job_called, MayLeave, devices_during}
+use Rattle.store_laws.specs.States.{StoreState, greatest, side, slot_gate_of, is_torn, switch_calls, Begun, Close, Repair, Switch, of_group, of_asked, group_of, due_job, begins, advanced, ends, job_called, MayLeave, devices_during}
 use Rattle.store_laws.specs.Lives.{StoreNext, Either}
-use Rattle.store_laws.specs.Stands.{Aim, at_rest, Runs, StandsBy, OwnRests, IsOwn, aim_called, aim_after, aim_begins}
-use Rattle.store_laws.specs.Books.{NoTail}
+use Rattle.store_laws.specs.Stands.{Aim, at_rest, Runs, OwnRests, IsOwn, aim_called, aim_after, aim_begins}
 use Rattle.store_laws.specs.Firm.{SwitchCounts}
-use Rattle.store_laws.specs.Tails.{aimed_at, tail_after, OneTail, TailLeft, switch_ending, stake_before, SwitchesBy, HasSwitched}
+use Rattle.store_laws.specs.Tails.{aimed_at, tail_after, OneTail, TailLeft, stake_before, SwitchesBy, HasSwitched}
 use Rattle.store_laws.specs.declared.job.Kept.{Kept}
 use Rattle.store_laws.specs.declared.job.Tail.{Tail}
 use Rattle.store_laws.specs.declared.job.Gate.{Gate}
 use Rattle.store_laws.specs.declared.job.Gate.TheVariants.{Absent, Closed, Torn, Open}
 use Rattle.store_laws.specs.declared.job.Device.{Device}
 use Rattle.store_laws.specs.declared.job.Ending.{Ending}
-use Rattle.store_laws.specs.declared.job.Ending.TheVariants.{Closes, Repairs, Adds, Switches}
+use Rattle.store_laws.specs.declared.job.Ending.TheVariants.{Switches}
 use Rattle.store_laws.specs.declared.job.StoreCall.{StoreCall}
 use Rattle.store_laws.specs.declared.job.StoreCall.TheVariants.{On, WriteTail}
 use Rattle.store_laws.proofs.Restores.{next_restores}
@@ -168,28 +167,26 @@ pub tail_ends : (kept : Kept) (next : Checkpoint) (before : Option Tail) (s : St
     → (given : Tail)
     × ((tail_after tail call before ≡ Some given) × (HasSwitched next given (job_called tail (call ∷ []) s) (aim_after [] other (aim_called tail call [] a)) × SwitchCounts given.made s (job_called tail (call ∷ []) s)))
 tail_ends kept next None s a tail (On device call) other w own = absurd w.tail_left
-tail_ends kept next (Some given) s a tail (On device call) other w own =
+tail_ends kept next (Some given) s a tail (On device call) other w own = (
+  given,
+  (
+    refl,
     (
-      given,
-      (
-        refl,
-        (
-          last_call given next (advanced tail (On device call) [] s) (aim_called tail (On device call) [] a) other w.ending_is w.even_calm w.odd_calm w.generation_is w.then_is own,
-          switch_counts tail (On device call) s (1 + length (group_text given.entries)) given.made w.ending_is,
-        ),
-      ),
-    )
-tail_ends kept next None s a tail WriteTail other w own =
+      last_call given next (advanced tail (On device call) [] s) (aim_called tail (On device call) [] a) other w.ending_is w.even_calm w.odd_calm w.generation_is w.then_is own,
+      switch_counts tail (On device call) s (1 + length (group_text given.entries)) given.made w.ending_is,
+    ),
+  ),
+)
+tail_ends kept next None s a tail WriteTail other w own = (
+  tail,
+  (
+    refl,
     (
-      tail,
-      (
-        refl,
-        (
-          last_call tail next (advanced tail WriteTail [] s) (aim_called tail WriteTail [] a) other refl w.even_calm w.odd_calm w.generation_is (new_is next a.next tail.entries w.next_is) own,
-          switch_counts tail WriteTail s (1 + length (group_text tail.entries)) tail.made refl,
-        ),
-      ),
-    )
+      last_call tail next (advanced tail WriteTail [] s) (aim_called tail WriteTail [] a) other refl w.even_calm w.odd_calm w.generation_is (new_is next a.next tail.entries w.next_is) own,
+      switch_counts tail WriteTail s (1 + length (group_text tail.entries)) tail.made refl,
+    ),
+  ),
+)
 tail_ends kept next (Some given) s a tail WriteTail other w own = absurd w.tail_left
 
 -- ---- what a crash restores

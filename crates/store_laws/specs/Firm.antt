@@ -1,5 +1,5 @@
 -- The number of firm entries, and the entries that are not firm yet.
-use Rattle.std.specs.Prelude.{◌≡◌, ◌≤◌, ◌+◌, ◌-◌, ◌^◌, ℕ, min, max, List, [], ◌∷◌, ◌++◌, length, drop}
+use Rattle.std.specs.Prelude.{◌≡◌, ◌≤◌, ◌+◌, ◌-◌, ℕ, min, max, List, [], ◌∷◌, ◌++◌, length, drop}
 use Rattle.store_laws.specs.States.{StoreState, greatest}
 use Rattle.store_laws.specs.Books.{NoTail}
 use Rattle.store_laws.specs.declared.job.Ending.{Ending}

@@ -1,11 +1,10 @@
 -- The state of a store between two device calls, and what the next call makes of it.
-use Rattle.std.specs.Prelude.{ℕ, ◌+◌, ◌-◌, ◌^◌, min, max, nat_lt, Bool, true, false, not, cond, ◌&&◌, ◌||◌, List, [], ◌∷◌, ◌++◌, length, drop, map, Option, Some, None}
+use Rattle.std.specs.Prelude.{ℕ, ◌+◌, ◌-◌, ◌^◌, min, max, nat_lt, Bool, true, false, not, cond, List, [], ◌∷◌, ◌++◌, length, drop, map, Option, Some, None}
 use Rattle.disk_model.specs.Cells.{Cells, IsImage, settled}
-use Rattle.disk_model.specs.DeviceCalls.{made, during, CanBeMade}
+use Rattle.disk_model.specs.DeviceCalls.{made, during}
 use Rattle.disk_model.specs.declared.call.DeviceCall.{DeviceCall}
 use Rattle.disk_model.specs.declared.call.DeviceCall.TheVariants.{Write, Cut, Sync}
-use Rattle.store_form.specs.Spelling.{Group, group_text, checkpoint_text}
-use Rattle.store_form.specs.declared.checkpoint.Checkpoint.{Checkpoint}
+use Rattle.store_form.specs.Spelling.{group_text, checkpoint_text}
 use Rattle.batch_log.specs.Exact.{end_opened}
 use Rattle.batch_log.specs.LogCalls.{body_text, anew_text, repair_calls, group_calls}
 use Rattle.checkpoint_store.specs.Slots.{is_odd, generation_of}
