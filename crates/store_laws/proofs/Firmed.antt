@@ -95,15 +95,15 @@ module _ (stops : List ℕ → Bool) (s : StoreState) (adds : GroupAdds s) (idle
   group [] front = (refl, adds)
   group (entry ∷ entries) front = (front ∙ waits, tt)
 
-  last : (o : Option (List ℕ)) → Begins (of_asked o (of_group (group_of stops s.waiting)))
-  last None = group (group_of stops s.waiting) (group_front stops s.waiting)
-  last (Some snapshot) = switch snapshot
+  first_asked : (o : Option (List ℕ)) → Begins (of_asked o (of_group (group_of stops s.waiting)))
+  first_asked None = group (group_of stops s.waiting) (group_front stops s.waiting)
+  first_asked (Some snapshot) = switch snapshot
 
   choose : (even odd torn : Bool) → Begins (cond even (Close false) (cond odd (Close true) (cond torn Repair (of_asked (cond (nat_lt s.generation greatest) s.asked None) (of_group (group_of stops s.waiting))))))
   choose true odd torn = (waits, refl)
   choose false true torn = (waits, refl)
   choose false false true = (waits, refl)
-  choose false false false = last (cond (nat_lt s.generation greatest) s.asked None)
+  choose false false false = first_asked (cond (nat_lt s.generation greatest) s.asked None)
 
   pub begins_takes : Begins (due_job stops s)
   begins_takes = choose (is_torn s.even) (is_torn s.odd) s.torn
