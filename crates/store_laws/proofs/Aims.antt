@@ -1,18 +1,17 @@
 -- What a store stands for while it switches, and what becomes firm.
-use Rattle.std.proofs.Common.{◌≡◌, ◌⊎◌, inl, inr, ℕ, ◌+◌, ◌-◌, ◌^◌, ◌≤◌, min, max, Bool, true, false, not, cond, List, [], ◌∷◌, ◌++◌, length, Option, Some, None, refl, sym, ◌∙◌, ap, subst, arith}
+use Rattle.std.proofs.Common.{◌≡◌, inl, inr, ℕ, ◌+◌, ◌≤◌, Bool, true, false, cond, List, [], ◌∷◌, refl, ◌∙◌, ap, arith}
 use Rattle.store_form.specs.Spelling.{Group}
 use Rattle.store_form.specs.declared.checkpoint.Checkpoint.{Checkpoint}
 use Rattle.store_laws.specs.Restored.{Images, restores, switched}
-use Rattle.store_laws.specs.States.{StoreState, greatest, Begun, NoJob, Close, Repair, Switch, AddGroup, due_job, begins, begun, some, advanced, ends, ended, job_called, store_called, MayLeave}
+use Rattle.store_laws.specs.States.{StoreState, greatest, Begun, NoJob, Close, Repair, Switch, AddGroup, due_job, begins, begun, some, advanced, ends, job_called, store_called}
 use Rattle.store_laws.specs.Lives.{Either}
-use Rattle.store_laws.specs.Stands.{Aim, aim_written, aim_left, aim_called, aim_after, aim_begins, KeptOrNew, Switching, Leaves, IsOwn}
+use Rattle.store_laws.specs.Stands.{Aim, aim_written, aim_left, aim_called, aim_begins, KeptOrNew, Switching}
 use Rattle.store_laws.specs.declared.job.Kept.{Kept}
 use Rattle.store_laws.specs.declared.job.Tail.{Tail}
 use Rattle.store_laws.specs.declared.job.Ending.{Ending}
 use Rattle.store_laws.specs.declared.job.Ending.TheVariants.{Closes, Repairs, Adds, Switches}
 use Rattle.store_laws.specs.declared.job.StoreCall.{StoreCall}
 use Rattle.store_laws.specs.declared.job.StoreCall.TheVariants.{On, WriteTail}
-use Rattle.store_laws.specs.declared.job.Device.TheVariants.{Log, Slot}
 
 -- ---- a switch
 
@@ -61,14 +60,14 @@ job_firm tail [] s few = (omega arith, few)
 job_firm tail (call ∷ []) s few = ends_firm (advanced tail call [] s).ending (advanced tail call [] s) few
 job_firm tail (call ∷ more ∷ left) s few = (omega arith, few)
 
-begins_firm : (job : Begun) (s : StoreState) → (begins job s).firm ≡ s.firm
+pub begins_firm : (job : Begun) (s : StoreState) → (begins job s).firm ≡ s.firm
 begins_firm NoJob s = refl
 begins_firm (Close odd) s = refl
 begins_firm Repair s = refl
 begins_firm (Switch snapshot) s = refl
 begins_firm (AddGroup group) s = refl
 
-begun_firm : (stops : List ℕ → Bool) (s : StoreState) → (begun stops s).firm ≡ s.firm
+pub begun_firm : (stops : List ℕ → Bool) (s : StoreState) → (begun stops s).firm ≡ s.firm
 begun_firm stops s = by (some s.running)
   where
     by : (t : Bool) → (cond t s (begins (due_job stops s) s)).firm ≡ s.firm

@@ -1,27 +1,26 @@
 -- A job begins in a store over any bytes. Up to three gates may be torn, with anything after them.
-use Rattle.std.proofs.Common.{◌≡◌, ◌≢◌, ◌⊎◌, inl, inr, ⊎_elim, ℕ, suc, ◌+◌, ◌≤◌, ◌<◌, ◌==◌, nat_lt, eqb, Bool, true, false, not, cond, ◌&&◌, List, [], ◌∷◌, ◌++◌, length, get_or, take, drop, Option, Some, None, refl, sym, ◌∙◌, ap, subst, append_assoc, arith, length-append}
-use Rattle.std.proofs.lemmas.Bool.{cases_eq, eqb-true}
-use Rattle.std.proofs.lemmas.List.{take_at, drop_at}
-use Rattle.disk_model.specs.Cells.{Cells, IsImage, settled, written}
+use Rattle.std.proofs.Common.{◌≡◌, ◌≢◌, inl, inr, ⊎_elim, ℕ, suc, eqb, Bool, true, false, not, cond, List, [], ◌∷◌, ◌++◌, length, get_or, take, drop, Option, Some, None, refl, sym, ◌∙◌, ap, subst, arith, length-append}
+use Rattle.std.proofs.lemmas.Bool.{cases_eq}
+use Rattle.std.proofs.lemmas.List.{take_at}
+use Rattle.disk_model.specs.Cells.{Cells, settled, written}
 use Rattle.disk_model.proofs.Images.{image_byte}
 use Rattle.disk_model.specs.DeviceCalls.{made, CanBeMade}
-use Rattle.disk_model.specs.declared.call.DeviceCall.{DeviceCall}
 use Rattle.disk_model.specs.declared.call.DeviceCall.TheVariants.{Write, Sync}
 use Rattle.store_form.specs.Spelling.{Group}
 use Rattle.store_form.specs.declared.checkpoint.Checkpoint.{Checkpoint}
-use Rattle.batch_log.specs.Log.{log_bytes, AreGroups, first_group, restored}
+use Rattle.batch_log.specs.Log.{log_bytes, AreGroups, restored}
 use Rattle.batch_log.specs.Exact.{end_opened}
 use Rattle.batch_log.proofs.Restored.{restored_is, closed}
 use Rattle.batch_log.proofs.Steps.{closing_leaves, closed_after}
 use Rattle.checkpoint_store.specs.Slots.{slot_of, newer, generation_of}
 use Rattle.checkpoint_store.proofs.SlotBytes.{shut}
 use Rattle.store_laws.specs.Restored.{Images, log_image, slot_image, side_of, present_in, entries_of, restores, slot_gate, counts_or_torn, log_torn, slot_opened, opened_at, log_opened}
-use Rattle.store_laws.specs.States.{Devices, StoreState, side, log_at, slot_at, slot_gate_of, is_torn, change, all_settled, MayLeave, Close, Repair, begins}
+use Rattle.store_laws.specs.States.{Devices, StoreState, log_at, slot_at, change, all_settled, MayLeave}
 use Rattle.store_laws.specs.Lives.{Either}
-use Rattle.store_laws.specs.Stands.{Aim, Leaves, Rests, IsRead, AnyRests, StoreStands, aim_begins, instead}
+use Rattle.store_laws.specs.Stands.{Rests, IsRead, AnyRests, instead}
 use Rattle.store_laws.specs.declared.job.Kept.{Kept}
 use Rattle.store_laws.specs.declared.job.Gate.{Gate}
-use Rattle.store_laws.specs.declared.job.Gate.TheVariants.{Absent, Closed, Torn, Open}
+use Rattle.store_laws.specs.declared.job.Gate.TheVariants.{Closed, Torn}
 use Rattle.store_laws.specs.declared.job.Device.TheVariants.{Log, Slot}
 use Rattle.store_laws.proofs.Calm.{closed_is, end_is}
 use Rattle.store_laws.proofs.Roles.{log_is, log_beside, log_slot, slot_is, slot_beside, slot_log, log_settled, slot_settled, devices_are, both, as_was, by, images_are, with_log, with_slot, log_image_is, log_image_beside, log_image_slot, slot_image_is, slot_image_beside, slot_image_log}

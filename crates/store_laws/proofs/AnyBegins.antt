@@ -1,12 +1,12 @@
 -- The close of a slot, and the repair of the log, begin in a store over any bytes.
-use Rattle.std.proofs.Common.{◌≡◌, ◌⊎◌, inl, inr, ℕ, Bool, true, false, not, cond, List, [], ◌∷◌, Option, refl, sym, ◌∙◌, ap, subst}
+use Rattle.std.proofs.Common.{◌≡◌, inl, ℕ, Bool, true, false, cond, refl, sym, ◌∙◌, ap, subst}
 use Rattle.store_form.specs.declared.checkpoint.Checkpoint.{Checkpoint}
 use Rattle.batch_log.specs.Exact.{end_opened}
 use Rattle.checkpoint_store.specs.Slots.{is_odd, generation_of}
-use Rattle.store_laws.specs.Restored.{Images, log_image, slot_image, side_of, present_in, restores, slot_gate, log_torn, slot_opened, log_opened}
+use Rattle.store_laws.specs.Restored.{Images, log_image, slot_image, side_of, present_in, restores, slot_gate, slot_opened, log_opened}
 use Rattle.store_laws.specs.States.{Devices, StoreState, side, slot_gate_of, is_torn, all_settled, MayLeave, Close, Repair, begins}
 use Rattle.store_laws.specs.Lives.{Either}
-use Rattle.store_laws.specs.Stands.{Aim, at_rest, Rests, AnyRests, StoreStands, aim_begins, instead}
+use Rattle.store_laws.specs.Stands.{Aim, at_rest, Rests, AnyRests, StoreStands, aim_begins}
 use Rattle.store_laws.specs.declared.job.Kept.{Kept}
 use Rattle.store_laws.specs.declared.job.Gate.{Gate}
 use Rattle.store_laws.specs.declared.job.Gate.TheVariants.{Absent, Closed, Torn, Open}

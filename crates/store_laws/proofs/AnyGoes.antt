@@ -1,5 +1,5 @@
 -- A store over any bytes goes on. Where no gate is torn it is one that only crashes of its own lives have changed.
-use Rattle.std.proofs.Common.{◌≡◌, ◌≢◌, ◌⊎◌, inl, inr, ⊎_elim, ℕ, ◌+◌, ◌≤◌, ◌<◌, nat_lt, eqb, Bool, true, false, not, cond, List, [], ◌∷◌, ◌++◌, length, get_or, drop, Option, Some, None, refl, sym, ◌∙◌, ap, subst, arith}
+use Rattle.std.proofs.Common.{◌≡◌, ◌≢◌, inl, inr, ⊎_elim, ℕ, ◌+◌, ◌≤◌, ◌<◌, nat_lt, Bool, true, false, not, cond, List, [], ◌∷◌, ◌++◌, get_or, Option, Some, None, refl, sym, ◌∙◌, ap, subst, arith}
 use Rattle.std.proofs.lemmas.Bool.{cases_eq}
 use Rattle.std.proofs.lemmas.Bool.Decides.{nat_tests}
 use Rattle.store_form.specs.Spelling.{Group, group_text, checkpoint_text}
@@ -10,19 +10,19 @@ use Rattle.batch_log.specs.Wires.{Wire}
 use Rattle.batch_log.proofs.Restored.{closed}
 use Rattle.batch_log.proofs.Steps.{short}
 use Rattle.batch_log.proofs.Lives.{wire_restores}
-use Rattle.checkpoint_store.specs.Slots.{is_odd, slot_of, newer, generation_of}
+use Rattle.checkpoint_store.specs.Slots.{is_odd, slot_of, newer}
 use Rattle.checkpoint_store.proofs.SlotBytes.{shut, alone}
 use Rattle.checkpoint_store.proofs.Newest.{slot_own}
-use Rattle.store_laws.specs.Restored.{Images, log_image, slot_image, side_of, present_in, entries_of, restores, slot_gate, log_torn}
-use Rattle.store_laws.specs.States.{Devices, StoreState, side, slot_gate_of, some, switch_calls, store_opened, greatest, is_torn, Begun, NoJob, Close, Repair, Switch, AddGroup, of_group, of_asked, group_of, due_job, begins, call_of, device_of, advanced, ended}
-use Rattle.store_laws.specs.Lives.{IsOlder, Present, IsShut, Old, Beside, LogTorn, StoreWire, StoreNext, Either}
-use Rattle.store_laws.specs.Stands.{Aim, at_rest, Leaves, Runs, StandsBy, Rests, IsRead, AnyRests, OwnRests, StoreStands, IsOwn, aim_called, aim_begins, HasSpelling, instead}
+use Rattle.store_laws.specs.Restored.{Images, log_image, slot_image, side_of, present_in, restores, slot_gate, log_torn}
+use Rattle.store_laws.specs.States.{StoreState, side, slot_gate_of, some, switch_calls, store_opened, greatest, is_torn, Begun, Switch, AddGroup, of_group, of_asked, group_of, due_job, begins, advanced, ended}
+use Rattle.store_laws.specs.Lives.{IsOlder, Beside, LogTorn, StoreWire, StoreNext, Either}
+use Rattle.store_laws.specs.Stands.{Aim, at_rest, Leaves, Runs, StandsBy, Rests, IsRead, AnyRests, OwnRests, StoreStands, aim_called, aim_begins, HasSpelling, instead}
 use Rattle.store_laws.specs.declared.job.Kept.{Kept}
 use Rattle.store_laws.specs.declared.job.Gate.{Gate}
 use Rattle.store_laws.specs.declared.job.Gate.TheVariants.{Absent, Closed, Torn, Open}
 use Rattle.store_laws.specs.declared.job.StoreCall.{StoreCall}
 use Rattle.store_laws.proofs.Restores.{gate_torn, wire_present, store_restores, next_restores}
-use Rattle.store_laws.proofs.Calm.{gate_is, not_false, calm_wire, calm_rests}
+use Rattle.store_laws.proofs.Calm.{gate_is, not_false, calm_rests}
 use Rattle.store_laws.proofs.Begins.{group_own}
 use Rattle.store_laws.proofs.SwitchBegins.{switch_own}
 use Rattle.store_laws.proofs.Goes.{below, may_switch, due_by, log_alone}

@@ -1,21 +1,16 @@
 -- A job begins in a store that only crashes of its own lives have changed: each of its calls leaves such a store.
-use Rattle.std.proofs.Common.{◌≡◌, ◌≢◌, ◌⊎◌, inl, inr, ℕ, ◌+◌, ◌-◌, ◌^◌, ◌<◌, ◌%◌, ◌==◌, nat_lt, eqb, Bool, true, false, not, cond, List, [], ◌∷◌, ◌++◌, length, drop, Option, Some, None, refl, sym, ◌∙◌, ap, subst, arith}
-use Rattle.std.proofs.lemmas.Bool.{eqb-true}
-use Rattle.std.proofs.lemmas.Bool.Decides.{nat_tests}
-use Rattle.disk_model.specs.Cells.{Cells}
-use Rattle.disk_model.specs.declared.call.DeviceCall.TheVariants.{Write, Cut, Sync}
-use Rattle.store_form.specs.Spelling.{Group, group_text, IsGroup, IsEntry, checkpoint_text}
+use Rattle.std.proofs.Common.{◌≡◌, ◌⊎◌, inl, inr, ℕ, Bool, true, false, not, List, length, Option, refl, sym, ◌∙◌, ap, subst}
+use Rattle.store_form.specs.Spelling.{Group, IsGroup}
 use Rattle.store_form.specs.declared.checkpoint.Checkpoint.{Checkpoint}
-use Rattle.batch_log.specs.Log.{log_bytes, AreGroups}
+use Rattle.batch_log.specs.Log.{log_bytes}
 use Rattle.batch_log.specs.Wires.{Ends}
 use Rattle.batch_log.specs.Exact.{end_opened}
 use Rattle.batch_log.proofs.Lives.{wire_restores}
-use Rattle.checkpoint_store.specs.Slots.{is_odd, generation_of}
-use Rattle.checkpoint_store.specs.SlotJobs.{IsFor}
-use Rattle.store_laws.specs.Restored.{Images, log_image, slot_image, side_of, present_in, entries_of, with, switched, slot_gate, counts_or_torn, log_torn}
-use Rattle.store_laws.specs.States.{Devices, StoreState, side, greatest, slot_gate_of, is_torn, is_closed, all_settled, Begun, NoJob, Close, Repair, Switch, AddGroup, begins, calls_on, with_job}
-use Rattle.store_laws.specs.Lives.{Present, IsShut, Old, Beside, LogTorn, SlotTorn, StoreWire, StoreNext}
-use Rattle.store_laws.specs.Stands.{Aim, Runs, Rests, OwnRests, IsOwn, aim_begins}
+use Rattle.checkpoint_store.specs.Slots.{generation_of}
+use Rattle.store_laws.specs.Restored.{Images, log_image, slot_image, side_of, present_in, with, slot_gate, log_torn}
+use Rattle.store_laws.specs.States.{Devices, StoreState, slot_gate_of, is_torn, all_settled, Close, Repair, AddGroup, begins}
+use Rattle.store_laws.specs.Lives.{Present, Old, Beside, LogTorn, SlotTorn, StoreWire}
+use Rattle.store_laws.specs.Stands.{Aim, Rests, IsOwn, aim_begins}
 use Rattle.store_laws.specs.declared.job.Kept.{Kept}
 use Rattle.store_laws.specs.declared.job.Gate.{Gate}
 use Rattle.store_laws.specs.declared.job.Gate.TheVariants.{Absent, Closed, Torn, Open}

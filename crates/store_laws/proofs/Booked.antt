@@ -1,12 +1,12 @@
 -- A store that does not switch keeps a front of its book, to which the running group and the waiting entries are added in order.
-use Rattle.std.proofs.Common.{◌≡◌, ◌⊎◌, inl, inr, ⊎_elim, ℕ, nat_lt, Bool, true, false, not, cond, List, [], ◌∷◌, ◌++◌, length, drop, Option, Some, None, refl, sym, ◌∙◌, ap, subst}
+use Rattle.std.proofs.Common.{◌≡◌, ◌⊎◌, inl, inr, ℕ, nat_lt, Bool, true, false, cond, List, [], ◌∷◌, ◌++◌, length, drop, Option, None, refl, sym, ◌∙◌, ap, subst}
 use Rattle.std.proofs.lemmas.List.{append_assoc, append-nil}
 use Rattle.store_form.specs.declared.checkpoint.Checkpoint.{Checkpoint}
 use Rattle.store_laws.specs.Restored.{Images, restores, with}
-use Rattle.store_laws.specs.States.{StoreState, greatest, is_torn, Begun, NoJob, Close, Repair, Switch, AddGroup, of_group, of_asked, group_of, due_job, begins, advanced, ends, job_called, MayLeave, store_opened, given}
-use Rattle.store_laws.specs.Lives.{StoreWire, Either}
+use Rattle.store_laws.specs.States.{StoreState, greatest, is_torn, Begun, Close, Repair, AddGroup, of_group, of_asked, group_of, due_job, begins, advanced, ends, job_called, MayLeave, store_opened, given}
+use Rattle.store_laws.specs.Lives.{Either}
 use Rattle.store_laws.specs.Stands.{Aim, at_rest, IsOwn, aim_called, aim_after, aim_begins}
-use Rattle.store_laws.specs.Books.{NoTail, GrownBy, Grown, BooksBy, Books, IsFront}
+use Rattle.store_laws.specs.Books.{GrownBy, Grown, BooksBy, Books, IsFront}
 use Rattle.store_laws.specs.declared.job.Kept.{Kept}
 use Rattle.store_laws.specs.declared.job.Tail.{Tail}
 use Rattle.store_laws.specs.declared.job.Ending.{Ending}
@@ -22,7 +22,7 @@ pub books_opened : (images : Images) (kept other : Kept) (next : Checkpoint) →
 books_opened images kept other next = record { present_is = refl; all = append-nil kept.entries; calm = refl; plain = tt; grown = refl }
 
 -- the first entries that wait are the group
-group_front : (stops : List ℕ → Bool) (xs : List (List ℕ)) → group_of stops xs ++ drop (length (group_of stops xs)) xs ≡ xs
+pub group_front : (stops : List ℕ → Bool) (xs : List (List ℕ)) → group_of stops xs ++ drop (length (group_of stops xs)) xs ≡ xs
 group_front stops [] = refl
 group_front stops (x ∷ xs) = by (stops x) (group_front stops xs)
   where

@@ -1,21 +1,21 @@
 -- A store of which no gate of a slot is torn, and whose log ends with a closed gate.
-use Rattle.std.proofs.Common.{◌≡◌, ◌≢◌, ◌⊎◌, inl, inr, ⊎_elim, ℕ, ◌+◌, ◌≤◌, ◌<◌, ◌==◌, Bool, true, false, not, cond, eqb, List, [], ◌∷◌, ◌++◌, length, get_or, Option, Some, None, refl, sym, ◌∙◌, ap, subst, append_assoc, arith, length-append}
+use Rattle.std.proofs.Common.{◌≡◌, inl, inr, ℕ, ◌≤◌, ◌==◌, Bool, true, false, not, eqb, List, [], ◌∷◌, ◌++◌, length, get_or, Option, refl, sym, ◌∙◌, ap, subst, arith}
 use Rattle.std.proofs.lemmas.Bool.{eqb-true}
 use Rattle.std.proofs.lemmas.List.{append-nil, get_or-append-add}
 use Rattle.std.proofs.lemmas.Grind.{flat_map-append}
-use Rattle.disk_model.specs.Cells.{Cells, IsImage, settled, written}
-use Rattle.store_form.specs.Spelling.{Group, group_text, IsGroup}
+use Rattle.disk_model.specs.Cells.{Cells, IsImage, settled}
+use Rattle.store_form.specs.Spelling.{Group, group_text}
 use Rattle.store_form.specs.declared.checkpoint.Checkpoint.{Checkpoint}
 use Rattle.batch_log.specs.Log.{log_bytes, AreGroups, restored}
 use Rattle.batch_log.specs.Exact.{end_opened}
-use Rattle.batch_log.specs.Wires.{Ends, Bare, Armed, Wire, Next, LeavesWire, Wired}
+use Rattle.batch_log.specs.Wires.{Ends, Wire, LeavesWire, Wired}
 use Rattle.batch_log.proofs.Restored.{restored_is, closed}
 use Rattle.batch_log.proofs.Lives.{wire_restores}
-use Rattle.checkpoint_store.specs.Slots.{is_odd, generation_of}
-use Rattle.store_laws.specs.Restored.{Images, log_image, slot_image, side_of, present_in, entries_of, restores, slot_gate, log_torn}
+use Rattle.checkpoint_store.specs.Slots.{generation_of}
+use Rattle.store_laws.specs.Restored.{Images, log_image, slot_image, side_of, present_in, entries_of, slot_gate, log_torn}
 use Rattle.store_laws.specs.States.{Devices, StoreState, log_at, slot_at, all_settled, MayLeave}
-use Rattle.store_laws.specs.Lives.{Present, Beside, LogTorn, StoreWire, StoreNext}
-use Rattle.store_laws.specs.Stands.{Rests, OwnRests}
+use Rattle.store_laws.specs.Lives.{Present, Beside, StoreWire, StoreNext}
+use Rattle.store_laws.specs.Stands.{OwnRests}
 use Rattle.store_laws.specs.declared.job.Kept.{Kept}
 use Rattle.store_laws.proofs.Roles.{as_was}
 use Rattle.store_laws.proofs.Restores.{wire_present}
@@ -57,6 +57,15 @@ wire_ends bytes own other (fit, inr (inl b)) calm =
     by (x ∷ []) are le gate = record { tail = []; are = are ∙ ap (λ (y : ℕ). log_bytes own ++ y ∷ []) gate; nothing = refl }
     by (x ∷ y ∷ rest) are le gate = absurd (omega arith)
 wire_ends bytes own other (fit, inr (inr a)) calm =
+    let gate : a.gate ≡ 0 =
+    sym (gate_is own (a.gate ∷ (group_text a.group ++ 0 ∷ a.tail)) bytes (wire_restores bytes own other (fit, inr (inr a))) a.are) ∙ not_false (get_or bytes (end_opened bytes) 1) calm in
+    absurd (a.torn.0 gate)
+
+-- and with a gate of 1 it would bring back no other group
+pub wire_calm : (bytes : List ℕ) (own other : List Group) → Wire bytes own other → log_torn bytes ≡ false → other ≡ own
+wire_calm bytes own other (fit, inl e) calm = e.nothing
+wire_calm bytes own other (fit, inr (inl b)) calm = b.nothing
+wire_calm bytes own other (fit, inr (inr a)) calm =
     let gate : a.gate ≡ 0 =
     sym (gate_is own (a.gate ∷ (group_text a.group ++ 0 ∷ a.tail)) bytes (wire_restores bytes own other (fit, inr (inr a))) a.are) ∙ not_false (get_or bytes (end_opened bytes) 1) calm in
     absurd (a.torn.0 gate)

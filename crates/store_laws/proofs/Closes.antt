@@ -1,26 +1,25 @@
 -- A gate that a crash left torn is closed: that of a slot, or that of the log.
-use Rattle.std.proofs.Common.{◌≡◌, ◌≢◌, ◌⊎◌, inl, inr, ℕ, ◌+◌, ◌≤◌, ◌==◌, Bool, true, false, not, cond, eqb, List, [], ◌∷◌, ◌++◌, length, get_or, drop, Option, Some, None, refl, sym, ◌∙◌, ap, subst, arith, length-append}
+use Rattle.std.proofs.Common.{◌≡◌, ◌≢◌, inl, inr, ℕ, ◌==◌, Bool, true, false, not, cond, List, [], ◌∷◌, ◌++◌, length, get_or, drop, Option, None, refl, sym, ◌∙◌, ap, subst, arith, length-append}
 use Rattle.std.proofs.lemmas.List.{drop_all}
-use Rattle.disk_model.specs.Cells.{Cells, IsImage, settled, written}
+use Rattle.disk_model.specs.Cells.{Cells, settled, written}
 use Rattle.disk_model.proofs.Images.{image_byte}
 use Rattle.disk_model.specs.DeviceCalls.{made, CanBeMade}
-use Rattle.disk_model.specs.declared.call.DeviceCall.{DeviceCall}
 use Rattle.disk_model.specs.declared.call.DeviceCall.TheVariants.{Write, Sync}
-use Rattle.store_form.specs.Spelling.{Group, group_text, IsGroup, checkpoint_text}
+use Rattle.store_form.specs.Spelling.{Group, group_text, checkpoint_text}
 use Rattle.store_form.specs.declared.checkpoint.Checkpoint.{Checkpoint}
-use Rattle.batch_log.specs.Log.{log_bytes, AreGroups, first_group, restored}
+use Rattle.batch_log.specs.Log.{log_bytes, restored}
 use Rattle.batch_log.specs.Exact.{end_opened}
 use Rattle.batch_log.specs.Jobs.{Stands, IsTorn}
-use Rattle.batch_log.specs.Wires.{Ends, Wire, LeavesWire, Wired}
+use Rattle.batch_log.specs.Wires.{Wire, LeavesWire, Wired}
 use Rattle.batch_log.specs.declared.job.Job.TheVariants.{Rest, Close, SyncClose}
 use Rattle.batch_log.proofs.Restored.{restored_is, closed}
 use Rattle.batch_log.proofs.Steps.{short, added}
 use Rattle.batch_log.proofs.Lives.{lives, wire_restores}
 use Rattle.batch_log.proofs.Synced.{called_goes, called_wired}
 use Rattle.checkpoint_store.specs.Slots.{generation_of}
-use Rattle.store_laws.specs.Restored.{Images, log_image, slot_image, side_of, present_in, entries_of, slot_gate, log_torn}
+use Rattle.store_laws.specs.Restored.{Images, log_image, slot_image, side_of, present_in, slot_gate, log_torn}
 use Rattle.store_laws.specs.States.{Devices, StoreState, log_at, slot_at, change, all_settled, MayLeave}
-use Rattle.store_laws.specs.Lives.{Present, Old, Beside, LogTorn, Held, SlotTorn, StoreWire, StoreNext}
+use Rattle.store_laws.specs.Lives.{Present, Old, Beside, LogTorn, SlotTorn, StoreWire, StoreNext}
 use Rattle.store_laws.specs.Stands.{Rests, OwnRests}
 use Rattle.store_laws.specs.declared.job.Kept.{Kept}
 use Rattle.store_laws.specs.declared.job.Gate.{Gate}
@@ -28,8 +27,8 @@ use Rattle.store_laws.specs.declared.job.Gate.TheVariants.{Closed}
 use Rattle.store_laws.specs.declared.job.Device.TheVariants.{Log, Slot}
 use Rattle.store_laws.proofs.Roles.{log_is, log_beside, log_slot, slot_is, beside_slot, slot_log, log_settled, slot_settled, devices_are, both, as_was, by, with_log, with_slot, log_image_is, log_image_beside, log_image_slot, slot_image_is, slot_image_log}
 use Rattle.store_laws.proofs.Restores.{wire_present}
-use Rattle.store_laws.proofs.Crashes.{calm_next, gate_next, old_again, rest_next, stays}
-use Rattle.store_laws.proofs.Calm.{gate_is, closed_is, wired, calm_leaves, settled_beside, calm_rests}
+use Rattle.store_laws.proofs.Crashes.{gate_next, old_again, rest_next, stays}
+use Rattle.store_laws.proofs.Calm.{gate_is, closed_is, calm_leaves, settled_beside, calm_rests}
 
 with_slot_other : (odd : Bool) (bytes : List ℕ) (images : Images) → slot_image odd (with_slot (not odd) bytes images) ≡ slot_image odd images
 with_slot_other true bytes images = refl

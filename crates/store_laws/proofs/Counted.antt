@@ -1,14 +1,14 @@
--- The firm entries are among those that each crash restores, or the present log no longer has them.
-use Rattle.std.proofs.Common.{◌≡◌, ◌⊎◌, inl, inr, ℕ, ◌+◌, ◌-◌, ◌^◌, ◌≤◌, ◌<◌, min, max, Bool, true, false, not, cond, List, [], ◌∷◌, ◌++◌, length, Option, Some, None, refl, sym, ◌∙◌, ap, subst, arith, length-append}
+-- Each crash restores at least as many entries as are firm, but for those that the present log no longer has, or a later generation.
+use Rattle.std.proofs.Common.{◌≡◌, ◌⊎◌, inl, inr, ℕ, ◌+◌, ◌≤◌, ◌<◌, Bool, not, List, [], ◌∷◌, ◌++◌, length, refl, sym, ◌∙◌, ap, subst, arith, length-append}
 use Rattle.std.proofs.lemmas.Grind.{flat_map-append}
 use Rattle.store_form.specs.Spelling.{Group, checkpoint_text}
 use Rattle.store_form.specs.declared.checkpoint.Checkpoint.{Checkpoint}
 use Rattle.checkpoint_store.specs.Slots.{generation_of}
 use Rattle.batch_log.specs.Wires.{Ends, Bare, Armed, Wire}
-use Rattle.store_laws.specs.Restored.{Images, log_image, side_of, present_in, entries_of, restores, with, switched}
-use Rattle.store_laws.specs.States.{StoreState, greatest, side, slot_gate_of, Begun, NoJob, Close, Repair, Switch, AddGroup, begins, switch_calls, advanced, ends, ended, job_called, MayLeave, store_opened, given, asked}
+use Rattle.store_laws.specs.Restored.{Images, log_image, side_of, entries_of, restores, with}
+use Rattle.store_laws.specs.States.{StoreState, side, slot_gate_of, Begun, NoJob, Close, Repair, Switch, AddGroup, begins, switch_calls, advanced, ends, job_called, MayLeave, store_opened, given, asked}
 use Rattle.store_laws.specs.Lives.{StoreWire, StoreNext, Either}
-use Rattle.store_laws.specs.Stands.{Aim, at_rest, StandsBy, OwnRests, IsOwn, aim_written, aim_left, aim_called, aim_after, aim_begins}
+use Rattle.store_laws.specs.Stands.{Aim, at_rest, StandsBy, OwnRests, IsOwn, aim_called, aim_after, aim_begins}
 use Rattle.store_laws.specs.Counts.{Beyond, IsLater, Adding, Grows, CountsBy, Counts, gone_by, gone_after}
 use Rattle.store_laws.specs.declared.job.Kept.{Kept}
 use Rattle.store_laws.specs.declared.job.Tail.{Tail}

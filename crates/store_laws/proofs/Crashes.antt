@@ -1,20 +1,20 @@
 -- A crash at any moment leaves bytes of the same kind.
-use Rattle.std.proofs.Common.{◌≡◌, ◌≢◌, ◌⊎◌, inl, inr, ⊎_elim, ℕ, ◌≤◌, ◌<◌, Bool, true, false, not, List, [], ◌∷◌, ◌++◌, length, get_or, take, drop, Option, Some, None, refl, sym, ◌∙◌, ap, subst, arith, take-append-drop}
+use Rattle.std.proofs.Common.{◌≡◌, ◌≢◌, ◌⊎◌, inl, inr, ⊎_elim, ℕ, ◌≤◌, Bool, true, not, List, [], ◌∷◌, ◌++◌, length, get_or, take, drop, Option, Some, None, refl, sym, ◌∙◌, ap, subst, arith, take-append-drop}
 use Rattle.std.proofs.lemmas.Bool.{cases_eq}
-use Rattle.disk_model.specs.Cells.{Cells, IsImage, settled, written}
-use Rattle.disk_model.proofs.Images.{image_settled, image_front, image_byte}
+use Rattle.disk_model.specs.Cells.{IsImage, settled, written}
+use Rattle.disk_model.proofs.Images.{image_front, image_byte}
 use Rattle.store_form.specs.Spelling.{Group, checkpoint_text}
 use Rattle.store_form.specs.declared.checkpoint.Checkpoint.{Checkpoint}
-use Rattle.batch_log.specs.Wires.{Ends, Wire, Next}
+use Rattle.batch_log.specs.Wires.{Ends, Next}
 use Rattle.checkpoint_store.specs.Slots.{is_odd, slot_of}
 use Rattle.checkpoint_store.specs.SlotJobs.{IsFor}
 use Rattle.checkpoint_store.proofs.SlotBytes.{slot_again, shut, alone}
-use Rattle.store_laws.specs.Restored.{Images, log_image, slot_image, side_of, entries_of, restores, slot_gate, counts_or_torn}
+use Rattle.store_laws.specs.Restored.{Images, log_image, slot_image, side_of, entries_of, slot_gate, counts_or_torn}
 use Rattle.store_laws.specs.States.{Devices, log_at, slot_at, all_settled, MayLeave}
-use Rattle.store_laws.specs.Lives.{IsOlder, Present, IsShut, Old, Beside, LogTorn, Held, SlotTorn, StoreWire, StoreNext, no_bytes, nothing}
+use Rattle.store_laws.specs.Lives.{Present, IsShut, Old, Beside, LogTorn, Held, StoreWire, StoreNext, no_bytes, nothing}
 use Rattle.store_laws.specs.declared.job.Kept.{Kept}
 use Rattle.store_laws.specs.declared.job.Gate.TheVariants.{Torn, Open}
-use Rattle.store_laws.proofs.Roles.{twice_not, as_was, by, images_are, log_settled, slot_settled}
+use Rattle.store_laws.proofs.Roles.{twice_not, as_was, images_are, log_settled, slot_settled}
 use Rattle.store_laws.proofs.Restores.{was_present}
 
 -- ---- the gate of the log, or none

@@ -2,15 +2,16 @@
 use Rattle.std.proofs.Common.{◌≡◌, ℕ, ◌+◌, ◌-◌, Bool, true, false, not, cond, nat_lt, List, [], ◌∷◌, ◌++◌, drop, Option, Some, None, refl, sym, ◌∙◌, ap, subst}
 use Rattle.store_form.specs.Spelling.{checkpoint_text}
 use Rattle.store_laws.specs.Restored.{Images, restores, slot_opened, log_opened}
-use Rattle.store_laws.specs.States.{StoreState, side, slot_gate_of, is_torn, some, switch_calls, with_job, firm_by, advanced, ends, ended, given, asked, Begun, NoJob, Close, Repair, Switch, AddGroup, of_group, of_asked, group_of, greatest, due_job, begins, begun, is_due}
+use Rattle.store_laws.specs.States.{StoreState, side, slot_gate_of, is_torn, some, with_job, firm_by, advanced, ends, given, asked, Begun, NoJob, Close, Repair, Switch, AddGroup, of_group, of_asked, group_of, greatest, due_job, begins, is_due}
 use Rattle.store_laws.specs.Lives.{StoreNext, Either}
-use Rattle.store_laws.specs.Stands.{Aim, Runs, StandsBy, OwnRests, AnyRests, StoreStands, IsOwn, aim_called, instead}
+use Rattle.store_laws.specs.Stands.{Aim, at_rest, Runs, StandsBy, OwnRests, AnyRests, StoreStands, IsOwn, aim_called, instead}
 use Rattle.store_laws.specs.declared.job.Kept.{Kept}
 use Rattle.store_laws.specs.declared.job.Ending.{Ending}
 use Rattle.store_laws.specs.declared.job.Ending.TheVariants.{Closes, Repairs, Adds, Switches}
 use Rattle.store_laws.specs.declared.job.StoreCall.{StoreCall}
 use Rattle.store_laws.specs.declared.job.StoreCall.TheVariants.{On, WriteTail}
-use Rattle.store_laws.proofs.AnyGoes.{some_switch}
+use Rattle.store_laws.proofs.Goes.{own_calm}
+use Rattle.store_laws.proofs.AnyGoes.{calm_own, own_any, runs_any, some_switch}
 
 -- the store if these entries and this switch wait
 abbrev pub waits_as : List (List ℕ) → Option (List ℕ) → StoreState → StoreState
@@ -101,7 +102,7 @@ has_calls (Switch snapshot) s none idle =
     absurd cc
 has_calls (AddGroup group) s none idle = absurd cc
 
-no_calls : (calls : List StoreCall) → some calls ≡ false → calls ≡ []
+pub no_calls : (calls : List StoreCall) → some calls ≡ false → calls ≡ []
 no_calls [] is = refl
 no_calls (call ∷ left) is = absurd cc
 
@@ -122,14 +123,48 @@ calm_by false true torn rest is = absurd cc
 calm_by false false true rest is = absurd cc
 calm_by false false false rest is = (refl, (refl, refl))
 
+-- where no gate is torn, none brings anything back
+pub calm_instead : (s : StoreState) (images : Images) → is_torn s.even ≡ false → is_torn s.odd ≡ false → s.torn ≡ false → instead s images ≡ restores images
+calm_instead s images even odd_is torn =
+    ap (λ (t : Bool). cond t (restores (slot_opened false images)) (cond (is_torn s.odd) (restores (slot_opened true images)) (cond s.torn (restores (log_opened (side s) images)) (restores images)))) even
+    ∙ ap (λ (t : Bool). cond t (restores (slot_opened true images)) (cond s.torn (restores (log_opened (side s) images)) (restores images))) odd_is
+    ∙ ap (λ (t : Bool). cond t (restores (log_opened (side s) images)) (restores images)) torn
+
+-- where no call is due, no gate is torn
+idle_calm : (stops : List ℕ → Bool) (s : StoreState) → due_job stops s ≡ NoJob → (is_torn s.even ≡ false) × ((is_torn s.odd ≡ false) × (s.torn ≡ false))
+idle_calm stops s is = calm_by (is_torn s.even) (is_torn s.odd) s.torn (of_asked (cond (nat_lt s.generation greatest) s.asked None) (of_group (group_of stops s.waiting))) is
+
 pub nothing_at_stake : (stops : List ℕ → Bool) (s : StoreState) (a : Aim) → is_due stops s ≡ false → StoreStands s a → a.stake ≡ a.kept
 nothing_at_stake stops s a none stands =
     let idle = idle_now stops s none in
     let r : AnyRests s a.kept a.stake = subst (λ (calls : List StoreCall). StandsBy Either AnyRests calls s a) idle.0 stands in
-    let calm =
-    calm_by (is_torn s.even) (is_torn s.odd) s.torn (of_asked (cond (nat_lt s.generation greatest) s.asked None) (of_group (group_of stops s.waiting))) idle.1 in
-    r.other_is
-    ∙ ap (λ (t : Bool). cond t (restores (slot_opened false r.images)) (cond (is_torn s.odd) (restores (slot_opened true r.images)) (cond s.torn (restores (log_opened (side s) r.images)) (restores r.images)))) calm.0
-    ∙ ap (λ (t : Bool). cond t (restores (slot_opened true r.images)) (cond s.torn (restores (log_opened (side s) r.images)) (restores r.images))) calm.1.0
-    ∙ ap (λ (t : Bool). cond t (restores (log_opened (side s) r.images)) (restores r.images)) calm.1.1
-    ∙ sym r.kept_is
+    let calm = idle_calm stops s idle.1 in
+    r.other_is ∙ calm_instead s r.images calm.0 calm.1.0 calm.1.1 ∙ sym r.kept_is
+
+-- ---- a store at rest without a torn gate
+
+-- whatever its bytes were, it is one of its own lives
+pub calm_stands : (s : StoreState) (a : Aim) → s.running ≡ [] → is_torn s.even ≡ false → is_torn s.odd ≡ false → s.torn ≡ false → StoreStands s a → (a.stake ≡ a.kept) × IsOwn s a
+calm_stands s a idle even odd_is torn stands =
+    let r : AnyRests s a.kept a.stake = subst (λ (calls : List StoreCall). StandsBy Either AnyRests calls s a) idle stands in
+    let same : a.stake ≡ a.kept = r.other_is ∙ calm_instead s r.images even odd_is torn ∙ sym r.kept_is in
+    let own : OwnRests s a.kept a.stake = subst (λ (k : Kept). OwnRests s a.kept k) (sym same) (calm_own s a.kept a.stake r even odd_is torn) in
+    (same, subst (λ (calls : List StoreCall). StandsBy StoreNext OwnRests calls s a) (sym idle) own)
+
+-- and nothing else is at stake
+pub calm_stake : (s : StoreState) (a : Aim) → s.running ≡ [] → is_torn s.even ≡ false → is_torn s.odd ≡ false → s.torn ≡ false → IsOwn s a → a.stake ≡ a.kept
+calm_stake s a idle even odd_is torn own = own_calm s a.kept a.stake (subst (λ (calls : List StoreCall). StandsBy StoreNext OwnRests calls s a) idle own) even odd_is torn
+
+pub idle_own : (stops : List ℕ → Bool) (s : StoreState) (a : Aim) → is_due stops s ≡ false → StoreStands s a → IsOwn s a
+idle_own stops s a none stands =
+    let idle = idle_now stops s none in
+    let calm = idle_calm stops s idle.1 in
+    (calm_stands s a idle.0 calm.0 calm.1.0 calm.1.1 stands).1
+
+-- what is said of own lives is said of any bytes
+pub own_stands : (s : StoreState) (a : Aim) → IsOwn s a → (b : Aim) × ((b.kept ≡ a.kept) × StoreStands s b)
+own_stands s a = by s.running
+  where
+    by : (calls : List StoreCall) → StandsBy StoreNext OwnRests calls s a → (b : Aim) × ((b.kept ≡ a.kept) × StandsBy Either AnyRests calls s b)
+    by [] r = (at_rest a.kept (instead s r.images) a.next, (refl, own_any s a.kept a.stake r))
+    by (call ∷ left) runs = (a, (refl, runs_any (call ∷ left) s a runs))

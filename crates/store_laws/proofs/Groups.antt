@@ -1,22 +1,21 @@
 -- A group is added to the log of a store.
-use Rattle.std.proofs.Common.{◌≡◌, inl, inr, ℕ, ◌+◌, Bool, true, false, not, List, [], ◌∷◌, ◌++◌, length, refl, sym, ◌∙◌, ap, subst, arith, length-append}
-use Rattle.disk_model.specs.Cells.{Cells, IsImage, settled, written}
+use Rattle.std.proofs.Common.{◌≡◌, ℕ, ◌+◌, Bool, true, false, not, List, [], ◌∷◌, ◌++◌, length, refl, sym, ◌∙◌, ap, subst, arith, length-append}
+use Rattle.disk_model.specs.Cells.{Cells, settled}
 use Rattle.disk_model.specs.DeviceCalls.{made, CanBeMade}
-use Rattle.disk_model.specs.declared.call.DeviceCall.{DeviceCall}
 use Rattle.disk_model.specs.declared.call.DeviceCall.TheVariants.{Write, Sync}
 use Rattle.store_form.specs.Spelling.{Group, group_text, IsGroup}
 use Rattle.batch_log.specs.Log.{log_bytes, AreGroups}
 use Rattle.batch_log.specs.LogCalls.{body_text}
-use Rattle.batch_log.specs.Jobs.{Stands, Clean}
-use Rattle.batch_log.specs.Wires.{Ends, LeavesWire, Wired}
+use Rattle.batch_log.specs.Jobs.{Stands}
+use Rattle.batch_log.specs.Wires.{LeavesWire, Wired}
 use Rattle.batch_log.specs.declared.job.Job.TheVariants.{Rest, Body, SyncBody, Gate, SyncGate}
 use Rattle.batch_log.proofs.Lives.{lives}
 use Rattle.batch_log.proofs.Synced.{called_goes, called_wired}
 use Rattle.checkpoint_store.specs.Slots.{generation_of}
 use Rattle.store_laws.specs.Restored.{Images, log_image, slot_image, side_of, entries_of, with, slot_gate}
-use Rattle.store_laws.specs.States.{Devices, StoreState, log_at, slot_at, change, all_settled, MayLeave, group_begins}
+use Rattle.store_laws.specs.States.{Devices, StoreState, log_at, slot_at, change, all_settled, MayLeave}
 use Rattle.store_laws.specs.Lives.{Present, Beside, StoreNext}
-use Rattle.store_laws.specs.Stands.{Aim, Runs, OwnRests, aim_begins}
+use Rattle.store_laws.specs.Stands.{OwnRests}
 use Rattle.store_laws.specs.declared.job.Kept.{Kept}
 use Rattle.store_laws.specs.declared.job.Device.TheVariants.{Log}
 use Rattle.store_laws.proofs.Roles.{log_is, log_beside, log_slot, log_settled, slot_settled, devices_are, both, with_log, log_image_is, log_image_beside, log_image_slot}

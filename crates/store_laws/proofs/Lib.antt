@@ -15,3 +15,7 @@ pub mod AnyGoes
 pub mod Given
 pub mod Counted
 pub mod Booked
+pub mod Moments
+pub mod Firmed
+pub mod Tails
+pub mod SwitchRuns

@@ -1,16 +1,15 @@
 -- What bytes between two lives restore.
-use Rattle.std.proofs.Common.{◌≡◌, ◌≢◌, ◌⊎◌, inl, inr, ⊎_elim, ℕ, ◌≤◌, ◌<◌, Bool, true, false, not, cond, eqb, List, [], ◌∷◌, ◌++◌, drop, Option, Some, None, refl, sym, ◌∙◌, ap, subst, arith}
+use Rattle.std.proofs.Common.{◌≡◌, ◌≢◌, ◌⊎◌, inl, inr, ⊎_elim, ℕ, ◌<◌, Bool, true, false, not, cond, eqb, List, [], ◌∷◌, ◌++◌, Option, Some, None, refl, sym, ◌∙◌, ap, subst, arith}
 use Rattle.std.proofs.lemmas.Bool.{cases_eq, eqb-true}
 use Rattle.store_form.specs.Spelling.{Group, checkpoint_text}
 use Rattle.store_form.specs.declared.checkpoint.Checkpoint.{Checkpoint}
 use Rattle.batch_log.specs.Log.{restored}
-use Rattle.batch_log.specs.Wires.{Wire}
 use Rattle.batch_log.proofs.Lives.{wire_restores}
 use Rattle.checkpoint_store.specs.Slots.{is_odd, slot_of, newest, generation_of, NoneAbove}
 use Rattle.checkpoint_store.proofs.SlotBytes.{shut, alone}
 use Rattle.checkpoint_store.proofs.Newest.{open_newest, closed_newest}
 use Rattle.store_laws.specs.Restored.{Images, log_image, slot_image, side_of, present_in, entries_of, restores, slot_gate, counts_or_torn}
-use Rattle.store_laws.specs.Lives.{IsOlder, Present, IsShut, Old, Beside, LogTorn, Held, SlotTorn, StoreWire, StoreNext, Either}
+use Rattle.store_laws.specs.Lives.{IsOlder, Present, Beside, StoreWire, StoreNext, Either}
 use Rattle.store_laws.specs.declared.job.Kept.{Kept}
 use Rattle.store_laws.specs.declared.job.Gate.TheVariants.{Closed, Torn}
 

@@ -3,7 +3,7 @@ use Rattle.std.proofs.Common.{◌≡◌, ℕ, Bool, true, false, not, List, refl
 use Rattle.disk_model.specs.Cells.{Cells, IsImage, settled}
 use Rattle.disk_model.proofs.Images.{image_settled}
 use Rattle.store_laws.specs.Restored.{Images, log_image, slot_image}
-use Rattle.store_laws.specs.States.{Devices, log_at, slot_at, change, all_settled, MayLeave}
+use Rattle.store_laws.specs.States.{Devices, log_at, slot_at, change, all_settled}
 use Rattle.store_laws.specs.declared.job.Device.TheVariants.{Log, Slot}
 
 pub twice_not : (b : Bool) → not (not b) ≡ b

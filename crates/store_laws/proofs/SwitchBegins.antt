@@ -1,21 +1,19 @@
 -- A switch begins in a store that only crashes of its own lives have changed.
-use Rattle.std.proofs.Common.{◌≡◌, ◌≢◌, inl, inr, ℕ, ◌+◌, ◌-◌, ◌^◌, ◌<◌, ◌%◌, ◌==◌, eqb, Bool, true, false, not, cond, List, [], ◌∷◌, ◌++◌, length, drop, Option, Some, None, refl, sym, ◌∙◌, ap, subst, arith}
+use Rattle.std.proofs.Common.{◌≡◌, ◌≢◌, inl, inr, ℕ, ◌+◌, ◌<◌, ◌%◌, eqb, Bool, true, false, not, cond, List, [], ◌∷◌, ◌++◌, drop, Option, Some, None, refl, sym, ◌∙◌, ap, subst, arith}
 use Rattle.std.proofs.lemmas.Bool.{eqb-true}
-use Rattle.disk_model.specs.declared.call.DeviceCall.TheVariants.{Write, Cut, Sync}
-use Rattle.store_form.specs.Spelling.{Group, IsGroup, IsEntry, checkpoint_text}
+use Rattle.disk_model.specs.declared.call.DeviceCall.TheVariants.{Cut, Sync}
+use Rattle.store_form.specs.Spelling.{IsEntry, checkpoint_text}
 use Rattle.store_form.specs.declared.checkpoint.Checkpoint.{Checkpoint}
-use Rattle.batch_log.specs.Log.{log_bytes, AreGroups}
-use Rattle.batch_log.specs.Exact.{end_opened}
+use Rattle.batch_log.specs.Log.{log_bytes}
 use Rattle.batch_log.specs.Wires.{Ends}
 use Rattle.checkpoint_store.specs.Slots.{is_odd, slot_of, generation_of}
 use Rattle.checkpoint_store.specs.SlotJobs.{IsFor}
 use Rattle.checkpoint_store.specs.SlotCalls.{close_calls, fill_calls, gate_calls}
-use Rattle.store_laws.specs.Restored.{Images, log_image, slot_image, side_of, present_in, entries_of, switched, slot_gate, counts_or_torn, log_torn}
-use Rattle.store_laws.specs.States.{Devices, StoreState, greatest, slot_gate_of, is_closed, all_settled, Begun, Switch, begins, calls_on, with_job}
+use Rattle.store_laws.specs.Restored.{Images, log_image, slot_image, side_of, present_in, switched, slot_gate, counts_or_torn, log_torn}
+use Rattle.store_laws.specs.States.{Devices, StoreState, greatest, slot_gate_of, is_closed, all_settled, Switch, begins, calls_on, with_job}
 use Rattle.store_laws.specs.Lives.{Present, IsShut, Old, Beside, LogTorn, StoreNext}
 use Rattle.store_laws.specs.Stands.{Aim, Runs, StandsBy, Rests, OwnRests, IsOwn, aim_begins}
-use Rattle.store_laws.specs.declared.job.Gate.{Gate}
-use Rattle.store_laws.specs.declared.job.Gate.TheVariants.{Absent, Closed, Torn, Open}
+use Rattle.store_laws.specs.declared.job.Gate.TheVariants.{Closed}
 use Rattle.store_laws.specs.declared.job.StoreCall.{StoreCall}
 use Rattle.store_laws.specs.declared.job.StoreCall.TheVariants.{On, WriteTail}
 use Rattle.store_laws.specs.declared.job.Ending.TheVariants.{Switches}

@@ -1,29 +1,28 @@
 -- A store switches to the next generation, from a closed gate of its slot on.
-use Rattle.std.proofs.Common.{◌≡◌, inl, inr, ℕ, ◌+◌, ◌<◌, Bool, true, false, not, cond, List, [], ◌∷◌, ◌++◌, length, get_or, drop, Option, Some, refl, sym, ◌∙◌, ap, subst, arith, length-append}
+use Rattle.std.proofs.Common.{◌≡◌, inl, ℕ, ◌+◌, ◌<◌, Bool, true, false, not, cond, List, [], ◌∷◌, ◌++◌, length, get_or, drop, Option, Some, refl, sym, ◌∙◌, ap, subst, arith, length-append}
 use Rattle.std.proofs.lemmas.List.{append-nil, drop_all}
-use Rattle.disk_model.specs.Cells.{Cells, IsImage, settled, written, cut_to}
+use Rattle.disk_model.specs.Cells.{Cells, IsImage, settled, written}
 use Rattle.disk_model.proofs.Images.{image_byte}
 use Rattle.disk_model.specs.DeviceCalls.{made, CanBeMade}
-use Rattle.disk_model.specs.declared.call.DeviceCall.{DeviceCall}
 use Rattle.disk_model.specs.declared.call.DeviceCall.TheVariants.{Write, Cut, Sync}
 use Rattle.store_form.specs.Spelling.{Group, group_text, IsGroup, checkpoint_text}
 use Rattle.store_form.specs.declared.checkpoint.Checkpoint.{Checkpoint}
 use Rattle.batch_log.specs.Log.{log_bytes, AreGroups}
 use Rattle.batch_log.specs.LogCalls.{anew_text}
-use Rattle.batch_log.specs.Wires.{Ends, LeavesWire}
+use Rattle.batch_log.specs.Wires.{LeavesWire}
 use Rattle.batch_log.specs.Exact.{end_opened}
 use Rattle.batch_log.proofs.Restored.{log_push}
-use Rattle.checkpoint_store.specs.Slots.{is_odd, generation_of}
+use Rattle.checkpoint_store.specs.Slots.{generation_of}
 use Rattle.checkpoint_store.specs.SlotJobs.{IsFor}
 use Rattle.store_laws.specs.Restored.{Images, log_image, slot_image, side_of, present_in, entries_of, switched, slot_gate, log_torn}
 use Rattle.store_laws.specs.States.{Devices, StoreState, log_at, slot_at, change, all_settled, MayLeave}
-use Rattle.store_laws.specs.Lives.{Present, IsShut, Beside, LogTorn, Held, StoreNext}
+use Rattle.store_laws.specs.Lives.{Present, IsShut, LogTorn, Held, StoreNext}
 use Rattle.store_laws.specs.Stands.{OwnRests}
 use Rattle.store_laws.specs.declared.job.Kept.{Kept}
 use Rattle.store_laws.specs.declared.job.Gate.{Gate}
 use Rattle.store_laws.specs.declared.job.Gate.TheVariants.{Open}
 use Rattle.store_laws.specs.declared.job.Device.TheVariants.{Log, Slot}
-use Rattle.store_laws.proofs.Roles.{log_is, beside_log, log_slot, slot_is, beside_slot, slot_log, log_settled, slot_settled, devices_are, both, as_was, by, with_log, with_slot, log_image_is, log_image_slot, slot_image_is, slot_image_log, twice_not}
+use Rattle.store_laws.proofs.Roles.{log_is, beside_log, log_slot, slot_is, beside_slot, slot_log, log_settled, slot_settled, devices_are, both, as_was, by, with_log, with_slot, log_image_is, log_image_slot, slot_image_is, slot_image_log}
 use Rattle.store_laws.proofs.Restores.{wire_present}
 use Rattle.store_laws.proofs.Crashes.{shut_again, gate_next, returns, opens}
 use Rattle.store_laws.proofs.Calm.{calm_leaves, closed_is, end_is}

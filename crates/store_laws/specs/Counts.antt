@@ -30,8 +30,8 @@ abbrev pub Grows : List StoreCall → Ending → ℕ → ℕ → ℕ → Type 0
 Grows [] ending added kept then = Unit {0}
 Grows (call ∷ left) ending added kept then = Adding ending added kept then
 
--- A store whose running job still makes these calls. `gone` is the number of firm entries that the present log no longer has. The others
--- that are firm are among those that it keeps.
+-- A store whose running job still makes these calls. `gone` is the number of firm entries that the present log no longer has. Of numbers
+-- alone: it keeps at least as many entries as the others that are firm. Which entries they are says the book.
 pub record CountsBy (calls : List StoreCall) (gone : ℕ) (s : StoreState) (a : Aim) : Type 0 where
   pub most : s.firm ≤ gone + length a.kept.entries
   pub stake : Beyond a.kept a.stake

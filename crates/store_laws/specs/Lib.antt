@@ -5,3 +5,5 @@ pub mod Stands
 pub mod Counts
 pub mod Books
 pub mod Runs
+pub mod Tails
+pub mod Firm

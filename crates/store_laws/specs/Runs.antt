@@ -1,9 +1,11 @@
 -- A run of calls of a store, one after the other, and what a crash during it may leave.
-use Rattle.std.specs.Prelude.{◌≡◌, ◌≤◌, ◌⊎◌, ℕ, zero, suc, Bool, true, false, List}
+use Rattle.std.specs.Prelude.{◌≡◌, ◌≤◌, ◌⊎◌, ℕ, zero, suc, Bool, true, false, cond, List, [], ◌∷◌}
 use Rattle.store_form.specs.Spelling.{IsGroup}
 use Rattle.store_laws.specs.Restored.{Images}
 use Rattle.store_laws.specs.States.{StoreState, some, writes_tail, due_job, begun, store_called, MayLeave, devices_during}
-use Rattle.store_laws.specs.Stands.{HasSpelling}
+use Rattle.store_laws.specs.Stands.{Aim, aim_called, aim_after, aim_begins, HasSpelling}
+use Rattle.store_laws.specs.declared.job.Kept.{Kept}
+use Rattle.store_laws.specs.declared.job.StoreCall.{StoreCall}
 use Rattle.store_laws.specs.declared.job.Tail.{Tail}
 
 -- the store after some calls
@@ -29,3 +31,18 @@ pub record RunLeaves (stops : List ℕ → Bool) (tail : Tail) (n : ℕ) (s : St
   pub call : ℕ
   pub among : call ≤ n
   pub leaves : CallLeaves stops tail (called_times stops tail call s) images
+
+-- ---- what the store stands for
+
+-- once the first job that applies has begun, if none runs
+abbrev pub aim_begun : (List ℕ → Bool) → StoreState → Aim → Aim
+aim_begun stops s a = cond (some s.running) a (aim_begins (due_job stops s) s a)
+
+-- after the first of these calls; if it is the job's last one, another torn gate may bring back `other`
+abbrev pub aim_first : Tail → List StoreCall → Kept → Aim → Aim
+aim_first tail [] other a = a
+aim_first tail (call ∷ left) other a = aim_after left other (aim_called tail call left a)
+
+-- after the store's next device call
+abbrev pub aim_then : (List ℕ → Bool) → Tail → Kept → StoreState → Aim → Aim
+aim_then stops tail other s a = aim_first tail (begun stops s).running other (aim_begun stops s a)

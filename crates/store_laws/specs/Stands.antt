@@ -1,13 +1,13 @@
 -- What a store stands for between two device calls.
-use Rattle.std.specs.Prelude.{◌≡◌, ◌⊎◌, ◌+◌, ℕ, Bool, true, false, cond, List, [], ◌∷◌, ◌++◌, Option, Some, None}
+use Rattle.std.specs.Prelude.{◌≡◌, ◌⊎◌, ◌+◌, ℕ, true, false, cond, List, [], ◌∷◌, ◌++◌, None}
 use Rattle.disk_model.specs.DeviceCalls.{CanBeMade}
 use Rattle.store_form.specs.Spelling.{Group, IsGroup, IsEntry}
 use Rattle.store_form.specs.declared.checkpoint.Checkpoint.{Checkpoint}
 use Rattle.batch_log.specs.Log.{log_bytes, AreGroups, first_group, restored}
 use Rattle.batch_log.specs.Exact.{end_opened}
 use Rattle.checkpoint_store.specs.Slots.{generation_of}
-use Rattle.store_laws.specs.Restored.{Images, log_image, slot_image, side_of, present_in, restores, with, switched, slot_gate, log_torn, slot_opened, log_opened}
-use Rattle.store_laws.specs.States.{Devices, StoreState, side, is_torn, Begun, NoJob, Close, Repair, Switch, AddGroup, all_settled, cells_on, device_of, call_of, advanced, ended, MayLeave, devices_during, due_job, begins}
+use Rattle.store_laws.specs.Restored.{Images, log_image, side_of, present_in, restores, with, switched, slot_gate, log_torn, slot_opened, log_opened}
+use Rattle.store_laws.specs.States.{Devices, StoreState, side, is_torn, Begun, NoJob, Close, Repair, Switch, AddGroup, all_settled, cells_on, device_of, call_of, advanced, ended, MayLeave}
 use Rattle.store_laws.specs.Lives.{StoreWire, StoreNext, Either}
 use Rattle.store_laws.specs.declared.job.Kept.{Kept}
 use Rattle.store_laws.specs.declared.job.StoreCall.{StoreCall}

@@ -1,11 +1,10 @@
 -- The state of a store between two device calls, and what the next call makes of it.
-use Rattle.std.specs.Prelude.{ℕ, ◌+◌, ◌-◌, ◌^◌, min, max, nat_lt, Bool, true, false, not, cond, ◌&&◌, ◌||◌, List, [], ◌∷◌, ◌++◌, length, drop, map, Option, Some, None}
+use Rattle.std.specs.Prelude.{ℕ, ◌+◌, ◌-◌, ◌^◌, min, max, nat_lt, Bool, true, false, not, cond, List, [], ◌∷◌, ◌++◌, length, drop, map, Option, Some, None}
 use Rattle.disk_model.specs.Cells.{Cells, IsImage, settled}
-use Rattle.disk_model.specs.DeviceCalls.{made, during, CanBeMade}
+use Rattle.disk_model.specs.DeviceCalls.{made, during}
 use Rattle.disk_model.specs.declared.call.DeviceCall.{DeviceCall}
 use Rattle.disk_model.specs.declared.call.DeviceCall.TheVariants.{Write, Cut, Sync}
-use Rattle.store_form.specs.Spelling.{Group, group_text, checkpoint_text}
-use Rattle.store_form.specs.declared.checkpoint.Checkpoint.{Checkpoint}
+use Rattle.store_form.specs.Spelling.{group_text, checkpoint_text}
 use Rattle.batch_log.specs.Exact.{end_opened}
 use Rattle.batch_log.specs.LogCalls.{body_text, anew_text, repair_calls, group_calls}
 use Rattle.checkpoint_store.specs.Slots.{is_odd, generation_of}
@@ -48,8 +47,10 @@ cells_on (Log odd) d = log_at odd d
 cells_on (Slot odd) d = slot_at odd d
 
 -- The state of a store. `even` and `odd` are the gates of the slots. `torn` says that the gate after the groups of the present log is not
--- sure to be closed, and `end` is its index. `running` are the calls that the running job still makes. `adding` are the entries of the
--- running group, and `waiting` those that wait for a group. `asked` is the snapshot of the switch that waits.
+-- sure to be closed, and `end` is its index. These and `generation` change at a job's end alone: while it runs they are as it found them.
+-- `running` are the calls that the running job still makes, and `ending` is what its end makes. At rest `ending` is that of the last job, and
+-- says nothing. `adding` are the entries of the running group, and `waiting` those that wait for a group. `asked` is the snapshot of the
+-- switch that waits.
 pub record StoreState : Type 0 where
   pub devices : Devices
   pub even : Gate

@@ -9,7 +9,8 @@ pub enum Device {
     Slot(bool),
 }
 
-/// The gate of a slot.
+/// The gate of a slot, as the running job found it. The calls of a job change it on the device; the
+/// state of a store has the new gate from the end of the job on.
 #[derive(Clone, Copy, Debug, PartialEq, Eq)]
 pub enum Gate {
     /// The slot has no byte.
@@ -31,7 +32,7 @@ pub enum StoreCall {
     WriteTail,
 }
 
-/// What the end of a job makes of a store.
+/// What the end of the running job makes of a store. Of a store at rest it says nothing.
 #[derive(Clone, Copy, Debug, PartialEq, Eq)]
 pub enum Ending {
     /// The gate of a slot is closed; `true` for the odd generations.
@@ -41,7 +42,7 @@ pub enum Ending {
     /// The running group is firm, and the groups end at this index.
     Adds(u64),
     /// The next generation is the present one. Its groups end at this index. The number is that of the
-    /// last entry of its tail that was made in this life.
+    /// last entry of its tail that was made in this life. Both are 0 until the tail is written.
     Switches(u64, u64),
 }
 

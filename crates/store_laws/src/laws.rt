@@ -1,18 +1,25 @@
 //! The laws of a store over two generations, through all its lives. They speak of definitions alone.
-ghost use Rattle.std.specs.Prelude.{◌≡◌, ◌≤◌, ◌<◌, ◌⊎◌, ◌+◌, ℕ, Bool, false, List, [], ◌∷◌, ◌++◌, length, Option};
+ghost use Rattle.std.specs.Prelude.{◌≡◌, ◌≤◌, ◌<◌, ◌⊎◌, ◌+◌, ℕ, suc, Bool, false, List, [], ◌∷◌, ◌++◌, length, Option, Some, None};
+ghost use Rattle.disk_model.specs.declared.call.DeviceCall.{DeviceCall};
+ghost use Rattle.disk_model.specs.declared.call.DeviceCall.TheVariants.{Sync};
 ghost use Rattle.checkpoint_store.specs.Slots.{generation_of};
 ghost use Rattle.store_form.specs.Spelling.{IsGroup};
 ghost use Rattle.store_form.specs.declared.checkpoint.Checkpoint.{Checkpoint};
-ghost use Rattle.store_laws.specs.Restored.{Images, log_image, side_of, present_in, restores};
-ghost use Rattle.store_laws.specs.States.{StoreState, greatest, Begun, NoJob, Switch, is_due, given, asked, due_job, begins, job_called, store_called, MayLeave, devices_during, store_opened};
+ghost use Rattle.store_laws.specs.Restored.{Images, log_image, side_of, present_in, restores, switched};
+ghost use Rattle.store_laws.specs.States.{StoreState, greatest, is_torn, Begun, NoJob, Switch, is_due, given, asked, due_job, begins, call_of, ending_of, job_called, store_called, MayLeave, devices_during, store_opened};
 ghost use Rattle.store_laws.specs.Lives.{StoreWire, StoreNext, Either, no_bytes, nothing};
 ghost use Rattle.store_laws.specs.Stands.{Aim, at_rest, Leaves, Runs, IsRead, AnyRests, OwnRests, StoreStands, IsOwn, instead, aim_called, aim_after, aim_begins, HasSpelling, KeptOrNew, Switching};
 ghost use Rattle.store_laws.specs.Counts.{Counts, CountsBy, gone_after};
 ghost use Rattle.store_laws.specs.Books.{Books, BooksBy, IsFront};
-ghost use Rattle.store_laws.specs.declared.job.Ending.TheVariants.{Adds};
+ghost use Rattle.store_laws.specs.Runs.{called_times, CallFits, RunFits, CallLeaves, aim_then};
+ghost use Rattle.store_laws.specs.Tails.{aimed_at, tail_after, stake_before, SwitchesBy, HasSwitched, next_of, SwitchGoes, SwitchComes, SwitchEnded};
+ghost use Rattle.store_laws.specs.Firm.{not_firm, GroupAdds, SameEntries, KeepsCount, GroupCounts, SwitchCounts, Firms};
+ghost use Rattle.store_laws.specs.declared.job.Device.{Device};
+ghost use Rattle.store_laws.specs.declared.job.Ending.TheVariants.{Closes, Repairs, Adds, Switches};
 ghost use Rattle.store_laws.specs.declared.job.Kept.{Kept};
 ghost use Rattle.store_laws.specs.declared.job.Tail.{Tail};
 ghost use Rattle.store_laws.specs.declared.job.StoreCall.{StoreCall};
+ghost use Rattle.store_laws.specs.declared.job.StoreCall.TheVariants.{On};
 
 /// A crash now leaves bytes with which the next life begins. It keeps what this life kept, or what
 /// was at stake, and may restore no third thing.
@@ -22,12 +29,34 @@ pub fn a_crash_leaves_a_store()
 {}
 
 /// A crash during a call, whether the call goes well or fails, leaves what one before the call may
-/// leave, or one after it.
+/// leave, or one after it. After the call the store stands for what is named then. A crash during a
+/// sync leaves what one before it may leave.
 pub fn a_crash_during_a_call()
-    ensures { (s : StoreState) (a : Aim) (tail : Tail) (call : StoreCall) (left : List StoreCall) → IsGroup tail.entries → Runs StoreNext OwnRests (call ∷ left) s a
+    ensures during { (s : StoreState) (a : Aim) (tail : Tail) (call : StoreCall) (left : List StoreCall) → IsGroup tail.entries → Runs StoreNext OwnRests (call ∷ left) s a
         → (images : Images) → MayLeave (devices_during tail (call ∷ left) s) images
         → StoreNext images a.kept a.stake
-        ⊎ ((other : Kept) × StoreNext images (aim_after left other (aim_called tail call left a)).kept (aim_after left other (aim_called tail call left a)).stake) }
+        ⊎ ((other : Kept) × (IsOwn (job_called tail (call ∷ left) s) (aim_after left other (aim_called tail call left a))
+        × StoreNext images (aim_after left other (aim_called tail call left a)).kept (aim_after left other (aim_called tail call left a)).stake)) }
+    ensures sync { (s : StoreState) (a : Aim) (tail : Tail) (call : StoreCall) (left : List StoreCall) → call_of tail call ≡ Sync → Runs StoreNext OwnRests (call ∷ left) s a
+        → (images : Images) → MayLeave (devices_during tail (call ∷ left) s) images → StoreNext images a.kept a.stake }
+{}
+
+/// The next device call of a store, with the job that may begin at it. It leaves a store that stands
+/// for what is named then. A crash before it or at a moment of it leaves bytes with which the next
+/// life begins. They restore what is kept or at stake before the call, or after it.
+pub fn a_crash_at_any_moment()
+    ensures goes { (stops : List ℕ → Bool) (tail : Tail) (s : StoreState) (a : Aim) → IsOwn s a → CallFits stops tail s → (other : Kept) × IsOwn (store_called stops tail s) (aim_then stops tail other s a) }
+    ensures leaves { (stops : List ℕ → Bool) (tail : Tail) (s : StoreState) (a : Aim) → IsOwn s a → (images : Images) → CallLeaves stops tail s images
+        → StoreNext images a.kept a.stake
+        ⊎ ((other : Kept) × (IsOwn (store_called stops tail s) (aim_then stops tail other s a) × StoreNext images (aim_then stops tail other s a).kept (aim_then stops tail other s a).stake)) }
+    ensures restores { (stops : List ℕ → Bool) (tail : Tail) (s : StoreState) (a : Aim) → IsOwn s a → (images : Images) → CallLeaves stops tail s images
+        → Either images a.kept a.stake
+        ⊎ ((other : Kept) × (IsOwn (store_called stops tail s) (aim_then stops tail other s a) × Either images (aim_then stops tail other s a).kept (aim_then stops tail other s a).stake)) }
+    // The same over any bytes.
+    ensures any_goes { (stops : List ℕ → Bool) (tail : Tail) (s : StoreState) (a : Aim) → StoreStands s a → CallFits stops tail s → (other : Kept) × StoreStands (store_called stops tail s) (aim_then stops tail other s a) }
+    ensures any_restores { (stops : List ℕ → Bool) (tail : Tail) (s : StoreState) (a : Aim) → StoreStands s a → (images : Images) → CallLeaves stops tail s images
+        → Either images a.kept a.stake
+        ⊎ ((other : Kept) × (StoreStands (store_called stops tail s) (aim_then stops tail other s a) × Either images (aim_then stops tail other s a).kept (aim_then stops tail other s a).stake)) }
 {}
 
 /// A job that begins, and the next call of a job, leave a store that only crashes of its own lives
@@ -47,18 +76,83 @@ pub fn a_store_is_opened()
     ensures empty { StoreWire no_bytes nothing nothing }
 {}
 
-/// While a store switches, a crash at any moment restores what was kept, or the new generation with
-/// the tail that was given. So does the store itself after the last call.
+/// While a store switches, a crash between two of its calls restores what was kept, or the new
+/// generation with the entries of some tail. `a_switch_gives_its_tail` says which tail, and when.
 pub fn a_switch_keeps_or_gives()
     ensures begins { (s : StoreState) (a : Aim) (snapshot : List ℕ) → Switching a.kept (record { generation = s.generation + 1; snapshot = snapshot }) (aim_begins (Switch snapshot) s a) }
     ensures goes { (kept : Kept) (next : Checkpoint) (a : Aim) (tail : Tail) (call : StoreCall) (left : List StoreCall) → Switching kept next a → Switching kept next (aim_called tail call left a) }
     ensures crash { (kept : Kept) (next : Checkpoint) (s : StoreState) (a : Aim) → Switching kept next a → IsOwn s a → (images : Images) → MayLeave s.devices images → KeptOrNew kept next (restores images) }
 {}
 
+/// A switch aims at nothing new until its tail is written, and from then on at the new generation
+/// with the entries of the tail that was given. At its end the store keeps exactly that, and may
+/// restore no other thing. Its number of firm entries counts the tail that was given.
+pub fn a_switch_gives_its_tail()
+    ensures begins { (stops : List ℕ → Bool) (s : StoreState) (a : Aim) (snapshot : List ℕ) → due_job stops s ≡ Switch snapshot
+        → SwitchesBy (begins (Switch snapshot) s).running a.kept (record { generation = s.generation + 1; snapshot = snapshot }) None (begins (Switch snapshot) s) (aim_begins (Switch snapshot) s a) }
+    ensures goes { (kept : Kept) (next : Checkpoint) (before : Option Tail) (s : StoreState) (a : Aim) (tail : Tail) (call more : StoreCall) (left : List StoreCall) → SwitchesBy (call ∷ (more ∷ left)) kept next before s a
+        → SwitchesBy (more ∷ left) kept next (tail_after tail call before) (job_called tail (call ∷ (more ∷ left)) s) (aim_called tail call (more ∷ left) a) }
+    ensures ends { (kept : Kept) (next : Checkpoint) (before : Option Tail) (s : StoreState) (a : Aim) (tail : Tail) (call : StoreCall) (other : Kept) → SwitchesBy (call ∷ []) kept next before s a
+        → IsOwn (job_called tail (call ∷ []) s) (aim_after [] other (aim_called tail call [] a))
+        → (written : Tail) × ((tail_after tail call before ≡ Some written) × (HasSwitched next written (job_called tail (call ∷ []) s) (aim_after [] other (aim_called tail call [] a))
+        × SwitchCounts written.made s (job_called tail (call ∷ []) s))) }
+    // A crash before a call: until the last one, the sync of the gate, nothing but `kept` is restored.
+    ensures crash { (kept : Kept) (next : Checkpoint) (before : Option Tail) (s : StoreState) (a : Aim) → SwitchesBy s.running kept next before s a → IsOwn s a → (images : Images) → MayLeave s.devices images
+        → (restores images ≡ kept) ⊎ (restores images ≡ stake_before s.running kept (aimed_at kept next before)) }
+    // A crash during a call.
+    ensures during { (kept : Kept) (next : Checkpoint) (before : Option Tail) (s : StoreState) (a : Aim) (tail : Tail) (call : StoreCall) (left : List StoreCall) → IsGroup tail.entries → SwitchesBy (call ∷ left) kept next before s a
+        → Runs StoreNext OwnRests (call ∷ left) s a → (images : Images) → MayLeave (devices_during tail (call ∷ left) s) images
+        → (restores images ≡ kept) ⊎ (restores images ≡ aimed_at kept next (tail_after tail call before)) }
+    // A crash after the switch.
+    ensures after { (next : Checkpoint) (written : Tail) (s : StoreState) (a : Aim) → HasSwitched next written s a → IsOwn s a → (images : Images) → MayLeave s.devices images → restores images ≡ switched next written.entries }
+{}
+
+/// A store that was asked to switch, over any run of calls that go well. The switch waits or runs
+/// until the generation changes. Then the store keeps the next generation, with the snapshot that
+/// was asked for and the entries of the tail that the run gives, and may restore no other thing.
+pub fn a_run_switches()
+    ensures goes { (stops : List ℕ → Bool) (from : ℕ) (snapshot : List ℕ) (tail : Tail) (s : StoreState) (a : Aim) → IsOwn s a → CallFits stops tail s → SwitchGoes from snapshot tail s a
+        → (b : Aim) × (IsOwn (store_called stops tail s) b × SwitchComes from snapshot tail (store_called stops tail s) b) }
+    // A crash before the next call, or at a moment of it.
+    ensures leaves { (stops : List ℕ → Bool) (from : ℕ) (snapshot : List ℕ) (tail : Tail) (s : StoreState) (a : Aim) → IsOwn s a → SwitchGoes from snapshot tail s a
+        → (images : Images) → CallLeaves stops tail s images
+        → Either images a.kept a.stake ⊎ ((b : Aim) × (IsOwn (store_called stops tail s) b × (SwitchComes from snapshot tail (store_called stops tail s) b × Either images b.kept b.stake))) }
+    // After any number of calls it waits or runs, or it ended at one of them.
+    ensures comes { (stops : List ℕ → Bool) (from : ℕ) (snapshot : List ℕ) (tail : Tail) (n : ℕ) (s : StoreState) (a : Aim) → IsOwn s a → SwitchGoes from snapshot tail s a → RunFits stops tail n s
+        → ((b : Aim) × (IsOwn (called_times stops tail n s) b × SwitchGoes from snapshot tail (called_times stops tail n s) b)) ⊎ SwitchEnded stops from snapshot tail n s }
+    ensures stays { (stops : List ℕ → Bool) (from : ℕ) (snapshot : List ℕ) (tail : Tail) (n : ℕ) (s : StoreState) (a : Aim) → IsOwn s a → SwitchGoes from snapshot tail s a → RunFits stops tail n s
+        → (called_times stops tail n s).generation ≡ from
+        → (b : Aim) × (IsOwn (called_times stops tail n s) b × SwitchGoes from snapshot tail (called_times stops tail n s) b) }
+    ensures ends { (stops : List ℕ → Bool) (from : ℕ) (snapshot : List ℕ) (tail : Tail) (n : ℕ) (s : StoreState) (a : Aim) → IsOwn s a → SwitchGoes from snapshot tail s a → RunFits stops tail (suc n) s
+        → (called_times stops tail n s).generation ≡ from → (called_times stops tail (suc n) s).generation ≡ from + 1
+        → (b : Aim) × (IsOwn (called_times stops tail (suc n) s) b × HasSwitched (next_of from snapshot) tail (called_times stops tail (suc n) s) b) }
+{}
+
 /// The number of firm entries does not fall.
 pub fn what_is_firm_stays_firm()
     ensures rises { (stops : List ℕ → Bool) (tail : Tail) (s : StoreState) → s.firm ≤ greatest → s.firm ≤ (store_called stops tail s).firm }
     ensures few { (stops : List ℕ → Bool) (tail : Tail) (s : StoreState) → s.firm ≤ greatest → (store_called stops tail s).firm ≤ greatest }
+{}
+
+/// At a group's end its entries are firm, and no others became so. At a switch's end as many are firm
+/// as were before, or as were restored and made up to the last entry of its tail. No other call makes
+/// any firm. What waits leaves for the group that begins, or because it became firm.
+pub fn a_job_counts_what_it_makes()
+    ensures group { (tail : Tail) (device : Device) (call : DeviceCall) (s : StoreState) (end : ℕ) → s.ending ≡ Adds end → GroupCounts s (job_called tail (On device call ∷ []) s) }
+    ensures switch { (tail : Tail) (call : StoreCall) (s : StoreState) (end made : ℕ) → ending_of tail call s.ending ≡ Switches end made → SwitchCounts made s (job_called tail (call ∷ []) s) }
+    ensures close { (tail : Tail) (device : Device) (call : DeviceCall) (s : StoreState) (odd : Bool) → s.ending ≡ Closes odd → KeepsCount s (job_called tail (On device call ∷ []) s) }
+    ensures repair { (tail : Tail) (device : Device) (call : DeviceCall) (s : StoreState) → s.ending ≡ Repairs → KeepsCount s (job_called tail (On device call ∷ []) s) }
+    // A call that ends no job.
+    ensures goes { (tail : Tail) (call more : StoreCall) (left : List StoreCall) (s : StoreState) → SameEntries s (job_called tail (call ∷ (more ∷ left)) s) }
+    // A job begins. If it is a group, its entries are the first of those that waited; else all still wait.
+    ensures begins { (stops : List ℕ → Bool) (s : StoreState) → s.running ≡ [] → GroupAdds s → (not_firm (begins (due_job stops s) s) ≡ not_firm s) × GroupAdds (begins (due_job stops s) s) }
+    ensures begins_firm { (stops : List ℕ → Bool) (s : StoreState) → (begins (due_job stops s) s).firm ≡ s.firm }
+    // Whatever the next call is, no entry is dropped that did not become firm.
+    ensures firms { (stops : List ℕ → Bool) (tail : Tail) (s : StoreState) → GroupAdds s → s.firm ≤ greatest → Firms s (store_called stops tail s) }
+    ensures adds { (stops : List ℕ → Bool) (tail : Tail) (s : StoreState) → GroupAdds s → GroupAdds (store_called stops tail s) }
+    ensures opened { (images : Images) → GroupAdds (store_opened images) }
+    ensures given { (s : StoreState) (entries : List (List ℕ)) → GroupAdds s → GroupAdds (given entries s) }
+    ensures asked { (s : StoreState) (snapshot : List ℕ) → GroupAdds s → GroupAdds (asked snapshot s) }
 {}
 
 /// A store over any bytes. Up to three gates may be torn, and are closed in their order. Until then a
@@ -70,11 +164,23 @@ pub fn a_store_over_any_bytes()
     ensures during { (s : StoreState) (a : Aim) (tail : Tail) (call : StoreCall) (left : List StoreCall) → IsGroup tail.entries → Runs Either AnyRests (call ∷ left) s a
         → (images : Images) → MayLeave (devices_during tail (call ∷ left) s) images
         → Either images a.kept a.stake
-        ⊎ ((other : Kept) × Either images (aim_after left other (aim_called tail call left a)).kept (aim_after left other (aim_called tail call left a)).stake) }
+        ⊎ ((other : Kept) × (StoreStands (job_called tail (call ∷ left) s) (aim_after left other (aim_called tail call left a))
+        × Either images (aim_after left other (aim_called tail call left a)).kept (aim_after left other (aim_called tail call left a)).stake)) }
+    ensures sync { (s : StoreState) (a : Aim) (tail : Tail) (call : StoreCall) (left : List StoreCall) → call_of tail call ≡ Sync → Runs Either AnyRests (call ∷ left) s a
+        → (images : Images) → MayLeave (devices_during tail (call ∷ left) s) images → Either images a.kept a.stake }
     ensures begins { (stops : List ℕ → Bool) (s : StoreState) (a : Aim) → s.running ≡ [] → StoreStands s a → HasSpelling (due_job stops s)
         → StoreStands (begins (due_job stops s) s) (aim_begins (due_job stops s) s a) }
     ensures goes { (s : StoreState) (a : Aim) (tail : Tail) (call : StoreCall) (left : List StoreCall) → IsGroup tail.entries → Runs Either AnyRests (call ∷ left) s a
         → (other : Kept) × StoreStands (job_called tail (call ∷ left) s) (aim_after left other (aim_called tail call left a)) }
+{}
+
+/// A store at rest without a torn gate is one of its own lives, whatever its bytes were, and nothing
+/// else is at stake. Each store of its own lives is one over any bytes.
+pub fn a_calm_store_is_own()
+    ensures own { (s : StoreState) (a : Aim) → s.running ≡ [] → is_torn s.even ≡ false → is_torn s.odd ≡ false → s.torn ≡ false → StoreStands s a → (a.stake ≡ a.kept) × IsOwn s a }
+    ensures stake { (s : StoreState) (a : Aim) → s.running ≡ [] → is_torn s.even ≡ false → is_torn s.odd ≡ false → s.torn ≡ false → IsOwn s a → a.stake ≡ a.kept }
+    ensures idle { (stops : List ℕ → Bool) (s : StoreState) (a : Aim) → is_due stops s ≡ false → StoreStands s a → IsOwn s a }
+    ensures stands { (s : StoreState) (a : Aim) → IsOwn s a → (b : Aim) × ((b.kept ≡ a.kept) × StoreStands s b) }
 {}
 
 /// What is given to a store waits: it changes nothing of what the store stands for.
@@ -91,9 +197,9 @@ pub fn nothing_is_due()
     ensures kept { (stops : List ℕ → Bool) (s : StoreState) (a : Aim) → is_due stops s ≡ false → StoreStands s a → a.stake ≡ a.kept }
 {}
 
-/// The firm entries are among those that each crash restores, unless it restores a later generation,
-/// or the present log no longer has them. The number of those that it no longer has is 0 until a
-/// switch ends, and changes at the end of a switch alone.
+/// How many entries are firm, and how many a crash restores; which ones they are says the book. A crash
+/// restores a later generation, or at least as many entries as are firm, but for those that are gone
+/// from the present log. These are 0 until a switch ends, and change at the end of a switch alone.
 pub fn what_is_counted()
     ensures opened { (images : Images) (kept other : Kept) (next : Checkpoint) → StoreWire images kept other → Counts 0 (store_opened images) (at_rest kept other next) }
     ensures begins { (job : Begun) (gone : ℕ) (s : StoreState) (a : Aim) → s.running ≡ [] → IsOwn s a → Counts gone s a → Counts gone (begins job s) (aim_begins job s a) }

@@ -1,6 +1,6 @@
 use Rattle.store_laws.specs.Lives.{Either}
 use Rattle.store_laws.specs.Stands.{AnyRests}
-use Rattle.store_laws.proofs.Goes.{goes, crash_during}
+use Rattle.store_laws.proofs.Goes.{goes, sync_during, crash_during}
 use Rattle.store_laws.proofs.Any.{any_still}
 use Rattle.store_laws.proofs.AnyGoes.{any_opened, any_leaves, any_begins}
 use Rattle.store_laws.proofs.laws.a_store_over_any_bytes.Goals as goal
@@ -13,6 +13,9 @@ returns-clause-crash c = any_leaves
 
 pub returns-clause-during : goal.returns-clause-during
 returns-clause-during c = crash_during Either AnyRests any_still
+
+pub returns-clause-sync : goal.returns-clause-sync
+returns-clause-sync c = sync_during Either AnyRests
 
 pub returns-clause-begins : goal.returns-clause-begins
 returns-clause-begins c = any_begins
