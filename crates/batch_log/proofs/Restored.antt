@@ -28,7 +28,8 @@ pub length-groups : (gs : List Group) → length gs ≤ length (log_bytes gs)
 length-groups [] = omega arith
 length-groups (g ∷ gs) = omega (arith, length-groups gs, length-append (group_text g) (log_bytes gs))
 
-groups_by : (gs : List Group) (rest : List ℕ) (n m : ℕ) → AreGroups gs → n ≡ length gs + m → restored_by n (log_bytes gs ++ rest) ≡ gs ++ restored_by m rest
+-- the first groups of bytes that begin with whole groups
+pub groups_by : (gs : List Group) (rest : List ℕ) (n m : ℕ) → AreGroups gs → n ≡ length gs + m → restored_by n (log_bytes gs ++ rest) ≡ gs ++ restored_by m rest
 groups_by [] rest n m fit is = let same : n ≡ m = omega arith in ap (λ (k : ℕ). restored_by k rest) same
 groups_by (g ∷ gs) rest zero m fit is = absurd (omega arith)
 groups_by (g ∷ gs) rest (suc n) m fit is =

@@ -1,0 +1,5 @@
+pub mod Pieces
+pub mod Faults
+pub mod Walks
+pub mod Places
+pub mod Heads

@@ -1,0 +1,4 @@
+pub mod Windows
+pub mod Walks
+pub mod Stream
+pub mod Heads
