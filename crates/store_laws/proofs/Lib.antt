@@ -8,6 +8,10 @@ pub mod Closes
 pub mod Begins
 pub mod SwitchBegins
 pub mod Goes
+pub mod Moments
+pub mod Firmed
+pub mod Tails
+pub mod SwitchRuns
 pub mod Aims
 pub mod Any
 pub mod AnyBegins
@@ -15,7 +19,3 @@ pub mod AnyGoes
 pub mod Given
 pub mod Counted
 pub mod Booked
-pub mod Moments
-pub mod Firmed
-pub mod Tails
-pub mod SwitchRuns

@@ -1,9 +1,9 @@
 pub mod Restored
 pub mod States
+pub mod Firm
+pub mod Tails
 pub mod Lives
 pub mod Stands
 pub mod Counts
 pub mod Books
 pub mod Runs
-pub mod Tails
-pub mod Firm
