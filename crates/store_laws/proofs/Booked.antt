@@ -22,7 +22,7 @@ pub books_opened : (images : Images) (kept other : Kept) (next : Checkpoint) →
 books_opened images kept other next = record { present_is = refl; all = append-nil kept.entries; calm = refl; plain = tt; grown = refl }
 
 -- the first entries that wait are the group
-group_front : (stops : List ℕ → Bool) (xs : List (List ℕ)) → group_of stops xs ++ drop (length (group_of stops xs)) xs ≡ xs
+pub group_front : (stops : List ℕ → Bool) (xs : List (List ℕ)) → group_of stops xs ++ drop (length (group_of stops xs)) xs ≡ xs
 group_front stops [] = refl
 group_front stops (x ∷ xs) = by (stops x) (group_front stops xs)
   where
@@ -30,7 +30,7 @@ group_front stops (x ∷ xs) = by (stops x) (group_front stops xs)
     by true rest = refl
     by false rest = ap (λ (l : List (List ℕ)). x ∷ l) rest
 
-none_asked : (t : Bool) (asked : Option (List ℕ)) → asked ≡ None → cond t asked None ≡ None
+pub none_asked : (t : Bool) (asked : Option (List ℕ)) → asked ≡ None → cond t asked None ≡ None
 none_asked true asked is = is
 none_asked false asked is = refl
 

@@ -101,7 +101,7 @@ has_calls (Switch snapshot) s none idle =
     absurd cc
 has_calls (AddGroup group) s none idle = absurd cc
 
-no_calls : (calls : List StoreCall) → some calls ≡ false → calls ≡ []
+pub no_calls : (calls : List StoreCall) → some calls ≡ false → calls ≡ []
 no_calls [] is = refl
 no_calls (call ∷ left) is = absurd cc
 
