@@ -6,3 +6,5 @@ pub mod Held
 pub mod Appends
 pub mod Comes
 pub mod Opened
+pub mod Sounds
+pub mod Ran

@@ -2,3 +2,4 @@ pub mod Disks
 pub mod Stores
 pub mod Runs
 pub mod Opens
+pub mod BookRuns

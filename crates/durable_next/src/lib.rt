@@ -3,5 +3,6 @@
 #![tactic(auto)]
 
 pub mod disks;
+pub mod laws;
 pub mod reopening;
 pub mod store;

@@ -1,5 +1,5 @@
 -- A run of a store that is not asked to switch keeps its book. A crash at any moment of it leaves bytes with which the next life begins.
-use Rattle.std.proofs.Common.{◌≡◌, ◌≢◌, ◌⊎◌, inl, inr, ℕ, zero, suc, ◌+◌, ◌-◌, ◌^◌, ◌≤◌, ◌<◌, min, Bool, true, false, not, cond, List, [], ◌∷◌, ◌++◌, length, drop, Option, refl, sym, ◌∙◌, ap, subst, append_assoc, arith, length-append}
+use Rattle.std.proofs.Common.{◌≡◌, ◌≢◌, ◌⊎◌, inl, inr, ⊎_elim, ℕ, zero, suc, ◌+◌, ◌≤◌, ◌<◌, Bool, true, false, not, cond, List, [], ◌∷◌, ◌++◌, length, drop, Option, refl, sym, ◌∙◌, ap, subst, append_assoc, arith, length-append}
 use Rattle.std.proofs.lemmas.Bool.{cases_eq}
 use Rattle.disk_model.specs.DeviceCalls.{made, during}
 use Rattle.disk_model.specs.declared.call.DeviceCall.{DeviceCall}
@@ -11,7 +11,7 @@ use Rattle.store_laws.specs.Restored.{Images, restores, with}
 use Rattle.store_laws.specs.States.{Devices, StoreState, greatest, some, side, slot_gate_of, change, all_settled, Begun, NoJob, Close, Repair, Switch, AddGroup, due_job, begins, begun, is_due, advanced, ends, job_called, store_called, MayLeave, devices_during, store_opened, given}
 use Rattle.store_laws.specs.Runs.{called_times, CallFits, RunFits, CallLeaves, RunLeaves}
 use Rattle.store_laws.specs.Lives.{StoreWire, StoreNext, Either}
-use Rattle.store_laws.specs.Stands.{Aim, at_rest, Leaves, StandsBy, AnyRests, OwnRests, StoreStands, IsOwn, instead, HasSpelling, aim_left, aim_begins, aim_called, aim_after}
+use Rattle.store_laws.specs.Stands.{Aim, at_rest, Leaves, StandsBy, AnyRests, OwnRests, StoreStands, IsOwn, instead, HasSpelling, aim_left, aim_begins, aim_called}
 use Rattle.store_laws.specs.Books.{GrownBy, Grown, BooksBy, Books, IsFront}
 use Rattle.store_laws.specs.Counts.{CountsBy, Counts, gone_by}
 use Rattle.store_laws.specs.declared.job.Device.{Device}
@@ -318,11 +318,9 @@ module _ (stops : List ℕ → Bool) (tail : Tail) (book : List (List ℕ)) (pre
   fits_front : (n k : ℕ) (s : StoreState) → k ≤ n → RunFits stops tail n s → RunFits stops tail k s
   fits_front zero zero s le fits = tt
   fits_front zero (suc k) s le fits = absurd (omega (arith, le))
-  fits_front (suc n) k s le fits = by (cases_eq k (suc n))
-    where
-      by : (k ≡ suc n) ⊎ (k ≢ suc n) → RunFits stops tail k s
-      by (inl is) = subst (λ (m : ℕ). RunFits stops tail m s) (sym is) fits
-      by (inr differs) = fits_front n k s (omega (arith, le, differs)) fits.0
+  fits_front (suc n) k s le fits =
+      ⊎_elim (λ (is : k ≡ suc n). subst (λ (m : ℕ). RunFits stops tail m s) (sym is) fits) (λ (differs : k ≢ suc n). fits_front n k s (omega (arith, le, differs)) fits.0)
+      (cases_eq k (suc n))
 
   pub run_leaves : (n : ℕ) (s : StoreState) (a : Aim) → Holds s a → RunFits stops tail n s → (images : Images) → RunLeaves stops tail n s images → BookNext book present stake images
   run_leaves n s a h fits images l = by (run_holds l.call s a h (fits_front n l.call s l.among fits)) l.leaves

@@ -1,5 +1,5 @@
 -- Sound devices stay sound. What the end of a job leaves settled, a crash before its last call might have left.
-use Rattle.std.proofs.Common.{◌≡◌, ℕ, ◌+◌, ◌≤◌, min, Bool, true, false, List, [], ◌∷◌, ◌++◌, length, take, refl, sym, ◌∙◌, ap, subst, arith}
+use Rattle.std.proofs.Common.{◌≡◌, ℕ, ◌+◌, Bool, true, false, List, [], ◌∷◌, ◌++◌, length, take, sym, ◌∙◌, ap, subst, arith}
 use Rattle.std.proofs.lemmas.List.{take_all, length-take}
 use Rattle.disk_model.specs.Cells.{Cells, IsImage, IsSound, settled}
 use Rattle.disk_model.specs.DeviceCalls.{made, CanBeMade}
