@@ -1,18 +1,27 @@
 -- A run of a store that was given entries.
-use Rattle.std.proofs.Common.{◌≡◌, inl, ℕ, Bool, List, ◌++◌, take, Result, Ok, Err, OnErr, refl, sym, ◌∙◌, ap, subst, arith}
+use Rattle.std.proofs.Common.{◌≡◌, inl, ℕ, Bool, List, [], ◌++◌, take, None, Result, Ok, Err, OnErr, refl, sym, ◌∙◌, ap, subst, arith}
 use Rattle.disk_model.specs.Cells.{Cells}
 use Rattle.store_form.specs.declared.ends.State.TheVariants.{Open}
 use Rattle.store_laws.specs.States.{Devices, StoreState, given}
 use Rattle.store_laws.specs.Runs.{called_times}
+use Rattle.store_laws.specs.declared.job.StoreCall.{StoreCall}
 use Rattle.store_laws.specs.declared.job.Tail.{Tail}
 use Rattle.store_plan.specs.declared.plan.Plan.{Plan}
 use Rattle.store_plan.specs.Plans.{state_with, waits}
-use Rattle.durable_next.specs.Runs.{Ran, IsUnasked, no_tail, taken_by}
+use Rattle.durable_next.specs.Runs.{Ran, IsNoSwitch, IsUnasked, no_tail, taken_by}
 use Rattle.durable_next.specs.declared.disks.Disks.{Disks}
 use Rattle.durable_next.specs.declared.store.Store.{Store}
+use Rattle.durable_next.proofs.Held.{idle_no_switch}
 
 pub given_unasked : (s : StoreState) (entries : List (List ℕ)) → IsUnasked s → IsUnasked (given entries s)
 given_unasked s entries u = record { asked = u.asked; job = u.job }
+
+pub waits_unasked : (s : StoreState) (entries : List (List ℕ)) → IsUnasked s → IsUnasked (waits entries s)
+waits_unasked s entries u = record { asked = u.asked; job = u.job }
+
+-- of a store that was just opened no switch runs or waits
+pub idle_unasked : (p : Plan) (d : Devices) → p.running ≡ [] → p.asked ≡ None → IsUnasked (state_with p d)
+idle_unasked p d idle none = record { asked = none; job = subst (λ (calls : List StoreCall). IsNoSwitch calls p.ending) (sym idle) (idle_no_switch p.ending) }
 
 module _ {D : Type 0} (told remembers : Type 0) (cells : D → Cells) (moment : D → ℕ) (left_since : D → ℕ → List ℕ → Type 0) (stops : List ℕ → Bool) where
   abbrev Run : Tail → (Devices → StoreState) → (StoreState → StoreState) → Disks D → Store D → Type 0

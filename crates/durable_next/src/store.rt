@@ -53,7 +53,7 @@ impl<D: Disk> Store<D> {
         entries: Sequence<Bytes>,
     ) -> Result<(), StoreFault>
         requires fit { AreEntries entries }
-        requires unasked { (d : Devices) → IsUnasked (state_with self.old.plan d) }
+        requires unasked { self.old.state ≡ State.Open → (d : Devices) → IsUnasked (state_with self.old.plan d) }
         requires sound { self.old.state ≡ State.Open → D.told → Stands (state_of D.cells self.old) }
         // The whole state after the calls that went well, what a crash leaves, and left at any moment. With an error the entries are
         // not among those that wait, and no call has taken them.
@@ -61,6 +61,7 @@ impl<D: Disk> Store<D> {
             → (run : Ran D.told D.remembers D.cells D.moment D.left_since E.stops no_tail (λ d. given entries (state_with self.old.plan d)) (taken_by result self.old.plan.waiting) self.old.disks self.new)
             × OnErr result (self.new.state ≡ State.Open → (d : Devices) → (called_times E.stops no_tail run.calls (given entries (state_with self.old.plan d))).waiting ≡ self.old.plan.waiting ++ entries) }
         ensures done { OnOk result ((d : Devices) → is_due E.stops (state_with self.new.plan d) ≡ false) }
+        ensures unasked { self.new.state ≡ State.Open → (d : Devices) → IsUnasked (state_with self.new.plan d) }
         ensures stands { self.new.state ≡ State.Open → D.told → Stands (state_of D.cells self.new) }
         ensures later { NoneFell D.faults self.old.disks self.new.disks }
         ensures wants_later { NoneFell D.wants self.old.disks self.new.disks }
@@ -177,6 +178,7 @@ impl<D: Disk> Store<D> {
         ensures done { OnOk result ((d : Devices) → is_due E.stops (state_with self.new.plan d) ≡ false) }
         // Want of memory comes before the entries that wait are taken.
         ensures held { OnErr result ((d : Devices) → IsUnasked (state_with self.old.plan d) → self.new.state ≡ State.Open → self.new.plan.waiting ≡ self.old.plan.waiting) }
+        ensures unasked { self.new.state ≡ State.Open → (d : Devices) → IsUnasked (state_with self.old.plan d) → IsUnasked (state_with self.new.plan d) }
         ensures stands { self.new.state ≡ State.Open → D.told → Stands (state_of D.cells self.new) }
         ensures later { NoneFell D.faults self.old.disks self.new.disks }
         ensures wants_later { NoneFell D.wants self.old.disks self.new.disks }

@@ -30,7 +30,7 @@ group_front stops (x ∷ xs) = by (stops x) (group_front stops xs)
     by true rest = refl
     by false rest = ap (λ (l : List (List ℕ)). x ∷ l) rest
 
-none_asked : (t : Bool) (asked : Option (List ℕ)) → asked ≡ None → cond t asked None ≡ None
+pub none_asked : (t : Bool) (asked : Option (List ℕ)) → asked ≡ None → cond t asked None ≡ None
 none_asked true asked is = is
 none_asked false asked is = refl
 

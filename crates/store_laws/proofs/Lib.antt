@@ -19,3 +19,4 @@ pub mod AnyGoes
 pub mod Given
 pub mod Counted
 pub mod Booked
+pub mod Unswitched

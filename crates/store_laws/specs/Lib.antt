@@ -7,3 +7,4 @@ pub mod Stands
 pub mod Counts
 pub mod Books
 pub mod Runs
+pub mod Unswitched

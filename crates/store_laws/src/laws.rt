@@ -15,6 +15,7 @@ ghost use Rattle.store_laws.specs.declared.job.Device.{Device};
 ghost use Rattle.store_laws.specs.Stands.{Aim, at_rest, Leaves, Runs, IsRead, AnyRests, OwnRests, StoreStands, IsOwn, instead, aim_called, aim_after, aim_begins, HasSpelling, KeptOrNew, Switching};
 ghost use Rattle.store_laws.specs.Counts.{Counts, CountsBy, gone_after};
 ghost use Rattle.store_laws.specs.Books.{Books, BooksBy, IsFront};
+ghost use Rattle.store_laws.specs.Unswitched.{never, IsUnswitched};
 ghost use Rattle.store_laws.specs.declared.job.Ending.TheVariants.{Closes, Repairs, Adds, Switches};
 ghost use Rattle.store_laws.specs.declared.job.Kept.{Kept};
 ghost use Rattle.store_laws.specs.declared.job.Tail.{Tail};
@@ -226,4 +227,16 @@ pub fn a_store_keeps_its_book()
         → IsFront book present (restores images) ⊎ (restores images ≡ a.stake) }
     ensures stake { (book : List (List ℕ)) (present : Option Checkpoint) (s : StoreState) (a : Aim) (call : StoreCall) (left : List StoreCall) (end : ℕ) → s.ending ≡ Adds end → BooksBy (call ∷ left) book present s a
         → IsFront book present a.stake }
+{}
+
+/// A store that is not asked to switch stays at generation 0: its slots and its odd log hold nothing.
+/// A job that begins has a spelling, if the entries that wait have one together. Once the gate after
+/// the groups is closed and no job runs, nothing is at stake.
+pub fn a_store_is_not_asked()
+    ensures opened { IsUnswitched (store_opened no_bytes) }
+    ensures called { (stops : List ℕ → Bool) (tail : Tail) (s : StoreState) → IsUnswitched s → IsUnswitched (store_called stops tail s) }
+    ensures given { (s : StoreState) (entries : List (List ℕ)) → IsUnswitched s → IsUnswitched (given entries s) }
+    ensures crash { (s : StoreState) (images : Images) → IsUnswitched s → MayLeave s.devices images → IsUnswitched (store_opened images) }
+    ensures spells { (s : StoreState) → IsUnswitched s → IsGroup s.waiting → HasSpelling (due_job never s) }
+    ensures rests { (s : StoreState) (a : Aim) → IsUnswitched s → IsOwn s a → s.running ≡ [] → s.torn ≡ false → a.stake ≡ a.kept }
 {}

@@ -3,6 +3,7 @@ use Rattle.batch_log.proofs.Answered.{on_err}
 use Rattle.store_laws.specs.States.{StoreState, is_due, store_called}
 use Rattle.store_plan.specs.Plans.{state_with}
 use Rattle.store_plan.proofs.Due.{nowhere}
+use Rattle.durable_next.specs.Runs.{IsUnasked}
 use Rattle.durable_next.proofs.Runs.{run_first, run_next, run_ends, run_fails, none_fell, fell_on}
 use Rattle.durable_next.proofs.Held.{Held, next_held, still_held, held_over}
 use Rattle.durable_next.proofs.Weighs.{plan_lighter}
@@ -58,3 +59,14 @@ returns-in_err-next_call-clause-held g c = on_err c.from_residual.result _
 
 pub returns-clause-ran : goal.returns-clause-ran
 returns-clause-ran g c = run_ends g.D.Disk.told g.D.Disk.remembers g.D.Disk.cells g.D.Disk.moment g.D.Disk.left_since g.E.Stops.stops c.args.tail.now (λ d. state_with c.args.self.now.plan d) c.args.self.now.disks c.loop-alloc.self c.loop-alloc.invariant.run
+
+pub returns-in_err-next_call-clause-unasked : goal.returns-in_err-next_call-clause-unasked
+returns-in_err-next_call-clause-unasked g c = λ is_open d unasked.
+    let u = c.in_err-next_call.ensures.unchanged is_open in
+    let was = c.loop-alloc.invariant.held d unasked in
+    subst (λ q. IsUnasked (state_with q.plan d)) (sym u.0) was.unasked
+
+pub returns-clause-unasked : goal.returns-clause-unasked
+returns-clause-unasked g c = λ is_open d unasked.
+    let was = c.loop-alloc.invariant.held d unasked in
+    was.unasked
