@@ -46,8 +46,8 @@ times_front (e ∷ es) (suc n) left a x each is =
     let more = times_front es n left (a + length (behind w32 e)) x each.1 (omega (arith, is)) in (
       more.0,
       bind_is (entry_at c) (λ y. times_at entry_at n y.1 >>= λ ys. Ok (y.0 ∷ ys.0, ys.1)) (e, d) one
-      ∙ ap (λ (r : Read Group). r >>= λ ys. Ok (e ∷ ys.0, ys.1)) more.1
-      ∙ front_cons e es (times_at entry_at left (cut more.0 x)),
+          ∙ ap (λ (r : Read Group). r >>= λ ys. Ok (e ∷ ys.0, ys.1)) more.1
+          ∙ front_cons e es (times_at entry_at left (cut more.0 x)),
     )
 
 pub texts_push : (es : Group) (e : List ℕ) (x : List ℕ) → texts (es ++ e ∷ []) ++ x ≡ texts es ++ (behind w32 e ++ x)

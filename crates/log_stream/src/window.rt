@@ -150,10 +150,7 @@ impl Window {
         requires upto { at - self.now.from ≤ length self.now.piece }
         ensures { result.now ≡ part_of self.now at }
     {
-        let (_before, part) = self
-            .piece
-            .as_slice()
-            .split_at((at - self.from) as usize);
+        let (_before, part) = self.piece.as_slice().split_at((at - self.from) as usize);
         part
     }
 }
