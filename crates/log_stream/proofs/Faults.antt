@@ -1,6 +1,6 @@
 -- Readings that fail: the bytes end before the field does.
-use Rattle.std.proofs.Common.{◌≡◌, ℕ, zero, suc, ◌+◌, ◌<◌, ◌==◌, Bool, true, false, cond, eqb, ltb, List, [], ◌∷◌, ◌++◌, length, drop, None, Result, Ok, Err, refl, sym, ap, ◌∙◌, arith, lt-ltb, ne_eqb}
-use Rattle.std.specs.Int.{Width, w32, w64, byte_len, to_be_bytes, from_be_bytes}
+use Rattle.std.proofs.Common.{◌≡◌, ℕ, zero, suc, ◌<◌, ◌==◌, Bool, cond, List, ◌∷◌, length, None, Result, Ok, Err, refl, ap, ◌∙◌, arith, lt-ltb, ne_eqb}
+use Rattle.std.specs.Int.{Width, w64, byte_len, to_be_bytes, from_be_bytes}
 use Rattle.smart_base.specs.Cuts.{Cut, Read, ◌>>=◌, fixed_at, front, past, number_at, ranged, text_at, bytes_at, anything, fault_at, contents, whole, times_at}
 use Rattle.smart_base.specs.Spelling.{Law, Spelled}
 use Rattle.smart_base.specs.Laws.{bind_is, ranged_law, with_front}

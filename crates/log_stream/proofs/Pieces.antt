@@ -1,11 +1,10 @@
 -- What a piece shows of a device's bytes.
-use Rattle.std.proofs.Common.{◌≡◌, ◌⊎◌, inl, inr, ⊎_elim, ℕ, ◌+◌, ◌-◌, ◌^◌, ◌<◌, ◌≤◌, Bool, true, false, cond, ltb, List, [], ◌∷◌, ◌++◌, length, take, drop, Option, Some, None, Ok, Err, refl, sym, ap, subst, ◌∙◌, append_assoc, arith, length-append, length-drop, length-take, take-append-drop, drop-drop, drop_at, take-add}
+use Rattle.std.proofs.Common.{◌≡◌, inl, inr, ⊎_elim, ℕ, ◌+◌, ◌-◌, ◌^◌, ◌<◌, ◌≤◌, Bool, true, false, cond, ltb, List, [], ◌++◌, length, take, drop, Option, Some, None, Ok, Err, refl, sym, ap, subst, ◌∙◌, append_assoc, arith, length-append, length-drop, length-take, take-append-drop, drop-drop, drop_at, take-add}
 use Rattle.std.proofs.lemmas.Bool.{ltb-true}
 use Rattle.std.proofs.lemmas.List.{drop_all, drop-append-le}
 use Rattle.std.specs.Int.{Width, w8, w32, w64, byte_len, to_be_bytes, from_be_bytes}
 use Rattle.disk_model.specs.Cells.{Cells, IsImage}
-use Rattle.disk_model.specs.Calls.{Elapses}
-use Rattle.smart_base.specs.Cuts.{Cut, Read, IsBytes, ◌>>=◌, fixed_at, front, past, number_at}
+use Rattle.smart_base.specs.Cuts.{Cut, IsBytes, ◌>>=◌, front, past, number_at}
 use Rattle.smart_base.specs.Spelling.{Extends, Law}
 use Rattle.smart_base.specs.FieldLaws.{u8_law, u32_law, u64_law}
 use Rattle.store_form.specs.Reading.{all_of}
@@ -39,9 +38,6 @@ shows_read old new piece at count same is =
     let l = drop at old.now in
     subst (λ (s : Cells). Extends piece (drop at s.now)) (sym same)
     (record { rest = drop count l; is = sym (take-append-drop count l) ∙ ap (λ (x : List ℕ). x ++ drop count l) (sym is) })
-
-pub shows_still : (old new : Cells) (w : Window) → new ≡ old → Shows old.now w → Shows new.now w
-shows_still old new w same shows = subst (λ (s : Cells). Shows s.now w) (sym same) shows
 
 pub part_held : (bytes : List ℕ) (w : Window) (at count : ℕ) → Shows bytes w → w.from ≤ at → at - w.from + count ≤ length w.piece → Part bytes at count (part_of w at)
 part_held bytes w at count shows le held =
@@ -112,7 +108,7 @@ pub at_is : (w : Width) (old new : Cells) (at : ℕ) (o p : Option ℕ) → new 
 at_is w old new at o p same is there = subst (λ (s : Cells). IsAt w s.now at p) same (subst (λ (x : Option ℕ). IsAt w new.now at x) is there)
 
 -- one piece more
-pub read_more : (old new : Cells) (before after piece : List ℕ) (at done next : ℕ) → new ≡ old → before ≡ take done (drop at old.now) → piece ≡ take next (drop (at + done) new.now) → after ≡ before ++ piece → after ≡ take (done + next) (drop at old.now)
-read_more old new before after piece at done next same front read is =
+pub read_more : (old new : Cells) (before after piece added : List ℕ) (at done next : ℕ) → new ≡ old → before ≡ take done (drop at old.now) → piece ≡ take next (drop (at + done) new.now) → added ≡ piece → after ≡ before ++ added → after ≡ take (done + next) (drop at old.now)
+read_more old new before after piece added at done next same front read as_read is =
     let more : piece ≡ take next (drop done (drop at old.now)) = read ∙ ap (λ (s : Cells). take next (drop (at + done) s.now)) same ∙ ap (take next) (sym (drop-drop done at old.now)) in
-    is ∙ ap (λ (l : List ℕ). l ++ piece) front ∙ ap (λ (l : List ℕ). take done (drop at old.now) ++ l) more ∙ sym (take-add done next (drop at old.now))
+    is ∙ ap (λ (l : List ℕ). before ++ l) as_read ∙ ap (λ (l : List ℕ). l ++ piece) front ∙ ap (λ (l : List ℕ). take done (drop at old.now) ++ l) more ∙ sym (take-add done next (drop at old.now))

@@ -1,21 +1,21 @@
 -- How a reader goes on in a log.
-use Rattle.std.proofs.Common.{◌≡◌, ◌≢◌, ℕ, zero, suc, ◌+◌, ◌-◌, ◌*◌, ◌%◌, ◌^◌, ◌<◌, ◌≤◌, ◌==◌, Bool, true, false, not, cond, get_or, List, [], ◌∷◌, ◌++◌, length, take, drop, Option, Some, None, IsNone, unwrap_or, min, refl, sym, ap, subst, ◌∙◌, append_assoc, arith, true≢false, length-append, length-drop, length-take, take_at, drop_at, drop-drop, get_or-drop, take-append-drop}
+use Rattle.std.proofs.Common.{◌≡◌, ℕ, ◌+◌, ◌-◌, ◌*◌, ◌%◌, ◌<◌, ◌≤◌, ◌==◌, Bool, true, false, not, get_or, List, [], ◌∷◌, ◌++◌, length, take, drop, Option, Some, None, unwrap_or, min, refl, sym, ap, subst, ◌∙◌, append_assoc, arith, true≢false, length-append, length-drop, take_at, drop_at, drop-drop, get_or-drop}
 use Rattle.std.proofs.lemmas.Grind.{flat_map-append}
 use Rattle.std.proofs.lemmas.List.{append-nil, nil_from_length, drop_all}
 use Rattle.std.specs.Int.{w8, w32, to_be_bytes, from_be_bytes}
 use Rattle.smart_base.specs.Lists.{Each}
 use Rattle.smart_base.specs.Spelling.{behind}
 use Rattle.smart_base.specs.Laws.{wide32}
-use Rattle.store_form.specs.Spelling.{Group, group_text, IsEntry, IsGroup}
-use Rattle.batch_log.specs.Log.{log_bytes, AreGroups, first_group, restored_by, restored}
+use Rattle.store_form.specs.Spelling.{Group, group_text, IsEntry}
+use Rattle.batch_log.specs.Log.{log_bytes, AreGroups, restored_by, restored}
 use Rattle.batch_log.specs.Exact.{end_opened}
-use Rattle.batch_log.proofs.Restored.{closed, restored_is, groups_by, length-groups, length-push}
+use Rattle.batch_log.proofs.Restored.{restored_is, groups_by, length-groups, length-push}
 use Rattle.batch_log.proofs.Spelled.{pushed}
 use Rattle.disk_model.specs.Cells.{Cells}
 use Rattle.log_stream.specs.declared.reader.LogReader.{LogReader}
 use Rattle.log_stream.specs.declared.window.Window.{Window}
 use Rattle.log_stream.specs.Windows.{Shows, IsAt}
-use Rattle.log_stream.specs.Walks.{texts, Whole, GroupFound}
+use Rattle.log_stream.specs.Walks.{texts, Whole}
 use Rattle.log_stream.specs.Stream.{entries_of, entries_in, to_come, Place, IsEnd, Reads, HasRead}
 use Rattle.log_stream.proofs.Walks.{texts_long}
 
@@ -29,15 +29,9 @@ pub place_is : (bytes : List ℕ) (at left end count there less to given : ℕ) 
 place_is bytes at left end count there less to given a b c d p =
     subst (λ (n : ℕ). Place bytes there less to n) (sym d) (subst (λ (n : ℕ). Place bytes there less n count) (sym c) (subst (λ (n : ℕ). Place bytes there n end count) (sym b) (subst (λ (n : ℕ). Place bytes n left end count) (sym a) p)))
 
--- ---- the end
+-- ---- a gate
 
 module _ (bytes : List ℕ) (end : ℕ) where
-  -- no gate is there
-  pub end_bare : IsAt w8 bytes end None → IsEnd bytes end true
-  end_bare is =
-      let none : drop end bytes ≡ [] = nil_from_length (drop end bytes) (omega (arith, is)) in
-      record { nothing = ap first_group none; gate = sym (ap (λ (l : List ℕ). not (get_or l 0 1 == 0)) none) }
-
   pub gate_there : (gate : ℕ) → IsAt w8 bytes end (Some gate) → drop end bytes ≡ gate ∷ drop (end + 1) bytes
   gate_there gate is =
       let fits : gate < 256 = is.0 in
@@ -46,19 +40,6 @@ module _ (bytes : List ℕ) (end : ℕ) where
     where
       one : (n : ℕ) → n < 256 → to_be_bytes w8 n ≡ n ∷ []
       one n fits = let same : n % 256 ≡ n = omega (arith, fits) in ap (λ (x : ℕ). x ∷ []) same
-
-  -- another gate is there than an open one
-  pub end_shut : (gate : ℕ) (torn : Bool) → IsAt w8 bytes end (Some gate) → gate ≢ 1 → torn ≡ not (gate == 0) → IsEnd bytes end torn
-  end_shut gate torn is shut says = record {
-    nothing = ap first_group (gate_there gate is) ∙ closed gate (drop (end + 1) bytes) shut;
-    gate = says ∙ sym (ap (λ (l : List ℕ). not (get_or l 0 1 == 0)) (gate_there gate is));
-  }
-
-  -- no whole group stands after an open gate
-  pub end_torn : (gate : ℕ) → IsAt w8 bytes end (Some gate) → gate ≡ 1 → GroupFound bytes end None → IsEnd bytes end true
-  end_torn gate is one none =
-      let there : drop end bytes ≡ 1 ∷ drop (end + 1) bytes = gate_there gate is ∙ ap (λ (n : ℕ). n ∷ drop (end + 1) bytes) one in
-      record { nothing = ap first_group there ∙ none; gate = sym (ap (λ (l : List ℕ). not (get_or l 0 1 == 0)) there) }
 
 -- ---- the entries that are restored
 
@@ -72,10 +53,6 @@ entries_front bytes at left end count p =
       entries_of more,
       ap entries_of groups ∙ flat_map-append (λ (g : Group). g) p.groups more ∙ ap (λ (l : Group). l ++ entries_of more) p.parts ∙ append_assoc p.given p.coming (entries_of more),
     )
-
--- what is still to come begins with what is left of the present group
-coming_first : (bytes : List ℕ) (at left end count : ℕ) → (p : Place bytes at left end count) → (more : Group) → entries_in bytes ≡ p.given ++ (p.coming ++ more) → drop count (entries_in bytes) ≡ p.coming ++ more
-coming_first bytes at left end count p more is = ap (drop count) is ∙ drop_at p.given (p.coming ++ more) count p.gave
 
 -- ---- all was given
 
@@ -209,41 +186,6 @@ place_gives bytes at left end count size o entry next less p some room inside is
 
 pub to_come_still : (old new : Cells) (was is : LogReader) → new ≡ old → is.restored ≡ was.restored → to_come old.now was ≡ to_come new.now is
 to_come_still old new was is same count = ap (λ (s : Cells). drop was.restored (entries_in s.now)) (sym same) ∙ ap (λ (n : ℕ). drop n (entries_in new.now)) (sym count)
-
--- what stays of a reader that has not come further
-pub record Stays (was is : LogReader) : Type 0 where
-  pub at : is.at ≡ was.at
-  pub left : is.left ≡ was.left
-  pub end : is.end ≡ was.end
-  pub restored : is.restored ≡ was.restored
-  pub long : is.length ≡ was.length
-
-module _ (old new : Cells) (was is : LogReader) (same : new ≡ old) (stays : Stays was is) (shows : Shows new.now is.window) (r : Reads old.now was) where
-  place_still : Place new.now is.at is.left is.end is.restored
-  place_still =
-      subst (λ (s : Cells). Place s.now is.at is.left is.end is.restored) (sym same)
-      (place_is old.now was.at was.left was.end was.restored is.at is.left is.end is.restored stays.at stays.left stays.end stays.restored r.place)
-
-  long_still : is.length ≡ length new.now
-  long_still = stays.long ∙ r.long ∙ ap (λ (s : Cells). length s.now) (sym same)
-
-  pub reads_still : is.ended ≡ was.ended → is.torn ≡ was.torn → Reads new.now is
-  reads_still ended torn = record {
-    place = place_still;
-    shows = shows;
-    long = long_still;
-    over = λ is_over.
-        let e = r.over (sym ended ∙ is_over) in
-        subst (λ (s : Cells). IsEnd s.now is.end is.torn) (sym same) (subst (λ (n : ℕ). IsEnd old.now n is.torn) (sym stays.end) (subst (λ (t : Bool). IsEnd old.now was.end t) (sym torn) e));
-  }
-
-  pub reads_over : IsEnd old.now was.end is.torn → Reads new.now is
-  reads_over e = record {
-    place = place_still;
-    shows = shows;
-    long = long_still;
-    over = λ is_over. subst (λ (s : Cells). IsEnd s.now is.end is.torn) (sym same) (subst (λ (n : ℕ). IsEnd old.now n is.torn) (sym stays.end) e);
-  }
 
 -- a reader that has come further
 module _ (old new : Cells) (was is : LogReader) (same : new ≡ old) (place : Place old.now is.at is.left is.end is.restored) (long : is.length ≡ was.length) (shows : Shows new.now is.window) (r : Reads old.now was) (goes_on : is.ended ≡ false) where

@@ -1,22 +1,21 @@
 -- A walk over the entries of a group reads what the reading of the group reads.
-use Rattle.std.proofs.Common.{◌≡◌, ◌≢◌, ◌⊎◌, inl, inr, ⊎_elim, ℕ, zero, suc, ◌+◌, ◌-◌, ◌*◌, ◌^◌, ◌<◌, ◌≤◌, ◌==◌, Bool, true, false, cond, List, [], ◌∷◌, ◌++◌, length, take, drop, Option, Some, None, Ok, Err, refl, sym, ap, subst, ◌∙◌, append_assoc, arith, length-append, length-drop, length-take, take-append-drop, drop-drop}
+use Rattle.std.proofs.Common.{◌≡◌, ◌≢◌, ⊎_elim, ℕ, zero, suc, ◌+◌, ◌-◌, ◌*◌, ◌^◌, ◌<◌, ◌≤◌, ◌==◌, Bool, true, false, cond, List, [], ◌∷◌, ◌++◌, length, take, drop, Some, None, Ok, Err, refl, sym, ap, subst, ◌∙◌, append_assoc, arith, length-append, length-drop, length-take, take-append-drop, drop-drop}
 use Rattle.std.proofs.lemmas.Bool.{cases_lt, eqb-true, eqb-false}
 use Rattle.std.proofs.lemmas.Grind.{flat_map-append}
 use Rattle.std.proofs.lemmas.List.{append-nil}
 use Rattle.std.proofs.Math.Seq.{take-append-add}
 use Rattle.std.specs.Int.{w32, w64, to_be_bytes}
 use Rattle.smart_base.specs.Lists.{Each}
-use Rattle.smart_base.specs.Cuts.{Cut, Read, ◌>>=◌, number_at, text_at, bytes_at, anything, whole, times_at}
-use Rattle.smart_base.specs.Spelling.{Spelled, behind}
+use Rattle.smart_base.specs.Cuts.{Cut, Read, ◌>>=◌, number_at, text_at, anything, whole, times_at}
+use Rattle.smart_base.specs.Spelling.{behind}
 use Rattle.smart_base.specs.Laws.{cut, bind_is, with_front, text_field, wide64}
 use Rattle.smart_base.specs.FieldLaws.{u32_law, u64_law}
-use Rattle.store_form.specs.Spelling.{Group, payload, group_text, IsEntry, IsGroup}
-use Rattle.store_form.specs.Reading.{all_of, entry_at, payload_at, group_at}
+use Rattle.store_form.specs.Spelling.{Group, payload, group_text, IsEntry}
+use Rattle.store_form.specs.Reading.{all_of, entry_at, payload_at}
 use Rattle.store_form.specs.Laws.{entry_law}
-use Rattle.batch_log.specs.Log.{found}
 use Rattle.disk_model.specs.Cells.{Cells}
 use Rattle.log_stream.specs.Windows.{IsAt}
-use Rattle.log_stream.specs.Walks.{texts, Entries, IsFault, Walked, Whole, GroupFound}
+use Rattle.log_stream.specs.Walks.{texts, IsFault, Walked, GroupFound}
 use Rattle.log_stream.proofs.Faults.{number_fault, text_short, text_over, entry_fault, times_fault, front_fault, whole_fault, whole_left, group_short, group_fault}
 
 -- ---- entries, and what is read behind them
@@ -103,9 +102,6 @@ come_next bytes start at count left size next less c is inside goes falls =
     }
 
 module _ (bytes : List ℕ) (start at to count left : ℕ) (c : Come bytes start at count left) (before : at ≤ to) (inside : to ≤ length bytes) where
-  rest : List ℕ
-  rest = take (to - at) (drop at bytes)
-
   text_is : take (to - start) (drop start bytes) ≡ texts c.group ++ take (to - at) (drop at bytes)
   text_is =
       let more : to - start ≡ length (texts c.group) + (to - at) = omega (arith, c.goes, before) in
@@ -183,10 +179,6 @@ module _ (bytes : List ℕ) (gate size : ℕ) (is : IsAt w64 bytes (gate + 1) (S
   group_over over =
       let c = all_of (drop (gate + 1) bytes) in
       group_short c (text_over w64 (2 ^ 64) u64_law c size (cut 8 (drop (gate + 9) bytes)) is.0 (record { left = are; at = refl }) over)
-
-  -- the payload of the group
-  text_of : List ℕ
-  text_of = take size (drop (gate + 9) bytes)
 
   payload_read : size ≤ length (drop (gate + 9) bytes) → (a : ℕ) × (text_at w64 anything (all_of (drop (gate + 1) bytes)) ≡ Ok (cut a (take size (drop (gate + 9) bytes)), cut (8 + size) (drop size (drop (gate + 9) bytes))))
   payload_read inside =

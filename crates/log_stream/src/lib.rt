@@ -4,6 +4,7 @@
 
 pub mod device;
 pub mod group;
+pub mod laws;
 pub mod reader;
 pub mod slot;
 pub mod window;

@@ -1,5 +1,4 @@
-use Rattle.std.proofs.Common.{◌+◌, ◌∙◌, ◌≡◌, ◌≤◌, ◌<◌, ℕ, Some, None, length, drop, true, false, w64, refl, sym, ap, arith, length-drop}
-use Rattle.log_stream.specs.Windows.{IsAt}
+use Rattle.std.proofs.Common.{◌+◌, ◌∙◌, Some, None, true, false, w64, refl, arith, length-drop}
 use Rattle.log_stream.proofs.Pieces.{at_is}
 use Rattle.log_stream.proofs.Walks.{no_length, group_small, group_over, group_whole, group_torn, walked_is}
 use Rattle.log_stream.proofs.group.group_after.Goals as goal

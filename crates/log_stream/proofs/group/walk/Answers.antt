@@ -1,4 +1,4 @@
-use Rattle.std.proofs.Common.{◌+◌, ◌-◌, ◌∙◌, ℕ, Some, None, nat_eq, w32, refl, sym, ap, arith}
+use Rattle.std.proofs.Common.{◌+◌, ◌-◌, ◌∙◌, ℕ, Some, nat_eq, w32, refl, sym, ap, arith}
 use Rattle.log_stream.proofs.Pieces.{at_is, read_on}
 use Rattle.log_stream.proofs.Walks.{come_next, walk_short, walk_over, walk_ends}
 use Rattle.log_stream.proofs.group.walk.Goals as goal

@@ -1,5 +1,4 @@
-use Rattle.std.proofs.Common.{◌≡◌, ◌<◌, ◌≤◌, ℕ, List, length, drop, Option, Some, None, w32, w64, refl, sym, ap, subst, ◌∙◌, arith, length-drop}
-use Rattle.log_stream.specs.Windows.{IsAt}
+use Rattle.std.proofs.Common.{ℕ, Some, None, w32, w64, refl, sym, ap, ◌∙◌, arith, length-drop}
 use Rattle.log_stream.proofs.Pieces.{at_is}
 use Rattle.log_stream.proofs.Heads.{no_generation, no_length, no_snapshot, counts_found, counts_not}
 use Rattle.log_stream.proofs.slot.counts_after.Goals as goal

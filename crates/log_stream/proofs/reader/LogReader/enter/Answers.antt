@@ -1,4 +1,4 @@
-use Rattle.std.proofs.Common.{◌≡◌, ◌+◌, ◌∙◌, Option, Some, w8, ℕ, refl, sym, ap, subst}
+use Rattle.std.proofs.Common.{◌≡◌, ◌+◌, ◌∙◌, Option, Some, w8, ℕ, refl, sym, subst}
 use Rattle.disk_model.specs.Cells.{Cells}
 use Rattle.log_stream.specs.Windows.{Shows, IsAt}
 use Rattle.log_stream.specs.Walks.{GroupFound, Whole}

@@ -1,6 +1,5 @@
-use Rattle.std.proofs.Common.{◌≡◌, ◌∙◌, ◌-◌, ◌*◌, ℕ, min, ap, sym}
-use Rattle.log_stream.specs.declared.reader.LogReader.{LogReader}
-use Rattle.log_stream.proofs.Places.{Goes, give_reads, give_comes}
+use Rattle.std.proofs.Common.{◌∙◌, ◌-◌, ◌*◌, ℕ, min, ap}
+use Rattle.log_stream.proofs.Places.{give_reads, give_comes}
 use Rattle.log_stream.proofs.reader.LogReader.give.Goals as goal
 
 pub returns-clause-reads : goal.returns-clause-reads

@@ -1,4 +1,4 @@
-use Rattle.std.proofs.Common.{ap, arith}
+use Rattle.std.proofs.Common.{arith}
 use Rattle.log_stream.proofs.Pieces.{not_read, part_held, part_read, shows_read, shows_nothing}
 use Rattle.log_stream.proofs.window.Window.show.Goals as goal
 
